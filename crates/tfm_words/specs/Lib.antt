@@ -1,0 +1,5 @@
+pub mod Word
+pub mod Scaling
+pub mod Counts
+pub mod CountFaults
+pub mod DesignSize

@@ -1,0 +1,13 @@
+-- The words of a TFM file, and the signed number in a word.
+-- Public source: tftopl.web, sections 6, 8 and 9; tex.web, section 541.
+use Rattle.std.specs.Prelude.{ℕ, ℤ, ◌*◌, List, take, drop}
+use Rattle.std.specs.Int.{w32, cast_signed}
+use Rattle.byteorder.specs.Endian.{big_number}
+
+-- word i of a file is the four bytes from place 4 * i
+abbrev pub word_at : List ℕ → ℕ → List ℕ
+word_at bytes i = take 4 (drop (4 * i) bytes)
+
+-- the signed number of a word: its four bytes, the highest first, in two's complement
+abbrev pub value_of : List ℕ → ℤ
+value_of word = cast_signed w32 (big_number 4 word)

@@ -1,0 +1,24 @@
+//! The ground of a TeX Font Metric (TFM) file: its twelve counts, its words of four bytes, its
+//! fix_words and how they scale, and its design size.
+//!
+//! No call of this crate takes memory, and each returns for all bytes.
+#![tactic(auto)]
+
+pub use count::Count;
+pub use count_fault::CountFault;
+pub use counts::Counts;
+pub use design::{DesignFault, design_size};
+pub use fix_word::FixWord;
+pub use size::Size;
+pub use table::Table;
+pub use word::word_at;
+
+mod count;
+mod count_fault;
+mod counts;
+mod design;
+mod fix_word;
+mod numbers;
+mod size;
+mod table;
+mod word;

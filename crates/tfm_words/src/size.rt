@@ -1,0 +1,61 @@
+ghost use Rattle.std.specs.Prelude.{◌≡◌, ℕ, ◌<◌, ◌≤◌, ◌^◌, ◌/◌, ◌↔◌, IsSome, IfSome};
+ghost use Rattle.tfm_words.specs.Scaling.{halvings_of};
+
+use std::marker::Model;
+
+/// A size that a font is read at, in scaled points (65,536 to the point): from 1 to 134,217,727,
+/// which is less than 2,048 points (tex.web, section 568).
+#[derive(Clone, Copy, Debug, PartialEq, Eq, PartialOrd, Ord, Hash)]
+pub struct Size {
+    points: u32,
+}
+
+impl Model for Size {
+    ghost use Rattle.std.specs.Prelude.{ℕ, ◌<◌, ◌≤◌, ◌^◌};
+
+    ghost Value = { ℕ };
+
+    ghost view = { λ s. s.points };
+
+    ghost invariant = { λ s. (1 ≤ s.points) × (s.points < 2 ^ 27) };
+
+    ghost inverse = { λ n. record { points = n } };
+}
+
+impl Size {
+    /// The size of this many scaled points, or `None` outside 1 to 134,217,727.
+    pub fn new(points: u32) -> Option<Self>
+        ensures range { IsSome result ↔ ((1 ≤ points) × (points ≤ 134217727)) }
+        ensures value { IfSome result (λ size. size ≡ points) }
+    {
+        if matches!(points, 1..0x800_0000) {
+            Some(Size { points })
+        } else {
+            None
+        }
+    }
+
+    /// The size in scaled points.
+    pub fn get(self) -> u32
+        ensures value { result ≡ self }
+        ensures range { (1 ≤ result) × (result ≤ 134217727) }
+    {
+        self.points
+    }
+
+    /// How many halvings bring the size below 2^23, as scaling wants it.
+    pub(crate) fn halvings(self) -> u32
+        ensures count { result ≡ halvings_of self }
+        ensures few { result ≤ 4 }
+        ensures enough { self / 2 ^ result < 2 ^ 23 }
+        ensures least { (e : ℕ) → e < result → 2 ^ 23 ≤ self / 2 ^ e }
+    {
+        match self.points {
+            0..0x80_0000 => 0,
+            0x80_0000..0x100_0000 => 1,
+            0x100_0000..0x200_0000 => 2,
+            0x200_0000..0x400_0000 => 3,
+            _ => 4,
+        }
+    }
+}
