@@ -1,3 +1,5 @@
 pub mod FirstFault
 pub mod CountLemmas
+pub mod ReachLemmas
 pub mod ScalingLemmas
+pub mod WorkedRows

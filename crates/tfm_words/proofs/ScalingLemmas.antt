@@ -1,12 +1,13 @@
 -- What the shifts of scaling compute is the definition's one floor, and it fits.
-use Rattle.std.proofs.Common.{◌≡◌, ℕ, zero, suc, ◌-◌, ◌*◌, ◌/◌, ◌<◌, ◌≤◌, ◌^◌, true, ℤ, pos, negsuc, ◌*ℤ◌, FitsSigned, w32, w64, to_z, of_z, arith, refl}
-use Rattle.std.proofs.Math.Nat.{mul-le-mul, mul-le-mul_left, pow-le-pow_right, le-div_iff_mul-le}
+use Rattle.std.proofs.Common.{◌≡◌, ℕ, zero, suc, ◌+◌, ◌-◌, ◌*◌, ◌/◌, ◌<◌, ◌≤◌, ◌^◌, true, ℤ, pos, negsuc, ◌+ℤ◌, ◌*ℤ◌, FitsSigned, w32, w64, to_z, of_z, arith, refl}
+use Rattle.std.proofs.Math.Nat.{mul-le-mul, mul-le-mul_left, pow-le-pow_right, le-div_iff_mul-le, div-mul-le_self, lt-div-mul-add}
+use Rattle.std.proofs.Math.IntN.{pos-*ℤ-pos, negsuc-*ℤ-pos, suc_ℤ-*ℤ}
 use Rattle.std.proofs.lemmas.Nat.{div_below, pow_pos}
-use Rattle.std.proofs.lemmas.Int.{unsigned_abs-mul, to_z-of_z}
+use Rattle.std.proofs.lemmas.Int.{ints, unsigned_abs-mul, to_z-of_z}
 use Rattle.std.specs.Int.RustNames.{unsigned_abs}
 use borrow.Author.Tests.{ltb-true}
 use lib.Signed.{shr_z, mag}
-use Rattle.tfm_words.specs.Scaling.{floor_of, is_scalable}
+use Rattle.tfm_words.specs.Scaling.{IsFloor, floor_of, is_scalable}
 
 mag_le_abs : (z : ℤ) → mag z ≤ unsigned_abs z
 mag_le_abs (pos n) = omega arith
@@ -69,3 +70,26 @@ part_is a b w z e fits a_is b_is scalable small few =
 pub still_large : (size k e : ℕ) → 2 ^ 23 * 2 ^ k ≤ size → e ≤ k → 2 ^ 23 ≤ size / 2 ^ e
 still_large size k e large few =
     (le-div_iff_mul-le (pow_pos e)).1 (omega (arith, mul-le-mul_left (2 ^ 23) (pow-le-pow_right {n = 2} (omega arith) few), large))
+
+-- one more than -(k + 1), times a number
+above_negsuc : (k d : ℕ) → (negsuc k +ℤ pos 1) *ℤ pos d +ℤ pos (k * d) ≡ pos 0
+above_negsuc zero d = omega (arith, ints, pos-*ℤ-pos 0 d)
+above_negsuc (suc k) d =
+    let less : negsuc (suc k) +ℤ pos 1 ≡ negsuc k = omega (arith, ints) in rw less (omega (arith, ints, negsuc-*ℤ-pos k d))
+
+-- the quotient by signs is the greatest number whose product with the divisor is no more than z
+pub floor_of-is : (z : ℤ) (d : ℕ) → 0 < d → IsFloor z d (floor_of z d)
+floor_of-is (pos n) d some =
+    let below : n < n / d * d + d = lt-div-mul-add some in record {
+      within = omega (arith, ints, pos-*ℤ-pos (n / d) d, div-mul-le_self n d);
+      greatest = omega (arith, ints, suc_ℤ-*ℤ (pos (n / d)) (pos d), pos-*ℤ-pos (n / d) d);
+    }
+floor_of-is (negsuc n) d some =
+    let below : n < n / d * d + d = lt-div-mul-add some in record {
+      within = omega (arith, ints, negsuc-*ℤ-pos (n / d) d);
+      greatest = omega (arith, ints, above_negsuc (n / d) d, div-mul-le_self n d);
+    }
+
+-- scaling divides by one number or more
+pub divisor_some : (e : ℕ) → 0 < 65536 * 2 ^ e
+divisor_some e = omega (arith, pow_pos e)

@@ -1,5 +1,5 @@
 -- What can be wrong with the counts of a file, as a table of conditions in order: the first that holds is the fault.
--- Public source: tftopl.web, sections 20 and 21, which the order of the tests here does not follow: the order is this
+-- Public source: tftopl.web, sections 20 and 21, and tex.web, sections 565 and 568, which the order of the tests here does not follow: the order is this
 -- project's own.
 use Rattle.std.specs.Prelude.{◌≡◌, ℕ, ◌+◌, ◌*◌, ◌^◌, ◌||◌, ◌==◌, Bool, not, nat_lt, nat_le, List, [], ◌∷◌, ◌++◌, length, Option, Some, None, if◌then◌else◌, Result, MatchResult}
 use Rattle.tfm_words.specs.declared.numbers.Numbers.{Numbers}
@@ -18,7 +18,7 @@ first_fault (row ∷ rows) = if row.0 then Some row.1 else first_fault rows
 abbrev pub is_too_large : ℕ → Bool
 is_too_large n = nat_le (2 ^ 15) n
 
--- each count, in the file's order
+-- for each count, in the file's order, that it is too large
 unfoldable pub range_faults : Numbers → List (Bool × CountFault)
 range_faults c =
     (is_too_large c.lf, CountRange Lf)
@@ -35,7 +35,7 @@ range_faults c =
     ∷ (is_too_large c.np, CountRange Np)
     ∷ []
 
--- what the counts say together
+-- what else is wrong with counts that are in range: single ones, and all together
 unfoldable pub shape_faults : Numbers → List (Bool × CountFault)
 shape_faults c =
     (nat_lt (c.ec + 1) c.bc || nat_lt 255 c.ec, CharRange)
@@ -50,11 +50,11 @@ shape_faults c =
 
 -- all that can be wrong with these counts at the head of so many bytes, in order
 unfoldable pub faults_within : ℕ → Numbers → List (Bool × CountFault)
-faults_within size c =
-    (nat_lt size 24, Truncated 24)
+faults_within byte_count c =
+    (nat_lt byte_count 24, Truncated 24)
     ∷ range_faults c
     ++ shape_faults c
-    ++ (nat_lt size (4 * c.lf), Truncated (4 * c.lf)) ∷ []
+    ++ (nat_lt byte_count (4 * c.lf), Truncated (4 * c.lf)) ∷ []
 
 -- all that can be wrong with the counts of these bytes, in order
 abbrev pub count_faults : List ℕ → List (Bool × CountFault)

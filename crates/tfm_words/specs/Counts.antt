@@ -7,7 +7,7 @@ use Rattle.tfm_words.specs.declared.numbers.Numbers.{Numbers}
 use Rattle.tfm_words.specs.declared.table.Table.{Table}
 use Rattle.tfm_words.specs.declared.table.Table.TheVariants.{Header, CharInfo, Width, Height, Depth, Italic, LigKern, Kern, Exten, Param}
 
--- count k, from 0, is the 16-bit number at place 2 * k
+-- the k-th count, counted from 0: two bytes, the higher first, from byte 2 * k
 abbrev pub count_at : List ℕ → ℕ → ℕ
 count_at bytes k = big_number 2 (drop (2 * k) bytes)
 
@@ -32,13 +32,14 @@ counts_of bytes = record {
 abbrev pub numbers_of : Numbers → List ℕ
 numbers_of c = c.lf ∷ c.lh ∷ c.bc ∷ c.ec ∷ c.nw ∷ c.nh ∷ c.nd ∷ c.ni ∷ c.nl ∷ c.nk ∷ c.ne ∷ c.np ∷ []
 
--- how many words each of the ten tables has, in the file's order; bc = ec + 1 says that there are no characters
-abbrev pub sizes_of : Numbers → List ℕ
-sizes_of c = c.lh ∷ (c.ec + 1 - c.bc) ∷ c.nw ∷ c.nh ∷ c.nd ∷ c.ni ∷ c.nl ∷ c.nk ∷ c.ne ∷ c.np ∷ []
+-- how many words each of the ten tables has, in the file's order. It is meant for bc up to ec + 1, since - stops at 0;
+-- bc = ec + 1 says that there are no characters
+abbrev pub lengths_of : Numbers → List ℕ
+lengths_of c = c.lh ∷ (c.ec + 1 - c.bc) ∷ c.nw ∷ c.nh ∷ c.nd ∷ c.ni ∷ c.nl ∷ c.nk ∷ c.ne ∷ c.np ∷ []
 
--- the length equation: six words of counts, and then the ten tables
+-- how many words a file has: six of counts, and then the ten tables; that lf is this number is the length equation
 abbrev pub whole_length : Numbers → ℕ
-whole_length c = 6 + sum (sizes_of c)
+whole_length c = 6 + sum (lengths_of c)
 
 -- counts that a font may have
 pub record IsLawful (c : Numbers) : Type 0 where
@@ -78,9 +79,9 @@ place_of Exten = 8
 place_of Param = 9
 
 -- how many words a table has
-abbrev pub size_of : Numbers → Table → ℕ
-size_of c table = slice_index (sizes_of c) (place_of table)
+abbrev pub length_of : Numbers → Table → ℕ
+length_of c table = slice_index (lengths_of c) (place_of table)
 
 -- the first word of a table: it stands behind the counts and the tables before it
 abbrev pub first_word_of : Numbers → Table → ℕ
-first_word_of c table = 6 + sum (take (place_of table) (sizes_of c))
+first_word_of c table = 6 + sum (take (place_of table) (lengths_of c))

@@ -12,7 +12,8 @@ pub record IsFloor (z : ℤ) (divisor : ℕ) (quotient : ℤ) : Type 0 where
   pub within : (quotient *ℤ pos divisor) ≤ℤ z
   pub greatest : z <ℤ ((quotient +ℤ pos 1) *ℤ pos divisor)
 
--- the least number of halvings, each rounded down, that brings a size below 2^23: no size takes more than four
+-- the least number of halvings, each rounded down, that brings a size below 2^23; a size below 2^27, as
+-- every `Size` is, takes at most four
 abbrev pub halvings_of : ℕ → ℕ
 halvings_of size = unwrap_or (find (λ e. nat_lt (size / 2 ^ e) (2 ^ 23)) (0 ∷ 1 ∷ 2 ∷ 3 ∷ [])) 4
 

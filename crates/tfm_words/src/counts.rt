@@ -1,13 +1,14 @@
-ghost use Rattle.std.specs.Prelude.{◌≡◌, ◌+◌, ◌*◌, ◌≤◌, ◌↔◌, IsOk, IfOk};
-ghost use Rattle.tfm_words.specs.Counts.{AreCountsOf, HasLawfulCounts, first_word_of, size_of};
+ghost use Rattle.std.specs.Prelude.{◌≡◌, ◌+◌, ◌*◌, ◌≤◌, ◌↔◌, take, IsOk, IfOk};
+ghost use Rattle.tfm_words.specs.Counts.{AreCountsOf, HasLawfulCounts, IsLawful, first_word_of, length_of};
 ghost use Rattle.tfm_words.specs.CountFaults.{AnswersFirst, count_faults};
 
 use crate::numbers::Numbers;
 use crate::{CountFault, Table};
 use std::marker::Model;
 
-/// The twelve counts at the head of a TFM file. They are lawful: each is below 2^15, the tables fit
-/// together and none is too short, and `lf` is their length (tftopl.web, sections 8, 9 and 21).
+/// The twelve counts at the head of a TFM file. They are lawful: each is below 2^15, codes go up to
+/// 255, the header has at least two words, the four tables of measures have an entry 0, there are at
+/// most 256 recipes, and `lf` is 6 and the tables together (tftopl.web, sections 8, 9 and 21).
 #[derive(Clone, Copy, Debug, PartialEq, Eq, Hash)]
 pub struct Counts {
     numbers: Numbers,
@@ -28,32 +29,36 @@ impl Model for Counts {
 
 impl Counts {
     /// The counts in the first 24 bytes of a file, which has to hold all the words that they speak
-    /// of; bytes after word `lf` are ignored. The error is the first fault in order.
+    /// of; what stands behind the first `lf` words is not looked at. The error is the first fault in
+    /// order.
     pub fn read(bytes: &[u8]) -> Result<Self, CountFault>
         ensures accepted { IsOk result ↔ HasLawfulCounts bytes.now }
         ensures value { IfOk result (AreCountsOf bytes.now) }
+        ensures reach { IfOk result (λ c. AreCountsOf (take (4 * c.lf) bytes.now) c) }
         ensures fault { AnswersFirst (count_faults bytes.now) result }
     {
         let numbers = Numbers::checked(bytes)?;
         Ok(Counts { numbers })
     }
 
-    /// The first word and the number of words of a table: `Header` begins at word 6, and `Param` at
-    /// the word of parameter 1.
+    /// Where a table stands: the word it begins at, counted from the start of the file, and its
+    /// length in words. The header is at word 6; the table of parameters begins with the slant.
     pub fn table(&self, table: Table) -> (usize, usize)
-        ensures place { result ≡ (first_word_of self.now table, size_of self.now table) }
+        ensures place { result ≡ (first_word_of self.now table, length_of self.now table) }
         ensures within { result.0 + result.1 ≤ self.now.lf }
     {
         let place = table as usize;
         (
             self.numbers.end_of(place),
-            usize::from(self.numbers.sizes()[place]),
+            usize::from(self.numbers.lengths()[place]),
         )
     }
 
-    /// The length of the whole file, in words.
+    /// The length of the whole file, in words. The clause on all the counts, which holds of every
+    /// value, stands here.
     pub fn lf(&self) -> u16
-        ensures { result ≡ self.now.lf }
+        ensures value { result ≡ self.now.lf }
+        ensures lawful { IsLawful self.now }
     {
         self.numbers.lf
     }

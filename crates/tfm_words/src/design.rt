@@ -24,8 +24,8 @@ impl fmt::Display for DesignFault {
 
 impl Error for DesignFault {}
 
-/// The design size in scaled points: header word 1 over 16, rounded down, which has to be at least
-/// 65,536 (tex.web, section 568).
+/// The size that the font was drawn for, from the header's second word, which counts sixteenths of
+/// a scaled point; less than one point is refused (tex.web, section 568).
 pub fn design_size(bytes: &[u8], counts: &Counts) -> Result<Size, DesignFault>
     requires { AreCountsOf bytes.now counts.now }
     ensures { result ≡ design_size_of bytes.now }

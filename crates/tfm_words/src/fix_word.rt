@@ -1,12 +1,12 @@
-ghost use Rattle.std.specs.Prelude.{◌≡◌, ◌*◌, ◌-◌, ◌^◌, ◌<◌, ◌≤◌, ◌*ℤ◌, pos, IsTrue};
+ghost use Rattle.std.specs.Prelude.{◌≡◌, ◌*◌, ◌-◌, ◌^◌, ◌<◌, ◌≤◌, ◌*ℤ◌, pos, IfSome, IsTrue};
 ghost use Rattle.tfm_words.specs.Word.{value_of};
-ghost use Rattle.tfm_words.specs.Scaling.{floor_of, is_scalable, scaled_at};
+ghost use Rattle.tfm_words.specs.Scaling.{IsFloor, beta_of, floor_of, halved, is_scalable, scaled_at};
 
 use crate::Size;
 use byteorder::{BigEndian, ByteOrder};
 
-/// A signed number in units of 2^-20, as a TFM file holds its measures: fractions of the size that
-/// a font is read at (tftopl.web, section 9).
+/// A signed number in units of 2^-20, as a TFM file holds its measures; but for the design size and
+/// the slant they are multiples of the design size (tftopl.web, section 9).
 #[derive(Clone, Copy, Debug, PartialEq, Eq, PartialOrd, Ord, Hash)]
 pub struct FixWord(pub i32);
 
@@ -21,13 +21,16 @@ impl FixWord {
     /// This part of `size`, in scaled points, rounded down once; `None` for a number outside
     /// -2^24 to 2^24 - 1, which no font may scale (tex.web, sections 571 and 572).
     pub fn scaled(self, size: Size) -> Option<i32>
-        ensures { result ≡ scaled_at self.0 size }
+        ensures value { result ≡ scaled_at self.0 size }
+        ensures floor { IfSome result
+            (λ amount. IsFloor (self.0 *ℤ pos (halved size)) (65536 * beta_of size) amount) }
     {
         if !(-0x100_0000..0x100_0000).contains(&self.0) {
             return None;
         }
         let halvings = size.halvings();
-        Some(part_of(self.0, size.get() >> halvings, halvings))
+        let amount = part_of(self.0, size.get() >> halvings, halvings);
+        Some(amount)
     }
 }
 

@@ -1,7 +1,7 @@
 //! The ground of a TeX Font Metric (TFM) file: its twelve counts, its words of four bytes, its
 //! fix_words and how they scale, and its design size.
 //!
-//! No call of this crate takes memory, and each returns for all bytes.
+//! Nothing here allocates, and every call ends, whatever the bytes are, where its `requires` holds.
 #![tactic(auto)]
 
 pub use count::Count;
@@ -21,4 +21,6 @@ mod fix_word;
 mod numbers;
 mod size;
 mod table;
+#[cfg(test)]
+mod tests;
 mod word;

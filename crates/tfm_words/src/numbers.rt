@@ -1,5 +1,5 @@
 ghost use Rattle.std.specs.Prelude.{◌≡◌, ◌+◌, ◌*◌, ◌≤◌, [], ◌∷◌, length, sum, take, IfOk};
-ghost use Rattle.tfm_words.specs.Counts.{count_at as count_of, counts_of, sizes_of};
+ghost use Rattle.tfm_words.specs.Counts.{count_at as count_of, counts_of, lengths_of};
 ghost use Rattle.tfm_words.specs.CountFaults.{AnswersFirst, count_faults, is_too_large, range_faults, shape_faults};
 
 use crate::{Count, CountFault, Table};
@@ -133,10 +133,10 @@ impl Numbers {
     }
 
     /// How many words each of the ten tables has, in the file's order.
-    pub fn sizes(&self) -> [u16; 10]
+    pub fn lengths(&self) -> [u16; 10]
         requires codes { self.now.ec ≤ 255 }
         requires characters { self.now.bc ≤ self.now.ec + 1 }
-        ensures { result ≡ sizes_of self.now }
+        ensures { result ≡ lengths_of self.now }
     {
         let characters = self.ec + 1 - self.bc;
         [
@@ -150,11 +150,11 @@ impl Numbers {
         requires codes { self.now.ec ≤ 255 }
         requires characters { self.now.bc ≤ self.now.ec + 1 }
         requires tables { tables ≤ 10 }
-        ensures { result ≡ 6 + sum (take tables (sizes_of self.now)) }
+        ensures { result ≡ 6 + sum (take tables (lengths_of self.now)) }
     {
         let mut end = 6;
-        for size in &self.sizes()[..tables] {
-            end += usize::from(*size);
+        for length in &self.lengths()[..tables] {
+            end += usize::from(*length);
         }
         end
     }

@@ -4,10 +4,10 @@ ghost use Rattle.tfm_words.specs.Scaling.{halvings_of};
 use std::marker::Model;
 
 /// A size that a font is read at, in scaled points (65,536 to the point): from 1 to 134,217,727,
-/// which is less than 2,048 points (tex.web, section 568).
+/// which is less than 2,048 points (tex.web, sections 571 and 1259).
 #[derive(Clone, Copy, Debug, PartialEq, Eq, PartialOrd, Ord, Hash)]
 pub struct Size {
-    points: u32,
+    scaled_points: u32,
 }
 
 impl Model for Size {
@@ -15,21 +15,21 @@ impl Model for Size {
 
     ghost Value = { ℕ };
 
-    ghost view = { λ s. s.points };
+    ghost view = { λ s. s.scaled_points };
 
-    ghost invariant = { λ s. (1 ≤ s.points) × (s.points < 2 ^ 27) };
+    ghost invariant = { λ s. (1 ≤ s.scaled_points) × (s.scaled_points < 2 ^ 27) };
 
-    ghost inverse = { λ n. record { points = n } };
+    ghost inverse = { λ n. record { scaled_points = n } };
 }
 
 impl Size {
     /// The size of this many scaled points, or `None` outside 1 to 134,217,727.
-    pub fn new(points: u32) -> Option<Self>
-        ensures range { IsSome result ↔ ((1 ≤ points) × (points ≤ 134217727)) }
-        ensures value { IfSome result (λ size. size ≡ points) }
+    pub fn new(scaled_points: u32) -> Option<Self>
+        ensures range { IsSome result ↔ ((1 ≤ scaled_points) × (scaled_points ≤ 134217727)) }
+        ensures value { IfSome result (λ size. size ≡ scaled_points) }
     {
-        if matches!(points, 1..0x800_0000) {
-            Some(Size { points })
+        if matches!(scaled_points, 1..0x800_0000) {
+            Some(Size { scaled_points })
         } else {
             None
         }
@@ -40,7 +40,7 @@ impl Size {
         ensures value { result ≡ self }
         ensures range { (1 ≤ result) × (result ≤ 134217727) }
     {
-        self.points
+        self.scaled_points
     }
 
     /// How many halvings bring the size below 2^23, as scaling wants it.
@@ -50,7 +50,7 @@ impl Size {
         ensures enough { self / 2 ^ result < 2 ^ 23 }
         ensures least { (e : ℕ) → e < result → 2 ^ 23 ≤ self / 2 ^ e }
     {
-        match self.points {
+        match self.scaled_points {
             0..0x80_0000 => 0,
             0x80_0000..0x100_0000 => 1,
             0x100_0000..0x200_0000 => 2,

@@ -1,7 +1,8 @@
 ghost use Rattle.std.specs.Prelude.{◌≡◌, ◌+◌, ◌*◌, ◌≤◌, length};
 ghost use Rattle.tfm_words.specs.Word.{word_at as word_of};
 
-/// Word `i` of a file, which is the four bytes from place `4 * i` (tftopl.web, section 8).
+/// A file in fours of bytes: number `i` of these, counted from 0, begins at byte `4 * i`
+/// (tftopl.web, section 6).
 pub fn word_at(bytes: &[u8], i: usize) -> [u8; 4]
     requires { 4 * i + 4 ≤ length bytes.now }
     ensures { result ≡ word_of bytes.now i }

@@ -1,0 +1,7 @@
+pub mod ChainLemmas
+pub mod DecodedLemmas
+pub mod PairLemmas
+pub mod ProgramLemmas
+pub mod RangeLemmas
+pub mod SoundLemmas
+pub mod TableLemmas

@@ -1,0 +1,7 @@
+use Rattle.std.proofs.Common.{◌≡◌, ℕ, ◌<◌, ◌≤◌, None}
+use Rattle.tfm_words.specs.CountFaults.{first_fault}
+use Rattle.tfm_tables.specs.Acceptance.{index_faults}
+use Rattle.tfm_tables.proofs.checks.check_indices.Given as goal
+
+abbrev pub invariant-loop-code : goal.invariant-loop-code
+invariant-loop-code l = (k : ℕ) → l.counts.bc ≤ k → k < l.code → first_fault (index_faults l.words k) ≡ None

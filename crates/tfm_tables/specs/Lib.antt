@@ -1,0 +1,11 @@
+pub mod Table
+pub mod Header
+pub mod Character
+pub mod Program
+pub mod Measure
+pub mod Acceptance
+pub mod Sound
+pub mod Decoded
+pub mod Pairs
+pub mod Font
+pub mod Inside

@@ -1,0 +1,290 @@
+ghost use Rattle.std.specs.Prelude.{◌≡◌, ◌<◌, length, IfOk, IfErr, Ok};
+ghost use Rattle.std.specs.Option.{option_map};
+ghost use Rattle.tfm_words.specs.Counts.{AreCountsOf};
+ghost use Rattle.tfm_words.specs.DesignSize.{design_size_of};
+ghost use Rattle.tfm_words.specs.declared.table.Table.TheVariants.{LigKern, Kern, Param};
+ghost use Rattle.tfm_tables.specs.Table.{entries_of};
+ghost use Rattle.tfm_tables.specs.Font.{IsFontOf, IsRefusalOf};
+ghost use Rattle.tfm_tables.specs.Header.{check_sum_of, coding_of, face_of, family_of, seven_bit_of};
+ghost use Rattle.tfm_tables.specs.Character.{exists as exists_in, metrics_of, tag_of};
+ghost use Rattle.tfm_tables.specs.Measure.{kern_at, parameter_of};
+ghost use Rattle.tfm_tables.specs.Program.{address_between, program_of, right_code_of, start_of, step_at};
+ghost use Rattle.tfm_tables.specs.Decoded.{character_of};
+ghost use Rattle.tfm_tables.specs.Sound.{HasSoundTables, IsSoundStep};
+
+use crate::character::Character;
+use crate::checks::{check_tables, right_code};
+use crate::pairs::PairTable;
+use crate::{FontFault, LeftSide, Metrics, Step, Tag, decoding, header};
+use std::alloc::{AllocError, Global};
+use std::marker::Model;
+use tfm_words::{Counts, Size, design_size};
+
+/// A font that was accepted, at a size. Contracts see it as its words, the first `4 * lf` bytes of
+/// the file, and that size.
+#[derive(Debug, Drop)]
+pub struct Font {
+    words: Vec<u8>,
+    characters: Vec<Character>,
+    program: Vec<Step>,
+    kerns: Vec<i32>,
+    parameters: Vec<i32>,
+    pairs: PairTable,
+    left: Option<usize>,
+    counts: Counts,
+    size: Size,
+    design: Size,
+    right: Option<u8>,
+}
+
+impl Model for Font {
+    ghost use Rattle.tfm_tables.specs.Font.{FontValue};
+
+    ghost Value = { FontValue };
+
+    ghost view = { λ f. record { words = f.words.items; size = f.size } };
+
+    ghost use Rattle.tfm_tables.specs.Inside.{IsDecoded};
+
+    ghost invariant = { IsDecoded };
+}
+
+impl Font {
+    /// The font in a file, at `size`, else at its design size, which is checked in either case.
+    /// The error is the first fault in order, or want of memory, which is answered in place of no
+    /// fault of counts or design size.
+    #[tactic(auto, using(crate::proofs::SoundLemmas::reading))]
+    pub fn read(alloc: Global, bytes: &[u8], size: Option<Size>) -> Result<Font, FontFault>
+        ensures ok { IfOk result (IsFontOf bytes.now size) }
+        ensures fault { IfErr result (IsRefusalOf bytes.now) }
+    {
+        let counts = match Counts::read(bytes) {
+            Ok(counts) => counts,
+            Err(fault) => return Err(FontFault::Counts(fault)),
+        };
+        let words = &bytes[..4 * usize::from(counts.lf())];
+        let design = match design_size(words, &counts) {
+            Ok(design) => design,
+            Err(fault) => return Err(FontFault::Design(fault)),
+        };
+        if let Err(fault) = check_tables(words, &counts) {
+            return Err(fault);
+        }
+        match Font::decode(alloc, words, counts, design, size.unwrap_or(design)) {
+            Ok(font) => Ok(font),
+            Err(_) => Err(FontFault::OutOfMemory),
+        }
+    }
+
+    #[tactic(auto, using(crate::proofs::DecodedLemmas::sized))]
+    fn decode(
+        alloc: Global,
+        words: &[u8],
+        counts: Counts,
+        design: Size,
+        size: Size,
+    ) -> Result<Font, AllocError>
+        requires counts { AreCountsOf words.now counts }
+        requires sound { HasSoundTables words.now }
+        requires design { design_size_of words.now ≡ Ok design }
+        ensures { IfOk result (λ font. (font.words ≡ words.now) × (font.size ≡ size)) }
+    {
+        let program = decoding::program(alloc, words, &counts)?;
+        let characters = decoding::characters(alloc, words, &counts, size, &program)?;
+        let kerns = decoding::kerns(alloc, words, &counts, size)?;
+        let parameters = decoding::parameters(alloc, words, &counts, size)?;
+        let left = decoding::left_start(&program);
+        let pairs = decoding::pairs(alloc, &program, &characters, left)?;
+        Ok(Font {
+            words: Vec::from_slice(alloc, words)?,
+            left,
+            pairs,
+            right: right_code(words, &counts),
+            characters,
+            program,
+            kerns,
+            parameters,
+            counts,
+            size,
+            design,
+        })
+    }
+
+    #[tactic(auto, using(crate::proofs::DecodedLemmas::characters))]
+    fn character(&self, code: u8) -> Character
+        ensures { result ≡ character_of self.now.words self.now.size code }
+    {
+        self.characters[usize::from(code)]
+    }
+
+    /// Whether a character exists.
+    #[tactic(auto, unfolding(crate::specs::Decoded::character_of))]
+    pub fn exists(&self, code: u8) -> bool
+        ensures { result ≡ exists_in self.now.words code }
+    {
+        self.character(code).tag.is_some()
+    }
+
+    /// The measures of a character; `None` where it doesn't exist.
+    #[tactic(auto, unfolding(crate::specs::Decoded::character_of))]
+    pub fn metrics(&self, code: u8) -> Option<Metrics>
+        ensures { result ≡ metrics_of self.now.words self.now.size code }
+    {
+        self.character(code).metrics
+    }
+
+    /// The tag of a character; `None` where it doesn't exist.
+    #[tactic(auto, unfolding(crate::specs::Decoded::character_of))]
+    pub fn tag(&self, code: u8) -> Option<Tag>
+        ensures { result ≡ tag_of self.now.words code }
+    {
+        self.character(code).tag
+    }
+
+    /// The address at which the program of a left side begins, after one indirection for a
+    /// character and none for the boundary; `None` where there is no program, also for a code that
+    /// doesn't exist.
+    #[tactic(auto, unfolding(crate::specs::Decoded::character_of))]
+    pub fn start(&self, left: LeftSide) -> Option<usize>
+        ensures { result ≡ start_of self.now.words left }
+    {
+        match left {
+            LeftSide::Boundary => self.left,
+            LeftSide::Char(code) => self.character(code).start,
+        }
+    }
+
+    /// The address of the instruction for a left side and the code to its right: the first in the
+    /// chain of the left side's program that is for this code and has a skip of at most 128. `None`
+    /// where there is none, also for a code that doesn't exist or has no program. It is looked up by
+    /// halving.
+    pub fn find(&self, left: LeftSide, code: u8) -> Option<usize>
+        ensures { result ≡ address_between self.now.words left code }
+    {
+        match left {
+            LeftSide::Boundary => self.pairs.find(256, code),
+            LeftSide::Char(left) => self.pairs.find(usize::from(left), code),
+        }
+    }
+
+    /// How many instructions there are.
+    #[tactic(auto, using(crate::proofs::ProgramLemmas::reads))]
+    pub fn steps(&self) -> usize
+        ensures { result ≡ entries_of self.now.words LigKern }
+    {
+        self.program.len()
+    }
+
+    /// The instruction at an address. All that it names is there.
+    #[tactic(auto, using(crate::proofs::ProgramLemmas::reads))]
+    pub fn step(&self, i: usize) -> Step
+        requires { i < entries_of self.now.words LigKern }
+        ensures value { result ≡ step_at self.now.words i }
+        ensures sound { IsSoundStep self.now.words i result }
+    {
+        self.program[i]
+    }
+
+    /// The code of the right boundary character, which needn't exist.
+    pub fn right_boundary(&self) -> Option<u8>
+        ensures { result ≡ right_code_of (program_of self.now.words) }
+    {
+        self.right
+    }
+
+    /// How many kerns there are.
+    #[tactic(auto, using(crate::proofs::DecodedLemmas::entries))]
+    pub fn kerns(&self) -> usize
+        ensures { result ≡ entries_of self.now.words Kern }
+    {
+        self.kerns.len()
+    }
+
+    /// Kern `k`, in scaled points.
+    #[tactic(auto, using(crate::proofs::DecodedLemmas::entries))]
+    pub fn kern(&self, k: usize) -> i32
+        requires { k < entries_of self.now.words Kern }
+        ensures { result ≡ kern_at self.now.words self.now.size k }
+    {
+        self.kerns[k]
+    }
+
+    /// How many parameters there are.
+    #[tactic(auto, using(crate::proofs::DecodedLemmas::entries))]
+    pub fn params(&self) -> usize
+        ensures { result ≡ entries_of self.now.words Param }
+    {
+        self.parameters.len()
+    }
+
+    /// Parameter `number`, from 1, in scaled points, but for the slant, number 1, which is a plain
+    /// number in units of 2^-20; 0 where there is no such parameter.
+    #[tactic(auto, using(crate::proofs::DecodedLemmas::parameters))]
+    pub fn param(&self, number: usize) -> i32
+        ensures { result ≡ parameter_of self.now.words self.now.size number }
+    {
+        if number == 0 {
+            return 0;
+        }
+        if number > self.parameters.len() {
+            return 0;
+        }
+        self.parameters[number - 1]
+    }
+
+    /// The width of a space: parameter 2, in scaled points.
+    pub fn space(&self) -> i32
+        ensures { result ≡ parameter_of self.now.words self.now.size 2 }
+    {
+        self.param(2)
+    }
+
+    /// The size that the font was read at.
+    pub fn size(&self) -> Size
+        ensures { result ≡ self.now.size }
+    {
+        self.size
+    }
+
+    /// The design size.
+    pub fn design(&self) -> Size
+        ensures { design_size_of self.now.words ≡ Ok result }
+    {
+        self.design
+    }
+
+    /// The check sum, as it stands in the file.
+    pub fn check_sum(&self) -> u32
+        ensures { result ≡ check_sum_of self.now.words }
+    {
+        header::check_sum(&self.words, &self.counts)
+    }
+
+    /// The coding scheme; `None` where the header is too short for one.
+    pub fn coding(&self) -> Option<&[u8]>
+        ensures { option_map (λ text. text.now) result ≡ coding_of self.now.words }
+    {
+        header::coding(&self.words, &self.counts)
+    }
+
+    /// The family; `None` where the header is too short for one.
+    pub fn family(&self) -> Option<&[u8]>
+        ensures { option_map (λ text. text.now) result ≡ family_of self.now.words }
+    {
+        header::family(&self.words, &self.counts)
+    }
+
+    /// Whether the font says that it is seven-bit safe; `None` where the header is too short.
+    pub fn seven_bit(&self) -> Option<bool>
+        ensures { result ≡ seven_bit_of self.now.words }
+    {
+        header::seven_bit(&self.words, &self.counts)
+    }
+
+    /// The face; `None` where the header is too short.
+    pub fn face(&self) -> Option<u8>
+        ensures { result ≡ face_of self.now.words }
+    {
+        header::face(&self.words, &self.counts)
+    }
+}

@@ -1,0 +1,9 @@
+/// The measures of a character, in scaled points at the font's size (tftopl.web, section 11).
+#[derive(Clone, Copy, Debug, PartialEq, Eq, Hash)]
+pub struct Metrics {
+    pub width: i32,
+    pub height: i32,
+    pub depth: i32,
+    /// The italic correction.
+    pub italic: i32,
+}

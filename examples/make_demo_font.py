@@ -1,0 +1,288 @@
+#!/usr/bin/env python3
+"""Writes demo.tfm, a small font of this repository's own, beside this script.
+
+The numbers are made up, in the manner of a text face at 10 points. There are no drawings to go with them: a TFM file
+holds only measures, and measures are all that tfmset reads.
+
+Run it with no arguments. It gives the same bytes each time, and it checks them before it writes any. It needs
+nothing but Python 3, and it is a plain script: nothing about it is proved.
+"""
+
+import struct
+from pathlib import Path
+
+# Codes outside the letters. The three ligatures stand where TeX's own text fonts have them.
+FF, FI, FFI = 11, 12, 14
+HYPHEN, PERIOD = ord("-"), ord(".")
+# The code that stands for the end of a word in the program below. No character of the font has it.
+RIGHT_BOUNDARY = 124
+
+# Heights above the baseline and depths below it, in thousandths of the design size.
+DOT, X, TEE, DOTTED, TALL = 110, 440, 620, 660, 700
+FLAT, TAIL = 0, 200
+
+# code: (width, height, depth, italic correction), in thousandths of the design size.
+# The hook of an f reaches past its right edge, which its italic correction tells.
+CHARACTERS = {
+    FF: (585, TALL, FLAT, 70),
+    FI: (560, TALL, FLAT, 0),
+    FFI: (840, TALL, FLAT, 0),
+    HYPHEN: (330, 250, FLAT, 0),
+    PERIOD: (275, DOT, FLAT, 0),
+    ord("a"): (490, X, FLAT, 0),
+    ord("b"): (550, TALL, FLAT, 0),
+    ord("c"): (440, X, FLAT, 0),
+    ord("d"): (550, TALL, FLAT, 0),
+    ord("e"): (450, X, FLAT, 0),
+    ord("f"): (310, TALL, FLAT, 70),
+    ord("g"): (500, X, TAIL, 15),
+    ord("h"): (560, TALL, FLAT, 0),
+    ord("i"): (280, DOTTED, FLAT, 0),
+    ord("j"): (300, DOTTED, TAIL, 0),
+    ord("k"): (530, TALL, FLAT, 0),
+    ord("l"): (280, TALL, FLAT, 0),
+    ord("m"): (840, X, FLAT, 0),
+    ord("n"): (560, X, FLAT, 0),
+    ord("o"): (510, X, FLAT, 0),
+    ord("p"): (550, X, TAIL, 0),
+    ord("q"): (530, X, TAIL, 0),
+    ord("r"): (390, X, FLAT, 0),
+    ord("s"): (400, X, FLAT, 0),
+    ord("t"): (380, TEE, FLAT, 0),
+    ord("u"): (560, X, FLAT, 0),
+    ord("v"): (520, X, FLAT, 15),
+    ord("w"): (730, X, FLAT, 15),
+    ord("x"): (530, X, FLAT, 0),
+    ord("y"): (520, X, TAIL, 15),
+    ord("z"): (440, X, FLAT, 0),
+}
+
+# The kerns, in thousandths of the design size, in the order of their table.
+KERNS = [-80, -40, -25, -15, 30]
+
+# What an instruction's skip byte says when it isn't a number of instructions to pass over.
+STOP, IS_BOUNDARY = 128, 255
+
+
+def code_of(character):
+    """A character's code, where it is given as a letter; else it is the code."""
+    return ord(character) if isinstance(character, str) else character
+
+
+def ligature(next_char, becomes, skip=0):
+    """An instruction: before next_char, both characters become the one named."""
+    return (
+        skip,  # skip byte: how many instructions to pass over where next_char doesn't match
+        code_of(next_char),  # next_char: the character that has to follow
+        0,  # op byte: 0 replaces both characters by the ligature
+        becomes,  # remainder: the ligature's code
+    )
+
+
+def kern(next_char, amount, skip=0):
+    """An instruction: before next_char, this much room is put between the two."""
+    index = KERNS.index(amount)
+    return (
+        skip,  # skip byte: as in a ligature
+        code_of(next_char),  # next_char: as in a ligature
+        128 + index // 256,  # op byte: 128 or more makes it a kern
+        index % 256,  # remainder: with the op byte less 128, the place in the table of kerns
+    )
+
+
+PROGRAM = [
+    # 0: never met in a search: it names the right boundary's code. Its last two bytes serve for nothing here, but have
+    # to be a place in the program, as in every instruction with a skip byte above 128.
+    (IS_BOUNDARY, RIGHT_BOUNDARY, 0, 0),
+    # 1: ff begins here: ff i becomes ffi; otherwise on to 4, past what is for f alone
+    ligature("i", FFI, skip=2),
+    # 2: f begins here: f i becomes fi
+    ligature("i", FI),
+    # 3: f f becomes ff
+    ligature("f", FF),
+    # 4: f and ff at the end of a word: some room for the hook
+    kern(RIGHT_BOUNDARY, 30, skip=STOP),
+    # 5: a begins here
+    kern("v", -25),
+    kern("w", -25),
+    kern("y", -25, skip=STOP),
+    # 8: b, o and p begin here, round on the right
+    kern("v", -15),
+    kern("w", -15),
+    kern("x", -25),
+    kern("y", -15, skip=STOP),
+    # 12: v, w and y begin here, open at the foot
+    kern(".", -80),
+    # 13: k begins here, and the three above go on
+    kern("a", -40),
+    kern("e", -25),
+    kern("o", -25, skip=STOP),
+]
+
+# code: the instruction at which the character's program begins
+STARTS = {
+    FF: 1,
+    ord("f"): 2,
+    ord("a"): 5,
+    ord("b"): 8,
+    ord("o"): 8,
+    ord("p"): 8,
+    ord("v"): 12,
+    ord("w"): 12,
+    ord("y"): 12,
+    ord("k"): 13,
+}
+
+# The parameters, in thousandths: the slant as a ratio, the others of the design size.
+PARAMETERS = [
+    0,  # 1 slant: upright
+    320,  # 2 space between words
+    160,  # 3 stretch of that space
+    105,  # 4 shrink of that space
+    440,  # 5 x-height, that of the small letters
+    1000,  # 6 quad
+    110,  # 7 extra space after a sentence
+]
+
+
+def fix_word(thousandths):
+    """The nearest fix_word: a signed number in units of 2^-20."""
+    return (thousandths * 2**20 + 500) // 1000
+
+
+def fix_words(thousandths):
+    """A table's words."""
+    return b"".join(struct.pack(">i", fix_word(it)) for it in thousandths)
+
+
+def text(value, size):
+    """A header text in a field of this many bytes: its length, its bytes, and zeros to the end."""
+    return (bytes([len(value)]) + value.encode("ascii")).ljust(size, b"\0")
+
+
+def measures(column):
+    """The different values of one column of CHARACTERS, after the 0 that each of the four tables begins with."""
+    return [0] + sorted({it[column] for it in CHARACTERS.values()} - {0})
+
+
+def header():
+    """Eighteen words."""
+    return b"".join([
+        b"DEMO",  # 0 check sum: any four bytes; a driver compares them with those of the drawings' file
+        struct.pack(">i", 10 * 2**20),  # 1 design size: 10 points, as a fix_word
+        text("DEMO TEXT", 40),  # 2..11 coding scheme
+        text("DEMO", 20),  # 12..16 family
+        bytes([
+            128,  # 17, first byte: seven-bit safe, since no code below 128 leads to one above 127
+            0,  # second byte: not used
+            0,  # third byte: not used
+            0,  # fourth byte: the face, medium roman of regular width
+        ]),
+    ])
+
+
+def char_info(code, widths, heights, depths, italics):
+    """The word of one code; four zeros for a code that has no character."""
+    if code not in CHARACTERS:
+        return bytes(4)
+    width, height, depth, italic = CHARACTERS[code]
+    tag = 1 if code in STARTS else 0
+    return bytes([
+        widths.index(width),  # width_index: never 0, which would say that there is no such character
+        16 * heights.index(height) + depths.index(depth),  # height_index in four bits, depth_index in four
+        4 * italics.index(italic) + tag,  # italic_index in six bits, tag in two: 1 has a program, 0 has none
+        STARTS.get(code, 0),  # remainder: for tag 1, where the program begins
+    ])
+
+
+def font():
+    """The whole file."""
+    bc, ec = min(CHARACTERS), max(CHARACTERS)
+    columns = [measures(it) for it in range(4)]
+    tables = [
+        header(),  # lh words
+        b"".join(char_info(it, *columns) for it in range(bc, ec + 1)),  # ec - bc + 1 words
+        *map(fix_words, columns),  # nw, nh, nd, ni words: width, height, depth, italic correction
+        b"".join(map(bytes, PROGRAM)),  # nl words
+        fix_words(KERNS),  # nk words
+        b"",  # ne words: no extensible recipes
+        fix_words(PARAMETERS),  # np words
+    ]
+    lh, _, nw, nh, nd, ni, nl, nk, ne, np = (len(it) // 4 for it in tables)
+    lf = 6 + sum(len(it) for it in tables) // 4
+    return struct.pack(">12H", lf, lh, bc, ec, nw, nh, nd, ni, nl, nk, ne, np) + b"".join(tables)
+
+
+def must(holds, rule):
+    """Ends the script where a rule doesn't hold (an assert would be passed over under python -O)."""
+    if not holds:
+        raise SystemExit(f"make_demo_font.py: nothing was written, since this doesn't hold: {rule}")
+
+
+def check_counts(data):
+    """The rules of the counts and of the design size, over the bytes alone; returns the counts by name."""
+    must(len(data) >= 24, "there is room for the counts")
+    names = "lf lh bc ec nw nh nd ni nl nk ne np".split()
+    count = dict(zip(names, struct.unpack(">12H", data[:24])))
+    must(all(it < 2**15 for it in count.values()), "each count is below 32768")
+    must(count["bc"] <= count["ec"] + 1 and count["ec"] <= 255, "the codes run from bc to ec, at most 255")
+    must(count["lh"] >= 2, "the header has a check sum and a design size")
+    must(all(count[it] > 0 for it in ("nw", "nh", "nd", "ni")), "the four tables of measures have an entry 0")
+    must(count["ne"] <= 256, "there are at most 256 recipes")
+    parts = sum(count[it] for it in ("lh", "nw", "nh", "nd", "ni", "nl", "nk", "ne", "np"))
+    must(count["lf"] == 6 + parts + count["ec"] - count["bc"] + 1, "lf is the sum of the parts")
+    must(len(data) == 4 * count["lf"], "the file has lf words and nothing more")
+    must(struct.unpack(">i", data[28:32])[0] >= 2**20, "the design size is 1 point or more")
+    return count
+
+
+def check_tables(data, count):
+    """The rules of the tables, over the bytes alone."""
+    words, at = {}, 24
+    codes = range(count["bc"], count["ec"] + 1)
+    sizes = {"header": count["lh"], "char_info": len(codes), "width": count["nw"], "height": count["nh"]}
+    sizes |= {"depth": count["nd"], "italic": count["ni"], "lig_kern": count["nl"], "kern": count["nk"]}
+    sizes |= {"exten": count["ne"], "param": count["np"]}
+    for name, size in sizes.items():
+        words[name] = [data[at + 4 * it : at + 4 * it + 4] for it in range(size)]
+        at += 4 * size
+    most = {"nw": 256, "nh": 16, "nd": 16, "ni": 64}
+    must(all(count[it] <= most[it] for it in most), "an index can name each entry of the four tables of measures")
+    info = dict(zip(codes, words["char_info"]))
+    exists = {code for code, it in info.items() if it[0] != 0}
+    must(exists == {*CHARACTERS}, "the characters that exist are those of the list above")
+    for code, (width, both, italic_and_tag, remainder) in info.items():
+        must(width < count["nw"], f"the width of character {code} is in its table")
+        must(both >> 4 < count["nh"], f"the height of character {code} is in its table")
+        must(both & 15 < count["nd"], f"the depth of character {code} is in its table")
+        must(italic_and_tag >> 2 < count["ni"], f"the italic correction of character {code} is in its table")
+        has_program = italic_and_tag & 3 == 1
+        must(not has_program or remainder < count["nl"], f"the program of character {code} begins in its table")
+    for name in ("width", "height", "depth", "italic"):
+        must(words[name][0] == bytes(4), f"entry 0 of the table {name} is zero")
+    for name in ("width", "height", "depth", "italic", "kern", "param"):
+        # (parameter 1, the slant, isn't scaled, and may be any number)
+        checked = words[name][1:] if name == "param" else words[name]
+        must(all(it[0] in (0, 255) for it in checked), f"each number of the table {name} is below 16 in size")
+    program = words["lig_kern"]
+    boundary = program[0][1] if program and program[0][0] == 255 else None
+    for index, (skip, next_char, op, remainder) in enumerate(program):
+        if skip > 128:
+            must(256 * op + remainder < count["nl"], f"instruction {index} points into the program")
+            continue
+        must(next_char in exists or next_char == boundary, f"instruction {index} waits for something that can come")
+        if op < 128:
+            must(remainder in exists, f"instruction {index} makes a character that exists")
+        else:
+            must(256 * (op - 128) + remainder < count["nk"], f"instruction {index} has a kern of the table")
+        must(skip == 128 or index + skip + 1 < count["nl"], f"instruction {index} leads to another one")
+
+
+def main():
+    data = font()
+    check_tables(data, check_counts(data))
+    Path(__file__).with_name("demo.tfm").write_bytes(data)
+
+
+if __name__ == "__main__":
+    main()
