@@ -1,0 +1,45 @@
+-- The text of the counts of a font: twelve lines for the counts, and one for the design size.
+-- Public source: the names and their order are those of tftopl.web, section 8; the text is this project's own.
+use Rattle.std.specs.Prelude.{ℕ, List, [], ◌∷◌, ◌++◌, codes, decimal, flat_map}
+use Rattle.std.specs.Borrow.{Bor}
+use Rattle.std.specs.Result.{result_unwrap_or}
+use Rattle.tfm_words.specs.declared.numbers.Numbers.{Numbers}
+use Rattle.tfm_words.specs.Counts.{counts_of}
+use Rattle.tfm_words.specs.DesignSize.{design_size_of}
+
+-- each count behind its name, in the file's order
+unfoldable pub count_rows : Numbers → List (List ℕ × ℕ)
+count_rows c =
+    (codes "lf", c.lf)
+    ∷ (codes "lh", c.lh)
+    ∷ (codes "bc", c.bc)
+    ∷ (codes "ec", c.ec)
+    ∷ (codes "nw", c.nw)
+    ∷ (codes "nh", c.nh)
+    ∷ (codes "nd", c.nd)
+    ∷ (codes "ni", c.ni)
+    ∷ (codes "nl", c.nl)
+    ∷ (codes "nk", c.nk)
+    ∷ (codes "ne", c.ne)
+    ∷ (codes "np", c.np)
+    ∷ []
+
+-- the line of a row: the name, a space, the number in decimal and a line feed
+abbrev pub row_text : List ℕ × ℕ → List ℕ
+row_text row = row.0 ++ codes " " ++ decimal row.1 ++ codes "\n"
+
+-- the lines of rows, one after the other
+abbrev pub rows_text : List (List ℕ × ℕ) → List ℕ
+rows_text rows = flat_map row_text rows
+
+-- the rows of counts and a design size
+abbrev pub font_rows : Numbers → ℕ → List (List ℕ × ℕ)
+font_rows c points = count_rows c ++ (codes "design", points) ∷ []
+
+-- the text of the counts of a font, whose counts and whose design size are accepted
+abbrev pub counts_text_of : List ℕ → List ℕ
+counts_text_of bytes = rows_text (font_rows (counts_of bytes) (result_unwrap_or (design_size_of bytes) 0))
+
+-- the row that a name behind a reference and a number show
+abbrev pub row_of : Bor (List ℕ) × ℕ → List ℕ × ℕ
+row_of shown = (shown.0.now, shown.1)

@@ -1,0 +1,2 @@
+pub mod CountsText
+pub mod Status

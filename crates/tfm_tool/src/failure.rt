@@ -1,0 +1,57 @@
+ghost use Rattle.std.specs.Prelude.{◌≡◌};
+ghost use Rattle.tfm_tool.specs.declared.failure.Failure.TheVariants.{Tool};
+ghost use Rattle.tfm_tool.specs.Status.{failure_of, status_of};
+
+use crate::ToolFault;
+use crate::files::ReadFault;
+use thiserror::Error;
+
+/// Why the program ends with a status other than 0. Its message is all that goes to the standard
+/// error.
+#[derive(Debug, Drop, Error)]
+pub(crate) enum Failure {
+    /// The words are refused.
+    #[error("{0}")]
+    Usage(clap::Error),
+    /// The font's bytes were not had.
+    #[error("tfmset: font not read\n")]
+    NotRead,
+    /// The text was not written.
+    #[error("tfmset: {0}\n")]
+    Tool(ToolFault),
+}
+
+impl Failure {
+    /// The status that the program ends with.
+    pub fn status(&self) -> u8
+        ensures { result ≡ status_of self.now }
+    {
+        match self {
+            Failure::Usage(_) => 2,
+            Failure::Tool(ToolFault::Counts(_)) => 3,
+            Failure::Tool(ToolFault::Design(_)) => 3,
+            Failure::NotRead => 4,
+            Failure::Tool(ToolFault::OutOfMemory) => 5,
+            Failure::Tool(ToolFault::Write) => 5,
+        }
+    }
+}
+
+impl From<ToolFault> for Failure {
+    ghost from_gives = { λ fault failure. failure ≡ Tool fault };
+
+    fn from(fault: ToolFault) -> Failure {
+        Failure::Tool(fault)
+    }
+}
+
+impl From<ReadFault> for Failure {
+    ghost from_gives = { λ fault failure. failure ≡ failure_of fault };
+
+    fn from(fault: ReadFault) -> Failure {
+        match fault {
+            ReadFault::NotRead => Failure::NotRead,
+            ReadFault::OutOfMemory => Failure::Tool(ToolFault::OutOfMemory),
+        }
+    }
+}

@@ -1,0 +1,15 @@
+//! The texts that `tfmset` writes, and the whole program over its words, a reader and two writers.
+#![tactic(auto)]
+
+pub use counts::counts_text;
+pub use fault::ToolFault;
+pub use program::{tool, words_refused};
+
+mod counts;
+mod failure;
+mod fault;
+mod files;
+mod program;
+#[cfg(test)]
+mod tests;
+mod words;

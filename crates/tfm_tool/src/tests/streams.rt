@@ -1,0 +1,232 @@
+use super::*;
+use std::io::{ErrorKind, Read, Write};
+use std::test::Fail;
+use std::{env, fs, io, process};
+
+/// Gives its bytes a few at a time, and fails once its good reads are used up.
+#[derive(Drop)]
+struct Trickle<'a> {
+    bytes: &'a [u8],
+    step: usize,
+    good_reads: usize,
+}
+
+impl Read for Trickle<'_> {
+    fn read(&mut self, buf: &mut [u8]) -> io::Result<usize> {
+        if self.good_reads == 0 {
+            return Err(io::Error::from(ErrorKind::Other));
+        }
+        self.good_reads -= 1;
+        let count = self.step.min(self.bytes.len()).min(buf.len());
+        let (front, rest) = self.bytes.split_at(count);
+        buf[..count].copy_from_slice(front);
+        self.bytes = rest;
+        Ok(count)
+    }
+}
+
+/// Takes a few bytes at a time, and fails once its good writes are used up, or at each flush.
+#[derive(Drop)]
+struct Frail {
+    text: Vec<u8>,
+    step: usize,
+    good_writes: usize,
+    flushes: bool,
+}
+
+impl Frail {
+    fn new(alloc: Global, step: usize, good_writes: usize, flushes: bool) -> Frail {
+        Frail {
+            text: Vec::new(alloc),
+            step,
+            good_writes,
+            flushes,
+        }
+    }
+}
+
+impl Write for Frail {
+    fn write(&mut self, buf: &[u8]) -> io::Result<usize> {
+        if self.good_writes == 0 {
+            return Err(io::Error::from(ErrorKind::Other));
+        }
+        self.good_writes -= 1;
+        let count = self.step.min(buf.len());
+        self.text.extend_from_slice(&buf[..count])?;
+        Ok(count)
+    }
+
+    fn flush(&mut self) -> io::Result<()> {
+        if self.flushes {
+            Ok(())
+        } else {
+            Err(io::Error::from(ErrorKind::Other))
+        }
+    }
+}
+
+#[test]
+fn fonts_that_are_not_read(rt: HostRuntime) -> Result<(), Fail> {
+    for font in ["no/such/font.tfm", "", "."] {
+        let done = run(&rt, &["counts", font], &NO_CHARACTERS);
+        assert!(rt; done.is(4, b"", b"tfmset: font not read\n"), "{font:?}");
+    }
+    let id = process::id(rt.process());
+    let folder = env::temp_dir(&rt)?;
+    let name = format!(in rt.alloc(); "{}/tfmset-{id}.tfm", folder.as_path().display())?;
+    fs::write(&rt, name.as_str(), NO_CHARACTERS.as_slice())?;
+    let done = run(&rt, &["counts", name.as_str()], b"");
+    fs::remove_file(&rt, name.as_str())?;
+    assert!(rt; done.is(0, TEXT.as_bytes(), b""), "a file");
+    Ok(())
+}
+
+/// The counts of what a reader gives.
+fn run_on<R: Files + AllocGlobal>(rt: &R, mut input: Trickle<'_>) -> Outcome {
+    let mut out = Vec::new(rt.alloc());
+    let mut err = Vec::new(rt.alloc());
+    let status = tool(rt, &["counts", "-"], &mut input, &mut out, &mut err);
+    Outcome { status, out, err }
+}
+
+#[test]
+fn a_read_that_fails_is_never_the_end(rt: HostRuntime) -> Result<(), Fail> {
+    for step in [1, 7, 48, 4096] {
+        // 48 bytes, and then the end.
+        let reads = 48usize.div_ceil(step) + 1;
+        for good_reads in 0..reads {
+            let bytes = NO_CHARACTERS.as_slice();
+            let done = run_on(
+                &rt,
+                Trickle {
+                    bytes,
+                    step,
+                    good_reads,
+                },
+            );
+            let case = "fails after";
+            assert!(rt;
+                done.is(4, b"", b"tfmset: font not read\n"),
+                "{case} {good_reads}"
+            );
+        }
+        let bytes = NO_CHARACTERS.as_slice();
+        let done = run_on(
+            &rt,
+            Trickle {
+                bytes,
+                step,
+                good_reads: reads,
+            },
+        );
+        assert!(rt; done.is(0, TEXT.as_bytes(), b""), "{step} bytes a read");
+    }
+    Ok(())
+}
+
+#[test]
+fn a_font_is_read_whole_by_1048576_reads(rt: HostRuntime) -> Result<(), Fail> {
+    let mut font = Vec::from_slice(rt.alloc(), &NO_CHARACTERS)?;
+    font.resize(1_048_575, 0)?;
+    let bytes = font.as_slice();
+    let done = run_on(
+        &rt,
+        Trickle {
+            bytes,
+            step: 1,
+            good_reads: usize::MAX,
+        },
+    );
+    assert!(rt;
+        done.is(0, TEXT.as_bytes(), b""),
+        "the last read is the end"
+    );
+    font.push(0)?;
+    let bytes = font.as_slice();
+    let done = run_on(
+        &rt,
+        Trickle {
+            bytes,
+            step: 1,
+            good_reads: usize::MAX,
+        },
+    );
+    assert!(rt;
+        done.is(4, b"", b"tfmset: font not read\n"),
+        "one read more"
+    );
+    Ok(())
+}
+
+/// The status of a run over a writer, and what is on standard error.
+fn run_to<R: Files + AllocGlobal>(rt: &R, words: &[&str], out: &mut Frail) -> (u8, Vec<u8>) {
+    let mut input = NO_CHARACTERS.as_slice();
+    let mut err = Vec::new(rt.alloc());
+    let status = tool(rt, words, &mut input, out, &mut err);
+    (status, err)
+}
+
+#[test]
+fn a_write_that_fails_is_told(rt: HostRuntime) -> Result<(), Fail> {
+    let failed = b"tfmset: output failed\n".as_slice();
+    // 75 bytes, ten at a time
+    for good_writes in 0..8 {
+        let mut out = Frail::new(rt.alloc(), 10, good_writes, true);
+        let (status, err) = run_to(&rt, &["counts", "-"], &mut out);
+        assert!(rt;
+            status == 5 && err.as_slice() == failed,
+            "fails after {good_writes}"
+        );
+        assert!(rt; out.text.len() == 10 * good_writes, "after {good_writes}");
+        assert!(rt;
+            TEXT.as_bytes().starts_with(out.text.as_slice()),
+            "after {good_writes}"
+        );
+    }
+    let mut out = Frail::new(rt.alloc(), 10, 8, true);
+    let (status, err) = run_to(&rt, &["counts", "-"], &mut out);
+    assert!(rt; status == 0 && err.is_empty());
+    assert!(rt; out.text.as_slice() == TEXT.as_bytes());
+    Ok(())
+}
+
+#[test]
+fn a_device_that_is_full_is_told(rt: HostRuntime) -> Result<(), Fail> {
+    let failed = b"tfmset: output failed\n".as_slice();
+    for words in [
+        ["counts", "-"].as_slice(),
+        &["--help"],
+        &["--version"],
+        &["help", "counts"],
+    ] {
+        for (good_writes, flushes) in [(0, true), (usize::MAX, false)] {
+            let mut out = Frail::new(rt.alloc(), 4096, good_writes, flushes);
+            let (status, err) = run_to(&rt, words, &mut out);
+            assert!(rt;
+                status == 5 && err.as_slice() == failed,
+                "{words:?}, {good_writes}"
+            );
+        }
+    }
+    Ok(())
+}
+
+#[test]
+fn a_refusal_keeps_its_status_where_nothing_can_be_said(rt: HostRuntime) -> Result<(), Fail> {
+    for (words, status) in [
+        ([].as_slice(), 2),
+        (&["list"], 2),
+        (&["counts", "-"], 3),
+        (&["counts", "no/such/font.tfm"], 4),
+    ] {
+        let mut input = b"".as_slice();
+        let mut out = Frail::new(rt.alloc(), 4096, 0, false);
+        let mut err = Frail::new(rt.alloc(), 4096, 0, false);
+        assert_eq!(rt;
+            tool(&rt, words, &mut input, &mut out, &mut err),
+            status,
+            "{words:?}"
+        );
+    }
+    Ok(())
+}
