@@ -21,3 +21,5 @@ mod pairs;
 mod step;
 mod tables;
 mod tag;
+#[cfg(test)]
+mod tests;

@@ -1,2 +1,3 @@
 pub mod CountsTextLemmas
+pub mod ListingLemmas
 pub mod StatusLemmas

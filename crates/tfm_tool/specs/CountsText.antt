@@ -1,11 +1,16 @@
 -- The text of the counts of a font: twelve lines for the counts, and one for the design size.
 -- Public source: the names and their order are those of tftopl.web, section 8; the text is this project's own.
-use Rattle.std.specs.Prelude.{ℕ, List, [], ◌∷◌, ◌++◌, codes, decimal, flat_map}
+use Rattle.std.specs.Prelude.{ℕ, List, [], ◌∷◌, ◌++◌, codes, decimal, flat_map, Option, Some, None, Result, Ok, Err}
 use Rattle.std.specs.Borrow.{Bor}
 use Rattle.std.specs.Result.{result_unwrap_or}
 use Rattle.tfm_words.specs.declared.numbers.Numbers.{Numbers}
 use Rattle.tfm_words.specs.Counts.{counts_of}
+use Rattle.tfm_words.specs.CountFaults.{count_fault_of}
 use Rattle.tfm_words.specs.DesignSize.{design_size_of}
+use Rattle.tfm_words.specs.declared.count_fault.CountFault.{CountFault}
+use Rattle.tfm_words.specs.declared.design.DesignFault.{DesignFault}
+use Rattle.tfm_tables.specs.declared.fault.FontFault.{FontFault}
+use Rattle.tfm_tables.specs.declared.fault.FontFault.TheVariants.{Counts, Design}
 
 -- each count behind its name, in the file's order
 unfoldable pub count_rows : Numbers → List (List ℕ × ℕ)
@@ -43,3 +48,17 @@ counts_text_of bytes = rows_text (font_rows (counts_of bytes) (result_unwrap_or 
 -- the row that a name behind a reference and a number show
 abbrev pub row_of : Bor (List ℕ) × ℕ → List ℕ × ℕ
 row_of shown = (shown.0.now, shown.1)
+
+-- a refused design size as a font's fault
+abbrev pub design_fault : Result ℕ DesignFault → Option FontFault
+design_fault (Ok _) = None
+design_fault (Err fault) = Some (Design fault)
+
+-- the same of refused counts, behind which the design size isn't looked at
+abbrev pub counts_fault : Option CountFault → Option FontFault → Option FontFault
+counts_fault (Some fault) behind = Some (Counts fault)
+counts_fault None behind = behind
+
+-- the first fault of a font's counts and its design size, before its tables
+abbrev pub head_fault_of : List ℕ → Option FontFault
+head_fault_of bytes = counts_fault (count_fault_of bytes) (design_fault (design_size_of bytes))

@@ -1,2 +1,4 @@
 pub mod CountsText
+pub mod Listing
+pub mod ListingWords
 pub mod Status

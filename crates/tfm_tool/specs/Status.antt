@@ -4,14 +4,13 @@ use Rattle.std.specs.Prelude.{ℕ}
 use Rattle.tfm_tool.specs.declared.failure.Failure.{Failure}
 use Rattle.tfm_tool.specs.declared.failure.Failure.TheVariants.{Usage, NotRead, Tool}
 use Rattle.tfm_tool.specs.declared.fault.ToolFault.{ToolFault}
-use Rattle.tfm_tool.specs.declared.fault.ToolFault.TheVariants.{Counts, Design, OutOfMemory, Write}
+use Rattle.tfm_tool.specs.declared.fault.ToolFault.TheVariants.{Font, OutOfMemory, Write}
 use Rattle.tfm_tool.specs.declared.files.ReadFault.{ReadFault}
 use Rattle.tfm_tool.specs.declared.files.ReadFault.TheVariants.{NotRead as Unread, OutOfMemory as NoRoom}
 
 -- a text that was not written: the font is refused, or else the memory or the output
 abbrev pub text_status_of : ToolFault → ℕ
-text_status_of (Counts _) = 3
-text_status_of (Design _) = 3
+text_status_of (Font _) = 3
 text_status_of OutOfMemory = 5
 text_status_of Write = 5
 

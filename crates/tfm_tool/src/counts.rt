@@ -1,16 +1,13 @@
 ghost use Rattle.std.specs.Prelude.{◌≡◌, ◌≢◌, ◌++◌, ◌∷◌, [], ◌↔◌, map, length, Some, Ok, Err, IfOk, IfErr, OnOk};
 ghost use Rattle.std.specs.Io.KnownBytes.{Appends};
-ghost use Rattle.tfm_words.specs.declared.count_fault.CountFault.{CountFault};
-ghost use Rattle.tfm_words.specs.declared.design.DesignFault.{DesignFault};
-ghost use Rattle.tfm_words.specs.Counts.{HasLawfulCounts};
-ghost use Rattle.tfm_words.specs.CountFaults.{count_fault_of};
-ghost use Rattle.tfm_words.specs.DesignSize.{design_size_of};
-ghost use Rattle.tfm_tool.specs.CountsText.{count_rows, counts_text_of, font_rows, row_of, row_text, rows_text};
+ghost use Rattle.tfm_tables.specs.declared.fault.FontFault.{FontFault};
+ghost use Rattle.tfm_tool.specs.CountsText.{count_rows, counts_text_of, font_rows, head_fault_of, row_of, row_text, rows_text};
 
 use crate::ToolFault;
 use itoa::Buffer;
 use std::alloc::{AllocError, Global};
 use std::io::Write;
+use tfm_tables::FontFault;
 use tfm_words::{Counts, Size, design_size};
 
 /// Room for the longest text: twelve lines of at most 9 bytes, and one of 17.
@@ -20,14 +17,16 @@ const TEXT_ROOM: usize = 128;
 pub fn counts_text<W: Write>(alloc: Global, bytes: &[u8], out: &mut W) -> Result<(), ToolFault>
     ensures text { OnOk result
         (Appends (W.contents out.old) (W.contents out.new) (counts_text_of bytes.now)) }
-    ensures counts { (f : CountFault) → (result ≡ Err (ToolFault.Counts f))
-        ↔ (count_fault_of bytes.now ≡ Some f) }
-    ensures design { (f : DesignFault) → (result ≡ Err (ToolFault.Design f))
-        ↔ (HasLawfulCounts bytes.now × (design_size_of bytes.now ≡ Err f)) }
+    ensures font { (f : FontFault) →
+        (result ≡ Err (ToolFault.Font f)) ↔ (head_fault_of bytes.now ≡ Some f) }
     ensures untouched { IfErr result (λ fault. fault ≢ ToolFault.Write → out.new ≡ out.old) }
 {
-    let counts = Counts::read(bytes).map_err(ToolFault::Counts)?;
-    let design = design_size(bytes, &counts).map_err(ToolFault::Design)?;
+    let counts = Counts::read(bytes)
+        .map_err(FontFault::Counts)
+        .map_err(ToolFault::Font)?;
+    let design = design_size(bytes, &counts)
+        .map_err(FontFault::Design)
+        .map_err(ToolFault::Font)?;
     let text = text_of(alloc, &counts, design).map_err(|_| ToolFault::OutOfMemory)?;
     out.write_all(text.as_slice()).map_err(|_| ToolFault::Write)
 }

@@ -28,8 +28,7 @@ impl Failure {
     {
         match self {
             Failure::Usage(_) => 2,
-            Failure::Tool(ToolFault::Counts(_)) => 3,
-            Failure::Tool(ToolFault::Design(_)) => 3,
+            Failure::Tool(ToolFault::Font(_)) => 3,
             Failure::NotRead => 4,
             Failure::Tool(ToolFault::OutOfMemory) => 5,
             Failure::Tool(ToolFault::Write) => 5,

@@ -1,16 +1,14 @@
 use std::fmt;
-use tfm_words::{CountFault, DesignFault};
+use tfm_tables::FontFault;
+use tfm_words::CountFault;
 use thiserror::Error;
 
 /// Why a text was not written, or not to its end. Its message is what the program says of it.
 #[derive(Debug, Drop, Error)]
 pub enum ToolFault {
-    /// The font's counts are refused.
+    /// The font is refused.
     #[error("font refused: {fault}", fault = Numbered(.0))]
-    Counts(CountFault),
-    /// The font's design size is refused.
-    #[error("font refused: 9 {0}")]
-    Design(DesignFault),
+    Font(FontFault),
     /// A request for memory was refused.
     #[error("out of memory")]
     OutOfMemory,
@@ -19,24 +17,37 @@ pub enum ToolFault {
     Write,
 }
 
-/// A fault of the counts behind its number among all that can be wrong with a font. A file that
-/// ends within its counts has number 1, and one that ends behind them number 8.
+/// A fault behind its number among all that can be wrong with a font. A file that ends within its
+/// counts has number 1, and one that ends behind them number 8.
 #[derive(Clone, Copy)]
-struct Numbered<'a>(&'a CountFault);
+struct Numbered<'a>(&'a FontFault);
 
 impl fmt::Display for Numbered<'_> {
     fn fmt<W: fmt::Write>(&self, f: &mut fmt::Formatter<W>) -> fmt::Result {
         let fault = self.0;
         let number = match fault {
-            CountFault::Truncated { need: 24 } => 1,
-            CountFault::CountRange(_) => 2,
-            CountFault::CharRange => 3,
-            CountFault::HeaderShort => 4,
-            CountFault::EmptyTable(_) => 5,
-            CountFault::TooManyRecipes => 6,
-            CountFault::LengthEquation => 7,
-            CountFault::Truncated { .. } => 8,
+            FontFault::Counts(fault) => count_number(*fault),
+            FontFault::Design(_) => 9,
+            FontFault::CharIndex { .. } => 10,
+            FontFault::LigStart(_) => 11,
+            FontFault::FirstNotZero(_) => 12,
+            FontFault::FixWordRange { .. } => 13,
+            FontFault::Step { .. } => 14,
+            FontFault::OutOfMemory => 15,
         };
         write!(f, "{number} {fault}")
+    }
+}
+
+fn count_number(fault: CountFault) -> u8 {
+    match fault {
+        CountFault::Truncated { need: 24 } => 1,
+        CountFault::CountRange(_) => 2,
+        CountFault::CharRange => 3,
+        CountFault::HeaderShort => 4,
+        CountFault::EmptyTable(_) => 5,
+        CountFault::TooManyRecipes => 6,
+        CountFault::LengthEquation => 7,
+        CountFault::Truncated { .. } => 8,
     }
 }

@@ -1,18 +1,23 @@
-ghost use Rattle.std.specs.Prelude.{◌≡◌, ◌≢◌, [], ◌∷◌, codes, Contains, IfErr, IfSome, OnOk};
+ghost use Rattle.std.specs.Prelude.{◌≡◌, ◌≢◌, [], ◌∷◌, codes, Contains, Err, None, Some, IfErr, IfOk, IfSome, OnOk};
 ghost use Rattle.std.specs.Io.KnownBytes.{Appends, Keeps};
 ghost use Rattle.std.specs.IoError.{error_kind};
 ghost use Rattle.tfm_tool.specs.CountsText.{counts_text_of};
 ghost use Rattle.tfm_tool.specs.Status.{status_of};
+ghost use Rattle.tfm_tables.specs.declared.fault.FontFault.{FontFault};
+ghost use Rattle.tfm_tables.specs.Acceptance.{font_fault_of};
+ghost use Rattle.tfm_tables.specs.Font.{IsFontOf};
 
 use crate::failure::Failure;
 use crate::files::font_bytes;
 use crate::words::{Request, requested};
-use crate::{ToolFault, counts_text};
+use crate::{ToolFault, counts_text, list_text};
 use clap::error::ErrorKind as WordsKind;
+use std::alloc::Global;
 use std::convert::AsStr;
 use std::io;
 use std::io::{ErrorKind, Read, Write};
 use std::rt::Files;
+use tfm_tables::{Font, FontFault};
 
 /// The whole program: does what the words behind its name ask for, and returns the status that it
 /// ends with. The font `-` is read from `input`, and any other word is the name of a file.
@@ -60,6 +65,7 @@ where
 {
     match requested(rt.alloc(), words) {
         Ok(Request::Counts { font }) => counts(rt, font, input, out),
+        Ok(Request::List { font }) => list(rt, font, input, out),
         Err(error) => show(error, out),
     }
 }
@@ -77,6 +83,32 @@ where
     let bytes = font_bytes(rt, font, input)?;
     counts_text(rt.alloc(), bytes.as_slice(), out)?;
     Ok(())
+}
+
+/// All that the font of this name holds, at its design size.
+fn list<R, I, O>(rt: &R, font: &str, input: &mut I, out: &mut O) -> Result<(), Failure>
+where
+    R: Files + AllocGlobal,
+    I: Read,
+    O: Write,
+    ensures { IfErr result (λ failure. status_of failure ≢ 5 → out.new ≡ out.old) }
+{
+    let bytes = font_bytes(rt, font, input)?;
+    let font = accepted(rt.alloc(), bytes.as_slice())?;
+    list_text(rt.alloc(), &font, out)?;
+    Ok(())
+}
+
+/// The font in these bytes, at its design size.
+fn accepted(alloc: Global, bytes: &[u8]) -> Result<Font, ToolFault>
+    ensures ok { IfOk result (IsFontOf bytes.now None) }
+    ensures font { (f : FontFault) → result ≡ Err (ToolFault.Font f) → font_fault_of bytes.now ≡ Some f }
+{
+    match Font::read(alloc, bytes, None) {
+        Ok(font) => Ok(font),
+        Err(FontFault::OutOfMemory) => Err(ToolFault::OutOfMemory),
+        Err(fault) => Err(ToolFault::Font(fault)),
+    }
 }
 
 /// Help and the version are an answer; any other error is why there is none.

@@ -3,6 +3,7 @@ use std::alloc::{AllocError, Global};
 use std::rt::Files;
 
 mod counts_of_fonts;
+mod listings;
 mod streams;
 mod words_given;
 

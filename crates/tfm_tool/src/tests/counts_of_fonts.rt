@@ -1,6 +1,7 @@
 use super::*;
 use crate::{ToolFault, counts_text};
 use std::test::Fail;
+use tfm_tables::FontFault;
 use tfm_words::{CountFault, DesignFault};
 
 #[test]
@@ -100,12 +101,15 @@ fn a_good_writer_gets_the_whole_text_or_nothing(rt: HostRuntime) -> Result<(), F
     let cut = counts_text(rt.alloc(), &NO_CHARACTERS[..47], &mut out);
     let is_cut = matches!(
         &cut,
-        Err(ToolFault::Counts(CountFault::Truncated { need: 48 }))
+        Err(ToolFault::Font(FontFault::Counts(CountFault::Truncated { need: 48 })))
     );
     assert!(rt; is_cut, "{cut:?}");
     let below_one = changed(rt.alloc(), &[(DESIGN, [0, 0x0F])])?;
     let small = counts_text(rt.alloc(), below_one.as_slice(), &mut out);
-    let is_small = matches!(&small, Err(ToolFault::Design(DesignFault::DesignSize)));
+    let is_small = matches!(
+        &small,
+        Err(ToolFault::Font(FontFault::Design(DesignFault::DesignSize)))
+    );
     assert!(rt; is_small, "{small:?}");
     assert!(rt; out.as_slice() == whole.as_str().as_bytes());
     Ok(())

@@ -9,10 +9,10 @@ fn words_that_are_refused(rt: HostRuntime) -> Result<(), Fail> {
     for (words, part) in [
         ([].as_slice(), "Usage: tfmset <COMMAND>\n"),
         (&["measure"], "error: unrecognized subcommand 'measure'\n"),
-        (&["list", "-"], "error: unrecognized subcommand 'list'\n"),
         (&["set", "-"], "error: unrecognized subcommand 'set'\n"),
         (&["each", "-"], "error: unrecognized subcommand 'each'\n"),
         (&["counts"], "  <FONT>\n\nUsage: tfmset counts <FONT>\n"),
+        (&["list"], "  <FONT>\n\nUsage: tfmset list <FONT>\n"),
         (
             &["counts", "-", "-"],
             "error: unexpected argument '-' found\n",
@@ -58,6 +58,8 @@ fn help_and_version_go_to_standard_output(rt: HostRuntime) -> Result<(), Fail> {
         (&["--help"], "Usage: tfmset <COMMAND>\n"),
         (&["counts", "--help"], "Usage: tfmset counts <FONT>\n"),
         (&["counts", "-h"], "  tfmset counts cmr10.tfm\n"),
+        (&["list", "--help"], "Usage: tfmset list <FONT>\n"),
+        (&["help", "list"], "  tfmset list cmr10.tfm\n"),
         (&["help", "counts"], "standard input\n"),
         (&["--version"], "tfmset 0.1.0\n"),
         (&["-V"], "tfmset 0.1.0\n"),

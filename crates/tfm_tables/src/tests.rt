@@ -1,0 +1,6 @@
+mod faults;
+mod finds;
+mod readers;
+mod reading;
+mod samples;
+mod slow;

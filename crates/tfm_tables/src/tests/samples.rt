@@ -1,0 +1,441 @@
+//! Sample fonts, part by part, and the files that they make.
+use crate::Step;
+use std::alloc::{AllocError, Global};
+
+/// A char_info word, field by field.
+#[derive(Clone, Copy)]
+pub struct Info {
+    pub width: u8,
+    pub height: u8,
+    pub depth: u8,
+    pub italic: u8,
+    pub tag: u8,
+    pub remainder: u8,
+}
+
+impl Info {
+    /// The word. Height, depth, italic correction and tag have 4, 4, 6 and 2 bits.
+    fn bytes(&self) -> [u8; 4] {
+        [
+            self.width,
+            (self.height & 15) << 4 | (self.depth & 15),
+            (self.italic & 63) << 2 | (self.tag & 3),
+            self.remainder,
+        ]
+    }
+}
+
+/// The parts of a font.
+#[derive(Clone, Copy)]
+pub struct Sample<'a> {
+    pub bc: u16,
+    pub ec: u16,
+    pub check_sum: u32,
+    pub design: u32,
+    /// The header from its third word on.
+    pub texts: &'a [u8],
+    pub characters: &'a [Info],
+    pub width: &'a [u32],
+    pub height: &'a [u32],
+    pub depth: &'a [u32],
+    pub italic: &'a [u32],
+    pub program: &'a [Step],
+    pub kerns: &'a [u32],
+    pub recipes: &'a [u32],
+    pub parameters: &'a [u32],
+}
+
+impl Sample<'_> {
+    /// The font's file. Its counts are those of the parts.
+    pub fn file(&self, alloc: Global) -> Result<Vec<u8>, AllocError> {
+        let tables = self.tables(alloc)?;
+        let lf = count(tables.len() / 4).wrapping_add(6);
+        let lh = count(self.texts.len() / 4).wrapping_add(2);
+        let counts = [
+            lf,
+            lh,
+            self.bc,
+            self.ec,
+            count(self.width.len()),
+            count(self.height.len()),
+            count(self.depth.len()),
+            count(self.italic.len()),
+            count(self.program.len()),
+            count(self.kerns.len()),
+            count(self.recipes.len()),
+            count(self.parameters.len()),
+        ];
+        let mut file = Vec::with_capacity(alloc, ROOM)?;
+        for count in counts {
+            file.extend_from_slice(&count.to_be_bytes())?;
+        }
+        file.extend_from_slice(&tables)?;
+        Ok(file)
+    }
+
+    /// All that follows the counts.
+    fn tables(&self, alloc: Global) -> Result<Vec<u8>, AllocError> {
+        let mut bytes = Vec::with_capacity(alloc, ROOM)?;
+        append(&mut bytes, &[self.check_sum, self.design])?;
+        bytes.extend_from_slice(self.texts)?;
+        for info in self.characters {
+            bytes.extend_from_slice(&info.bytes())?;
+        }
+        append(&mut bytes, self.width)?;
+        append(&mut bytes, self.height)?;
+        append(&mut bytes, self.depth)?;
+        append(&mut bytes, self.italic)?;
+        for step in self.program {
+            bytes.extend_from_slice(&[step.skip, step.next, step.op, step.remainder])?;
+        }
+        append(&mut bytes, self.kerns)?;
+        append(&mut bytes, self.recipes)?;
+        append(&mut bytes, self.parameters)?;
+        Ok(bytes)
+    }
+}
+
+fn append(bytes: &mut Vec<u8>, words: &[u32]) -> Result<(), AllocError> {
+    for word in words {
+        bytes.extend_from_slice(&word.to_be_bytes())?;
+    }
+    Ok(())
+}
+
+/// Room for the files of most samples, so that making one takes memory twice.
+const ROOM: usize = 512;
+
+/// A count of this many entries; of too many, one that no font has.
+fn count(entries: usize) -> u16 {
+    u16::try_from(entries).unwrap_or(u16::MAX)
+}
+
+/// A code without a character.
+pub const NOTHING: Info = Info {
+    width: 0,
+    height: 0,
+    depth: 0,
+    italic: 0,
+    tag: 0,
+    remainder: 0,
+};
+
+/// Half of the size.
+pub const HALF: u32 = 0x08_0000;
+/// A quarter of the size.
+pub const QUARTER: u32 = 0x04_0000;
+/// Three quarters of the size.
+pub const THREE_QUARTERS: u32 = 0x0C_0000;
+/// A sixteenth of the size, to the left.
+pub const BACK: u32 = 0xFFFF_0000;
+/// A thirty-second of the size.
+pub const AHEAD: u32 = 0x8000;
+
+/// The least that a font may have, of 5 points: no characters.
+pub const NO_CHARACTERS: Sample<'static> = Sample {
+    bc: 1,
+    ec: 0,
+    check_sum: 0,
+    design: 0x50_0000,
+    texts: &[],
+    characters: &[],
+    width: &[0],
+    height: &[0],
+    depth: &[0],
+    italic: &[0],
+    program: &[],
+    kerns: &[],
+    recipes: &[],
+    parameters: &[],
+};
+
+/// A character of half the size.
+pub const A: Info = Info {
+    width: 1,
+    ..NOTHING
+};
+/// Of a quarter.
+pub const B: Info = Info {
+    width: 2,
+    ..NOTHING
+};
+/// Of three quarters.
+pub const C: Info = Info {
+    width: 3,
+    ..NOTHING
+};
+
+/// The characters a, b and c without programs, of 10 points.
+pub const PLAIN: Sample<'static> = Sample {
+    bc: 97,
+    ec: 99,
+    design: 0xA0_0000,
+    characters: &[A, B, C],
+    width: &[0, HALF, QUARTER, THREE_QUARTERS],
+    parameters: &[
+        0, // the slant
+        0x05_5555, // the space: a third of the size
+    ],
+    ..NO_CHARACTERS
+};
+
+/// The a whose program begins at instruction 0.
+pub const A_FROM_0: Info = Info {
+    tag: 1,
+    remainder: 0,
+    ..A
+};
+
+/// The a whose program begins at instruction 1.
+pub const A_FROM_1: Info = Info {
+    tag: 1,
+    remainder: 1,
+    ..A
+};
+
+/// The b whose program begins at instruction 3.
+pub const B_FROM_3: Info = Info {
+    tag: 1,
+    remainder: 3,
+    ..B
+};
+
+/// The c whose program begins at instruction 2.
+pub const C_FROM_2: Info = Info {
+    tag: 1,
+    remainder: 2,
+    ..C
+};
+
+/// Before b, the ligature c.
+pub const LIGATURE_C: Step = Step {
+    skip: 0,
+    next: 98,
+    op: 0,
+    remainder: 99,
+};
+
+/// Before c, kern 0, and the end.
+pub const KERN_BEFORE_C: Step = Step {
+    skip: 128,
+    next: 99,
+    op: 128,
+    remainder: 0,
+};
+
+/// Before b, kern 1, and the end.
+pub const KERN_BEFORE_B: Step = Step {
+    skip: 128,
+    next: 98,
+    op: 128,
+    remainder: 1,
+};
+
+/// A ligature of a and b to c, and kerns before c and b.
+pub const LIGATURE: Sample<'static> = Sample {
+    characters: &[A_FROM_0, B, C_FROM_2],
+    program: &[LIGATURE_C, KERN_BEFORE_C, KERN_BEFORE_B],
+    kerns: &[BACK, AHEAD],
+    ..PLAIN
+};
+
+/// The same program with another operation code.
+pub fn ligature_program(op: u8) -> [Step; 3] {
+    [Step { op, ..LIGATURE_C }, KERN_BEFORE_C, KERN_BEFORE_B]
+}
+
+/// A right boundary character, code 124, that doesn't exist.
+pub const RIGHT_BOUNDARY: Sample<'static> = Sample {
+    characters: &[A_FROM_1, B_FROM_3, C],
+    program: &[
+        // the right boundary character
+        Step {
+            skip: 255,
+            next: 124,
+            op: 0,
+            remainder: 0,
+        },
+        // before the boundary, b in its place
+        Step {
+            skip: 0,
+            next: 124,
+            op: 2,
+            remainder: 98,
+        },
+        // before b, kern 0, and the end
+        Step {
+            skip: 128,
+            next: 98,
+            op: 128,
+            remainder: 0,
+        },
+        // before the boundary, kern 1, and the end
+        Step {
+            skip: 128,
+            next: 124,
+            op: 128,
+            remainder: 1,
+        },
+    ],
+    kerns: &[BACK, AHEAD],
+    ..PLAIN
+};
+
+/// A left boundary, whose program begins at instruction 0.
+pub const LEFT_BOUNDARY: Sample<'static> = Sample {
+    program: &[
+        // before a, kern 0
+        Step {
+            skip: 0,
+            next: 97,
+            op: 128,
+            remainder: 0,
+        },
+        // before b, c between the two, and the end
+        Step {
+            skip: 128,
+            next: 98,
+            op: 3,
+            remainder: 99,
+        },
+        // the left boundary's program
+        Step {
+            skip: 255,
+            next: 0,
+            op: 0,
+            remainder: 0,
+        },
+    ],
+    kerns: &[BACK],
+    ..PLAIN
+};
+
+/// An indirection to an instruction that points elsewhere, too.
+pub const INDIRECT: Sample<'static> = Sample {
+    characters: &[A_FROM_0, B, C],
+    program: &[
+        // to instruction 1
+        Step {
+            skip: 200,
+            next: 0,
+            op: 0,
+            remainder: 1,
+        },
+        // to instruction 0
+        Step {
+            skip: 200,
+            next: 98,
+            op: 0,
+            remainder: 0,
+        },
+    ],
+    ..PLAIN
+};
+
+/// A program with no end: before a, one more a between the two.
+pub const ENDLESS: Sample<'static> = Sample {
+    characters: &[A_FROM_0, B, C],
+    program: &[Step {
+        skip: 128,
+        next: 97,
+        op: 3,
+        remainder: 97,
+    }],
+    ..PLAIN
+};
+
+/// A right boundary character that exists: b.
+pub const BOUNDARY_EXISTS: Sample<'static> = Sample {
+    characters: &[A_FROM_1, B, C],
+    program: &[
+        // the right boundary character
+        Step {
+            skip: 255,
+            next: 98,
+            op: 0,
+            remainder: 0,
+        },
+        // before b, kern 0, and the end
+        Step {
+            skip: 128,
+            next: 98,
+            op: 128,
+            remainder: 0,
+        },
+    ],
+    kerns: &[BACK],
+    ..PLAIN
+};
+
+/// A right boundary character without a program in a font without characters. The same instruction
+/// gives the left boundary a program, in which nothing is done.
+pub const NO_PROGRAM: Sample<'static> = Sample {
+    program: &[Step {
+        skip: 255,
+        next: 65,
+        op: 0,
+        remainder: 0,
+    }],
+    ..NO_CHARACTERS
+};
+
+/// The coding scheme, the family, the seven-bit flag and the face of a header of 18 words.
+pub fn header_texts() -> [u8; 64] {
+    let mut texts = [0; 64];
+    // the coding scheme: a length, and 39 bytes
+    texts[0] = 8;
+    texts[1..9].copy_from_slice(b"TEX TEXT");
+    // the family: a length, and 19 bytes
+    texts[40] = 3;
+    texts[41..44].copy_from_slice(b"CMR");
+    // the face, in the last byte of the word that begins with the seven-bit flag
+    texts[63] = 234;
+    texts
+}
+
+/// The font without characters, with these texts in its header.
+pub fn header(texts: &[u8]) -> Sample<'_> {
+    Sample {
+        texts,
+        ..NO_CHARACTERS
+    }
+}
+
+/// The program of the largest file. It names code 65 as the right boundary character, and has
+/// kern 0 before that, again and again.
+pub fn largest_program(alloc: Global) -> Result<Vec<Step>, AllocError> {
+    let mut program = Vec::new(alloc);
+    // the right boundary character, and where its own program would begin
+    program.push(Step {
+        skip: 255,
+        next: 65,
+        op: 0,
+        remainder: 1,
+    })?;
+    for _ in 1..32_753 {
+        // before the boundary, kern 0, and on
+        program.push(Step {
+            skip: 0,
+            next: 65,
+            op: 128,
+            remainder: 0,
+        })?;
+    }
+    // the left boundary's program begins at instruction 1
+    program.push(Step {
+        skip: 255,
+        next: 0,
+        op: 0,
+        remainder: 1,
+    })?;
+    Ok(program)
+}
+
+/// The largest file that the counts allow, of 32,767 words: nearly all of it a program.
+pub fn largest(program: &[Step]) -> Sample<'_> {
+    Sample {
+        program,
+        kerns: &[0x1_0000],
+        ..NO_CHARACTERS
+    }
+}
