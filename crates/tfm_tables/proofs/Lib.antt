@@ -3,5 +3,6 @@ pub mod DecodedLemmas
 pub mod PairLemmas
 pub mod ProgramLemmas
 pub mod RangeLemmas
+pub mod ServingLemmas
 pub mod SoundLemmas
 pub mod TableLemmas

@@ -1,6 +1,6 @@
 -- The lig/kern program: its instructions, where a search begins, the addresses that it reaches, and the first that serves.
 -- Public source: tftopl.web, section 13; tex.web, sections 545, 557, 573 and 1039; The METAFONTbook, Appendix F.
-use Rattle.std.specs.Prelude.{ℕ, zero, suc, ◌+◌, ◌-◌, ◌*◌, ◌==◌, ◌&&◌, nat_lt, nat_le, Bool, false, List, [], ◌∷◌, length, map, find, slice_index, Option, Some, None, if◌then◌else◌}
+use Rattle.std.specs.Prelude.{◌≡◌, ℕ, ◌<◌, ◌≤◌, zero, suc, ◌+◌, ◌-◌, ◌*◌, ◌==◌, ◌&&◌, nat_lt, nat_le, Bool, false, List, [], ◌∷◌, length, map, find, slice_index, Option, Some, None, if◌then◌else◌}
 use Rattle.std.specs.List.{range_with_len, slice_get}
 use Rattle.std.specs.Option.{option_and_then, option_map_or}
 use Rattle.tfm_words.specs.declared.table.Table.TheVariants.{LigKern}
@@ -75,3 +75,9 @@ address_of program start code = find (serves program code) (chain_from program s
 -- the address of the instruction for a left side and the code to its right
 unfoldable pub address_between : List ℕ → LeftSide → ℕ → Option ℕ
 address_between words left code = option_and_then (λ start. address_of (program_of words) start code) (start_of words left)
+
+-- what a search answers is the address of an instruction for this code, whose skip is at most 128
+pub record IsServing (words : List ℕ) (code : ℕ) (address : ℕ) : Type 0 where
+  pub within : address < entries_of words LigKern
+  pub skip : (step_at words address).skip ≤ 128
+  pub next : (step_at words address).next ≡ code

@@ -1,4 +1,4 @@
-ghost use Rattle.std.specs.Prelude.{◌≡◌, ◌<◌, length, IfOk, IfErr, Ok};
+ghost use Rattle.std.specs.Prelude.{◌≡◌, ◌<◌, length, IfOk, IfErr, IfSome, Ok};
 ghost use Rattle.std.specs.Option.{option_map};
 ghost use Rattle.tfm_words.specs.Counts.{AreCountsOf};
 ghost use Rattle.tfm_words.specs.DesignSize.{design_size_of};
@@ -8,7 +8,7 @@ ghost use Rattle.tfm_tables.specs.Font.{IsFontOf, IsRefusalOf};
 ghost use Rattle.tfm_tables.specs.Header.{check_sum_of, coding_of, face_of, family_of, seven_bit_of};
 ghost use Rattle.tfm_tables.specs.Character.{exists as exists_in, metrics_of, tag_of};
 ghost use Rattle.tfm_tables.specs.Measure.{kern_at, parameter_of};
-ghost use Rattle.tfm_tables.specs.Program.{address_between, program_of, right_code_of, start_of, step_at};
+ghost use Rattle.tfm_tables.specs.Program.{IsServing, address_between, program_of, right_code_of, start_of, step_at};
 ghost use Rattle.tfm_tables.specs.Decoded.{character_of};
 ghost use Rattle.tfm_tables.specs.Sound.{HasSoundTables, IsSoundStep};
 
@@ -157,8 +157,17 @@ impl Font {
     /// The address of the instruction for a left side and the code to its right: the first in the
     /// chain of the left side's program that is for this code and has a skip of at most 128. `None`
     /// where there is none, also for a code that doesn't exist or has no program. It is looked up by
-    /// halving.
+    /// halving. What it answers is below `steps`.
+    #[tactic(auto, using(crate::proofs::ServingLemmas::served))]
     pub fn find(&self, left: LeftSide, code: u8) -> Option<usize>
+        ensures value { result ≡ address_between self.now.words left code }
+        ensures serving { IfSome result (IsServing self.now.words code) }
+    {
+        self.look_up(left, code)
+    }
+
+    /// The same, without a word on the instruction.
+    fn look_up(&self, left: LeftSide, code: u8) -> Option<usize>
         ensures { result ≡ address_between self.now.words left code }
     {
         match left {

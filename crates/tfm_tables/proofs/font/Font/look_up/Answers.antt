@@ -5,7 +5,7 @@ use Rattle.tfm_tables.specs.declared.left_side.LeftSide.TheVariants.{Boundary, C
 use Rattle.tfm_tables.specs.Program.{program_of, start_of, address_between}
 use Rattle.tfm_tables.specs.Decoded.{starts_of}
 use Rattle.tfm_tables.proofs.DecodedLemmas.{side_within, start_at_code, start_at_boundary}
-use Rattle.tfm_tables.proofs.font.Font.find.Goals as goal
+use Rattle.tfm_tables.proofs.font.Font.look_up.Goals as goal
 
 pub find-requires : goal.find-requires
 find-requires c = (

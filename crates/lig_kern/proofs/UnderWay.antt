@@ -1,0 +1,133 @@
+-- What holds between two steps of the body, and what each end of the loop makes of it.
+use Rattle.std.proofs.Common.{◌≡◌, ℕ, suc, zero, ◌+◌, ◌<◌, ◌≤◌, Bool, true, false, List, [], ◌∷◌, ◌++◌, length, map, take, Option, Some, None, arith, rules, refl, ap, sym, ◌∙◌, ◌&&◌}
+use Rattle.std.specs.Prelude.{if◌then◌else◌, is_some, nat_lt}
+use Rattle.std.proofs.Math.Seq.{take-append_seam, take-length}
+use Rattle.std.proofs.lemmas.List.{length-take}
+use Rattle.std.proofs.lemmas.Bool.{ltb-true, ltb-false}
+use Rattle.std.specs.List.{slice_get}
+use Rattle.std.specs.Option.{option_map, option_map_or}
+use Rattle.tfm_tables.specs.Font.{FontValue}
+use Rattle.tfm_tables.specs.Program.{program_of, right_code_of}
+use Rattle.lig_kern.specs.declared.symbol.Symbol.{Symbol}
+use Rattle.lig_kern.specs.declared.symbol.Symbol.TheVariants.{Left, Char, Right}
+use Rattle.lig_kern.specs.declared.item.Item.{Item}
+use Rattle.lig_kern.specs.Rewriting.{of_symbol, items_of, right_end}
+use Rattle.lig_kern.specs.Result.{HasNoResultWithin, IsAppendedResult, StaysInFront, result_after}
+use Rattle.lig_kern.specs.Ahead.{HasTurned, turn_of, symbols_ahead}
+use Rattle.lig_kern.proofs.Onward.{finish, option_map-twice, result_is}
+
+-- after so many steps: no fewer led to the end, and what is still to come, behind what was sent out, is the result
+pub record IsUnderWay (font : FontValue) (run : List ℕ) (right : Bool) (before : List Item) (used : ℕ) (current : Symbol) (ahead : List Symbol) (out : List Item) : Type 0 where
+  pub not_before : (n : ℕ) → n < used → result_after font run right n ≡ None
+  pub onward : (n m : ℕ) → m ≡ used + n → option_map (λ items. before ++ items) (result_after font run right m) ≡ option_map (λ items. out ++ items) (finish font n current ahead)
+  pub front : StaysInFront before out
+
+-- ---- what stays in front
+
+pub front_at_once : (xs : List Item) → StaysInFront xs xs
+front_at_once xs = take-length xs
+
+pub front_of_append : (xs ys zs : List Item) → zs ≡ xs ++ ys → StaysInFront xs zs
+front_of_append xs ys zs e = rw e (take-append_seam xs ys)
+
+take_shorter : (n m : ℕ) (zs : List Item) → n ≤ m → take n (take m zs) ≡ take n zs
+take_shorter zero m zs h = refl
+take_shorter (suc n) zero zs h = absurd (omega arith)
+take_shorter (suc n) (suc m) [] h = refl
+take_shorter (suc n) (suc m) (z ∷ zs) h = ap (λ more. z ∷ more) (take_shorter n m zs (omega arith))
+
+pub front_through : (xs ys zs : List Item) → StaysInFront xs ys → StaysInFront ys zs → StaysInFront xs zs
+front_through xs ys zs a b =
+    let short : length xs ≤ length ys = omega (arith, length-take (length xs) ys, ap length a) in
+    let through : take (length xs) (take (length ys) zs) ≡ take (length xs) zs = take_shorter (length xs) (length ys) zs short in
+    sym through ∙ ap (take (length xs)) b ∙ a
+
+-- ---- the loop
+
+right_end_is : (font : FontValue) (right : Bool) (stands : Bool) → stands ≡ (right && is_some (right_code_of (program_of font.words)))
+    → right_end font right ≡ (if stands then Right ∷ [] else [])
+unfolding right_end
+right_end_is font right stands e = rw e (by right (right_code_of (program_of font.words)))
+  where
+    by : (asked : Bool) (code : Option ℕ) → (if asked then option_map_or (λ _. Right ∷ []) code [] else []) ≡ (if asked && is_some code then Right ∷ [] else [])
+    by false code = refl
+    by true None = refl
+    by true (Some code) = refl
+
+pub under_way_first : (font : FontValue) (run : List ℕ) (right : Bool) (before : List Item) (stands : Bool)
+    → stands ≡ (right && is_some (right_code_of (program_of font.words)))
+    → IsUnderWay font run right before 0 Left (symbols_ahead [] run stands) before
+unfolding symbols_ahead
+under_way_first font run right before stands e = record {
+  not_before = λ n below. absurd (omega arith);
+  onward = λ n m is.
+      let same : m ≡ n = omega (arith, is) in
+      ap (option_map (λ items. before ++ items))
+      (ap (result_after font run right) same ∙ result_is font run right n
+      ∙ ap (λ end. finish font n Left (map Char run ++ end)) (right_end_is font right stands e));
+  front = front_at_once before;
+}
+
+none_of_none : (before : List Item) (o : Option (List Item)) → option_map (λ items. before ++ items) o ≡ None → o ≡ None
+none_of_none before None e = refl
+none_of_none before (Some items) e = absurd (search rules)
+
+unended : (font : FontValue) (run : List ℕ) (right : Bool) (before : List Item) (used : ℕ) (current next : Symbol) (ahead : List Symbol) (out : List Item)
+    → IsUnderWay font run right before used current ahead out → slice_get ahead 0 ≡ Some next → result_after font run right used ≡ None
+unfolding finish
+unended font run right before used current next [] out way first = absurd (search rules)
+unended font run right before used current next (x ∷ rest) out way first =
+    none_of_none before (result_after font run right used) (way.onward 0 used (omega arith))
+
+no_earlier : (font : FontValue) (run : List ℕ) (right : Bool) (before : List Item) (used : ℕ) (current : Symbol) (ahead : List Symbol) (out : List Item)
+    → IsUnderWay font run right before used current ahead out → result_after font run right used ≡ None → HasNoResultWithin font run right used
+no_earlier font run right before used current ahead out way here n within = by (nat_lt n used) refl
+  where
+    by : (b : Bool) → nat_lt n used ≡ b → result_after font run right n ≡ None
+    by true below = way.not_before n (ltb-true n used below)
+    by false above = let same : n ≡ used = omega (arith, ltb-false n used above) in rw same here
+
+pub under_way_next : (font : FontValue) (run : List ℕ) (right : Bool) (before : List Item) (used : ℕ) (current current' next : Symbol) (ahead ahead' : List Symbol) (out out' : List Item)
+    → IsUnderWay font run right before used current ahead out → slice_get ahead 0 ≡ Some next
+    → HasTurned (turn_of font current ahead) current' ahead' out out' → StaysInFront out out'
+    → IsUnderWay font run right before (used + 1) current' ahead' out'
+unfolding finish
+under_way_next font run right before used current current' next [] ahead' out out' way first turned front = absurd (search rules)
+under_way_next font run right before used current current' next (x ∷ rest) ahead' out out' way first turned front =
+    let turn = turn_of font current (x ∷ rest) in
+    let here : result_after font run right used ≡ None = unended font run right before used current next (x ∷ rest) out way first in
+    record {
+      not_before = λ n below. no_earlier font run right before used current (x ∷ rest) out way here n (omega arith);
+      onward = λ n m is.
+          way.onward (suc n) m (omega (arith, is))
+          ∙ option_map-twice out turn.sent (finish font n turn.current turn.ahead)
+          ∙ ap (λ sent. option_map (λ items. sent ++ items) (finish font n turn.current turn.ahead)) (sym turned.sent)
+          ∙ ap (λ symbol. option_map (λ items. out' ++ items) (finish font n symbol turn.ahead)) (sym turned.current)
+          ∙ ap (λ symbols. option_map (λ items. out' ++ items) (finish font n current' symbols)) (sym turned.ahead);
+      front = front_through before out out' way.front front;
+    }
+
+-- ---- its ends
+
+pub no_result : (font : FontValue) (run : List ℕ) (right : Bool) (before : List Item) (used limit : ℕ) (current : Symbol) (ahead : List Symbol) (out : List Item)
+    → IsUnderWay font run right before used current ahead out → is_some (slice_get ahead 0) ≡ true → limit ≤ used → HasNoResultWithin font run right limit
+no_result font run right before used limit current [] out way more reached = absurd (search rules)
+no_result font run right before used limit current (x ∷ rest) out way more reached = λ n within.
+    no_earlier font run right before used current (x ∷ rest) out way (unended font run right before used current x (x ∷ rest) out way refl) n (omega arith)
+
+pub is_result : (font : FontValue) (run : List ℕ) (right : Bool) (before : List Item) (used limit : ℕ) (current : Symbol) (ahead : List Symbol) (out after : List Item)
+    → IsUnderWay font run right before used current ahead out → slice_get ahead 0 ≡ None → used ≤ limit
+    → after ≡ out ++ items_of font (of_symbol current ∷ []) → IsAppendedResult font run right limit before after used
+unfolding finish
+is_result font run right before used limit current (x ∷ rest) out after way last within sent = absurd (search rules)
+is_result font run right before used limit current [] out after way last within sent =
+    by (result_after font run right used) refl (way.onward 0 used (omega arith) ∙ ap Some (sym sent))
+  where
+    by : (o : Option (List Item)) → result_after font run right used ≡ o → option_map (λ items. before ++ items) o ≡ Some after
+        → IsAppendedResult font run right limit before after used
+    by None is whole = absurd (search rules)
+    by (Some items) is whole = record { items = items; result = is; within = within; appended = grind arith }
+
+pub ruleset fronts = (front_at_once, front_of_append, front_through)
+
+pub ruleset ways = (front_at_once, front_of_append, front_through, under_way_first, under_way_next, no_result, is_result)

@@ -1,0 +1,53 @@
+-- What the body keeps of a run that is being set: the current symbol and the symbols ahead of it; all that stands to the
+-- left is items already. This project's own representation; what it stands for is a configuration (Rewriting).
+use Rattle.std.specs.Prelude.{◌≡◌, ℕ, ◌+◌, Bool, true, false, List, [], ◌∷◌, ◌++◌, map, take, drop, reverse, get_or, Option, Some, None, if◌then◌else◌}
+use Rattle.tfm_tables.specs.Font.{FontValue}
+use Rattle.lig_kern.specs.declared.symbol.Symbol.{Symbol}
+use Rattle.lig_kern.specs.declared.symbol.Symbol.TheVariants.{Char, Right}
+use Rattle.lig_kern.specs.declared.action.Action.{Action}
+use Rattle.lig_kern.specs.declared.action.Action.TheVariants.{Kern, Lig}
+use Rattle.lig_kern.specs.declared.item.Item.{Item}
+use Rattle.lig_kern.specs.Matching.{action_between}
+use Rattle.lig_kern.specs.Rewriting.{of_symbol, of_kern, items_of}
+
+-- the symbols ahead: characters that operations put there, the last one first, then the rest of the run, then perhaps the
+-- right boundary
+unfoldable pub symbols_ahead : List ℕ → List ℕ → Bool → List Symbol
+symbols_ahead pending rest right = map Char (reverse pending) ++ map Char rest ++ (if right then Right ∷ [] else [])
+
+-- what one step sends out, and what it leaves
+pub record Turn : Type 0 where
+  pub sent : List Item
+  pub current : Symbol
+  pub ahead : List Symbol
+
+-- a symbol that stays or goes
+abbrev pub stays : Bool → Symbol → List Symbol
+stays true one = one ∷ []
+stays false one = []
+
+-- what a ligature puts in the place of two symbols
+abbrev pub put_in : ℕ → Bool → Bool → Symbol → Symbol → List Symbol
+put_in code keep_left keep_right current next = stays keep_left current ++ Char code ∷ stays keep_right next
+
+-- a step between two symbols with some more behind them
+abbrev pub turn_by : FontValue → Option Action → Symbol → Symbol → List Symbol → Turn
+turn_by font None current next rest = record { sent = items_of font (of_symbol current ∷ []); current = next; ahead = rest }
+turn_by font (Some (Kern amount)) current next rest =
+    record { sent = items_of font (of_symbol current ∷ of_kern amount ∷ []); current = next; ahead = rest }
+turn_by font (Some (Lig code keep_left keep_right pass)) current next rest = record {
+  sent = items_of font (map of_symbol (take pass (put_in code keep_left keep_right current next)));
+  current = get_or (put_in code keep_left keep_right current next) pass current;
+  ahead = drop (pass + 1) (put_in code keep_left keep_right current next) ++ rest;
+}
+
+-- a step from the current symbol; nothing where none is ahead of it
+unfoldable pub turn_of : FontValue → Symbol → List Symbol → Turn
+turn_of font current [] = record { sent = []; current = current; ahead = [] }
+turn_of font current (next ∷ rest) = turn_by font (action_between font current next) current next rest
+
+-- a step was made: its items were appended, and this is what it leaves
+pub record HasTurned (turn : Turn) (symbol : Symbol) (symbols : List Symbol) (before after : List Item) : Type 0 where
+  pub current : symbol ≡ turn.current
+  pub ahead : symbols ≡ turn.ahead
+  pub sent : after ≡ before ++ turn.sent

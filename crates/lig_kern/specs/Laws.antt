@@ -1,0 +1,41 @@
+-- Laws of the rewriting, in its own words: this project's own, on the rewriting of The METAFONTbook, Appendix F.
+use Rattle.std.specs.Prelude.{◌≡◌, ℕ, ◌+◌, ◌*◌, ◌≤◌, Bool, List, length, map, Some, None}
+use Rattle.std.specs.List.{slice_get}
+use Rattle.tfm_tables.specs.Font.{FontValue}
+use Rattle.lig_kern.specs.declared.symbol.Symbol.{Symbol}
+use Rattle.lig_kern.specs.declared.item.Item.{Item}
+use Rattle.lig_kern.specs.declared.item.Item.TheVariants.{Char as CharItem}
+use Rattle.lig_kern.specs.Matching.{action_between}
+use Rattle.lig_kern.specs.Rewriting.{character_width, right_end, symbols_of}
+use Rattle.lig_kern.specs.Result.{Setting, IsResultOf, HasNoResultWithin, result_of}
+
+-- a run has one result at most
+abbrev pub HasOneResult : FontValue → List ℕ → Bool → Type 0
+HasOneResult font run right = (a b : Setting) → IsResultOf font run right a → IsResultOf font run right b → a ≡ b
+
+-- the result within a limit is the result, where that takes no more steps than the limit; else there is none
+pub record FindsResult (font : FontValue) (run : List ℕ) (right : Bool) (limit : ℕ) : Type 0 where
+  pub found : (setting : Setting) → IsResultOf font run right setting → setting.steps ≤ limit → result_of font run right limit ≡ Some setting
+  pub is_result : (setting : Setting) → result_of font run right limit ≡ Some setting → IsResultOf font run right setting × (setting.steps ≤ limit)
+  pub none : HasNoResultWithin font run right limit → result_of font run right limit ≡ None
+  pub none_within : result_of font run right limit ≡ None → HasNoResultWithin font run right limit
+
+-- the font's program does nothing between any two neighbours
+abbrev pub HasNoMatches : FontValue → List Symbol → Type 0
+HasNoMatches font symbols =
+    (i : ℕ) (left right : Symbol) → slice_get symbols i ≡ Some left → slice_get symbols (i + 1) ≡ Some right → action_between font left right ≡ None
+
+-- the characters of a run as items
+abbrev pub plain_items : FontValue → List ℕ → List Item
+plain_items font run = map (λ code. CharItem code (character_width font code)) run
+
+-- a run in which nothing matches is set as itself, with one step for each character and one more where the right boundary
+-- stands after it
+abbrev pub SetsAsItself : FontValue → List ℕ → Bool → Type 0
+SetsAsItself font run right =
+    HasNoMatches font (symbols_of font run right)
+    → IsResultOf font run right (record { steps = length run + length (right_end font right); items = plain_items font run })
+
+-- a result has at most two items for each step, and one more
+abbrev pub HasFewItems : FontValue → List ℕ → Bool → Type 0
+HasFewItems font run right = (setting : Setting) → IsResultOf font run right setting → length setting.items ≤ 2 * setting.steps + 1

@@ -1,0 +1,22 @@
+//! A run of characters, set with a font's lig/kern program: the exact list of characters and kerns
+//! that the program defines, with what it does at both boundaries.
+#![tactic(auto)]
+
+pub use action::Action;
+pub use item::Item;
+pub use laws::{few_items, one_result, result_within_limit, set_as_itself};
+pub use matching::first_match;
+pub use setting::set_word;
+pub use symbol::Symbol;
+pub use word_fault::WordFault;
+
+mod action;
+mod ahead;
+mod item;
+mod laws;
+mod matching;
+mod setting;
+mod symbol;
+#[cfg(test)]
+mod tests;
+mod word_fault;

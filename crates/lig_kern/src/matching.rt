@@ -1,0 +1,68 @@
+ghost use Rattle.std.specs.Prelude.{◌≡◌, ◌<◌, ◌≤◌};
+ghost use Rattle.tfm_words.specs.declared.table.Table.TheVariants.{LigKern};
+ghost use Rattle.tfm_tables.specs.Table.{entries_of};
+ghost use Rattle.tfm_tables.specs.Program.{step_at};
+ghost use Rattle.lig_kern.specs.Matching.{action_between, action_of, ligature_by, operation_of};
+
+use crate::{Action, Symbol};
+use tfm_tables::{Font, LeftSide, Step};
+
+/// The ligature of an op code below 128: one of the eight operations, or LIG for a code that is not
+/// among them.
+#[tactic(auto, unfolding(crate::specs::Matching::operation_of))]
+fn ligature(op: u8, code: u8) -> Action
+    ensures { result ≡ ligature_by (operation_of op) code }
+{
+    let (keep_left, keep_right, pass) = match op {
+        1 => (false, true, 0),
+        2 => (true, false, 0),
+        3 => (true, true, 0),
+        5 => (false, true, 1),
+        6 => (true, false, 1),
+        7 => (true, true, 1),
+        11 => (true, true, 2),
+        _ => (false, false, 0),
+    };
+    Action::Lig {
+        code,
+        keep_left,
+        keep_right,
+        pass,
+    }
+}
+
+/// What the instruction at an address does.
+#[tactic(auto, unfolding(crate::specs::Matching::action_of, tfm_tables::specs::Acceptance::kern_index_of))]
+fn action(font: &Font, address: usize) -> Action
+    requires within { address < entries_of font.now.words LigKern }
+    requires skip { (step_at font.now.words address).skip ≤ 128 }
+    ensures { result ≡ action_of font.now (step_at font.now.words address) }
+{
+    let step = font.step(address);
+    if step.op < 128 {
+        return ligature(step.op, step.remainder);
+    }
+    Action::Kern(font.kern(256 * usize::from(step.op - 128) + usize::from(step.remainder)))
+}
+
+/// What a font's program does between two neighbours: the action of the first instruction of the left
+/// one's program that is for the right one. `None` where there is none, and where the first is the
+/// right boundary, the second the left one, or the second the right one and the font has no right
+/// boundary character.
+#[tactic(auto, unfolding(crate::specs::Matching::action_between, crate::specs::Matching::match_of))]
+pub fn first_match(font: &Font, left: Symbol, right: Symbol) -> Option<Action>
+    ensures { result ≡ action_between font.now left right }
+{
+    let side = match left {
+        Symbol::Left => LeftSide::Boundary,
+        Symbol::Char(code) => LeftSide::Char(code),
+        Symbol::Right => return None,
+    };
+    let code = match right {
+        Symbol::Left => return None,
+        Symbol::Char(code) => code,
+        Symbol::Right => font.right_boundary()?,
+    };
+    let address = font.find(side, code)?;
+    Some(action(font, address))
+}

@@ -1,0 +1,153 @@
+//! One run, set step by step.
+ghost use Rattle.std.specs.Prelude.{◌≡◌, ◌++◌, [], ◌∷◌, ◌&&◌, map, is_some, Err, Some, IfOk, OnOk, OnErr, MatchOption};
+ghost use Rattle.std.specs.List.{slice_get};
+ghost use Rattle.tfm_tables.specs.Program.{program_of, right_code_of};
+ghost use Rattle.lig_kern.specs.declared.word_fault.WordFault.TheVariants.{TooManySteps as TooMany};
+ghost use Rattle.lig_kern.specs.Rewriting.{items_of, of_symbol};
+ghost use Rattle.lig_kern.specs.Result.{HasNoResultWithin, IsAppendedResult, StaysInFront};
+ghost use Rattle.lig_kern.specs.Ahead.{HasTurned, stays, turn_of};
+
+use crate::ahead::Ahead;
+use crate::{Action, Item, Symbol, WordFault, first_match};
+use std::alloc::AllocError;
+use tfm_tables::Font;
+
+/// Sends a symbol out: a character is an item, and a boundary is nothing.
+#[tactic(auto, using(crate::proofs::UnderWay::fronts), unfolding(crate::specs::Rewriting::items_of))]
+fn send(font: &Font, symbol: Symbol, out: &mut Vec<Item>) -> Result<(), AllocError>
+    ensures front { StaysInFront out.old.items out.new.items }
+    ensures sent { OnOk result (out.new.items ≡ out.old.items ++ items_of font.now (of_symbol symbol ∷ [])) }
+{
+    if let Symbol::Char(code) = symbol {
+        let width = font.metrics(code).map_or(0, |metrics| metrics.width);
+        out.push(Item::Char { code, width })?;
+    }
+    Ok(())
+}
+
+/// Sends the left one of two symbols out, where a ligature keeps it and passes it.
+#[tactic(auto, using(crate::proofs::UnderWay::fronts), unfolding(crate::specs::Rewriting::items_of))]
+fn send_kept(font: &Font, keep: bool, symbol: Symbol, out: &mut Vec<Item>) -> Result<(), AllocError>
+    ensures front { StaysInFront out.old.items out.new.items }
+    ensures sent { OnOk result (out.new.items ≡ out.old.items ++ items_of font.now (map of_symbol (stays keep symbol))) }
+{
+    if keep {
+        send(font, symbol, out)
+    } else {
+        Ok(())
+    }
+}
+
+/// One step between the current symbol and the next one: what is current then.
+#[tactic(auto, using(crate::proofs::UnderWay::fronts))]
+fn step(
+    font: &Font,
+    current: Symbol,
+    next: Symbol,
+    ahead: &mut Ahead<'_>,
+    out: &mut Vec<Item>,
+) -> Result<Symbol, AllocError>
+    requires { slice_get ahead.now 0 ≡ Some next }
+    ensures front { StaysInFront out.old.items out.new.items }
+    ensures turned { IfOk result (λ after. HasTurned (turn_of font.now current ahead.old) after ahead.new out.old.items out.new.items) }
+{
+    match first_match(font, current, next) {
+        None => {
+            send(font, current, out)?;
+            ahead.pass();
+            Ok(next)
+        }
+        Some(Action::Kern(amount)) => {
+            send(font, current, out)?;
+            out.push(Item::Kern(amount))?;
+            ahead.pass();
+            Ok(next)
+        }
+        Some(
+            Action::Lig {
+                code,
+                keep_left,
+                keep_right,
+                pass,
+            },
+        ) => {
+            ahead.keep_first(keep_right);
+            let passed_left = u8::from(keep_left);
+            if pass < passed_left {
+                ahead.put(code)?;
+                return Ok(current);
+            }
+            send_kept(font, keep_left, current, out)?;
+            if pass == passed_left {
+                return Ok(Symbol::Char(code));
+            }
+            send(font, Symbol::Char(code), out)?;
+            ahead.pass();
+            Ok(next)
+        }
+    }
+}
+
+/// Whether the right boundary stands after a run.
+fn right_stands(font: &Font, right: bool) -> bool
+    ensures { result ≡ (right && is_some (right_code_of (program_of font.now.words))) }
+{
+    right && font.right_boundary().is_some()
+}
+
+/// Steps until the current symbol is the last one, and sends that out: how many steps it took, or
+/// `None` where so many steps lead to no end.
+#[tactic(auto, using(crate::proofs::UnderWay::ways))]
+fn run_steps(
+    font: &Font,
+    word: &[u8],
+    right: bool,
+    steps_left: u32,
+    out: &mut Vec<Item>,
+) -> Result<Option<u32>, AllocError>
+    ensures front { StaysInFront out.old.items out.new.items }
+    ensures ended { IfOk result (λ steps. MatchOption steps (HasNoResultWithin font.now word.now right steps_left) (IsAppendedResult font.now word.now right steps_left out.old.items out.new.items)) }
+{
+    let mut ahead = Ahead::new(*out.allocator(), word, right_stands(font, right));
+    let mut current = Symbol::Left;
+    for used in 0..steps_left {
+        let Some(next) = ahead.first() else {
+            send(font, current, out)?;
+            return Ok(Some(used));
+        };
+        current = step(font, current, next, &mut ahead, out)?;
+    }
+    if ahead.first().is_some() {
+        return Ok(None);
+    }
+    send(font, current, out)?;
+    Ok(Some(steps_left))
+}
+
+/// Sets one run of character codes. The left boundary stands before it, and the right boundary after
+/// it where `right` is true and the font has a right boundary character. Appends its characters and
+/// kerns to `out`, which gives the memory too, and answers how many steps it took: one for each
+/// ligature, kern and plain advance. The error is `TooManySteps`, only where no final list is reached
+/// within `steps_left` steps, or want of memory, which may come in place of either other answer;
+/// `out` is then as before. Any run is set: an empty one is its boundaries alone, and a code that
+/// doesn't exist counts with width 0 (The METAFONTbook, Appendix F).
+pub fn set_word(
+    font: &Font,
+    word: &[u8],
+    right: bool,
+    steps_left: u32,
+    out: &mut Vec<Item>,
+) -> Result<u32, WordFault>
+    ensures set { IfOk result (IsAppendedResult font.now word.now right steps_left out.old.items out.new.items) }
+    ensures too_many { result ≡ Err TooMany → HasNoResultWithin font.now word.now right steps_left }
+    ensures refused { OnErr result (out.new.items ≡ out.old.items) }
+{
+    let before = out.len();
+    let fault = match run_steps(font, word, right, steps_left, out) {
+        Ok(Some(steps)) => return Ok(steps),
+        Ok(None) => WordFault::TooManySteps,
+        Err(_) => WordFault::OutOfMemory,
+    };
+    out.truncate(before);
+    Err(fault)
+}

@@ -1,0 +1,7 @@
+mod matches;
+mod memory;
+mod parts;
+mod rewriting;
+mod samples;
+mod slow;
+mod words;
