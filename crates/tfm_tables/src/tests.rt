@@ -1,6 +1,13 @@
+mod damage;
 mod faults;
+mod faulty;
+mod faulty_programs;
 mod finds;
+mod headers;
+mod programs;
 mod readers;
 mod reading;
+mod sample;
 mod samples;
+mod scaled;
 mod slow;

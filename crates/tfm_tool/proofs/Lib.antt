@@ -1,3 +1,4 @@
 pub mod CountsTextLemmas
 pub mod ListingLemmas
+pub mod RunTextLemmas
 pub mod StatusLemmas

@@ -1,14 +1,16 @@
 -- Lemmas on the statuses of failures.
 use Rattle.std.proofs.Common.{[], ◌∷◌, Contains, lit<, refl}
 use Rattle.tfm_tool.specs.declared.failure.Failure.{Failure}
-use Rattle.tfm_tool.specs.declared.failure.Failure.TheVariants.{Usage, NotRead, Tool}
+use Rattle.tfm_tool.specs.declared.failure.Failure.TheVariants.{Usage, NotRead, FileNotOpened, FileNotEnded, Tool}
 use Rattle.tfm_tool.specs.declared.fault.ToolFault.TheVariants.{Font, OutOfMemory, Write}
 use Rattle.tfm_tool.specs.Status.{status_of}
 
 -- a failure has one of the statuses of the table
-pub status_listed : (failure : Failure) → Contains (0 ∷ 2 ∷ 3 ∷ 4 ∷ 5 ∷ []) (status_of failure)
-status_listed (Usage _) = (1, lit< tt, refl)
-status_listed (Tool (Font _)) = (2, lit< tt, refl)
-status_listed NotRead = (3, lit< tt, refl)
-status_listed (Tool OutOfMemory) = (4, lit< tt, refl)
-status_listed (Tool Write) = (4, lit< tt, refl)
+pub status_listed : (failure : Failure) → Contains (0 ∷ 1 ∷ 2 ∷ 3 ∷ 4 ∷ 5 ∷ []) (status_of failure)
+status_listed (Usage _) = (2, lit< tt, refl)
+status_listed (Tool (Font _)) = (3, lit< tt, refl)
+status_listed NotRead = (4, lit< tt, refl)
+status_listed FileNotOpened = (4, lit< tt, refl)
+status_listed FileNotEnded = (4, lit< tt, refl)
+status_listed (Tool OutOfMemory) = (5, lit< tt, refl)
+status_listed (Tool Write) = (5, lit< tt, refl)

@@ -1,10 +1,13 @@
 -- The status that the program ends with, by what went wrong.
 -- The table is this project's own; 2 for a command line that is refused is common use.
-use Rattle.std.specs.Prelude.{ℕ}
+use Rattle.std.specs.Prelude.{ℕ, ◌==◌, if◌then◌else◌}
 use Rattle.tfm_tool.specs.declared.failure.Failure.{Failure}
-use Rattle.tfm_tool.specs.declared.failure.Failure.TheVariants.{Usage, NotRead, Tool}
+use Rattle.tfm_tool.specs.declared.failure.Failure.TheVariants.{Usage, NotRead, FileNotOpened, FileNotEnded, Tool}
+use Rattle.tfm_tool.specs.declared.summary.Summary.{Summary}
 use Rattle.tfm_tool.specs.declared.fault.ToolFault.{ToolFault}
 use Rattle.tfm_tool.specs.declared.fault.ToolFault.TheVariants.{Font, OutOfMemory, Write}
+use Rattle.tfm_tool.specs.declared.files.FileFault.{FileFault}
+use Rattle.tfm_tool.specs.declared.files.FileFault.TheVariants.{NotOpened, NotEnded, OutOfMemory as FileNoRoom}
 use Rattle.tfm_tool.specs.declared.files.ReadFault.{ReadFault}
 use Rattle.tfm_tool.specs.declared.files.ReadFault.TheVariants.{NotRead as Unread, OutOfMemory as NoRoom}
 
@@ -18,9 +21,22 @@ text_status_of Write = 5
 abbrev pub status_of : Failure → ℕ
 status_of (Usage _) = 2
 status_of NotRead = 4
+status_of FileNotOpened = 4
+status_of FileNotEnded = 4
 status_of (Tool fault) = text_status_of fault
 
 -- what it means for the program that a font was not read
 abbrev pub failure_of : ReadFault → Failure
 failure_of Unread = NotRead
 failure_of NoRoom = Tool OutOfMemory
+
+-- what it means for the program that the lines were not read
+abbrev pub file_failure_of : FileFault → Failure
+file_failure_of NotOpened = FileNotOpened
+file_failure_of NotEnded = FileNotEnded
+file_failure_of FileNoRoom = Tool OutOfMemory
+
+-- the status where a text was written: want of memory before a failed read, and that before refused lines
+abbrev pub summary_status : Summary → ℕ
+summary_status summary =
+    if summary.memory then 5 else (if summary.read_failed then 4 else (if summary.refused == 0 then 0 else 1))

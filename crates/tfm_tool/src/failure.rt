@@ -1,9 +1,9 @@
 ghost use Rattle.std.specs.Prelude.{◌≡◌};
 ghost use Rattle.tfm_tool.specs.declared.failure.Failure.TheVariants.{Tool};
-ghost use Rattle.tfm_tool.specs.Status.{failure_of, status_of};
+ghost use Rattle.tfm_tool.specs.Status.{failure_of, file_failure_of, status_of};
 
 use crate::ToolFault;
-use crate::files::ReadFault;
+use crate::files::{FileFault, ReadFault};
 use thiserror::Error;
 
 /// Why the program ends with a status other than 0. Its message is all that goes to the standard
@@ -16,6 +16,12 @@ pub(crate) enum Failure {
     /// The font's bytes were not had.
     #[error("tfmset: font not read\n")]
     NotRead,
+    /// The file with the lines was not opened.
+    #[error("tfmset: file 1 not read\n")]
+    FileNotOpened,
+    /// It was not read to its end.
+    #[error("tfmset: some file was not read to its end\n")]
+    FileNotEnded,
     /// The text was not written.
     #[error("tfmset: {0}\n")]
     Tool(ToolFault),
@@ -30,6 +36,8 @@ impl Failure {
             Failure::Usage(_) => 2,
             Failure::Tool(ToolFault::Font(_)) => 3,
             Failure::NotRead => 4,
+            Failure::FileNotOpened => 4,
+            Failure::FileNotEnded => 4,
             Failure::Tool(ToolFault::OutOfMemory) => 5,
             Failure::Tool(ToolFault::Write) => 5,
         }
@@ -51,6 +59,18 @@ impl From<ReadFault> for Failure {
         match fault {
             ReadFault::NotRead => Failure::NotRead,
             ReadFault::OutOfMemory => Failure::Tool(ToolFault::OutOfMemory),
+        }
+    }
+}
+
+impl From<FileFault> for Failure {
+    ghost from_gives = { λ fault failure. failure ≡ file_failure_of fault };
+
+    fn from(fault: FileFault) -> Failure {
+        match fault {
+            FileFault::NotOpened => Failure::FileNotOpened,
+            FileFault::NotEnded => Failure::FileNotEnded,
+            FileFault::OutOfMemory => Failure::Tool(ToolFault::OutOfMemory),
         }
     }
 }

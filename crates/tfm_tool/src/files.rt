@@ -60,3 +60,28 @@ fn all_bytes<I: Read>(alloc: Global, input: &mut I) -> Result<Vec<u8>, ReadFault
     }
     Err(ReadFault::NotRead)
 }
+
+/// Why the bytes of a file with lines were not had.
+#[derive(Clone, Copy, Debug, PartialEq, Eq, Hash)]
+pub(crate) enum FileFault {
+    /// The file was not opened.
+    NotOpened,
+    /// A read failed, or there were too many.
+    NotEnded,
+    /// A request for memory was refused.
+    OutOfMemory,
+}
+
+/// All the bytes of the file of this name.
+pub(crate) fn file_bytes<R: Files + AllocGlobal>(rt: &R, name: &str) -> Result<Vec<u8>, FileFault> {
+    let mut file = match fs::open(rt, name) {
+        Ok(file) => file,
+        Err(error) if error.kind() == ErrorKind::OutOfMemory => return Err(FileFault::OutOfMemory),
+        Err(_) => return Err(FileFault::NotOpened),
+    };
+    match all_bytes(rt.alloc(), &mut file) {
+        Ok(bytes) => Ok(bytes),
+        Err(ReadFault::NotRead) => Err(FileFault::NotEnded),
+        Err(ReadFault::OutOfMemory) => Err(FileFault::OutOfMemory),
+    }
+}

@@ -4,7 +4,9 @@
 pub use counts::counts_text;
 pub use fault::ToolFault;
 pub use listing::list_text;
+pub use one_file::set_one;
 pub use program::{tool, words_refused};
+pub use summary::{Summary, status};
 
 mod appending;
 mod counts;
@@ -12,8 +14,11 @@ mod failure;
 mod fault;
 mod files;
 mod listing;
+mod one_file;
 mod program;
 mod rows;
+mod run_text;
+mod summary;
 #[cfg(test)]
 mod tests;
 mod words;

@@ -8,22 +8,26 @@ ghost use Rattle.tfm_tables.specs.Acceptance.{font_fault_of};
 ghost use Rattle.tfm_tables.specs.Font.{IsFontOf};
 
 use crate::failure::Failure;
-use crate::files::font_bytes;
-use crate::words::{Request, requested};
-use crate::{ToolFault, counts_text, list_text};
+use crate::files::{file_bytes, font_bytes};
+use crate::words::{Request, Setting, requested};
+use crate::{ToolFault, counts_text, list_text, set_one, status};
 use clap::error::ErrorKind as WordsKind;
+use set_line::Terms;
 use std::alloc::Global;
 use std::convert::AsStr;
 use std::io;
 use std::io::{ErrorKind, Read, Write};
 use std::rt::Files;
+use std::sync::Arc;
 use tfm_tables::{Font, FontFault};
+use tfm_words::Size;
 
 /// The whole program: does what the words behind its name ask for, and returns the status that it
 /// ends with. The font `-` is read from `input`, and any other word is the name of a file.
 ///
 /// What went wrong goes to `err`: one line, or the text of `clap` where the words are refused. The
-/// status is 0 after the whole text, help or the version, and 2 to 5 by what went wrong.
+/// status is 0 after the whole text, help or the version, 1 where some line was refused, and 2 to 5 by
+/// what went wrong.
 pub fn tool<R, S, I, O, E>(rt: &R, words: &[S], input: &mut I, out: &mut O, err: &mut E) -> u8
 where
     R: Files + AllocGlobal,
@@ -31,14 +35,15 @@ where
     I: Read,
     O: Write,
     E: Write,
-    ensures statuses { Contains (0 ∷ 2 ∷ 3 ∷ 4 ∷ 5 ∷ []) result }
-    ensures refused { result ≢ 0 → result ≢ 5 → Keeps (O.contents out.old) (O.contents out.new) }
+    ensures statuses { Contains (0 ∷ 1 ∷ 2 ∷ 3 ∷ 4 ∷ 5 ∷ []) result }
+    ensures usage { result ≡ 2 → Keeps (O.contents out.old) (O.contents out.new) }
+    ensures font { result ≡ 3 → Keeps (O.contents out.old) (O.contents out.new) }
 {
     let answered = answer(rt, words, input, out);
     let flushed = out.flush();
     match (answered, flushed) {
-        (Ok(()), Ok(())) => 0,
-        (Ok(()), Err(_)) => fail(Failure::Tool(ToolFault::Write), err),
+        (Ok(status), Ok(())) => status,
+        (Ok(_), Err(_)) => fail(Failure::Tool(ToolFault::Write), err),
         (Err(failure), _) => fail(failure, err),
     }
 }
@@ -55,19 +60,23 @@ pub fn words_refused<E: Write>(error: &io::Error, err: &mut E) -> u8
     2
 }
 
-fn answer<R, S, I, O>(rt: &R, words: &[S], input: &mut I, out: &mut O) -> Result<(), Failure>
+/// Does what the words ask for: the status where nothing went wrong.
+fn answer<R, S, I, O>(rt: &R, words: &[S], input: &mut I, out: &mut O) -> Result<u8, Failure>
 where
     R: Files + AllocGlobal,
     S: AsStr,
     I: Read,
     O: Write,
-    ensures { IfErr result (λ failure. status_of failure ≢ 5 → out.new ≡ out.old) }
+    ensures status { IfOk result (λ status. Contains (0 ∷ 1 ∷ 4 ∷ 5 ∷ []) status) }
+    ensures untouched { IfErr result (λ failure. status_of failure ≢ 5 → out.new ≡ out.old) }
 {
     match requested(rt.alloc(), words) {
-        Ok(Request::Counts { font }) => counts(rt, font, input, out),
-        Ok(Request::List { font }) => list(rt, font, input, out),
-        Err(error) => show(error, out),
+        Ok(Request::Counts { font }) => counts(rt, font, input, out)?,
+        Ok(Request::List { font }) => list(rt, font, input, out)?,
+        Ok(Request::Set(setting)) => return set_file(rt, &setting, input, out),
+        Err(error) => show(error, out)?,
     }
+    Ok(0)
 }
 
 /// The counts of the font of this name.
@@ -94,17 +103,45 @@ where
     ensures { IfErr result (λ failure. status_of failure ≢ 5 → out.new ≡ out.old) }
 {
     let bytes = font_bytes(rt, font, input)?;
-    let font = accepted(rt.alloc(), bytes.as_slice())?;
+    let font = accepted(rt.alloc(), bytes.as_slice(), None)?;
     list_text(rt.alloc(), &font, out)?;
     Ok(())
 }
 
-/// The font in these bytes, at its design size.
-fn accepted(alloc: Global, bytes: &[u8]) -> Result<Font, ToolFault>
-    ensures ok { IfOk result (IsFontOf bytes.now None) }
+/// The lines of a file, set: the status that the records lead to.
+fn set_file<R, I, O>(
+    rt: &R,
+    setting: &Setting<'_>,
+    input: &mut I,
+    out: &mut O,
+) -> Result<u8, Failure>
+where
+    R: Files + AllocGlobal,
+    I: Read,
+    O: Write,
+    ensures status { IfOk result (λ status. Contains (0 ∷ 1 ∷ 4 ∷ 5 ∷ []) status) }
+    ensures untouched { IfErr result (λ failure. status_of failure ≢ 5 → out.new ≡ out.old) }
+{
+    let bytes = font_bytes(rt, setting.font, input)?;
+    let font = accepted(rt.alloc(), bytes.as_slice(), setting.size)?;
+    let text = file_bytes(rt, setting.file)?;
+    let terms = shared(rt.alloc(), Terms::new(font, setting.limit, setting.policy))?;
+    let summary = set_one(rt.alloc(), &terms, text.as_slice(), setting.version, out)?;
+    Ok(status(&summary))
+}
+
+fn shared(alloc: Global, terms: Terms) -> Result<Arc<Terms>, ToolFault>
+    ensures { IfErr result (λ fault. fault ≡ ToolFault.OutOfMemory) }
+{
+    Arc::new(alloc, terms).map_err(|_| ToolFault::OutOfMemory)
+}
+
+/// The font in these bytes, at a size, else at its design size.
+fn accepted(alloc: Global, bytes: &[u8], size: Option<Size>) -> Result<Font, ToolFault>
+    ensures ok { IfOk result (IsFontOf bytes.now size) }
     ensures font { (f : FontFault) → result ≡ Err (ToolFault.Font f) → font_fault_of bytes.now ≡ Some f }
 {
-    match Font::read(alloc, bytes, None) {
+    match Font::read(alloc, bytes, size) {
         Ok(font) => Ok(font),
         Err(FontFault::OutOfMemory) => Err(ToolFault::OutOfMemory),
         Err(fault) => Err(ToolFault::Font(fault)),

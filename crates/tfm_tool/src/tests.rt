@@ -4,6 +4,7 @@ use std::rt::Files;
 
 mod counts_of_fonts;
 mod listings;
+mod settings;
 mod streams;
 mod words_given;
 

@@ -1,7 +1,8 @@
+use super::sample::{Info, Sample};
 use super::samples::{
-    A_FROM_0, BACK, BOUNDARY_EXISTS, ENDLESS, INDIRECT, Info, KERN_BEFORE_B, KERN_BEFORE_C,
-    LEFT_BOUNDARY, LIGATURE, NO_CHARACTERS, NO_PROGRAM, NOTHING, PLAIN, RIGHT_BOUNDARY, Sample,
-    largest, largest_program,
+    A_FROM_0, BACK, BOUNDARY_EXISTS, ENDLESS, INDIRECT, KERN_BEFORE_B, KERN_BEFORE_C,
+    LEFT_BOUNDARY, LIGATURE, NO_CHARACTERS, NO_PROGRAM, NOTHING, PLAIN, RIGHT_BOUNDARY, largest,
+    largest_program,
 };
 use crate::{Font, LeftSide, Step};
 use std::alloc::{AllocError, Global};
@@ -18,12 +19,15 @@ const C: LeftSide = LeftSide::Char(99);
 
 const D: LeftSide = LeftSide::Char(100);
 
+/// A left side, the code to its right, and the address of the instruction for the two.
+type Pair = (LeftSide, u8, Option<usize>);
+
 /// The font finds the instructions at these addresses.
 fn finds<R: Abort + AllocGlobal>(
     rt: &R,
     case: &str,
     sample: &Sample<'_>,
-    wanted: &[(LeftSide, u8, Option<usize>)],
+    wanted: &[Pair],
 ) -> Result<(), Fail> {
     let file = sample.file(rt.alloc())?;
     let font = Font::read(rt.alloc(), &file, None)?;
@@ -34,94 +38,111 @@ fn finds<R: Abort + AllocGlobal>(
     Ok(())
 }
 
+/// Fonts, and the address between two codes of each.
+static PAIRS: [(&str, Sample<'static>, &[Pair]); 9] = [
+    (
+        "the font with a ligature",
+        LIGATURE,
+        &[
+            (A, 98, Some(0)),
+            (A, 99, Some(1)),
+            (A, 97, None),
+            (C, 98, Some(2)),
+            (C, 99, None),
+            (BOUNDARY, 97, None),
+            (B, 98, None),
+            (D, 98, None),
+        ],
+    ),
+    (
+        "the font with a right boundary",
+        RIGHT_BOUNDARY,
+        &[
+            (A, 124, Some(1)),
+            (A, 98, Some(2)),
+            (A, 97, None),
+            (B, 124, Some(3)),
+            (B, 98, None),
+            (BOUNDARY, 124, None),
+            (LeftSide::Char(124), 98, None),
+        ],
+    ),
+    (
+        "the font with a left boundary",
+        LEFT_BOUNDARY,
+        &[
+            (BOUNDARY, 97, Some(0)),
+            (BOUNDARY, 98, Some(1)),
+            (BOUNDARY, 0, None),
+            (A, 98, None),
+        ],
+    ),
+    ("a halt that is met", INDIRECT, &[(A, 98, None)]),
+    ("no end", ENDLESS, &[(A, 97, Some(0))]),
+    (
+        "a right boundary that exists",
+        BOUNDARY_EXISTS,
+        &[(A, 98, Some(1))],
+    ),
+    (
+        "a boundary without a program",
+        NO_PROGRAM,
+        &[(BOUNDARY, 65, None)],
+    ),
+    ("no characters", NO_CHARACTERS, &[(BOUNDARY, 0, None)]),
+    ("plain", PLAIN, &[(A, 98, None)]),
+];
+
 #[test]
 fn the_table_of_pairs(rt: HostRuntime) -> Result<(), Fail> {
-    let ligature = [
-        (A, 98, Some(0)),
-        (A, 99, Some(1)),
-        (A, 97, None),
-        (C, 98, Some(2)),
-        (C, 99, None),
-        (BOUNDARY, 97, None),
-        (B, 98, None),
-        (D, 98, None),
-    ];
-    finds(&rt, "the font with a ligature", &LIGATURE, &ligature)?;
-    let right = [
-        (A, 124, Some(1)),
-        (A, 98, Some(2)),
-        (A, 97, None),
-        (B, 124, Some(3)),
-        (B, 98, None),
-        (BOUNDARY, 124, None),
-        (LeftSide::Char(124), 98, None),
-    ];
-    finds(
-        &rt,
-        "the font with a right boundary",
-        &RIGHT_BOUNDARY,
-        &right,
-    )?;
-    let left = [
-        (BOUNDARY, 97, Some(0)),
-        (BOUNDARY, 98, Some(1)),
-        (BOUNDARY, 0, None),
-        (A, 98, None),
-    ];
-    finds(&rt, "the font with a left boundary", &LEFT_BOUNDARY, &left)?;
-    let others: [(&str, Sample<'static>, LeftSide, u8, Option<usize>); 6] = [
-        ("a halt that is met", INDIRECT, A, 98, None),
-        ("no end", ENDLESS, A, 97, Some(0)),
-        (
-            "a right boundary that exists",
-            BOUNDARY_EXISTS,
-            A,
-            98,
-            Some(1),
-        ),
-        (
-            "a boundary without a program",
-            NO_PROGRAM,
-            BOUNDARY,
-            65,
-            None,
-        ),
-        ("no characters", NO_CHARACTERS, BOUNDARY, 0, None),
-        ("plain", PLAIN, A, 98, None),
-    ];
-    for (case, font, left, code, address) in others {
-        finds(&rt, case, &font, &[(left, code, address)])?;
+    for (case, font, wanted) in &PAIRS {
+        finds(&rt, case, font, wanted)?;
     }
     Ok(())
 }
 
+/// Instructions that are not met: later ones for the same code, and skipped ones.
+static NOT_MET: [(&str, Sample<'static>, &[Pair]); 2] = [
+    (
+        "b twice",
+        Sample {
+            program: &[
+                Step {
+                    skip: 0,
+                    next: 98,
+                    op: 128,
+                    remainder: 0,
+                },
+                KERN_BEFORE_B,
+                KERN_BEFORE_B,
+            ],
+            ..LIGATURE
+        },
+        &[(A, 98, Some(0)), (A, 99, None)],
+    ),
+    (
+        "a skip",
+        Sample {
+            program: &[
+                Step {
+                    skip: 1,
+                    ..KERN_BEFORE_C
+                },
+                KERN_BEFORE_C,
+                KERN_BEFORE_B,
+            ],
+            ..LIGATURE
+        },
+        &[(A, 99, Some(0)), (A, 98, Some(2))],
+    ),
+];
+
 #[test]
 fn the_first_instruction_wins_and_skipped_ones_are_not_met(rt: HostRuntime) -> Result<(), Fail> {
-    let kern_before_b = Step {
-        skip: 0,
-        next: 98,
-        op: 128,
-        remainder: 0,
-    };
-    let twice = Sample {
-        program: &[kern_before_b, KERN_BEFORE_B, KERN_BEFORE_B],
-        ..LIGATURE
-    };
-    finds(&rt, "b twice", &twice, &[(A, 98, Some(0)), (A, 99, None)])?;
-    let skip_one = Step {
-        skip: 1,
-        ..KERN_BEFORE_C
-    };
-    let skipped = Sample {
-        program: &[skip_one, KERN_BEFORE_C, KERN_BEFORE_B],
-        ..LIGATURE
-    };
-    finds(
-        &rt,
-        "a skip",
-        &skipped,
-        &[(A, 99, Some(0)), (A, 98, Some(2))],
-    )
+    for (case, font, wanted) in &NOT_MET {
+        finds(&rt, case, font, wanted)?;
+    }
+    Ok(())
 }
 
 /// The address for a code in a program from its start, by the definition: one instruction after
@@ -163,26 +184,34 @@ fn three_codes(program: &[Step]) -> Sample<'_> {
     }
 }
 
+/// The boundary, the three codes, and one that doesn't exist.
+static SIDES: [LeftSide; 5] = [
+    BOUNDARY,
+    LeftSide::Char(0),
+    LeftSide::Char(1),
+    LeftSide::Char(2),
+    D,
+];
+
+/// A pair of a small program is found where the definition says.
+fn finds_one<R: Abort>(rt: &R, font: &Font, program: &[Step], left: LeftSide, code: u8) {
+    let wanted = first_address(program, font.start(left), code);
+    assert_eq!(rt;
+        font.find(left, code),
+        wanted,
+        "{left:?}, {code} in {program:?}"
+    );
+}
+
 /// All pairs of a small program are found where the definition says. Whether it was accepted.
 fn finds_all<R: Abort + AllocGlobal>(rt: &R, program: &[Step]) -> Result<bool, Fail> {
     let file = three_codes(program).file(rt.alloc())?;
     let Ok(font) = Font::read(rt.alloc(), &file, None) else {
         return Ok(false);
     };
-    for left in [
-        BOUNDARY,
-        LeftSide::Char(0),
-        LeftSide::Char(1),
-        LeftSide::Char(2),
-        D,
-    ] {
+    for left in &SIDES {
         for code in 0..4 {
-            let wanted = first_address(program, font.start(left), code);
-            assert_eq!(rt;
-                font.find(left, code),
-                wanted,
-                "{left:?}, {code} in {program:?}"
-            );
+            finds_one(rt, &font, program, *left, code);
         }
     }
     Ok(true)
@@ -266,20 +295,29 @@ fn long_chains<'a>(characters: &'a [Info], program: &'a [Step]) -> Sample<'a> {
     }
 }
 
-/// Reading this font walks 256 chains of some 32,000 instructions.
+/// The font of all characters with the long program. Reading it walks 256 chains of some 32,000
+/// instructions.
+fn long_font(alloc: Global) -> Result<Font, Fail> {
+    let program = long_program(alloc)?;
+    let characters = all_codes(alloc)?;
+    let file = long_chains(&characters, &program).file(alloc)?;
+    Ok(Font::read(alloc, &file, None)?)
+}
+
+/// The instruction for a code is the next one from that of the left side's number.
+fn finds_next<R: Abort>(rt: &R, font: &Font, left: u8, code: u8) {
+    let round = if code < left { 256 } else { 0 };
+    let wanted = Some(usize::from(code) + round);
+    let found = font.find(LeftSide::Char(left), code);
+    assert_eq!(rt; found, wanted, "{left} and {code}");
+}
+
 #[test]
 fn long_chains_of_all_characters(rt: HostRuntime) -> Result<(), Fail> {
-    let program = long_program(rt.alloc())?;
-    let characters = all_codes(rt.alloc())?;
-    let file = long_chains(&characters, &program).file(rt.alloc())?;
-    let font = Font::read(rt.alloc(), &file, None)?;
+    let font = long_font(rt.alloc())?;
     for left in 0..=255 {
         for code in 0..=255 {
-            // the next instruction for the code, from the one of the left side's number
-            let round = if code < left { 256 } else { 0 };
-            let wanted = Some(usize::from(code) + round);
-            let found = font.find(LeftSide::Char(left), code);
-            assert_eq!(rt; found, wanted, "{left} and {code}");
+            finds_next(&rt, &font, left, code);
         }
     }
     assert_eq!(rt; font.find(BOUNDARY, 0), None);

@@ -1,7 +1,31 @@
+use super::faults::is_truncated;
 use super::samples::{RIGHT_BOUNDARY, largest, largest_program};
-use crate::{Font, FontFault, LeftSide};
+use crate::{Font, FontFault, LeftSide, Step};
+use std::process::Abort;
 use std::test::Fail;
-use tfm_words::CountFault;
+
+/// The font has this instruction at an address.
+fn has_step<R: Abort>(rt: &R, font: &Font, i: usize, step: Step) {
+    assert!(rt; i < font.steps());
+    assert_eq!(rt; font.step(i), step, "instruction {i}");
+}
+
+/// The font of the largest file has all of its instructions.
+fn has_program<R: Abort>(rt: &R, font: &Font, program: &[Step]) {
+    assert_eq!(rt; font.steps(), 32_754);
+    for (i, step) in program.iter().enumerate() {
+        has_step(rt, font, i, *step);
+    }
+}
+
+/// It has one kern, and programs for the boundaries alone.
+fn has_boundaries<R: Abort>(rt: &R, font: &Font) {
+    assert_eq!(rt; font.kerns(), 1);
+    assert_eq!(rt; font.kern(0), 20_480);
+    assert_eq!(rt; font.right_boundary(), Some(65));
+    assert_eq!(rt; font.start(LeftSide::Boundary), Some(1));
+    assert!(rt; !font.exists(65));
+}
 
 #[test]
 fn the_largest_file(rt: HostRuntime) -> Result<(), Fail> {
@@ -9,20 +33,10 @@ fn the_largest_file(rt: HostRuntime) -> Result<(), Fail> {
     let mut file = largest(&program).file(rt.alloc())?;
     assert_eq!(rt; file.len(), 131_068);
     let font = Font::read(rt.alloc(), &file, None)?;
-    assert_eq!(rt; font.steps(), 32_754);
-    for (i, step) in program.iter().enumerate() {
-        assert!(rt; i < font.steps());
-        assert_eq!(rt; font.step(i), *step, "instruction {i}");
-    }
-    assert_eq!(rt; font.kerns(), 1);
-    assert_eq!(rt; font.kern(0), 20_480);
-    assert_eq!(rt; font.right_boundary(), Some(65));
-    assert_eq!(rt; font.start(LeftSide::Boundary), Some(1));
-    assert!(rt; !font.exists(65));
+    has_program(&rt, &font, &program);
+    has_boundaries(&rt, &font);
     file.truncate(131_067);
-    let cut = Font::read(rt.alloc(), &file, None);
-    let truncated = FontFault::Counts(CountFault::Truncated { need: 131_068 });
-    assert_eq!(rt; cut.err(), Some(truncated));
+    is_truncated(&rt, &file, 131_068);
     Ok(())
 }
 
@@ -34,14 +48,15 @@ fn refused_memory(rt: HostRuntime) -> Result<(), Fail> {
     let Ok(file) = RIGHT_BOUNDARY.file(rt.alloc()) else {
         return Ok(println!(rt; "refused before the reading")?);
     };
-    match Font::read(rt.alloc(), &file, None) {
+    let told = match Font::read(rt.alloc(), &file, None) {
         Ok(font) => {
             assert!(rt; font.exists(97));
-            Ok(println!(rt; "read")?)
+            "read"
         }
         Err(fault) => {
             assert_eq!(rt; fault, FontFault::OutOfMemory);
-            Ok(println!(rt; "out of memory")?)
+            "out of memory"
         }
-    }
+    };
+    Ok(println!(rt; "{told}")?)
 }

@@ -1,114 +1,7 @@
-//! Sample fonts, part by part, and the files that they make.
+//! Sample fonts.
+use super::sample::{Info, Sample};
 use crate::Step;
 use std::alloc::{AllocError, Global};
-
-/// A char_info word, field by field.
-#[derive(Clone, Copy)]
-pub struct Info {
-    pub width: u8,
-    pub height: u8,
-    pub depth: u8,
-    pub italic: u8,
-    pub tag: u8,
-    pub remainder: u8,
-}
-
-impl Info {
-    /// The word. Height, depth, italic correction and tag have 4, 4, 6 and 2 bits.
-    fn bytes(&self) -> [u8; 4] {
-        [
-            self.width,
-            (self.height & 15) << 4 | (self.depth & 15),
-            (self.italic & 63) << 2 | (self.tag & 3),
-            self.remainder,
-        ]
-    }
-}
-
-/// The parts of a font.
-#[derive(Clone, Copy)]
-pub struct Sample<'a> {
-    pub bc: u16,
-    pub ec: u16,
-    pub check_sum: u32,
-    pub design: u32,
-    /// The header from its third word on.
-    pub texts: &'a [u8],
-    pub characters: &'a [Info],
-    pub width: &'a [u32],
-    pub height: &'a [u32],
-    pub depth: &'a [u32],
-    pub italic: &'a [u32],
-    pub program: &'a [Step],
-    pub kerns: &'a [u32],
-    pub recipes: &'a [u32],
-    pub parameters: &'a [u32],
-}
-
-impl Sample<'_> {
-    /// The font's file. Its counts are those of the parts.
-    pub fn file(&self, alloc: Global) -> Result<Vec<u8>, AllocError> {
-        let tables = self.tables(alloc)?;
-        let lf = count(tables.len() / 4).wrapping_add(6);
-        let lh = count(self.texts.len() / 4).wrapping_add(2);
-        let counts = [
-            lf,
-            lh,
-            self.bc,
-            self.ec,
-            count(self.width.len()),
-            count(self.height.len()),
-            count(self.depth.len()),
-            count(self.italic.len()),
-            count(self.program.len()),
-            count(self.kerns.len()),
-            count(self.recipes.len()),
-            count(self.parameters.len()),
-        ];
-        let mut file = Vec::with_capacity(alloc, ROOM)?;
-        for count in counts {
-            file.extend_from_slice(&count.to_be_bytes())?;
-        }
-        file.extend_from_slice(&tables)?;
-        Ok(file)
-    }
-
-    /// All that follows the counts.
-    fn tables(&self, alloc: Global) -> Result<Vec<u8>, AllocError> {
-        let mut bytes = Vec::with_capacity(alloc, ROOM)?;
-        append(&mut bytes, &[self.check_sum, self.design])?;
-        bytes.extend_from_slice(self.texts)?;
-        for info in self.characters {
-            bytes.extend_from_slice(&info.bytes())?;
-        }
-        append(&mut bytes, self.width)?;
-        append(&mut bytes, self.height)?;
-        append(&mut bytes, self.depth)?;
-        append(&mut bytes, self.italic)?;
-        for step in self.program {
-            bytes.extend_from_slice(&[step.skip, step.next, step.op, step.remainder])?;
-        }
-        append(&mut bytes, self.kerns)?;
-        append(&mut bytes, self.recipes)?;
-        append(&mut bytes, self.parameters)?;
-        Ok(bytes)
-    }
-}
-
-fn append(bytes: &mut Vec<u8>, words: &[u32]) -> Result<(), AllocError> {
-    for word in words {
-        bytes.extend_from_slice(&word.to_be_bytes())?;
-    }
-    Ok(())
-}
-
-/// Room for the files of most samples, so that making one takes memory twice.
-const ROOM: usize = 512;
-
-/// A count of this many entries; of too many, one that no font has.
-fn count(entries: usize) -> u16 {
-    u16::try_from(entries).unwrap_or(u16::MAX)
-}
 
 /// A code without a character.
 pub const NOTHING: Info = Info {
@@ -172,12 +65,15 @@ pub const PLAIN: Sample<'static> = Sample {
     design: 0xA0_0000,
     characters: &[A, B, C],
     width: &[0, HALF, QUARTER, THREE_QUARTERS],
-    parameters: &[
-        0, // the slant
-        0x05_5555, // the space: a third of the size
-    ],
+    parameters: PLAIN_PARAMETERS,
     ..NO_CHARACTERS
 };
+
+/// Its parameters.
+pub const PLAIN_PARAMETERS: &[u32] = &[
+    0, // the slant
+    0x05_5555, // the space: a third of the size
+];
 
 /// The a whose program begins at instruction 0.
 pub const A_FROM_0: Info = Info {
@@ -239,9 +135,33 @@ pub const LIGATURE: Sample<'static> = Sample {
     ..PLAIN
 };
 
-/// The same program with another operation code.
-pub fn ligature_program(op: u8) -> [Step; 3] {
-    [Step { op, ..LIGATURE_C }, KERN_BEFORE_C, KERN_BEFORE_B]
+/// The same program with another operation code and remainder in its first instruction.
+pub fn ligature_program(op: u8, remainder: u8) -> [Step; 3] {
+    [
+        Step {
+            op,
+            remainder,
+            ..LIGATURE_C
+        },
+        KERN_BEFORE_C,
+        KERN_BEFORE_B,
+    ]
+}
+
+/// The plain font with these characters.
+pub fn with_characters(characters: &[Info]) -> Sample<'_> {
+    Sample {
+        characters,
+        ..PLAIN
+    }
+}
+
+/// The font with a ligature, with this program.
+pub fn with_program(program: &[Step]) -> Sample<'_> {
+    Sample {
+        program,
+        ..LIGATURE
+    }
 }
 
 /// A right boundary character, code 124, that doesn't exist.

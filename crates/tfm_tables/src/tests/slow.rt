@@ -1,13 +1,8 @@
 //! A second look at what a font may not have: every condition in order, as the definition lists
 //! them, over the words of the file alone. Of the crates it uses the names of the faults, and
 //! nothing that reads or computes.
-use super::samples::{
-    LEFT_BOUNDARY, LIGATURE, PLAIN, RIGHT_BOUNDARY, Sample, header, header_texts,
-};
-use crate::{Font, FontFault, Part};
-use std::process::Abort;
-use std::test::Fail;
-use tfm_words::{Count, CountFault, DesignFault, Size, Table};
+use crate::{FontFault, Part};
+use tfm_words::{Count, CountFault, DesignFault, Table};
 
 const COUNTS: [Count; 12] = [
     Count::Lf,
@@ -70,37 +65,49 @@ fn cut<'a>(words: &mut &'a [[u8; 4]], entries: u16) -> &'a [[u8; 4]] {
     front
 }
 
-/// The parts of a file, or what is wrong with its counts.
-fn parts_of(bytes: &[u8]) -> Result<Parts<'_>, FontFault> {
-    let mut list = Conditions::new();
-    let too_short = FontFault::Counts(CountFault::Truncated { need: 24 });
-    let Some(pairs) = bytes.as_chunks::<2>().0.first_chunk::<12>() else {
-        return Err(too_short);
-    };
-    let numbers = pairs.map(|pair| u16::from_be_bytes(pair));
-    for (number, count) in numbers.into_iter().zip(COUNTS) {
+/// The counts of a file that is long enough for them.
+fn counts_of(bytes: &[u8]) -> Option<[u16; 12]> {
+    let pairs = bytes.as_chunks::<2>().0.first_chunk::<12>()?;
+    Some(pairs.map(|pair| u16::from_be_bytes(pair)))
+}
+
+/// The conditions of each count alone, and of the two codes.
+fn list_counts(list: &mut Conditions, counts: [u16; 12]) {
+    for (number, count) in counts.into_iter().zip(COUNTS) {
         list.next_of_counts(number >= 0x8000, CountFault::CountRange(count));
     }
-    let [lf, lh, bc, ec, nw, nh, nd, ni, nl, nk, ne, np] = numbers;
+    let [_, lh, bc, ec, ..] = counts;
     let (first, last) = (u32::from(bc), u32::from(ec));
     list.next_of_counts(first > last + 1 || last > 255, CountFault::CharRange);
     list.next_of_counts(lh < 2, CountFault::HeaderShort);
+}
+
+/// The conditions of the tables' counts.
+fn list_tables(list: &mut Conditions, counts: [u16; 12]) {
+    let [_, _, _, _, nw, nh, nd, ni, _, _, ne, _] = counts;
     list.next_of_counts(nw == 0, CountFault::EmptyTable(Table::Width));
     list.next_of_counts(nh == 0, CountFault::EmptyTable(Table::Height));
     list.next_of_counts(nd == 0, CountFault::EmptyTable(Table::Depth));
     list.next_of_counts(ni == 0, CountFault::EmptyTable(Table::Italic));
     list.next_of_counts(ne > 256, CountFault::TooManyRecipes);
-    let mut length = 6 + last + 1;
+}
+
+/// The conditions of the length, in a file of so many bytes.
+fn list_lengths(list: &mut Conditions, counts: [u16; 12], bytes: usize) {
+    let [lf, lh, bc, ec, nw, nh, nd, ni, nl, nk, ne, np] = counts;
+    let mut length = 6 + u32::from(ec) + 1;
     for number in [lh, nw, nh, nd, ni, nl, nk, ne, np] {
         length = length.saturating_add(u32::from(number));
     }
-    let wrong_length = length != u32::from(lf) + first;
+    let wrong_length = length != u32::from(lf) + u32::from(bc);
     list.next_of_counts(wrong_length, CountFault::LengthEquation);
     let need = 4 * usize::from(lf);
-    list.next_of_counts(bytes.len() < need, CountFault::Truncated { need });
-    if let Some(fault) = list.fault {
-        return Err(fault);
-    }
+    list.next_of_counts(bytes < need, CountFault::Truncated { need });
+}
+
+/// The parts of a file with these counts.
+fn cut_all(bytes: &[u8], counts: [u16; 12]) -> Parts<'_> {
+    let [_, lh, bc, ec, nw, nh, nd, ni, nl, nk, ne, np] = counts;
     let mut words = bytes.as_chunks().0;
     let _counts = cut(&mut words, 6);
     let header = cut(&mut words, lh);
@@ -112,7 +119,7 @@ fn parts_of(bytes: &[u8]) -> Result<Parts<'_>, FontFault> {
     let lig_kern = cut(&mut words, nl);
     let kern = cut(&mut words, nk);
     let _recipes = cut(&mut words, ne);
-    Ok(Parts {
+    Parts {
         bc,
         design: header.get(1).copied().unwrap_or_default(),
         char_info,
@@ -123,7 +130,22 @@ fn parts_of(bytes: &[u8]) -> Result<Parts<'_>, FontFault> {
         lig_kern,
         kern,
         param: cut(&mut words, np),
-    })
+    }
+}
+
+/// The parts of a file, or what is wrong with its counts.
+fn parts_of(bytes: &[u8]) -> Result<Parts<'_>, FontFault> {
+    let Some(counts) = counts_of(bytes) else {
+        return Err(FontFault::Counts(CountFault::Truncated { need: 24 }));
+    };
+    let mut list = Conditions::new();
+    list_counts(&mut list, counts);
+    list_tables(&mut list, counts);
+    list_lengths(&mut list, counts, bytes.len());
+    match list.fault {
+        Some(fault) => Err(fault),
+        None => Ok(cut_all(bytes, counts)),
+    }
 }
 
 impl Parts<'_> {
@@ -180,30 +202,28 @@ impl Parts<'_> {
         }
     }
 
-    fn list_measures(&self, list: &mut Conditions) {
-        let firsts = [
-            (Table::Width, self.width),
-            (Table::Height, self.height),
-            (Table::Depth, self.depth),
-            (Table::Italic, self.italic),
-        ];
-        for (table, entries) in firsts {
-            let is_zero = matches!(entries, [[0, 0, 0, 0], ..]);
-            list.next(!is_zero, FontFault::FirstNotZero(table));
-        }
+    fn list_firsts(&self, list: &mut Conditions) {
         let tables = [
             (Table::Width, self.width),
             (Table::Height, self.height),
             (Table::Depth, self.depth),
             (Table::Italic, self.italic),
-            (Table::Kern, self.kern),
         ];
         for (table, entries) in tables {
-            for (index, [a, _, _, _]) in entries.iter().enumerate() {
-                let beyond = *a != 0 && *a != 255;
-                list.next(beyond, FontFault::FixWordRange { table, index });
-            }
+            let is_zero = matches!(entries, [[0, 0, 0, 0], ..]);
+            list.next(!is_zero, FontFault::FirstNotZero(table));
         }
+    }
+
+    fn list_measures(&self, list: &mut Conditions) {
+        list_entries(list, Table::Width, self.width);
+        list_entries(list, Table::Height, self.height);
+        list_entries(list, Table::Depth, self.depth);
+        list_entries(list, Table::Italic, self.italic);
+        list_entries(list, Table::Kern, self.kern);
+    }
+
+    fn list_parameters(&self, list: &mut Conditions) {
         for (index, [a, _, _, _]) in (1..).zip(self.param) {
             let beyond = index > 1 && *a != 0 && *a != 255;
             let table = Table::Param;
@@ -212,38 +232,50 @@ impl Parts<'_> {
     }
 
     fn list_program(&self, list: &mut Conditions) {
-        for (index, [skip, next, op, remainder]) in self.lig_kern.iter().enumerate() {
-            let (skip, next, op, remainder) = (*skip, *next, *op, *remainder);
-            let end = self.lig_kern.len();
-            let number = u16::from_be_bytes([op, remainder]);
-            let parts = [
-                (Part::Restart, skip > 128 && usize::from(number) >= end),
-                (
-                    Part::Next,
-                    skip <= 128 && !self.exists(next) && !self.is_right_boundary(next),
-                ),
-                (
-                    Part::Ligature,
-                    skip <= 128 && op < 128 && !self.exists(remainder),
-                ),
-                (
-                    Part::Kern,
-                    skip <= 128 && op >= 128 && usize::from(number & 0x7FFF) >= self.kern.len(),
-                ),
-                (
-                    Part::Skip,
-                    skip < 128 && end - index <= usize::from(skip) + 1,
-                ),
-            ];
-            for (part, is_wrong) in parts {
-                list.next(is_wrong, FontFault::Step { index, part });
-            }
+        for (index, word) in self.lig_kern.iter().enumerate() {
+            self.list_step(list, index, *word);
+        }
+    }
+
+    fn list_step(&self, list: &mut Conditions, index: usize, word: [u8; 4]) {
+        let [skip, next, op, remainder] = word;
+        let end = self.lig_kern.len();
+        let number = u16::from_be_bytes([op, remainder]);
+        let parts = [
+            (Part::Restart, skip > 128 && usize::from(number) >= end),
+            (
+                Part::Next,
+                skip <= 128 && !self.exists(next) && !self.is_right_boundary(next),
+            ),
+            (
+                Part::Ligature,
+                skip <= 128 && op < 128 && !self.exists(remainder),
+            ),
+            (
+                Part::Kern,
+                skip <= 128 && op >= 128 && usize::from(number & 0x7FFF) >= self.kern.len(),
+            ),
+            (
+                Part::Skip,
+                skip < 128 && end.saturating_sub(index) <= usize::from(skip) + 1,
+            ),
+        ];
+        for (part, is_wrong) in parts {
+            list.next(is_wrong, FontFault::Step { index, part });
         }
     }
 }
 
+/// The conditions of a table's entries.
+fn list_entries(list: &mut Conditions, table: Table, entries: &[[u8; 4]]) {
+    for (index, [a, _, _, _]) in entries.iter().enumerate() {
+        let beyond = *a != 0 && *a != 255;
+        list.next(beyond, FontFault::FixWordRange { table, index });
+    }
+}
+
 /// The fault of a file, found the slow way.
-fn slow_fault(bytes: &[u8]) -> Option<FontFault> {
+pub fn slow_fault(bytes: &[u8]) -> Option<FontFault> {
     let parts = match parts_of(bytes) {
         Ok(parts) => parts,
         Err(fault) => return Some(fault),
@@ -252,60 +284,9 @@ fn slow_fault(bytes: &[u8]) -> Option<FontFault> {
     parts.list_design(&mut list);
     parts.list_indices(&mut list);
     parts.list_starts(&mut list);
+    parts.list_firsts(&mut list);
     parts.list_measures(&mut list);
+    parts.list_parameters(&mut list);
     parts.list_program(&mut list);
     list.fault
-}
-
-/// The reading of a file and the slow checker agree. Whether a fault was found.
-fn agrees<R: Abort + AllocGlobal>(rt: &R, case: &str, bytes: &[u8]) -> bool {
-    let slow = slow_fault(bytes);
-    for size in [None, Size::new(655_361)] {
-        let fault = Font::read(rt.alloc(), bytes, size).err();
-        assert_eq!(rt; fault, slow, "{case}, at {size:?}");
-    }
-    slow.is_some()
-}
-
-/// They agree on a font cut at every length, and with each of its bytes damaged. How many of the
-/// damaged files were refused.
-fn agrees_on_damage<R: Abort + AllocGlobal>(
-    rt: &R,
-    case: &str,
-    font: &Sample<'_>,
-) -> Result<u32, Fail> {
-    let file = font.file(rt.alloc())?;
-    assert!(rt; !agrees(rt, case, &file), "{case} is accepted");
-    for len in 0..file.len() {
-        assert!(rt; agrees(rt, case, &file[..len]), "{len} bytes of {case}");
-    }
-    let mut refused = 0u32;
-    for place in 0..file.len() {
-        for byte in [0x00, 0x01, 0x7F, 0x80, 0xFF] {
-            let mut damaged = Vec::from_slice(rt.alloc(), &file)?;
-            damaged[place] = byte;
-            if agrees(rt, case, &damaged) {
-                refused = refused.wrapping_add(1);
-            }
-        }
-    }
-    Ok(refused)
-}
-
-#[test]
-fn damaged_fonts_are_refused_as_the_definition_says(rt: HostRuntime) -> Result<(), Fail> {
-    let texts = header_texts();
-    let fonts = [
-        ("the plain font", PLAIN),
-        ("a font with a ligature", LIGATURE),
-        ("a font with a right boundary", RIGHT_BOUNDARY),
-        ("a font with a left boundary", LEFT_BOUNDARY),
-        ("a font with a long header", header(&texts)),
-    ];
-    for (case, font) in fonts {
-        let refused = agrees_on_damage(&rt, case, &font)?;
-        println!(rt; "{case}: {refused} damaged files refused")?;
-        assert!(rt; refused > 0, "some damage to {case} shows");
-    }
-    Ok(())
 }

@@ -7,7 +7,7 @@ use tfm_tables::Font;
 
 /// The characters a, b and c at 10 points, with these three counts (lf, nl and nk), char_info words,
 /// instructions and kerns.
-fn letters(
+pub fn letters(
     alloc: Global,
     [lf, nl, nk]: [u16; 3],
     infos: [[u8; 4]; 3],

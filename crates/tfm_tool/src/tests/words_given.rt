@@ -9,7 +9,38 @@ fn words_that_are_refused(rt: HostRuntime) -> Result<(), Fail> {
     for (words, part) in [
         ([].as_slice(), "Usage: tfmset <COMMAND>\n"),
         (&["measure"], "error: unrecognized subcommand 'measure'\n"),
-        (&["set", "-"], "error: unrecognized subcommand 'set'\n"),
+        (
+            &["set", "-"],
+            "  <FILE>\n\nUsage: tfmset set <FONT> <FILE>\n",
+        ),
+        (
+            &["set", "-", "a", "b"],
+            "error: unexpected argument 'b' found\n",
+        ),
+        (
+            &["set", "--size", "0", "-", "a"],
+            "error: invalid value '0' for '--size <N>': 0 is not in 1..=134217727\n",
+        ),
+        (
+            &["set", "--size", "134217728", "-", "a"],
+            "134217728 is not in 1..=134217727\n",
+        ),
+        (
+            &["set", "--limit", "0", "-", "a"],
+            "0 is not in 1..=16777216\n",
+        ),
+        (
+            &["set", "--limit", "16777217", "-", "a"],
+            "16777217 is not in 1..=16777216\n",
+        ),
+        (
+            &["set", "--missing", "other", "-", "a"],
+            "error: invalid value 'other' for '--missing <P>'\n",
+        ),
+        (
+            &["set", "--record", "3", "-", "a"],
+            "error: invalid value '3' for '--record <V>'\n",
+        ),
         (&["each", "-"], "error: unrecognized subcommand 'each'\n"),
         (&["counts"], "  <FONT>\n\nUsage: tfmset counts <FONT>\n"),
         (&["list"], "  <FONT>\n\nUsage: tfmset list <FONT>\n"),
@@ -58,6 +89,13 @@ fn help_and_version_go_to_standard_output(rt: HostRuntime) -> Result<(), Fail> {
         (&["--help"], "Usage: tfmset <COMMAND>\n"),
         (&["counts", "--help"], "Usage: tfmset counts <FONT>\n"),
         (&["counts", "-h"], "  tfmset counts cmr10.tfm\n"),
+        (
+            &["set", "--help"],
+            "Usage: tfmset set [OPTIONS] <FONT> <FILE>\n",
+        ),
+        (&["set", "--help"], "not Unicode"),
+        (&["set", "--help"], "[default: 1048576]"),
+        (&["set", "--help"], "The text is written when all is done."),
         (&["list", "--help"], "Usage: tfmset list <FONT>\n"),
         (&["help", "list"], "  tfmset list cmr10.tfm\n"),
         (&["help", "counts"], "standard input\n"),

@@ -1,0 +1,98 @@
+-- The answer to a line: the first that applies of too long, missing, set and too many steps.
+-- This project's own; the result of a run is that of The METAFONTbook, Appendix F.
+use Rattle.std.specs.Prelude.{◌≡◌, ℕ, ◌&&◌, not, nat_lt, nat_le, Bool, List, [], ◌∷◌, length, map, flat_map, sum_by, slice_index, Option, Some, None, if◌then◌else◌}
+use Rattle.std.specs.List.{position}
+use Rattle.std.specs.Option.{option_and_then, option_map, option_map_or}
+use Rattle.tfm_tables.specs.Font.{FontValue}
+use Rattle.tfm_tables.specs.Measure.{parameter_of}
+use Rattle.lig_kern.specs.declared.item.Item.{Item}
+use Rattle.lig_kern.specs.declared.item.Item.TheVariants.{Space, Skipped}
+use Rattle.lig_kern.specs.Result.{Setting, result_of}
+use Rattle.set_line.specs.declared.policy.Policy.{Policy}
+use Rattle.set_line.specs.declared.policy.Policy.TheVariants.{Refuse, Skip}
+use Rattle.set_line.specs.declared.outcome.LineRefusal.{LineRefusal}
+use Rattle.set_line.specs.declared.outcome.LineRefusal.TheVariants.{TooLong, Missing, Steps}
+use Rattle.set_line.specs.declared.outcome.Outcome.{Outcome}
+use Rattle.set_line.specs.declared.outcome.Outcome.TheVariants.{Set, Refused}
+use Rattle.set_line.specs.Terms.{TermsValue}
+use Rattle.set_line.specs.Pieces.{Portion, run, space, skipped, is_space, is_missing, portions_of}
+use Rattle.set_line.specs.Width.{total_width}
+
+-- an answer has its terms, its line and the outcome
+pub record AnswerValue : Type 0 where
+  pub terms : TermsValue
+  pub line : List ℕ
+  pub outcome : Outcome
+
+-- ---- the refusals that are looked for first
+
+-- whether a byte is neither a space nor a character
+abbrev pub is_neither : FontValue → ℕ → Bool
+is_neither font byte = not (is_space byte) && is_missing font byte
+
+-- the place of the first such byte
+abbrev pub first_missing : FontValue → List ℕ → Option ℕ
+first_missing font line = position (is_neither font) line
+
+-- the refusal for a missing character, where these aren't skipped
+abbrev pub missing_in : Policy → FontValue → List ℕ → Option LineRefusal
+missing_in Refuse font line = option_map (λ i. Missing i (slice_index line i)) (first_missing font line)
+missing_in Skip font line = None
+
+-- the refusal of a line at sight, before it is set: more than 65,535 bytes, whatever is in it; else a missing character
+unfoldable pub refusal_of : TermsValue → List ℕ → Option LineRefusal
+refusal_of terms line = if nat_lt 65535 (length line) then Some (TooLong (length line)) else missing_in terms.policy terms.font line
+
+-- ---- the setting
+
+-- an item as a setting without steps
+abbrev pub plain_setting : Item → Option Setting
+plain_setting item = Some (record { steps = 0; items = item ∷ [] })
+
+-- what a portion of a line is set as, where it is a run that has a result within the limit, or no run
+unfoldable pub setting_of : FontValue → ℕ → Portion → Option Setting
+setting_of font limit (run codes right) = result_of font codes right limit
+setting_of font limit space = plain_setting (Space (parameter_of font.words font.size 2))
+setting_of font limit (skipped code) = plain_setting (Skipped code)
+
+-- all of the settings, where none is wanting
+abbrev pub all_of : List (Option Setting) → Option (List Setting)
+all_of [] = Some []
+all_of (setting ∷ settings) = option_and_then (λ one. option_map (λ more. one ∷ more) (all_of settings)) setting
+
+-- settings together: their steps, and their items in order
+abbrev pub together : List Setting → Setting
+together settings = record { steps = sum_by (λ setting. setting.steps) settings; items = flat_map (λ setting. setting.items) settings }
+
+-- a setting that takes no more steps than the limit
+abbrev pub within_limit : ℕ → Setting → Option Setting
+within_limit limit setting = if nat_le setting.steps limit then Some setting else None
+
+-- what portions are set as, where every run has a result, and these together have no more steps than the limit; a run that
+-- alone has more is looked for in vain within it
+unfoldable pub setting_of_portions : FontValue → ℕ → List Portion → Option Setting
+setting_of_portions font limit portions =
+    option_and_then (λ settings. within_limit limit (together settings)) (all_of (map (setting_of font limit) portions))
+
+-- ---- the outcome
+
+-- a setting as an outcome, with its width
+abbrev pub set_as : Setting → Outcome
+set_as setting = Set setting.items (total_width setting.items) setting.steps
+
+-- a line that isn't refused at sight is set, or has too many steps
+abbrev pub set_or_refused : TermsValue → List ℕ → Outcome
+set_or_refused terms line =
+    option_map_or set_as (setting_of_portions terms.font terms.limit (portions_of terms.policy terms.font line)) (Refused (Steps terms.limit))
+
+-- the outcome of a line
+unfoldable pub outcome_of : TermsValue → List ℕ → Outcome
+outcome_of terms line = option_map_or Refused (refusal_of terms line) (set_or_refused terms line)
+
+-- the answer to a line
+abbrev pub answer_of : TermsValue → List ℕ → AnswerValue
+answer_of terms line = record { terms = terms; line = line; outcome = outcome_of terms line }
+
+-- an answer's outcome is the one that is defined for its terms and its line
+abbrev pub IsRight : AnswerValue → Type 0
+IsRight answer = answer.outcome ≡ outcome_of answer.terms answer.line

@@ -1,0 +1,56 @@
+-- What a line is cut into: pieces at each space, and parts of a piece at each byte that is no character.
+-- This project's own.
+use Rattle.std.specs.Prelude.{ℕ, ◌==◌, not, Bool, true, false, List, [], ◌∷◌, ◌++◌, filter}
+use Rattle.std.specs.List.{slice_split}
+use Rattle.tfm_tables.specs.Font.{FontValue}
+use Rattle.tfm_tables.specs.Character.{exists}
+use Rattle.set_line.specs.declared.policy.Policy.{Policy}
+use Rattle.set_line.specs.declared.policy.Policy.TheVariants.{Refuse, Skip}
+
+-- a portion of a line: a run, and whether the right boundary may stand after it; a space; or a byte that is no character
+-- and was skipped
+pub data Portion : Type 0 where
+  run : List ℕ → Bool → Portion
+  space : Portion
+  skipped : ℕ → Portion
+
+-- byte 32 is a space
+abbrev pub is_space : ℕ → Bool
+is_space byte = byte == 32
+
+-- a byte that is no character of the font
+abbrev pub is_missing : FontValue → ℕ → Bool
+is_missing font byte = not (exists font.words byte)
+
+-- a line cut at each space
+unfoldable pub pieces_of : List ℕ → List (List ℕ)
+pieces_of line = slice_split is_space line
+
+-- a run; an empty one gives nothing
+abbrev pub run_of : List ℕ → Bool → List Portion
+run_of [] right = []
+run_of (code ∷ codes) right = run (code ∷ codes) right ∷ []
+
+-- the parts of a piece with what stood between them, one part more than gaps: the right boundary may stand only after the
+-- last part
+abbrev pub parts_with : List (List ℕ) → List ℕ → List Portion
+parts_with [] gaps = []
+parts_with (part ∷ parts) [] = run_of part true
+parts_with (part ∷ parts) (gap ∷ gaps) = run_of part false ++ skipped gap ∷ parts_with parts gaps
+
+-- a piece: one run; or, where bytes are skipped, its parts between the bytes that are no characters, and these in their
+-- places
+unfoldable pub portions_of_piece : Policy → FontValue → List ℕ → List Portion
+portions_of_piece Refuse font piece = run_of piece true
+portions_of_piece Skip font piece = parts_with (slice_split (is_missing font) piece) (filter (is_missing font) piece)
+
+-- pieces with one space between neighbours
+abbrev pub portions_of_pieces : Policy → FontValue → List (List ℕ) → List Portion
+portions_of_pieces policy font [] = []
+portions_of_pieces policy font (last ∷ []) = portions_of_piece policy font last
+portions_of_pieces policy font (piece ∷ next ∷ pieces) =
+    portions_of_piece policy font piece ++ space ∷ portions_of_pieces policy font (next ∷ pieces)
+
+-- the portions of a line, in order
+unfoldable pub portions_of : Policy → FontValue → List ℕ → List Portion
+portions_of policy font line = portions_of_pieces policy font (pieces_of line)

@@ -1,0 +1,42 @@
+ghost use Rattle.std.specs.Prelude.{◌≡◌};
+
+use lig_kern::Item;
+use std::marker::Model;
+
+/// The items of a line that was set, in order.
+#[derive(Debug, Drop)]
+pub struct Items {
+    items: Vec<Item>,
+}
+
+impl Model for Items {
+    ghost use Rattle.std.specs.Prelude.{List};
+    ghost use Rattle.lig_kern.specs.declared.item.Item.{Item};
+
+    ghost Value = { List Item };
+
+    ghost view = { λ i. i.items.items };
+}
+
+impl Items {
+    /// These items.
+    pub fn new(items: Vec<Item>) -> Self
+        ensures { result ≡ items.items }
+    {
+        Items { items }
+    }
+
+    /// The items as a slice.
+    pub fn as_slice(&self) -> &[Item]
+        ensures { result.now ≡ self.now }
+    {
+        self.items.as_slice()
+    }
+
+    /// The items as the vector that they were made from.
+    pub fn into_vec(self) -> Vec<Item>
+        ensures { result.items ≡ self }
+    {
+        self.items
+    }
+}

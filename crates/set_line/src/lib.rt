@@ -1,0 +1,32 @@
+//! Lines of text, set with a font: each gets the answer that the definitions give it, and a record.
+#![tactic(auto)]
+
+pub use answer::Answer;
+pub use cutting::lines;
+pub use items::Items;
+pub use limit::Limit;
+pub use line::Line;
+pub use out_of_memory::OutOfMemory;
+pub use outcome::{LineRefusal, Outcome};
+pub use policy::Policy;
+pub use record_text::record;
+pub use setting::set;
+pub use terms::Terms;
+pub use version::Version;
+
+mod answer;
+mod cutting;
+mod items;
+mod limit;
+mod line;
+mod out_of_memory;
+mod outcome;
+mod policy;
+mod portions;
+mod record_text;
+mod setting;
+mod terms;
+#[cfg(test)]
+mod tests;
+mod version;
+mod width;

@@ -1,0 +1,133 @@
+//! The text of an answer.
+ghost use Rattle.std.specs.Prelude.{◌≡◌, ◌++◌, ◌∷◌, OnOk, OnErr, codes, decimal, flat_map};
+ghost use Rattle.set_line.specs.Record.{StaysInFront, item_text, outcome_text, record_text, refusal_text, steps_text};
+
+use crate::{Answer, LineRefusal, OutOfMemory, Outcome, Version};
+use itoa::{Buffer, Integer};
+use lig_kern::Item;
+use std::alloc::AllocError;
+
+/// Appends some bytes, and a number in decimal.
+#[tactic(auto, using(crate::proofs::RecordLemmas::fronts))]
+fn push_number<I: Integer>(text: &mut Vec<u8>, before: &[u8], number: I) -> Result<(), AllocError>
+    ensures front { StaysInFront text.old.items text.new.items }
+    ensures pushed { OnOk result (text.new.items ≡ text.old.items ++ before.now ++ I.text number) }
+{
+    let mut buffer = Buffer::new();
+    text.extend_from_slice(before)?;
+    text.extend_from_slice(buffer.format(number).as_bytes())
+}
+
+#[tactic(auto, using(crate::proofs::RecordLemmas::fronts), unfolding(crate::specs::Record::item_text))]
+fn push_item(text: &mut Vec<u8>, item: Item) -> Result<(), AllocError>
+    ensures front { StaysInFront text.old.items text.new.items }
+    ensures pushed { OnOk result (text.new.items ≡ text.old.items ++ item_text item) }
+{
+    match item {
+        Item::Char { code, width } => {
+            push_number(text, b" c", code)?;
+            push_number(text, b"=", width)
+        }
+        Item::Kern(amount) => push_number(text, b" k", amount),
+        Item::Space(amount) => push_number(text, b" s", amount),
+        Item::Skipped(code) => push_number(text, b" m", code),
+    }
+}
+
+#[tactic(auto, using(crate::proofs::RecordLemmas::fronts))]
+fn push_items(text: &mut Vec<u8>, items: &[Item]) -> Result<(), AllocError>
+    ensures front { StaysInFront text.old.items text.new.items }
+    ensures pushed { OnOk result (text.new.items ≡ text.old.items ++ flat_map item_text items.now) }
+{
+    for item in items {
+        push_item(text, *item)?;
+    }
+    Ok(())
+}
+
+#[tactic(auto, using(crate::proofs::RecordLemmas::fronts), unfolding(crate::specs::Record::refusal_text))]
+fn push_refusal(text: &mut Vec<u8>, refusal: LineRefusal) -> Result<(), AllocError>
+    ensures front { StaysInFront text.old.items text.new.items }
+    ensures pushed { OnOk result (text.new.items ≡ text.old.items ++ refusal_text refusal) }
+{
+    match refusal {
+        LineRefusal::TooLong(bytes) => push_number(text, b"too-long ", bytes),
+        LineRefusal::Missing { offset, code } => {
+            push_number(text, b"missing ", offset)?;
+            push_number(text, b" ", code)
+        }
+        LineRefusal::Steps(limit) => push_number(text, b"steps ", limit),
+    }
+}
+
+#[tactic(auto, using(crate::proofs::RecordLemmas::fronts))]
+fn push_steps(text: &mut Vec<u8>, version: Version, steps: u32) -> Result<(), AllocError>
+    ensures front { StaysInFront text.old.items text.new.items }
+    ensures pushed { OnOk result (text.new.items ≡ text.old.items ++ steps_text version steps) }
+{
+    match version {
+        Version::One => Ok(()),
+        Version::Two => push_number(text, b" steps ", steps),
+    }
+}
+
+#[tactic(auto, using(crate::proofs::RecordLemmas::fronts), unfolding(crate::specs::Record::outcome_text))]
+fn push_outcome(text: &mut Vec<u8>, outcome: &Outcome, version: Version) -> Result<(), AllocError>
+    ensures front { StaysInFront text.old.items text.new.items }
+    ensures pushed { OnOk result (text.new.items ≡ text.old.items ++ outcome_text version outcome.now) }
+{
+    match outcome {
+        Outcome::Set {
+            items,
+            width,
+            steps,
+        } => {
+            push_number(text, b" set ", *width)?;
+            push_steps(text, version, *steps)?;
+            push_items(text, items.as_slice())
+        }
+        Outcome::Refused(refusal) => {
+            text.extend_from_slice(b" refused ")?;
+            push_refusal(text, *refusal)
+        }
+    }
+}
+
+#[tactic(auto, using(crate::proofs::RecordLemmas::fronts), unfolding(crate::specs::Record::record_text))]
+fn push_record(
+    source: u64,
+    place: u64,
+    answer: &Answer,
+    version: Version,
+    text: &mut Vec<u8>,
+) -> Result<(), AllocError>
+    ensures front { StaysInFront text.old.items text.new.items }
+    ensures pushed { OnOk result (text.new.items ≡ text.old.items ++ record_text source place answer.now.outcome version) }
+{
+    push_number(text, b"", source)?;
+    push_number(text, b":", place)?;
+    push_outcome(text, answer.outcome(), version)?;
+    text.extend_from_slice(b"\n")
+}
+
+/// Appends the record of an answer: one line of text, with the number of its source and its place
+/// there. Where memory is wanted `out` is as before.
+pub fn record(
+    source: u64,
+    place: u64,
+    answer: &Answer,
+    version: Version,
+    out: &mut Vec<u8>,
+) -> Result<(), OutOfMemory>
+    ensures ok { OnOk result (out.new.items ≡ out.old.items ++ record_text source place answer.now.outcome version) }
+    ensures refused { OnErr result (out.new.items ≡ out.old.items) }
+{
+    let before = out.len();
+    match push_record(source, place, answer, version, out) {
+        Ok(()) => Ok(()),
+        Err(_) => {
+            out.truncate(before);
+            Err(OutOfMemory)
+        }
+    }
+}

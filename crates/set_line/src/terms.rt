@@ -1,0 +1,56 @@
+ghost use Rattle.std.specs.Prelude.{◌≡◌};
+ghost use Rattle.set_line.specs.Terms.{TermsValue};
+
+use crate::{Limit, Policy};
+use std::marker::Model;
+use tfm_tables::Font;
+
+/// What a line is set with: a font, a limit on the steps, and what is done with missing characters.
+#[derive(Debug, Drop)]
+pub struct Terms {
+    font: Font,
+    limit: Limit,
+    policy: Policy,
+}
+
+impl Model for Terms {
+    ghost use Rattle.set_line.specs.Terms.{TermsValue};
+
+    ghost Value = { TermsValue };
+
+    ghost view = { λ t. record { font = t.font; limit = t.limit; policy = t.policy } };
+}
+
+impl Terms {
+    /// Terms of this font, this limit and this policy.
+    pub fn new(font: Font, limit: Limit, policy: Policy) -> Self
+        ensures { result ≡ record { font = font; limit = limit; policy = policy } }
+    {
+        Terms {
+            font,
+            limit,
+            policy,
+        }
+    }
+
+    /// The font.
+    pub fn font(&self) -> &Font
+        ensures { result.now ≡ self.now.font }
+    {
+        &self.font
+    }
+
+    /// The limit on a line's steps.
+    pub fn limit(&self) -> Limit
+        ensures { result ≡ self.now.limit }
+    {
+        self.limit
+    }
+
+    /// What is done with bytes that are no characters.
+    pub fn policy(&self) -> Policy
+        ensures { result ≡ self.now.policy }
+    {
+        self.policy
+    }
+}

@@ -1,0 +1,12 @@
+mod answers;
+mod feeds;
+mod hostile;
+mod memory;
+mod numbers;
+mod parts;
+mod readers;
+mod records;
+mod refused;
+mod samples;
+mod skipped;
+mod spaces;

@@ -1,0 +1,8 @@
+/// The form of a record.
+#[derive(Clone, Copy, Debug, PartialEq, Eq, Hash)]
+pub enum Version {
+    /// The width of a line that was set, and its items.
+    One,
+    /// Also how many steps it took.
+    Two,
+}

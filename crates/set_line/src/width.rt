@@ -1,0 +1,40 @@
+ghost use Rattle.std.specs.Prelude.{◌≡◌, ◌≤◌, ◌^◌, pos, ◌+ℤ◌, ◌≤ℤ◌, length};
+ghost use Rattle.set_line.specs.Width.{amount_of, total_width};
+
+use lig_kern::Item;
+
+/// The amount of an item, in scaled points.
+fn amount(item: Item) -> i32
+    ensures { result ≡ amount_of item }
+{
+    match item {
+        Item::Char { width, .. } => width,
+        Item::Kern(amount) => amount,
+        Item::Space(amount) => amount,
+        Item::Skipped(_) => 0,
+    }
+}
+
+/// A width with one more item.
+#[tactic(auto, using(crate::proofs::WidthLemmas::signed))]
+fn with_item(width: i64, item: Item) -> i64
+    requires below { width ≤ℤ pos (2 ^ 62) }
+    requires above { pos 0 ≤ℤ (width +ℤ pos (2 ^ 62)) }
+    ensures sum { result ≡ width +ℤ amount_of item }
+    ensures below { result ≤ℤ (width +ℤ pos 2147483647) }
+    ensures above { width ≤ℤ (result +ℤ pos 2147483648) }
+{
+    width + i64::from(amount(item))
+}
+
+/// The sum of the amounts. So few amounts of 32 bits have a sum of less than 64 bits.
+pub(crate) fn total(items: &[Item]) -> i64
+    requires { length items.now ≤ 2 ^ 31 }
+    ensures { result ≡ total_width items.now }
+{
+    let mut width: i64 = 0;
+    for item in items {
+        width = with_item(width, *item);
+    }
+    width
+}

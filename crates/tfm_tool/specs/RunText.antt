@@ -1,0 +1,43 @@
+-- The text of a run: the records of a source's answers, its end line, and what the text begins with.
+-- This project's own.
+use Rattle.std.specs.Prelude.{ℕ, ◌+◌, List, [], ◌∷◌, ◌++◌, length, codes, decimal, Bool, true, false, Option}
+use Rattle.std.specs.Io.KnownBytes.{Appends, append_known}
+use Rattle.set_line.specs.declared.version.Version.{Version}
+use Rattle.set_line.specs.declared.version.Version.TheVariants.{One, Two}
+use Rattle.set_line.specs.declared.outcome.Outcome.{Outcome}
+use Rattle.set_line.specs.declared.outcome.Outcome.TheVariants.{Set, Refused}
+use Rattle.set_line.specs.Answer.{AnswerValue}
+use Rattle.set_line.specs.Record.{record_text}
+
+-- the records of answers, of which the first has this place
+abbrev pub records_from : ℕ → ℕ → Version → List AnswerValue → List ℕ
+records_from source place version [] = []
+records_from source place version (answer ∷ answers) =
+    record_text source place answer.outcome version ++ records_from source (place + 1) version answers
+
+-- the end line: the source, why it ended, and how many answers it has
+unfoldable pub end_text : ℕ → List ℕ → ℕ → List ℕ
+end_text source why count = decimal source ++ codes " end " ++ why ++ codes " " ++ decimal count ++ codes "\n"
+
+-- what version two of the records begins with
+abbrev pub head_text : Version → List ℕ
+head_text One = []
+head_text Two = codes "records 2\n"
+
+-- the records and the end line of a source
+abbrev pub lane_text : ℕ → Version → List AnswerValue → List ℕ → List ℕ
+lane_text source version answers why = records_from source 1 version answers ++ end_text source why (length answers)
+
+-- what is written and what waits in a block, together: this much more than before
+abbrev pub Goes : Option (List ℕ) → List ℕ → Option (List ℕ) → List ℕ → List ℕ → Type 0
+Goes written block written' block' more =
+    (before : Option (List ℕ)) (text : List ℕ) → Appends before (append_known written block) text → Appends before (append_known written' block') (text ++ more)
+
+-- whether an outcome is a refusal
+abbrev pub is_refusal : Outcome → Bool
+is_refusal (Set items width steps) = false
+is_refusal (Refused refusal) = true
+
+-- whether a line was refused
+abbrev pub is_refused : AnswerValue → Bool
+is_refused answer = is_refusal answer.outcome

@@ -1,0 +1,74 @@
+//! One text, set as a whole.
+ghost use Rattle.std.specs.Prelude.{◌≡◌, ◌++◌, codes, count_by, IfOk, IfErr, OnOk};
+ghost use Rattle.std.specs.Arc.{arc_value};
+ghost use Rattle.std.specs.Io.KnownBytes.{Appends};
+ghost use Rattle.set_line.specs.Answer.{answer_of};
+ghost use Rattle.tfm_tool.specs.RunText.{head_text, is_refused, lane_text};
+ghost use Rattle.tfm_tool.specs.Status.{text_status_of};
+ghost use Rattle.tfm_tool.specs.OneFile.{answers_to, summary_of};
+
+use crate::run_text::write_text;
+use crate::{Summary, ToolFault};
+use set_line::{Answer, Line, Outcome, Terms, Version, lines, set};
+use std::alloc::Global;
+use std::io::Write;
+use std::sync::Arc;
+
+/// The answer to a line.
+fn set_next(alloc: Global, terms: &Arc<Terms>, line: Line) -> Result<Answer, ToolFault>
+    ensures fault { IfErr result (λ fault. text_status_of fault ≡ 5) }
+    ensures answer { IfOk result (λ answer. answer ≡ answer_of (arc_value terms.now) line) }
+{
+    let terms = terms.clone().map_err(|_| ToolFault::OutOfMemory)?;
+    set(alloc, terms, line).map_err(|_| ToolFault::OutOfMemory)
+}
+
+/// The answers to the lines of a text, in order.
+fn set_lines(alloc: Global, terms: &Arc<Terms>, text: &[u8]) -> Result<Vec<Answer>, ToolFault>
+    ensures fault { IfErr result (λ fault. text_status_of fault ≡ 5) }
+    ensures answers { IfOk result (λ answers. answers.items ≡ answers_to (arc_value terms.now) text.now) }
+{
+    let lines = lines(alloc, text).map_err(|_| ToolFault::OutOfMemory)?;
+    let mut answers = Vec::with_capacity(alloc, lines.len()).map_err(|_| ToolFault::OutOfMemory)?;
+    for line in lines {
+        let answer = set_next(alloc, terms, line)?;
+        answers.push(answer).map_err(|_| ToolFault::OutOfMemory)?;
+    }
+    Ok(answers)
+}
+
+/// How many of the answers are refusals.
+fn refused(answers: &[Answer]) -> u64
+    ensures { result ≡ count_by is_refused answers.now }
+{
+    let mut count = 0;
+    for answer in answers {
+        if matches!(answer.outcome(), Outcome::Refused(_)) {
+            count += 1;
+        }
+    }
+    count
+}
+
+/// Sets a text's lines with these terms, and writes the text of a run of this one source, which was
+/// read to its end. Nothing is written before all lines are set.
+pub fn set_one<W: Write>(
+    alloc: Global,
+    terms: &Arc<Terms>,
+    text: &[u8],
+    version: Version,
+    out: &mut W,
+) -> Result<Summary, ToolFault>
+    ensures fault { IfErr result (λ fault. text_status_of fault ≡ 5) }
+    ensures text { OnOk result (Appends (W.contents out.old) (W.contents out.new)
+        (head_text version ++ lane_text 1 version (answers_to (arc_value terms.now) text.now) (codes "complete"))) }
+    ensures summary { IfOk result (λ summary. summary ≡ summary_of (count_by is_refused (answers_to (arc_value terms.now) text.now))) }
+{
+    let answers = set_lines(alloc, terms, text)?;
+    write_text(alloc, &answers, b"complete", version, out)?;
+    Ok(Summary {
+        refused: refused(&answers),
+        read_failed: false,
+        memory: false,
+    })
+}
