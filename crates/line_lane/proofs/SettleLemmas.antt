@@ -1,0 +1,156 @@
+-- The lists of a lane's ends, once these have met.
+use Rattle.std.proofs.Common.{arith, ◌≡◌, ℕ, Bool, true, false, List, [], ◌∷◌, ◌++◌, length, take, drop, Option, Some, None, refl, ap, sym, subst, ◌∙◌, append_assoc, append-nil, take-append-drop}
+use Rattle.std.proofs.lemmas.List.{map-append, take-map}
+use Rattle.std.proofs.Math.Seq.{take-append_seam}
+use Rattle.std.specs.Prelude.{◌&&◌, not, is_some, if◌then◌else◌}
+use Rattle.std.specs.Option.{option_map}
+use Rattle.set_line.specs.Terms.{TermsValue}
+use Rattle.set_line.specs.Answer.{AnswerValue, answer_of}
+use Rattle.line_lane.specs.Lane.{answers_of, pipeline, lane_end_of}
+use Rattle.line_lane.specs.Messages.{first_end}
+use Rattle.line_lane.specs.Rings.{IsFirstOf, items_sent, items_received, end_sent}
+use Rattle.line_lane.specs.Ends.{fed, open_lines, feeder_end, state_of, hands_of, taken, taker_end}
+use Rattle.line_lane.specs.Settled.{HaveMet, IsSettled, is_over}
+use Rattle.line_lane.specs.declared.ends.Feeder.{Feeder}
+use Rattle.line_lane.specs.declared.ends.Setter.{Setter}
+use Rattle.line_lane.specs.declared.ends.Taker.{Taker}
+use Rattle.line_lane.specs.Turns.{SetterState, IsOrderly, is_done, is_given_up, end_with}
+use Rattle.line_lane.specs.declared.ending.LaneEnd.{LaneEnd}
+use Rattle.line_lane.specs.declared.ending.LaneEnd.TheVariants.{Complete, SourceFailed, GaveUp}
+
+-- a list in front of another
+abbrev IsFront : {T : Type 0} → List T → List T → Type 0
+IsFront {T} front all = (rest : List T) × (front ++ rest ≡ all)
+
+first-front : {T : Type 0} (front all : List T) → IsFirstOf front all → IsFront front all
+first-front front all e =
+    (drop (length front) all, ap (λ f. f ++ drop (length front) all) e ∙ take-append-drop (length front) all)
+
+front-front : {T : Type 0} (a b c : List T) → IsFront a b → IsFront b c → IsFront a c
+front-front a b c (r, e) (q, f) = (r ++ q, sym (append_assoc a r q) ∙ ap (λ x. x ++ q) e ∙ f)
+
+front-answers : (terms : TermsValue) (front all : List (List ℕ)) → IsFront front all → IsFront (answers_of terms front) (answers_of terms all)
+front-answers terms front all (r, e) = (answers_of terms r, sym (map-append (answer_of terms) front r) ∙ ap (answers_of terms) e)
+
+front-pipeline : (terms : TermsValue) (taken : List AnswerValue) (fed : List (List ℕ)) → IsFront taken (answers_of terms fed) → pipeline terms fed taken
+front-pipeline terms taken fed (r, e) =
+    sym (take-append_seam taken r) ∙ ap (take (length taken)) e ∙ take-map (answer_of terms) (length taken) fed
+
+-- whatever an end still holds, what was taken are the answers of the first of the lines that were fed
+pub pipeline_holds : (s : SetterState) (taken held received : List AnswerValue) (sent lines : List (List ℕ)) → IsOrderly s
+    → taken ++ held ≡ received → IsFirstOf received s.given → IsFirstOf s.seen sent → pipeline s.terms (sent ++ lines) taken
+pipeline_holds s taken held received sent lines orderly whole first seen =
+    let done : List AnswerValue = s.given ++ s.answers in
+    let of_received : IsFront taken received = (held, whole) in
+    let of_given = front-front taken received s.given of_received (first-front received s.given first) in
+    let of_done : IsFront taken done = front-front taken s.given done of_given (s.answers, refl) in
+    let of_answers : IsFront taken (answers_of s.terms (take (length done) s.seen)) = subst (IsFront taken) orderly.0 of_done in
+    let of_seen = front-front taken (answers_of s.terms (take (length done) s.seen)) (answers_of s.terms s.seen) of_answers
+    (front-answers s.terms (take (length done) s.seen) s.seen (drop (length done) s.seen, take-append-drop (length done) s.seen)) in
+    let fed_front = front-front s.seen sent (sent ++ lines) (first-front s.seen sent seen) (lines, refl) in
+    front-pipeline s.terms taken (sent ++ lines)
+    (front-front taken (answers_of s.terms s.seen) (answers_of s.terms (sent ++ lines)) of_seen (front-answers s.terms s.seen (sent ++ lines) fed_front))
+
+-- ---- a setter that is done
+
+pub done-source : (s : SetterState) → is_done s ≡ true → is_some s.source ≡ true
+done-source s done = grind (arith, done)
+
+pub done-made : (s : SetterState) → is_done s ≡ true → is_some s.made ≡ true
+done-made s done = by (is_some s.source) (is_some s.made) done
+  where
+    by : (source made : Bool) → source && (made && not s.ready) ≡ true → made ≡ true
+    by true true e = refl
+    by true false e = e
+    by false made e = absurd (grind (arith, e))
+
+pub done-unready : (s : SetterState) → is_done s ≡ true → s.ready ≡ false
+done-unready s done = by (is_some s.source) (is_some s.made) s.ready done
+  where
+    by : (source made ready : Bool) → source && (made && not ready) ≡ true → ready ≡ false
+    by source made false e = refl
+    by true true true e = absurd (grind (arith, e))
+    by true false true e = absurd (grind (arith, e))
+    by false made true e = absurd (grind (arith, e))
+
+-- one that is done and didn't give up has no line in hand
+done-no_lines : (s : SetterState) → is_done s ≡ true → is_given_up s.made ≡ false → IsOrderly s → s.lines ≡ []
+done-no_lines s done going orderly = by s.lines (sym (orderly.2 going)) (done-made s done)
+  where
+    by : (lines : List (List ℕ)) → end_with lines s.source ≡ s.made → is_some s.made ≡ true → lines ≡ []
+    by [] e made = refl
+    by (line ∷ lines) e made = let none : is_some s.made ≡ false = ap is_some (sym e) in absurd (grind (arith, none, made))
+
+-- its end is that of the source
+pub done-end : (s : SetterState) → is_done s ≡ true → is_given_up s.made ≡ false → IsOrderly s → s.made ≡ option_map lane_end_of s.source
+done-end s done going orderly =
+    orderly.2 going ∙ ap (λ l. end_with l s.source) (done-no_lines s done going orderly)
+
+-- it has given the answers of all lines it saw
+pub done-given : (s : SetterState) → is_done s ≡ true → is_given_up s.made ≡ false → IsOrderly s → s.given ≡ answers_of s.terms s.seen
+done-given s done going orderly =
+    let lines = done-no_lines s done going orderly in
+    let answers : s.answers ≡ [] = orderly.4 (done-unready s done) lines in
+    let all : List AnswerValue = s.given ++ s.answers in
+    let none : drop (length all) s.seen ≡ [] = sym (orderly.1 going) ∙ lines in
+    let whole : take (length all) s.seen ≡ s.seen =
+    sym (append-nil (take (length all) s.seen)) ∙ ap (λ r. take (length all) s.seen ++ r) (sym none) ∙ take-append-drop (length all) s.seen in
+    sym (append-nil s.given) ∙ ap (λ a. s.given ++ a) (sym answers) ∙ orderly.0 ∙ ap (answers_of s.terms) whole
+
+-- an end that was given up
+pub given_up-end : (made : Option LaneEnd) (end : LaneEnd) → is_given_up made ≡ true → made ≡ Some end → end ≡ GaveUp
+given_up-end None end up e = absurd (grind (arith, up))
+given_up-end (Some Complete) end up e = absurd (grind (arith, up))
+given_up-end (Some (SourceFailed fault)) end up e = absurd (grind (arith, up))
+given_up-end (Some GaveUp) end up e = grind (arith, e)
+
+-- ---- the three ends
+
+both-first : (a b : Bool) → a && b ≡ true → a ≡ true
+both-first true b e = refl
+both-first false b e = absurd (grind (arith, e))
+
+both-second : (a b : Bool) → a && b ≡ true → b ≡ true
+both-second true b e = e
+both-second false b e = absurd (grind (arith, e))
+
+pub pipeline_of : (f : Feeder) (s : Setter) (t : Taker) → HaveMet f s t → pipeline (state_of s).terms (fed f) (taken t)
+pipeline_of f s t met =
+    pipeline_holds (state_of s) (taken t) t.inlet.hand.items (items_received t.inlet) (items_sent f.outlet) (open_lines f) s.orderly t.all.0 met.3 met.0
+
+-- the end that was taken is the one that was received
+ended-ending : (ended : Bool) (ending : Option LaneEnd) (end : LaneEnd) → (if ended then ending else None) ≡ Some end → ending ≡ Some end
+ended-ending true ending end e = e
+ended-ending false ending end e = absurd (grind (arith, e))
+
+pub settled_of : (f : Feeder) (s : Setter) (t : Taker) (end : LaneEnd) → HaveMet f s t → is_over f s t ≡ true → taker_end t ≡ Some end
+    → IsSettled f s t end
+settled_of f s t end met over ending =
+    let closed : is_some (feeder_end f) ≡ true = both-first (is_some (feeder_end f)) (is_done (state_of s) && t.ended) over in
+    let rest = both-second (is_some (feeder_end f)) (is_done (state_of s) && t.ended) over in
+    let done : is_done (state_of s) ≡ true = both-first (is_done (state_of s)) t.ended rest in
+    let ended : t.ended ≡ true = both-second (is_done (state_of s)) t.ended rest in
+    let came : (hands_of t).ending ≡ Some end = ended-ending t.ended (hands_of t).ending end ending in
+    let some : is_some (hands_of t).ending ≡ true = ap is_some came in
+    let sent : end_sent s.outlet ≡ Some end = sym (met.5 some) ∙ came in
+    let made : (state_of s).made ≡ Some end = ap (λ e. first_end e s.outlet.hand.ending) sent in
+    let source : is_some (state_of s).source ≡ true = done-source (state_of s) done in
+    let held : t.inlet.hand.items ≡ [] = t.all.1 ended in
+    let whole : taken t ≡ (state_of s).given = sym (append-nil (taken t)) ∙ ap (λ h. taken t ++ h) (sym held) ∙ t.all.0 ∙ met.4 some in
+    let all : (state_of s).seen ≡ fed f = met.1 source ∙ sym (append-nil (items_sent f.outlet)) ∙ ap (λ l. items_sent f.outlet ++ l) (sym (f.closed closed)) in (
+      over,
+      ending,
+      (λ up. given_up-end (state_of s).made end up made),
+      (λ going. ap (option_map lane_end_of) (sym (met.2 source)) ∙ sym (done-end (state_of s) done going s.orderly) ∙ made),
+      (λ going. whole ∙ done-given (state_of s) done going s.orderly ∙ ap (answers_of (state_of s).terms) all),
+    )
+
+pub over_same : (f g : Feeder) (s u : Setter) (t v : Taker) → feeder_end g ≡ feeder_end f → state_of u ≡ state_of s → hands_of v ≡ hands_of t
+    → is_over g u v ≡ is_over f s t
+over_same f g s u t v e st hands =
+    ap (λ x. is_some x && (is_done (state_of u) && (hands_of v).ended)) e
+    ∙ ap (λ x. is_some (feeder_end f) && (is_done x && (hands_of v).ended)) st
+    ∙ ap (λ x. is_some (feeder_end f) && (is_done (state_of s) && x.ended)) hands
+
+pub taker_end_same : (t v : Taker) → hands_of v ≡ hands_of t → taker_end v ≡ taker_end t
+taker_end_same t v hands = ap (λ x. if x.ended then x.ending else None) hands

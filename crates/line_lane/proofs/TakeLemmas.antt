@@ -1,0 +1,47 @@
+-- Answers that come out, one behind the other.
+use Rattle.std.proofs.Common.{arith, ◌≡◌, ◌-◌, Bool, true, false, List, [], ◌∷◌, ◌++◌, length, take, Option, refl, ap, sym, ◌∙◌, append_assoc}
+use Rattle.set_line.specs.Answer.{AnswerValue}
+use Rattle.line_lane.specs.Takes.{TakesFrom}
+use Rattle.line_lane.specs.declared.ending.LaneEnd.{LaneEnd}
+use Rattle.line_lane.proofs.LaneLemmas.{taken_front}
+
+-- what was taken, where some answers of all are held
+abbrev taken_of : List AnswerValue → List AnswerValue → List AnswerValue
+taken_of all held = take (length all - length held) all
+
+pub taken_next : (all held rest : List AnswerValue) (answer : AnswerValue) → held ≡ answer ∷ rest → taken_of all held ++ held ≡ all
+    → taken_of all rest ≡ taken_of all held ++ answer ∷ []
+taken_next all held rest answer is whole =
+    let moved : (taken_of all held ++ answer ∷ []) ++ rest ≡ all =
+    append_assoc (taken_of all held) (answer ∷ []) rest ∙ ap (λ h. taken_of all held ++ h) (sym is) ∙ whole in
+    taken_front all (taken_of all held ++ answer ∷ []) rest moved
+
+pub taken_whole : (all held rest : List AnswerValue) (answer : AnswerValue) → held ≡ answer ∷ rest → taken_of all held ++ held ≡ all
+    → taken_of all rest ++ rest ≡ all
+taken_whole all held rest answer is whole =
+    ap (λ t. t ++ rest) (taken_next all held rest answer is whole)
+    ∙ append_assoc (taken_of all held) (answer ∷ []) rest ∙ ap (λ h. taken_of all held ++ h) (sym is) ∙ whole
+
+-- a taker that has ended holds nothing
+pub holding-unended : (ended : Bool) (held rest : List AnswerValue) (answer : AnswerValue) → (ended ≡ true → held ≡ []) → held ≡ answer ∷ rest
+    → ended ≡ false
+holding-unended false held rest answer none is = refl
+holding-unended true held rest answer none is = let empty = none refl in absurd (grind (arith, empty, is))
+
+pub takes_held : (all held rest : List AnswerValue) (answer : AnswerValue) (ending : Option LaneEnd) (ended : Bool)
+    → held ≡ answer ∷ rest → taken_of all held ++ held ≡ all → (ended ≡ true → held ≡ [])
+    → TakesFrom held answer (record { taken = taken_of all held; held = held; ending = ending; ended = ended })
+    (record { taken = taken_of all rest; held = rest; ending = ending; ended = ended })
+takes_held all held rest answer ending ended is whole none =
+    let next = taken_next all held rest answer is whole in
+    let unended = holding-unended ended held rest answer none is in
+    by held is next unended
+  where
+    by : (list : List AnswerValue) → list ≡ answer ∷ rest → taken_of all rest ≡ taken_of all held ++ answer ∷ [] → ended ≡ false
+        → TakesFrom list answer (record { taken = taken_of all held; held = held; ending = ending; ended = ended })
+        (record { taken = taken_of all rest; held = rest; ending = ending; ended = ended })
+    by [] e next unended = absurd (grind (arith, e))
+    by (first ∷ others) e next unended =
+        let same : answer ≡ first = grind (arith, e) in
+        let rests : others ≡ rest = grind (arith, e) in
+        (same, rw (next, unended, rests) refl)

@@ -1,0 +1,103 @@
+-- A lane's three ends, in lists: what was fed, what the setter has, what was taken.
+-- This project's own.
+use Rattle.std.specs.Prelude.{◌≡◌, ℕ, ◌+◌, nat_lt, List, [], ◌∷◌, ◌++◌, length, Option, Some, None, if◌then◌else◌}
+use Rattle.std.specs.Arc.{arc_value}
+use Rattle.rtrb.specs.Ring.{IsPair, producer_capacity, consumer_capacity}
+use Rattle.set_line.specs.Answer.{AnswerValue}
+use Rattle.line_lane.specs.Messages.{first_end}
+use Rattle.line_lane.specs.Turns.{SetterState}
+use Rattle.line_lane.specs.Takes.{TakerState}
+use Rattle.line_lane.specs.Rings.{items_sent, end_sent, SameOutlet, SameInlet}
+use Rattle.line_lane.specs.Hands.{setter_state, taker_state}
+use Rattle.line_lane.specs.declared.ends.Feeder.{Feeder}
+use Rattle.line_lane.specs.declared.ends.Setter.{Setter}
+use Rattle.line_lane.specs.declared.ends.Taker.{Taker}
+use Rattle.line_lane.specs.declared.ending.SourceEnd.{SourceEnd}
+use Rattle.line_lane.specs.declared.ending.LaneEnd.{LaneEnd}
+use Rattle.line_lane.specs.declared.offer_fault.OfferFault.{OfferFault}
+use Rattle.line_lane.specs.declared.offer_fault.OfferFault.TheVariants.{Closed, NoRoom}
+
+-- ---- the feeder
+
+-- the lines of the open block, which weren't sent yet
+abbrev pub open_lines : Feeder → List (List ℕ)
+open_lines f = f.outlet.hand.items
+
+-- the lines that were fed: those sent, then those of the open block
+abbrev pub fed : Feeder → List (List ℕ)
+fed f = items_sent f.outlet ++ open_lines f
+
+-- the end that the feeder was closed with
+abbrev pub feeder_end : Feeder → Option SourceEnd
+feeder_end f = end_sent f.outlet
+
+-- how many lines a full block has
+abbrev pub block_of : Feeder → ℕ
+block_of f = f.block
+
+-- the open block once it has these lines: a full one is sent
+abbrev pub opened : ℕ → List (List ℕ) → List (List ℕ)
+opened block lines = if nat_lt (length lines) block then lines else []
+
+-- nothing was fed, and the open block stays
+abbrev pub IsAsFed : Feeder → Feeder → Type 0
+IsAsFed f g = (fed g ≡ fed f) × (open_lines g ≡ open_lines f) × (feeder_end g ≡ feeder_end f)
+
+-- a line was fed, before the end; a block that is full with it was sent
+abbrev pub IsFed : Feeder → List ℕ → Feeder → Type 0
+IsFed f line g =
+    (feeder_end f ≡ None)
+    × (fed g ≡ fed f ++ line ∷ [])
+    × (open_lines g ≡ opened (block_of f) (open_lines f ++ line ∷ []))
+
+-- a line comes back as closed from a closed feeder; from another for want of room, only where the block would be full with it
+abbrev pub IsRefusal : Option SourceEnd → ℕ → List (List ℕ) → List ℕ → OfferFault → Type 0
+IsRefusal (Some end) block lines line (Closed back) = back ≡ line
+IsRefusal (Some end) block lines line (NoRoom back) = ⊥
+IsRefusal None block lines line (Closed back) = ⊥
+IsRefusal None block lines line (NoRoom back) = (back ≡ line) × (length lines + 1 ≡ block)
+
+abbrev pub IsRefused : Feeder → List ℕ → OfferFault → Type 0
+IsRefused f line fault = IsRefusal (feeder_end f) (block_of f) (open_lines f) line fault
+
+-- a feeder was closed with this end, or stays closed with the first one; the open block was sent before
+abbrev pub IsClosedWith : Feeder → SourceEnd → Feeder → Type 0
+IsClosedWith f end g = (feeder_end g ≡ first_end (feeder_end f) (Some end)) × (open_lines g ≡ [])
+
+-- ---- the setter and the taker
+
+abbrev pub state_of : Setter → SetterState
+state_of s = setter_state (arc_value s.terms) s.inlet s.outlet s.ready
+
+abbrev pub hands_of : Taker → TakerState
+hands_of t = taker_state t.inlet t.ended
+
+-- the answers that were taken
+abbrev pub taken : Taker → List AnswerValue
+taken t = (hands_of t).taken
+
+-- the end that was taken
+abbrev pub taker_end : Taker → Option LaneEnd
+taker_end t = if t.ended then (hands_of t).ending else None
+
+-- ---- the lane
+
+-- the three ends of one lane
+abbrev pub IsLane : Feeder → Setter → Taker → Type 0
+IsLane f s t = IsPair f.outlet.producer s.inlet.consumer × IsPair s.outlet.producer t.inlet.consumer
+
+-- the same end of the same lane
+abbrev pub SameFeeder : Feeder → Feeder → Type 0
+SameFeeder f g = SameOutlet f.outlet g.outlet × (g.block ≡ f.block)
+
+abbrev pub SameSetter : Setter → Setter → Type 0
+SameSetter s t = SameInlet s.inlet t.inlet × SameOutlet s.outlet t.outlet
+
+abbrev pub SameTaker : Taker → Taker → Type 0
+SameTaker s t = SameInlet s.inlet t.inlet
+
+-- each ring has places for so many messages
+abbrev pub HasPlaces : ℕ → Feeder → Setter → Taker → Type 0
+HasPlaces places f s t =
+    (producer_capacity f.outlet.producer ≡ places) × (consumer_capacity s.inlet.consumer ≡ places)
+    × (producer_capacity s.outlet.producer ≡ places) × (consumer_capacity t.inlet.consumer ≡ places)

@@ -1,0 +1,22 @@
+-- A lane in four lists: fed and seen of lines, given and taken of answers.
+-- This project's own.
+use Rattle.std.specs.Prelude.{◌≡◌, ℕ, List, length, map, take}
+use Rattle.set_line.specs.Terms.{TermsValue}
+use Rattle.set_line.specs.Answer.{AnswerValue, answer_of}
+use Rattle.line_lane.specs.declared.ending.SourceEnd.{SourceEnd}
+use Rattle.line_lane.specs.declared.ending.SourceEnd.TheVariants.{Complete as SourceComplete, Failed}
+use Rattle.line_lane.specs.declared.ending.LaneEnd.{LaneEnd}
+use Rattle.line_lane.specs.declared.ending.LaneEnd.TheVariants.{Complete, SourceFailed}
+
+-- the answers of lines: as many as there are lines, each with these terms, its line and the outcome that is defined for them
+abbrev pub answers_of : TermsValue → List (List ℕ) → List AnswerValue
+answers_of terms lines = map (answer_of terms) lines
+
+-- what was taken are the answers of the first of the lines that were fed
+abbrev pub pipeline : TermsValue → List (List ℕ) → List AnswerValue → Type 0
+pipeline terms fed taken = taken ≡ answers_of terms (take (length taken) fed)
+
+-- the end of a lane whose source ended so
+abbrev pub lane_end_of : SourceEnd → LaneEnd
+lane_end_of SourceComplete = Complete
+lane_end_of (Failed fault) = SourceFailed fault

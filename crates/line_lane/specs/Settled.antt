@@ -1,0 +1,42 @@
+-- A lane whose ends have come together again.
+-- This project's own.
+use Rattle.std.specs.Prelude.{◌≡◌, ◌&&◌, Bool, true, false, Some, is_some}
+use Rattle.std.specs.Option.{option_map}
+use Rattle.line_lane.specs.Lane.{answers_of, lane_end_of}
+use Rattle.line_lane.specs.Turns.{is_done, is_given_up}
+use Rattle.line_lane.specs.Rings.{IsFirstOf, items_sent, items_received, end_sent}
+use Rattle.line_lane.specs.Ends.{IsAsFed, SameFeeder, SameSetter, SameTaker, fed, feeder_end, state_of, hands_of, taken, taker_end}
+use Rattle.line_lane.specs.declared.ends.Feeder.{Feeder}
+use Rattle.line_lane.specs.declared.ends.Setter.{Setter}
+use Rattle.line_lane.specs.declared.ends.Taker.{Taker}
+use Rattle.line_lane.specs.declared.ending.LaneEnd.{LaneEnd}
+use Rattle.line_lane.specs.declared.ending.LaneEnd.TheVariants.{GaveUp}
+
+-- whether a lane is over: its feeder is closed, its setter is done, and its taker gave out the end
+abbrev pub is_over : Feeder → Setter → Taker → Bool
+is_over f s t = is_some (feeder_end f) && (is_done (state_of s) && (hands_of t).ended)
+
+-- a lane that is over with this end: the one that was taken. It is that of a lane given up exactly where the setter made that;
+-- else it is that of the feeder, and what was taken are the answers of all lines that were fed
+abbrev pub IsSettled : Feeder → Setter → Taker → LaneEnd → Type 0
+IsSettled f s t end =
+    (is_over f s t ≡ true)
+    × (taker_end t ≡ Some end)
+    × (is_given_up (state_of s).made ≡ true → end ≡ GaveUp)
+    × (is_given_up (state_of s).made ≡ false → option_map lane_end_of (feeder_end f) ≡ Some end)
+    × (is_given_up (state_of s).made ≡ false → taken t ≡ answers_of (state_of s).terms (fed f))
+
+-- the same ends, with nothing fed, set, sent or taken since
+abbrev pub AreAsBefore : Feeder → Setter → Taker → Feeder → Setter → Taker → Type 0
+AreAsBefore f s t g u v =
+    SameFeeder f g × IsAsFed f g × SameSetter s u × (state_of u ≡ state_of s) × SameTaker t v × (hands_of v ≡ hands_of t)
+
+-- ends that have looked at each other: on each ring what was received is the first of what was sent, and all of it behind an end
+abbrev pub HaveMet : Feeder → Setter → Taker → Type 0
+HaveMet f s t =
+    (IsFirstOf (state_of s).seen (items_sent f.outlet))
+    × (is_some (state_of s).source ≡ true → (state_of s).seen ≡ items_sent f.outlet)
+    × (is_some (state_of s).source ≡ true → (state_of s).source ≡ feeder_end f)
+    × (IsFirstOf (items_received t.inlet) (state_of s).given)
+    × (is_some (hands_of t).ending ≡ true → items_received t.inlet ≡ (state_of s).given)
+    × (is_some (hands_of t).ending ≡ true → (hands_of t).ending ≡ end_sent s.outlet)

@@ -1,0 +1,76 @@
+//! Lines go in.
+ghost use Rattle.std.specs.Prelude.{◌≡◌, ◌<◌, [], ◌∷◌, ◌++◌, None, is_some, length, IsTrue, IsFalse, OnOk, IfErr};
+ghost use Rattle.line_lane.specs.Ends.{IsAsFed, IsClosedWith, IsFed, IsRefused, SameFeeder, block_of, fed, feeder_end, open_lines};
+
+use crate::ends::Feeder;
+use crate::{OfferFault, SourceEnd};
+use set_line::Line;
+
+impl Feeder {
+    pub(crate) fn is_closed(&self) -> bool
+        ensures { result ≡ is_some (feeder_end self.now) }
+    {
+        self.outlet.ended.is_some()
+    }
+
+    /// Feeds a line. It joins the open block, which is sent once it is full.
+    pub fn offer(&mut self, line: Line) -> Result<(), OfferFault>
+        ensures lane { SameFeeder self.old self.new }
+        ensures end { feeder_end self.new ≡ feeder_end self.old }
+        ensures short { length (open_lines self.new) < block_of self.new }
+        ensures fed { OnOk result (IsFed self.old line self.new) }
+        ensures refused { IfErr result (λ fault. IsAsFed self.old self.new × IsRefused self.old line fault) }
+    {
+        if self.is_closed() {
+            return Err(OfferFault::Closed(line));
+        }
+        if self.outlet.hand.len() + 1 < self.block.get() {
+            self.outlet.hand.push(line);
+            return Ok(());
+        }
+        if !self.outlet.has_room() {
+            return Err(OfferFault::NoRoom(line));
+        }
+        self.outlet.hand.push(line);
+        self.outlet.send();
+        Ok(())
+    }
+
+    /// Sends the open block, where it has lines: false, and nothing changes, where no room for it was
+    /// seen.
+    pub fn flush(&mut self) -> bool
+        ensures lane { SameFeeder self.old self.new }
+        ensures fed { fed self.new ≡ fed self.old }
+        ensures end { feeder_end self.new ≡ feeder_end self.old }
+        ensures emptied { IsTrue result → open_lines self.new ≡ [] }
+        ensures refused { IsFalse result → IsAsFed self.old self.new × (open_lines self.old ≡ [] → ⊥) }
+    {
+        if self.outlet.hand.len() == 0 {
+            return true;
+        }
+        if !self.outlet.has_room() {
+            return false;
+        }
+        self.outlet.send();
+        true
+    }
+
+    /// Closes the feeder: the open block is sent, with this end last. False, and nothing changes,
+    /// where no room for it was seen. On a closed feeder the first end stands.
+    pub fn close(&mut self, end: SourceEnd) -> bool
+        ensures lane { SameFeeder self.old self.new }
+        ensures fed { fed self.new ≡ fed self.old }
+        ensures closed { IsTrue result → IsClosedWith self.old end self.new }
+        ensures refused { IsFalse result → (feeder_end self.old ≡ None) × IsAsFed self.old self.new }
+    {
+        if self.is_closed() {
+            return true;
+        }
+        if !self.outlet.has_room() {
+            return false;
+        }
+        self.outlet.hand.finish(end);
+        self.outlet.send();
+        true
+    }
+}

@@ -1,0 +1,32 @@
+//! One lane: lines go in at one end, a setter sets them, and answers come out at the other, in order.
+#![tactic(auto)]
+
+pub use block::Block;
+pub use capacity::Capacity;
+pub use ending::{LaneEnd, SourceEnd};
+pub use ends::{Feeder, Setter, Taker};
+pub use fault::SourceFault;
+pub use offer_fault::OfferFault;
+pub use opening::open;
+pub use settling::{Open, settle};
+pub use took::Took;
+pub use turn::Turn;
+
+mod block;
+mod capacity;
+mod ending;
+mod ends;
+mod fault;
+mod feeder;
+mod meeting;
+mod message;
+mod offer_fault;
+mod opening;
+mod receiving;
+mod ring_ends;
+mod sending;
+mod setter;
+mod settling;
+mod taker;
+mod took;
+mod turn;

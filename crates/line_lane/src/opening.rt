@@ -1,0 +1,47 @@
+//! A lane is opened.
+ghost use Rattle.std.specs.Prelude.{◌≡◌, [], None, IfOk};
+ghost use Rattle.std.specs.Arc.{arc_value};
+ghost use Rattle.line_lane.specs.Turns.{fresh};
+ghost use Rattle.line_lane.specs.Takes.{empty_handed};
+ghost use Rattle.line_lane.specs.Ends.{HasPlaces, IsLane, block_of, fed, feeder_end, hands_of, open_lines, state_of};
+
+use crate::ends::{Feeder, Setter, Taker};
+use crate::ring_ends::{Inlet, Outlet};
+use crate::{Block, Capacity};
+use rtrb::RingBuffer;
+use set_line::{OutOfMemory, Terms};
+use std::alloc::Global;
+use std::sync::Arc;
+
+/// Opens a lane with these terms: two rings with places for so many messages each, and blocks of so
+/// many lines. Memory is taken for the rings' places alone.
+pub fn open(
+    alloc: Global,
+    terms: Arc<Terms>,
+    capacity: Capacity,
+    block: Block,
+) -> Result<(Feeder, Setter, Taker), OutOfMemory>
+    ensures lane { IfOk result (λ ends. IsLane ends.0 ends.1 ends.2) }
+    ensures places { IfOk result (λ ends. HasPlaces capacity ends.0 ends.1 ends.2) }
+    ensures feeder { IfOk result (λ ends. (fed ends.0 ≡ []) × (open_lines ends.0 ≡ []) × (feeder_end ends.0 ≡ None) × (block_of ends.0 ≡ block)) }
+    ensures setter { IfOk result (λ ends. state_of ends.1 ≡ fresh (arc_value terms)) }
+    ensures taker { IfOk result (λ ends. hands_of ends.2 ≡ empty_handed) }
+{
+    let (lines_in, lines_out) = RingBuffer::new(alloc, capacity.get())?;
+    let (answers_in, answers_out) = RingBuffer::new(alloc, capacity.get())?;
+    let feeder = Feeder {
+        outlet: Outlet::new(alloc, lines_in),
+        block,
+    };
+    let setter = Setter {
+        terms,
+        inlet: Inlet::new(alloc, lines_out),
+        outlet: Outlet::new(alloc, answers_in),
+        ready: false,
+    };
+    let taker = Taker {
+        inlet: Inlet::new(alloc, answers_out),
+        ended: false,
+    };
+    Ok((feeder, setter, taker))
+}

@@ -1,0 +1,52 @@
+//! Messages made and sent.
+ghost use Rattle.std.specs.Prelude.{◌≡◌, ◌<◌, [], ◌∷◌, ◌++◌, None, IsTrue};
+ghost use Rattle.rtrb.specs.Ring.{sent, known_free};
+ghost use Rattle.line_lane.specs.Messages.{nothing, end_of};
+ghost use Rattle.line_lane.specs.Rings.{SameOutlet, end_sent, items_sent};
+
+use crate::message::Message;
+use crate::ring_ends::Outlet;
+use rtrb::Producer;
+use std::alloc::Global;
+use std::mem;
+
+impl<T: Drop, E: Copy> Outlet<T, E> {
+    /// An end that has sent nothing, with nothing in hand.
+    pub fn new(alloc: Global, producer: Producer<Message<T, E>>) -> Self
+        requires { sent producer ≡ [] }
+        ensures producer { result.producer ≡ producer }
+        ensures hand { result.hand ≡ nothing }
+    {
+        Outlet {
+            producer,
+            hand: Message::new(alloc),
+            ended: None,
+            alloc,
+        }
+    }
+
+    /// Whether there is room for a message: false where none was seen.
+    pub fn has_room(&mut self) -> bool
+        ensures same { SameOutlet self.old self.new }
+        ensures sent { sent self.new.producer ≡ sent self.old.producer }
+        ensures hand { self.new.hand ≡ self.old.hand }
+        ensures room { IsTrue result → 0 < known_free self.new.producer }
+    {
+        !self.producer.is_full()
+    }
+
+    /// Sends the message in hand, and begins a new one.
+    pub fn send(&mut self)
+        requires room { 0 < known_free self.old.producer }
+        requires unended { end_sent self.old ≡ None }
+        ensures same { SameOutlet self.old self.new }
+        ensures sent { sent self.new.producer ≡ sent self.old.producer ++ self.old.hand ∷ [] }
+        ensures items { items_sent self.new ≡ items_sent self.old ++ self.old.hand.items }
+        ensures ended { end_sent self.new ≡ self.old.hand.ending }
+        ensures hand { self.new.hand ≡ nothing }
+    {
+        let message = mem::replace(&mut self.hand, Message::new(self.alloc));
+        self.ended = message.ending();
+        self.producer.push_reserved(message);
+    }
+}

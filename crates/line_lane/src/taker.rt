@@ -1,0 +1,39 @@
+//! Answers come out.
+ghost use Rattle.std.specs.Prelude.{◌≡◌, [], None, MatchOption};
+ghost use Rattle.line_lane.specs.Takes.{Takes, IsTakenFromHand};
+ghost use Rattle.line_lane.specs.Ends.{SameTaker, hands_of};
+
+use crate::Took;
+use crate::ends::Taker;
+
+impl Taker {
+    /// What is in hand: an answer, or else the end.
+    fn take_held(&mut self) -> Option<Took>
+        ensures lane { SameTaker self.old self.new }
+        ensures took { IsTakenFromHand (hands_of self.old) result (hands_of self.new) }
+    {
+        if let Some(answer) = self.inlet.hand.take_first() {
+            // That an answer is right is told by its readers.
+            let _ = answer.outcome();
+            return Some(Took::Answer(answer));
+        }
+        let end = self.inlet.hand.ending()?;
+        self.ended = true;
+        Some(Took::End(end))
+    }
+
+    /// Takes the next answer, or the end once all answers were taken, which comes again then; or
+    /// nothing, where no message was seen.
+    pub fn take(&mut self) -> Took
+        ensures lane { SameTaker self.old self.new }
+        ensures took { Takes (hands_of self.old) result (hands_of self.new) }
+    {
+        if let Some(took) = self.take_held() {
+            return took;
+        }
+        if !self.inlet.receive() {
+            return Took::Nothing;
+        }
+        self.take_held().unwrap_or(Took::Nothing)
+    }
+}
