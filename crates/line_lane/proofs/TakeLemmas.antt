@@ -1,5 +1,6 @@
 -- Answers that come out, one behind the other.
 use Rattle.std.proofs.Common.{arith, ◌≡◌, ◌-◌, Bool, true, false, List, [], ◌∷◌, ◌++◌, length, take, Option, refl, ap, sym, ◌∙◌, append_assoc}
+use Rattle.std.specs.Prelude.{is_some}
 use Rattle.set_line.specs.Answer.{AnswerValue}
 use Rattle.line_lane.specs.Takes.{TakesFrom}
 use Rattle.line_lane.specs.declared.ending.LaneEnd.{LaneEnd}
@@ -28,20 +29,36 @@ pub holding-unended : (ended : Bool) (held rest : List AnswerValue) (answer : An
 holding-unended false held rest answer none is = refl
 holding-unended true held rest answer none is = let empty = none refl in absurd (grind (arith, empty, is))
 
-pub takes_held : (all held rest : List AnswerValue) (answer : AnswerValue) (ending : Option LaneEnd) (ended : Bool)
-    → held ≡ answer ∷ rest → taken_of all held ++ held ≡ all → (ended ≡ true → held ≡ [])
+pub takes_held : (all held rest : List AnswerValue) (answer : AnswerValue) (ending : Option LaneEnd) (ended : Bool) → held ≡ answer ∷ rest
     → TakesFrom held answer (record { taken = taken_of all held; held = held; ending = ending; ended = ended })
     (record { taken = taken_of all rest; held = rest; ending = ending; ended = ended })
-takes_held all held rest answer ending ended is whole none =
-    let next = taken_next all held rest answer is whole in
-    let unended = holding-unended ended held rest answer none is in
-    by held is next unended
+takes_held all held rest answer ending ended is = by held is
   where
-    by : (list : List AnswerValue) → list ≡ answer ∷ rest → taken_of all rest ≡ taken_of all held ++ answer ∷ [] → ended ≡ false
+    by : (list : List AnswerValue) → list ≡ answer ∷ rest
         → TakesFrom list answer (record { taken = taken_of all held; held = held; ending = ending; ended = ended })
         (record { taken = taken_of all rest; held = rest; ending = ending; ended = ended })
-    by [] e next unended = absurd (grind (arith, e))
-    by (first ∷ others) e next unended =
+    by [] e = absurd (grind (arith, e))
+    by (first ∷ others) e =
         let same : answer ≡ first = grind (arith, e) in
-        let rests : others ≡ rest = grind (arith, e) in
-        (same, rw (next, unended, rests) refl)
+        let rests : rest ≡ others = grind (arith, e) in
+        (same, rests, refl)
+
+-- a message that was received, or none, is all that is held
+pub all_received : (answer : Bool) (before after held_before held_after : List AnswerValue) (ended : Bool) (ending : Option LaneEnd) → ended ≡ false
+    → taken_of before held_before ++ held_before ≡ before → (answer ≡ true → after ≡ before ++ held_after)
+    → (answer ≡ false → after ≡ before) → (answer ≡ false → held_after ≡ held_before)
+    → (taken_of after held_after ++ held_after ≡ after) × (ended ≡ true → held_after ≡ []) × (ended ≡ true → is_some ending ≡ true)
+all_received true before after held_before held_after ended ending unended whole came same kept =
+    let e = came refl in
+    let front = taken_front after before held_after (sym e) in (
+      ap (λ t. t ++ held_after) front ∙ sym e,
+      (λ up. absurd (grind (arith, up, unended))),
+      (λ up. absurd (grind (arith, up, unended))),
+    )
+all_received false before after held_before held_after ended ending unended whole came same kept =
+    let e = same refl in
+    let h = kept refl in (
+      rw (e, h) whole,
+      (λ up. absurd (grind (arith, up, unended))),
+      (λ up. absurd (grind (arith, up, unended))),
+    )

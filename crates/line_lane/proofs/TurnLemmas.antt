@@ -3,9 +3,11 @@ use Rattle.std.proofs.Common.{arith, ◌≡◌, ℕ, suc, ◌+◌, ◌≤◌, Bo
 use Rattle.std.proofs.lemmas.List.{drop-append-le}
 use Rattle.std.specs.Prelude.{◌&&◌, not, is_some}
 use Rattle.set_line.specs.Answer.{AnswerValue, answer_of}
-use Rattle.line_lane.specs.Messages.{MessageValue, first_end}
+use Rattle.line_lane.specs.Messages.{MessageValue, first_end, are_none}
 use Rattle.line_lane.specs.Lane.{lane_end_of}
-use Rattle.line_lane.specs.Turns.{SetterState, IsOrderly, after_send, after_set, after_message, after_dropping, after_receipt, is_given_up, is_done, end_with, are_none, Moves, MovesOn}
+use Rattle.line_lane.specs.Turns.{SetterState, IsOrderly, after_send, after_set, after_message, after_dropping, after_receipt, is_given_up, is_done, end_with, Moves, MovesOn, Turns}
+use Rattle.line_lane.specs.declared.turn.Turn.{Turn}
+use Rattle.line_lane.specs.declared.turn.Turn.TheVariants.{Idle, Moved, Blocked, Done}
 use Rattle.line_lane.specs.declared.ending.SourceEnd.{SourceEnd}
 use Rattle.line_lane.specs.declared.ending.SourceEnd.TheVariants.{Complete as SourceComplete, Failed}
 use Rattle.line_lane.specs.declared.ending.LaneEnd.{LaneEnd}
@@ -121,15 +123,16 @@ set_state s line rest answers sent before ready lines source made orderly items 
     (first_end-none (end_with rest.items s.source)))
 
 pub message_state : (s : SetterState) (m : MessageValue (List ℕ) SourceEnd) (answers : MessageValue AnswerValue LaneEnd)
-    (sent before : Option LaneEnd) (ready : Bool)
+    (sent before : Option LaneEnd) (ready : Bool) (seen : List (List ℕ)) (source : Option SourceEnd) (popped : ℕ)
     → s.lines ≡ [] → s.source ≡ None → is_given_up s.made ≡ false → s.made ≡ first_end sent before → IsOrderly s
     → answers.items ≡ s.answers → ready ≡ are_none m.items → answers.ending ≡ first_end (end_with m.items m.ending) before
-    → record s { seen = s.seen ++ m.items; source = m.ending; lines = m.items; answers = answers.items; ready = ready; made = first_end sent answers.ending }
+    → seen ≡ s.seen ++ m.items → source ≡ m.ending → popped ≡ s.popped + 1
+    → record s { seen = seen; source = source; lines = m.items; answers = answers.items; ready = ready; made = first_end sent answers.ending; popped = popped }
     ≡ after_message s m
-message_state s m answers sent before ready lines source going made orderly items is_ready ending =
-    let none = ends_none sent before (sym made ∙ before_end-unmade s lines source going orderly) in
-    rw (items, is_ready, ending, none.0, none.1)
-    (ap (λ e. record s { seen = s.seen ++ m.items; source = m.ending; lines = m.items; ready = are_none m.items; made = e })
+message_state s m answers sent before ready seen source popped lines unended going made orderly items is_ready ending e f g =
+    let none = ends_none sent before (sym made ∙ before_end-unmade s lines unended going orderly) in
+    rw (items, is_ready, ending, none.0, none.1, e, f, g)
+    (ap (λ x. record s { seen = s.seen ++ m.items; source = m.ending; lines = m.items; ready = are_none m.items; made = x; popped = s.popped + 1 })
     (first_end-none (end_with m.items m.ending)))
 
 -- a setter without a line in hand, with no ready message, that isn't done, has not seen the source's end
@@ -206,10 +209,37 @@ moves_receiving s t m lines source few is = by s.lines lines
     by [] e = (source, (m, few, is))
     by (line ∷ lines) e = absurd (grind (arith, e))
 
-pub receipt-dropping : (s : SetterState) (m : MessageValue (List ℕ) SourceEnd) (seen lines : List (List ℕ)) (source : Option SourceEnd)
-    → is_given_up s.made ≡ true → seen ≡ s.seen ++ m.items → source ≡ m.ending → lines ≡ [] → s.lines ≡ []
-    → record s { seen = seen; source = source; lines = lines } ≡ after_receipt s m
-receipt-dropping s m seen lines source up e f g h = rw (up, e, f, g, sym h) refl
+pub receipt-dropping : (s : SetterState) (m : MessageValue (List ℕ) SourceEnd) (seen lines : List (List ℕ)) (source : Option SourceEnd) (popped : ℕ)
+    → is_given_up s.made ≡ true → seen ≡ s.seen ++ m.items → source ≡ m.ending → lines ≡ [] → s.lines ≡ [] → popped ≡ s.popped + 1
+    → record s { seen = seen; source = source; lines = lines; popped = popped } ≡ after_receipt s m
+receipt-dropping s m seen lines source popped up e f g h i = rw (up, e, f, g, sym h, i) refl
 
 pub receipt-message : (s : SetterState) (m : MessageValue (List ℕ) SourceEnd) → is_given_up s.made ≡ false → after_message s m ≡ after_receipt s m
 receipt-message s m going = rw going refl
+
+-- ---- whether it gave up stays
+
+receipt-kept : (s : SetterState) (m : MessageValue (List ℕ) SourceEnd) → is_given_up (after_receipt s m).made ≡ is_given_up s.made
+receipt-kept s m = by (is_given_up s.made) refl
+  where
+    by : (up : Bool) → is_given_up s.made ≡ up → is_given_up (after_receipt s m).made ≡ is_given_up s.made
+    by true e = rw e e
+    by false e = rw e (source_end-not_given_up m.items m.ending)
+
+moves-kept : (s t : SetterState) → IsOrderly s → Moves s.ready s t → is_given_up t.made ≡ is_given_up s.made
+moves-kept s t orderly moves = by s.ready moves
+  where
+    on : (lines : List (List ℕ)) → s.lines ≡ lines → MovesOn lines s t → is_given_up t.made ≡ is_given_up s.made
+    on (line ∷ rest) e is =
+        ap (λ x. is_given_up x.made) is ∙ source_end-not_given_up rest s.source ∙ sym (with_line-going s line rest e orderly)
+    on [] e (unended, (m, few, is)) = ap (λ x. is_given_up x.made) is ∙ receipt-kept s m
+
+    by : (ready : Bool) → Moves ready s t → is_given_up t.made ≡ is_given_up s.made
+    by true is = ap (λ x. is_given_up x.made) is
+    by false is = on s.lines refl is
+
+pub turns_kept : (s t : SetterState) (turn : Turn) → IsOrderly s → Turns s turn t → is_given_up t.made ≡ is_given_up s.made
+turns_kept s t Done orderly turns = ap (λ x. is_given_up x.made) turns.0
+turns_kept s t Blocked orderly turns = ap (λ x. is_given_up x.made) turns.0
+turns_kept s t Idle orderly turns = ap (λ x. is_given_up x.made) turns.0
+turns_kept s t Moved orderly turns = moves-kept s t orderly turns.1

@@ -1,13 +1,13 @@
 -- A lane's three ends, in lists: what was fed, what the setter has, what was taken.
 -- This project's own.
-use Rattle.std.specs.Prelude.{◌≡◌, ℕ, ◌+◌, nat_lt, List, [], ◌∷◌, ◌++◌, length, Option, Some, None, if◌then◌else◌}
+use Rattle.std.specs.Prelude.{◌≡◌, ℕ, ◌+◌, nat_lt, Bool, is_some, List, [], ◌∷◌, ◌++◌, length, Option, Some, None, if◌then◌else◌}
 use Rattle.std.specs.Arc.{arc_value}
 use Rattle.rtrb.specs.Ring.{IsPair, producer_capacity, consumer_capacity}
 use Rattle.set_line.specs.Answer.{AnswerValue}
-use Rattle.line_lane.specs.Messages.{first_end}
+use Rattle.line_lane.specs.Messages.{first_end, are_none}
 use Rattle.line_lane.specs.Turns.{SetterState}
 use Rattle.line_lane.specs.Takes.{TakerState}
-use Rattle.line_lane.specs.Rings.{items_sent, end_sent, SameOutlet, SameInlet}
+use Rattle.line_lane.specs.Rings.{items_sent, items_received, messages_sent, messages_received, end_sent, SameOutlet, SameInlet}
 use Rattle.line_lane.specs.Hands.{setter_state, taker_state}
 use Rattle.line_lane.specs.declared.ends.Feeder.{Feeder}
 use Rattle.line_lane.specs.declared.ends.Setter.{Setter}
@@ -35,20 +35,26 @@ feeder_end f = end_sent f.outlet
 abbrev pub block_of : Feeder → ℕ
 block_of f = f.block
 
--- the open block once it has these lines: a full one is sent
-abbrev pub opened : ℕ → List (List ℕ) → List (List ℕ)
-opened block lines = if nat_lt (length lines) block then lines else []
+-- how many messages were sent
+abbrev pub pushes : Feeder → ℕ
+pushes f = messages_sent f.outlet
 
--- nothing was fed, and the open block stays
+-- the lines fed, the open block, the end and the messages sent are as before
 abbrev pub IsAsFed : Feeder → Feeder → Type 0
-IsAsFed f g = (fed g ≡ fed f) × (open_lines g ≡ open_lines f) × (feeder_end g ≡ feeder_end f)
+IsAsFed f g =
+    (fed g ≡ fed f) × (open_lines g ≡ open_lines f) × (feeder_end g ≡ feeder_end f) × (pushes g ≡ pushes f)
 
--- a line was fed, before the end; a block that is full with it was sent
+-- whether the open block has room for one more line and is still open then
+abbrev pub stays_open : Feeder → Bool
+stays_open f = nat_lt (length (open_lines f) + 1) (block_of f)
+
+-- a line was fed, before the end. It joins the open block; one that is full with it was sent as one message
 abbrev pub IsFed : Feeder → List ℕ → Feeder → Type 0
 IsFed f line g =
     (feeder_end f ≡ None)
     × (fed g ≡ fed f ++ line ∷ [])
-    × (open_lines g ≡ opened (block_of f) (open_lines f ++ line ∷ []))
+    × (open_lines g ≡ (if stays_open f then open_lines f ++ line ∷ [] else []))
+    × (pushes g ≡ (if stays_open f then pushes f else pushes f + 1))
 
 -- a line comes back as closed from a closed feeder; from another for want of room, only where the block would be full with it
 abbrev pub IsRefusal : Option SourceEnd → ℕ → List (List ℕ) → List ℕ → OfferFault → Type 0
@@ -60,9 +66,17 @@ IsRefusal None block lines line (NoRoom back) = (back ≡ line) × (length lines
 abbrev pub IsRefused : Feeder → List ℕ → OfferFault → Type 0
 IsRefused f line fault = IsRefusal (feeder_end f) (block_of f) (open_lines f) line fault
 
--- a feeder was closed with this end, or stays closed with the first one; the open block was sent before
+-- the open block is empty: its lines, if there were any, went as one message
+abbrev pub IsFlushed : Feeder → Feeder → Type 0
+IsFlushed f g = (open_lines g ≡ []) × (pushes g ≡ (if are_none (open_lines f) then pushes f else pushes f + 1))
+
+-- a feeder was closed with this end, or stays closed with the first one. The open block is empty: its lines went with the end
+-- as one message
 abbrev pub IsClosedWith : Feeder → SourceEnd → Feeder → Type 0
-IsClosedWith f end g = (feeder_end g ≡ first_end (feeder_end f) (Some end)) × (open_lines g ≡ [])
+IsClosedWith f end g =
+    (feeder_end g ≡ first_end (feeder_end f) (Some end))
+    × (open_lines g ≡ [])
+    × (pushes g ≡ (if is_some (feeder_end f) then pushes f else pushes f + 1))
 
 -- ---- the setter and the taker
 
@@ -76,6 +90,14 @@ hands_of t = taker_state t.inlet t.ended
 abbrev pub taken : Taker → List AnswerValue
 taken t = (hands_of t).taken
 
+-- all the answers that were received, taken or still held
+abbrev pub received_answers : Taker → List AnswerValue
+received_answers t = items_received t.inlet
+
+-- how many messages were received
+abbrev pub pops : Taker → ℕ
+pops t = messages_received t.inlet
+
 -- the end that was taken
 abbrev pub taker_end : Taker → Option LaneEnd
 taker_end t = if t.ended then (hands_of t).ending else None
@@ -86,12 +108,12 @@ taker_end t = if t.ended then (hands_of t).ending else None
 abbrev pub IsLane : Feeder → Setter → Taker → Type 0
 IsLane f s t = IsPair f.outlet.producer s.inlet.consumer × IsPair s.outlet.producer t.inlet.consumer
 
--- the same end of the same lane
+-- the same end of the same lane; of a setter, with the same terms
 abbrev pub SameFeeder : Feeder → Feeder → Type 0
 SameFeeder f g = SameOutlet f.outlet g.outlet × (g.block ≡ f.block)
 
 abbrev pub SameSetter : Setter → Setter → Type 0
-SameSetter s t = SameInlet s.inlet t.inlet × SameOutlet s.outlet t.outlet
+SameSetter s t = SameInlet s.inlet t.inlet × SameOutlet s.outlet t.outlet × (arc_value t.terms ≡ arc_value s.terms)
 
 abbrev pub SameTaker : Taker → Taker → Type 0
 SameTaker s t = SameInlet s.inlet t.inlet

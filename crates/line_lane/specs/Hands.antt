@@ -6,7 +6,7 @@ use Rattle.set_line.specs.Answer.{AnswerValue}
 use Rattle.line_lane.specs.Messages.{first_end}
 use Rattle.line_lane.specs.Turns.{SetterState}
 use Rattle.line_lane.specs.Takes.{TakerState}
-use Rattle.line_lane.specs.Rings.{items_sent, end_sent, items_received, end_received, items_taken}
+use Rattle.line_lane.specs.Rings.{messages_sent, messages_received, items_sent, end_sent, items_received, end_received, items_taken}
 use Rattle.line_lane.specs.declared.ring_ends.Outlet.{Outlet}
 use Rattle.line_lane.specs.declared.ring_ends.Inlet.{Inlet}
 use Rattle.line_lane.specs.declared.ending.SourceEnd.{SourceEnd}
@@ -36,6 +36,8 @@ setter_state terms inlet outlet ready = record {
   answers = outlet.hand.items;
   ready = ready;
   made = first_end (end_sent outlet) outlet.hand.ending;
+  popped = messages_received inlet;
+  pushed = messages_sent outlet;
 }
 
 -- the lines and the answers in hand fit into one message; an end is in hand only with a ready message, and was sent only

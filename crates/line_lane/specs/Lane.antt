@@ -1,4 +1,4 @@
--- A lane in four lists: fed and seen of lines, given and taken of answers.
+-- The answers of lines, and the end of a lane.
 -- This project's own.
 use Rattle.std.specs.Prelude.{◌≡◌, ℕ, List, length, map, take}
 use Rattle.set_line.specs.Terms.{TermsValue}

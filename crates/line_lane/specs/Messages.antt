@@ -19,6 +19,11 @@ abbrev pub first_end : {E : Type 0} → Option E → Option E → Option E
 first_end (Some end) later = Some end
 first_end None later = later
 
+-- whether a list is empty
+abbrev pub are_none : {T : Type 0} → List T → Bool
+are_none [] = true
+are_none (item ∷ items) = false
+
 module _ {T E : Type 0} where
   -- a message with nothing in it
   abbrev pub nothing : MessageValue T E
@@ -33,12 +38,7 @@ module _ {T E : Type 0} where
   end_of [] = None
   end_of (message ∷ messages) = first_end message.ending (end_of messages)
 
-  -- whether there are no messages
-  abbrev pub are_none : List (MessageValue T E) → Bool
-  are_none [] = true
-  are_none (message ∷ messages) = false
-
-  -- whether no message stands behind one with this end
+  -- whether no message stands behind one with this end; behind one without, what is said of the others
   abbrev pub stand_behind : Option E → List (MessageValue T E) → Bool → Bool
   stand_behind (Some end) messages otherwise = are_none messages
   stand_behind None messages otherwise = otherwise

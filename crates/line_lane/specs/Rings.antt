@@ -1,6 +1,6 @@
 -- What an end of a ring of messages has sent or received, and has in hand.
 -- This project's own; `sent` and `received` are those of `rtrb`.
-use Rattle.std.specs.Prelude.{◌≡◌, ◌-◌, List, length, take, Option}
+use Rattle.std.specs.Prelude.{◌≡◌, ℕ, ◌-◌, List, length, take, Option}
 use Rattle.rtrb.specs.Ring.{sent, received, SameProducer, SameConsumer}
 use Rattle.line_lane.specs.Messages.{items_of, end_of}
 use Rattle.line_lane.specs.declared.ring_ends.Outlet.{Outlet}
@@ -11,6 +11,10 @@ module _ {T E : Type 0} where
   abbrev pub items_sent : Outlet T E → List T
   items_sent o = items_of (sent o.producer)
 
+  -- how many messages were sent
+  abbrev pub messages_sent : Outlet T E → ℕ
+  messages_sent o = length (sent o.producer)
+
   -- the end that was sent
   abbrev pub end_sent : Outlet T E → Option E
   end_sent o = end_of (sent o.producer)
@@ -18,6 +22,10 @@ module _ {T E : Type 0} where
   -- the items of the messages received
   abbrev pub items_received : Inlet T E → List T
   items_received i = items_of (received i.consumer)
+
+  -- how many messages were received
+  abbrev pub messages_received : Inlet T E → ℕ
+  messages_received i = length (received i.consumer)
 
   -- the end that was received
   abbrev pub end_received : Inlet T E → Option E

@@ -1,10 +1,10 @@
 -- What a setter has, in lists, and what each of its moves makes of that.
 -- This project's own.
-use Rattle.std.specs.Prelude.{◌≡◌, ℕ, ◌≤◌, ◌&&◌, not, Bool, true, false, List, [], ◌∷◌, ◌++◌, length, take, drop, Option, Some, None, is_some, if◌then◌else◌}
+use Rattle.std.specs.Prelude.{◌≡◌, ℕ, ◌+◌, ◌≤◌, ◌&&◌, not, Bool, true, false, List, [], ◌∷◌, ◌++◌, length, take, drop, Option, Some, None, is_some, if◌then◌else◌}
 use Rattle.std.specs.Option.{option_map}
 use Rattle.set_line.specs.Terms.{TermsValue}
 use Rattle.set_line.specs.Answer.{AnswerValue, answer_of}
-use Rattle.line_lane.specs.Messages.{MessageValue}
+use Rattle.line_lane.specs.Messages.{MessageValue, are_none}
 use Rattle.line_lane.specs.Lane.{answers_of, lane_end_of}
 use Rattle.line_lane.specs.declared.ending.SourceEnd.{SourceEnd}
 use Rattle.line_lane.specs.declared.ending.LaneEnd.{LaneEnd}
@@ -14,7 +14,7 @@ use Rattle.line_lane.specs.declared.turn.Turn.TheVariants.{Idle, Moved, Blocked,
 
 -- terms; the lines seen, and the source's end where that was seen; of these lines the ones in hand; the answers given, and
 -- those in hand; whether the answers in hand, with their end, are a message ready to be sent; and the end that the setter
--- made, in hand or sent
+-- made, in hand or sent; and how many messages it has received and sent
 pub record SetterState : Type 0 where
   pub terms : TermsValue
   pub seen : List (List ℕ)
@@ -24,11 +24,13 @@ pub record SetterState : Type 0 where
   pub answers : List AnswerValue
   pub ready : Bool
   pub made : Option LaneEnd
+  pub popped : ℕ
+  pub pushed : ℕ
 
 -- a setter that has seen nothing
 abbrev pub fresh : TermsValue → SetterState
 fresh terms =
-    record { terms = terms; seen = []; source = None; lines = []; given = []; answers = []; ready = false; made = None }
+    record { terms = terms; seen = []; source = None; lines = []; given = []; answers = []; ready = false; made = None; popped = 0; pushed = 0 }
 
 -- whether the end that was made is that of a lane given up
 abbrev pub is_given_up : Option LaneEnd → Bool
@@ -41,11 +43,6 @@ is_given_up None = false
 abbrev pub is_done : SetterState → Bool
 is_done s = is_some s.source && (is_some s.made && not s.ready)
 
--- whether a list of lines is empty
-abbrev pub are_none : List (List ℕ) → Bool
-are_none [] = true
-are_none (line ∷ lines) = false
-
 -- the end of a lane that isn't given up, with these lines in hand: that of its source, once no line is left
 abbrev pub end_with : List (List ℕ) → Option SourceEnd → Option LaneEnd
 end_with [] source = option_map lane_end_of source
@@ -55,7 +52,7 @@ end_with (line ∷ lines) source = None
 
 -- the ready message is sent
 abbrev pub after_send : SetterState → SetterState
-after_send s = record s { given = s.given ++ s.answers; answers = []; ready = false }
+after_send s = record s { given = s.given ++ s.answers; answers = []; ready = false; pushed = s.pushed + 1 }
 
 -- the first line in hand is set; with the last one the answers are ready, and the end where one was seen
 abbrev pub after_set : SetterState → List ℕ → List (List ℕ) → SetterState
@@ -65,11 +62,11 @@ after_set s line rest =
 -- a message is seen: its lines are in hand, and where it has none the message to be sent is ready
 abbrev pub after_message : SetterState → MessageValue (List ℕ) SourceEnd → SetterState
 after_message s m =
-    record s { seen = s.seen ++ m.items; source = m.ending; lines = m.items; ready = are_none m.items; made = end_with m.items m.ending }
+    record s { seen = s.seen ++ m.items; source = m.ending; lines = m.items; ready = are_none m.items; made = end_with m.items m.ending; popped = s.popped + 1 }
 
 -- a message is seen by a setter that gave up: its lines are dropped
 abbrev pub after_dropping : SetterState → MessageValue (List ℕ) SourceEnd → SetterState
-after_dropping s m = record s { seen = s.seen ++ m.items; source = m.ending }
+after_dropping s m = record s { seen = s.seen ++ m.items; source = m.ending; popped = s.popped + 1 }
 
 abbrev pub after_receipt : SetterState → MessageValue (List ℕ) SourceEnd → SetterState
 after_receipt s m = if is_given_up s.made then after_dropping s m else after_message s m

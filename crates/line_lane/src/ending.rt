@@ -12,9 +12,9 @@ pub enum SourceEnd {
 /// How a lane ended.
 #[derive(Clone, Copy, Debug, PartialEq, Eq, Hash)]
 pub enum LaneEnd {
-    /// Every line of its source has its answer.
+    /// Every line that was fed has its answer.
     Complete,
-    /// Its source failed; every line that it gave has its answer.
+    /// Its source failed; every line that was fed has its answer.
     SourceFailed(SourceFault),
     /// Its setter gave it up; the first lines have their answers.
     GaveUp,

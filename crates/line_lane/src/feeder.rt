@@ -1,6 +1,6 @@
 //! Lines go in.
-ghost use Rattle.std.specs.Prelude.{◌≡◌, ◌<◌, [], ◌∷◌, ◌++◌, None, is_some, length, IsTrue, IsFalse, OnOk, IfErr};
-ghost use Rattle.line_lane.specs.Ends.{IsAsFed, IsClosedWith, IsFed, IsRefused, SameFeeder, block_of, fed, feeder_end, open_lines};
+ghost use Rattle.std.specs.Prelude.{◌≡◌, ◌<◌, [], None, true, is_some, length, IsTrue, IsFalse, OnOk, IfErr};
+ghost use Rattle.line_lane.specs.Ends.{IsAsFed, IsClosedWith, IsFed, IsFlushed, IsRefused, SameFeeder, block_of, fed, feeder_end, open_lines};
 
 use crate::ends::Feeder;
 use crate::{OfferFault, SourceEnd};
@@ -42,7 +42,7 @@ impl Feeder {
         ensures lane { SameFeeder self.old self.new }
         ensures fed { fed self.new ≡ fed self.old }
         ensures end { feeder_end self.new ≡ feeder_end self.old }
-        ensures emptied { IsTrue result → open_lines self.new ≡ [] }
+        ensures flushed { IsTrue result → IsFlushed self.old self.new }
         ensures refused { IsFalse result → IsAsFed self.old self.new × (open_lines self.old ≡ [] → ⊥) }
     {
         if self.outlet.hand.len() == 0 {
@@ -62,6 +62,7 @@ impl Feeder {
         ensures fed { fed self.new ≡ fed self.old }
         ensures closed { IsTrue result → IsClosedWith self.old end self.new }
         ensures refused { IsFalse result → (feeder_end self.old ≡ None) × IsAsFed self.old self.new }
+        ensures again { is_some (feeder_end self.old) ≡ true → IsAsFed self.old self.new × (open_lines self.old ≡ []) }
     {
         if self.is_closed() {
             return true;

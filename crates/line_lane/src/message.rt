@@ -6,9 +6,6 @@ use smallvec::SmallVec;
 use std::alloc::Global;
 use std::marker::Model;
 
-/// The most items of a message.
-pub(crate) const MOST: usize = 8;
-
 /// Up to eight items, and perhaps an end behind them. Each place of the list has its item: an empty
 /// one is what an inline list needs for those beyond its length.
 #[derive(Drop)]

@@ -1,8 +1,8 @@
 //! Messages made and sent.
-ghost use Rattle.std.specs.Prelude.{◌≡◌, ◌<◌, [], ◌∷◌, ◌++◌, None, IsTrue};
+ghost use Rattle.std.specs.Prelude.{◌≡◌, ◌+◌, ◌<◌, [], ◌∷◌, ◌++◌, None, IsTrue};
 ghost use Rattle.rtrb.specs.Ring.{sent, known_free};
 ghost use Rattle.line_lane.specs.Messages.{nothing, end_of};
-ghost use Rattle.line_lane.specs.Rings.{SameOutlet, end_sent, items_sent};
+ghost use Rattle.line_lane.specs.Rings.{SameOutlet, end_sent, items_sent, messages_sent};
 
 use crate::message::Message;
 use crate::ring_ends::Outlet;
@@ -42,6 +42,7 @@ impl<T: Drop, E: Copy> Outlet<T, E> {
         ensures same { SameOutlet self.old self.new }
         ensures sent { sent self.new.producer ≡ sent self.old.producer ++ self.old.hand ∷ [] }
         ensures items { items_sent self.new ≡ items_sent self.old ++ self.old.hand.items }
+        ensures count { messages_sent self.new ≡ messages_sent self.old + 1 }
         ensures ended { end_sent self.new ≡ self.old.hand.ending }
         ensures hand { self.new.hand ≡ nothing }
     {

@@ -1,8 +1,8 @@
 //! Lines are set.
 ghost use Rattle.std.specs.Prelude.{◌≡◌, [], true, false, None, is_some, OnOk, OnErr, IfOk};
-ghost use Rattle.line_lane.specs.Messages.{first_end};
+ghost use Rattle.line_lane.specs.Messages.{are_none, first_end};
 ghost use Rattle.line_lane.specs.Lane.{lane_end_of};
-ghost use Rattle.line_lane.specs.Turns.{IsOrderly, Moves, Turns, are_none, end_with, given_up, is_done, is_given_up};
+ghost use Rattle.line_lane.specs.Turns.{IsOrderly, Turns, end_with, given_up, is_done, is_given_up};
 ghost use Rattle.line_lane.specs.Ends.{SameSetter, state_of};
 
 use crate::ends::Setter;
@@ -119,16 +119,19 @@ impl Setter {
         Turn::Moved
     }
 
-    /// Does the first of these that applies: nothing, where nothing remains to be done; the ready
-    /// message is sent, where room is seen; the first line in hand is set; a message is received,
-    /// where one is seen. Once all lines of a message are set, their answers, with the end where it
-    /// had one, are the ready message. Where memory is wanted, the line stays in hand and nothing
-    /// changes: a later turn tries it again.
+    /// Does the first of these that applies: `Done`, where nothing remains to be done; a ready message
+    /// is sent, or `Blocked` where no room for it is seen; the first line in hand is set; a message is
+    /// received, or `Idle` where none is seen. Once all lines of a message are set, their answers, with
+    /// the end where it had one, are the ready message. Where memory is wanted, the line stays in hand
+    /// and nothing changes: a later turn tries it again.
+    #[tactic(auto, using(crate::proofs::TurnLemmas::turns_kept))]
     pub fn turn(&mut self) -> Result<Turn, OutOfMemory>
         ensures lane { SameSetter self.old self.new }
         ensures orderly { IsOrderly (state_of self.new) }
         ensures turn { IfOk result (λ turn. Turns (state_of self.old) turn (state_of self.new)) }
+        ensures kept { is_given_up (state_of self.new).made ≡ is_given_up (state_of self.old).made }
         ensures refused { OnErr result ((state_of self.new ≡ state_of self.old)
+            × (is_done (state_of self.old) ≡ false)
             × ((state_of self.old).ready ≡ false) × (are_none (state_of self.old).lines ≡ false)) }
     {
         if self.is_done() {

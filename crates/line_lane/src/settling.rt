@@ -51,7 +51,8 @@ pub fn settle(feeder: Feeder, setter: Setter, taker: Taker) -> Result<LaneEnd, O
     ensures pipeline { pipeline (state_of setter).terms (fed feeder) (taken taker) }
     ensures settled { IfOk result (λ end. IsSettled feeder setter taker end) }
     ensures unsettled { IfErr result (λ back. (is_over feeder setter taker ≡ false)
-        × AreAsBefore feeder setter taker back.feeder back.setter back.taker) }
+        × AreAsBefore feeder setter taker back.feeder back.setter back.taker
+        × IsLane back.feeder back.setter back.taker) }
 {
     let (mut feeder, mut setter, mut taker) = (feeder, setter, taker);
     look(&mut feeder, &mut setter, &mut taker);

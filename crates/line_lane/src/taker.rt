@@ -1,7 +1,7 @@
 //! Answers come out.
-ghost use Rattle.std.specs.Prelude.{◌≡◌, [], None, MatchOption};
+ghost use Rattle.std.specs.Prelude.{◌≡◌, ◌+◌, ◌≤◌, ◌++◌};
 ghost use Rattle.line_lane.specs.Takes.{Takes, IsTakenFromHand};
-ghost use Rattle.line_lane.specs.Ends.{SameTaker, hands_of};
+ghost use Rattle.line_lane.specs.Ends.{SameTaker, hands_of, pops, received_answers, taken};
 
 use crate::Took;
 use crate::ends::Taker;
@@ -11,9 +11,10 @@ impl Taker {
     fn take_held(&mut self) -> Option<Took>
         ensures lane { SameTaker self.old self.new }
         ensures took { IsTakenFromHand (hands_of self.old) result (hands_of self.new) }
+        ensures none { pops self.new ≡ pops self.old }
     {
         if let Some(answer) = self.inlet.hand.take_first() {
-            // That an answer is right is told by its readers.
+            // Called for its clause: an answer is right.
             let _ = answer.outcome();
             return Some(Took::Answer(answer));
         }
@@ -27,6 +28,8 @@ impl Taker {
     pub fn take(&mut self) -> Took
         ensures lane { SameTaker self.old self.new }
         ensures took { Takes (hands_of self.old) result (hands_of self.new) }
+        ensures whole { taken self.new ++ (hands_of self.new).held ≡ received_answers self.new }
+        ensures one { pops self.new ≤ pops self.old + 1 }
     {
         if let Some(took) = self.take_held() {
             return took;

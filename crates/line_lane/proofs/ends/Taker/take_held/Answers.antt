@@ -1,6 +1,6 @@
 use Rattle.std.proofs.Common.{ap, arith}
 use Rattle.line_lane.specs.Rings.{items_received, end_received}
-use Rattle.line_lane.proofs.TakeLemmas.{taken_whole, holding-unended, takes_held}
+use Rattle.line_lane.proofs.TakeLemmas.{taken_next, taken_whole, holding-unended, takes_held}
 use Rattle.line_lane.proofs.ends.Taker.take_held.Goals as goal
 
 pub invariant_of-self-in-Some-1 : goal.invariant_of-self-in-Some-1
@@ -18,12 +18,15 @@ invariant_of-self-in-Some-1 c =
 pub returns-in-Some-clause-took : goal.returns-in-Some-clause-took
 returns-in-Some-clause-took c =
     let held = ap (λ m. m.items) c.in-Some.ensures in
-    let all = c.args.self.now.all in (
+    let old = c.args.self.now in
+    let unended = holding-unended old.ended old.inlet.hand.items c.take_first.new.self.items c.in-Some.answer old.all.1 held in (
       (
         c.outcome.ensures.right,
-        holding-unended c.args.self.now.ended c.args.self.now.inlet.hand.items c.take_first.new.self.items c.in-Some.answer all.1 held,
-        takes_held (items_received c.args.self.now.inlet) c.args.self.now.inlet.hand.items c.take_first.new.self.items c.in-Some.answer
-            (end_received c.args.self.now.inlet) c.args.self.now.ended held all.0 all.1,
+        unended,
+        unended,
+        taken_next (items_received old.inlet) old.inlet.hand.items c.take_first.new.self.items c.in-Some.answer held old.all.0,
+        takes_held (items_received old.inlet) old.inlet.hand.items c.take_first.new.self.items c.in-Some.answer (end_received old.inlet)
+            old.ended held,
       ),
       (λ e. grind (arith, e)),
     )
