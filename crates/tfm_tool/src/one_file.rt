@@ -32,17 +32,28 @@ fn cut(alloc: Global, text: Vec<u8>) -> Result<Vec<Line>, ToolFault>
     lines(alloc, text.as_slice()).map_err(|_| ToolFault::OutOfMemory)
 }
 
+/// Gives back the room of lines that were taken out, once it is more than half of all.
+fn give_back(lines: &mut Vec<Line>)
+    ensures { lines.new.items ≡ lines.old.items }
+{
+    if lines.len() < lines.capacity() / 2 {
+        lines.shrink_to_fit();
+    }
+}
+
 /// The answers to the lines of a text, in order.
 fn set_lines(alloc: Global, terms: &Arc<Terms>, text: Vec<u8>) -> Result<Vec<Answer>, ToolFault>
     ensures fault { IfErr result (λ fault. text_status_of fault ≡ 5) }
     ensures answers { IfOk result (λ answers. answers.items
         ≡ answers_to (arc_value terms.now) text.items) }
 {
-    let lines = cut(alloc, text)?;
+    let mut lines = cut(alloc, text)?;
+    lines.reverse();
     let mut answers = Vec::with_capacity(alloc, lines.len()).map_err(|_| ToolFault::OutOfMemory)?;
-    for line in lines {
+    while let Some(line) = lines.pop() {
         let answer = set_next(alloc, terms, line)?;
         answers.push(answer).map_err(|_| ToolFault::OutOfMemory)?;
+        give_back(&mut lines);
     }
     Ok(answers)
 }
