@@ -6,7 +6,7 @@
 
 use std::env;
 use std::fs;
-use std::io::{self, BufWriter, Write};
+use std::io::{self, Write};
 
 const LIMIT: u32 = 1_048_576;
 
@@ -251,27 +251,77 @@ fn take(pending: &mut Vec<u8>, rest: &mut &[u8], right: &mut bool, consume: bool
     }
 }
 
-fn write_records<W: Write>(answers: &[(Vec<u8>, Answer)], out: &mut W) -> io::Result<()> {
-    for (k, (_, answer)) in answers.iter().enumerate() {
-        write!(out, "1:{}", k + 1)?;
-        match answer {
-            Answer::Set { items, width } => {
-                write!(out, " set {width}")?;
-                for item in items {
-                    match item {
-                        Item::Char { code, width } => write!(out, " c{code}={width}")?,
-                        Item::Kern(amount) => write!(out, " k{amount}")?,
-                        Item::Space(amount) => write!(out, " s{amount}")?,
+/// The two digits of each number below 100.
+const PAIRS: &[u8; 200] = b"00010203040506070809101112131415161718192021222324252627282930313233343536373839\
+    40414243444546474849505152535455565758596061626364656667686970717273747576777879\
+    8081828384858687888990919293949596979899";
+
+/// Appends some bytes, and a number in decimal: its digits are written two at a time from the last one, and copied
+/// once. It is what the usual crate for this does, and several times as fast as `write!`.
+fn push_number(text: &mut Vec<u8>, before: &[u8], number: i64) {
+    let mut digits = [0; 20];
+    let mut at = digits.len();
+    let mut left = number.unsigned_abs();
+    while left >= 100 {
+        let pair = 2 * (left % 100) as usize;
+        left /= 100;
+        at -= 2;
+        digits[at..at + 2].copy_from_slice(&PAIRS[pair..pair + 2]);
+    }
+    if left >= 10 {
+        let pair = 2 * left as usize;
+        at -= 2;
+        digits[at..at + 2].copy_from_slice(&PAIRS[pair..pair + 2]);
+    } else {
+        at -= 1;
+        digits[at] = b'0' + left as u8;
+    }
+    if number < 0 {
+        at -= 1;
+        digits[at] = b'-';
+    }
+    text.extend_from_slice(before);
+    text.extend_from_slice(&digits[at..]);
+}
+
+fn push_record(place: usize, answer: &Answer, text: &mut Vec<u8>) {
+    push_number(text, b"1:", place as i64);
+    match answer {
+        Answer::Set { items, width } => {
+            push_number(text, b" set ", *width);
+            for item in items {
+                match item {
+                    Item::Char { code, width } => {
+                        push_number(text, b" c", i64::from(*code));
+                        push_number(text, b"=", i64::from(*width));
                     }
+                    Item::Kern(amount) => push_number(text, b" k", i64::from(*amount)),
+                    Item::Space(amount) => push_number(text, b" s", i64::from(*amount)),
                 }
-                writeln!(out)?;
             }
-            Answer::Missing { offset, code } => writeln!(out, " refused missing {offset} {code}")?,
-            Answer::TooLong(length) => writeln!(out, " refused too-long {length}")?,
-            Answer::Steps(limit) => writeln!(out, " refused steps {limit}")?,
+        }
+        Answer::Missing { offset, code } => {
+            push_number(text, b" refused missing ", *offset as i64);
+            push_number(text, b" ", i64::from(*code));
+        }
+        Answer::TooLong(length) => push_number(text, b" refused too-long ", *length as i64),
+        Answer::Steps(limit) => push_number(text, b" refused steps ", i64::from(*limit)),
+    }
+    text.push(b'\n');
+}
+
+fn write_records<W: Write>(answers: &[(Vec<u8>, Answer)], out: &mut W) -> io::Result<()> {
+    let mut text = Vec::new();
+    for (k, (_, answer)) in answers.iter().enumerate() {
+        push_record(k + 1, answer, &mut text);
+        if text.len() >= 65_536 {
+            out.write_all(&text)?;
+            text.clear();
         }
     }
-    writeln!(out, "1 end complete {}", answers.len())
+    push_number(&mut text, b"1 end complete ", answers.len() as i64);
+    text.push(b'\n');
+    out.write_all(&text)
 }
 
 fn main() -> io::Result<()> {
@@ -290,7 +340,7 @@ fn main() -> io::Result<()> {
             (line, answer)
         })
         .collect();
-    let mut out = BufWriter::with_capacity(65_536, io::stdout().lock());
+    let mut out = io::stdout().lock();
     write_records(&answers, &mut out)?;
     out.flush()
 }

@@ -16,9 +16,9 @@ use Rattle.lig_kern.specs.declared.item.Item.TheVariants.{Char as CharItem}
 use Rattle.lig_kern.specs.Matching.{action_between}
 use Rattle.lig_kern.specs.Rewriting.{Element, of_symbol, of_kern, items_of, item_of, right_end, character_width}
 use Rattle.lig_kern.specs.Result.{Setting, IsResultOf, result_after, result_of, setting_after}
-use Rattle.lig_kern.specs.Ahead.{turn_of, turn_by, put_in}
+use Rattle.lig_kern.specs.Ahead.{finish, turn_of, turn_by, put_in}
 use Rattle.lig_kern.specs.Laws.{HasOneResult, HasFewItems, FindsResult, HasNoMatches, SetsAsItself, plain_items}
-use Rattle.lig_kern.proofs.Onward.{finish, result_is}
+use Rattle.lig_kern.proofs.Onward.{result_is}
 use Rattle.lig_kern.proofs.TurnLemmas.{StaysWithin, bit, between_within, items_of-append}
 
 -- ---- one result

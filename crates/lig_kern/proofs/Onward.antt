@@ -14,17 +14,8 @@ use Rattle.lig_kern.specs.declared.item.Item.{Item}
 use Rattle.lig_kern.specs.Matching.{action_between}
 use Rattle.lig_kern.specs.Rewriting.{Configuration, Element, Splice, of_symbol, of_kern, opening, right_end, kept, splice_by, spliced, step_from, after_steps, final_items, is_final, items_of}
 use Rattle.lig_kern.specs.Result.{result_after}
-use Rattle.lig_kern.specs.Ahead.{put_in, turn_by, turn_of}
+use Rattle.lig_kern.specs.Ahead.{finish, put_in, turn_by, turn_of}
 use Rattle.lig_kern.proofs.TurnLemmas.{StaysWithin, bit, between_within, items_of-append}
-
--- the items that are still to come, where just so many more steps lead to the end
-unfoldable pub finish : FontValue → ℕ → Symbol → List Symbol → Option (List Item)
-finish font zero current [] = Some (items_of font (of_symbol current ∷ []))
-finish font zero current (next ∷ rest) = None
-finish font (suc n) current [] = None
-finish font (suc n) current (next ∷ rest) =
-    option_map (λ items. (turn_of font current (next ∷ rest)).sent ++ items)
-    (finish font n (turn_of font current (next ∷ rest)).current (turn_of font current (next ∷ rest)).ahead)
 
 -- a configuration, by what is done, the current symbol and the symbols ahead
 abbrev pub at : List Element → Symbol → List Symbol → Configuration

@@ -1,5 +1,5 @@
 -- What holds between two steps of the body, and what each end of the loop makes of it.
-use Rattle.std.proofs.Common.{◌≡◌, ℕ, suc, zero, ◌+◌, ◌<◌, ◌≤◌, Bool, true, false, List, [], ◌∷◌, ◌++◌, length, map, take, Option, Some, None, arith, rules, refl, ap, sym, ◌∙◌, ◌&&◌}
+use Rattle.std.proofs.Common.{◌≡◌, ℕ, suc, zero, ◌+◌, ◌<◌, ◌≤◌, Bool, true, false, List, [], ◌∷◌, ◌++◌, length, map, take, Option, Some, None, arith, rules, refl, ap, sym, subst, ◌∙◌, ◌&&◌}
 use Rattle.std.specs.Prelude.{if◌then◌else◌, is_some, nat_lt}
 use Rattle.std.proofs.Math.Seq.{take-append_seam, take-length}
 use Rattle.std.proofs.lemmas.List.{length-take}
@@ -13,14 +13,8 @@ use Rattle.lig_kern.specs.declared.symbol.Symbol.TheVariants.{Left, Char, Right}
 use Rattle.lig_kern.specs.declared.item.Item.{Item}
 use Rattle.lig_kern.specs.Rewriting.{of_symbol, items_of, right_end}
 use Rattle.lig_kern.specs.Result.{HasNoResultWithin, IsAppendedResult, StaysInFront, result_after}
-use Rattle.lig_kern.specs.Ahead.{HasTurned, turn_of, symbols_ahead}
-use Rattle.lig_kern.proofs.Onward.{finish, option_map-twice, result_is}
-
--- after so many steps: no fewer led to the end, and what is still to come, behind what was sent out, is the result
-pub record IsUnderWay (font : FontValue) (run : List ℕ) (right : Bool) (before : List Item) (used : ℕ) (current : Symbol) (ahead : List Symbol) (out : List Item) : Type 0 where
-  pub not_before : (n : ℕ) → n < used → result_after font run right n ≡ None
-  pub onward : (n m : ℕ) → m ≡ used + n → option_map (λ items. before ++ items) (result_after font run right m) ≡ option_map (λ items. out ++ items) (finish font n current ahead)
-  pub front : StaysInFront before out
+use Rattle.lig_kern.specs.Ahead.{HasTurned, IsUnderWay, finish, turn_of, symbols_ahead}
+use Rattle.lig_kern.proofs.Onward.{option_map-twice, result_is}
 
 -- ---- what stays in front
 
@@ -106,6 +100,25 @@ under_way_next font run right before used current current' next (x ∷ rest) ahe
           ∙ ap (λ symbols. option_map (λ items. out' ++ items) (finish font n current' symbols)) (sym turned.ahead);
       front = front_through before out out' way.front front;
     }
+
+-- ---- along a run
+
+-- under way between two plain steps: whether the right boundary stands behind the run or not
+abbrev pub IsGliding : FontValue → List ℕ → List Item → ℕ → Symbol → List ℕ → List Item → Type 0
+IsGliding font run before used current rest out =
+    (right stands : Bool) → stands ≡ (right && is_some (right_code_of (program_of font.words)))
+    → IsUnderWay font run right before used current (symbols_ahead [] rest stands) out
+
+pub glide_next : (font : FontValue) (run : List ℕ) (before : List Item) (used : ℕ) (current after : Symbol) (rest : List ℕ) (code : ℕ) (more : List ℕ) (out out' : List Item)
+    → IsGliding font run before used current rest out → rest ≡ code ∷ more
+    → ((symbols : List Symbol) → HasTurned (turn_of font current (Char code ∷ symbols)) after symbols out out') → StaysInFront out out'
+    → IsGliding font run before (used + 1) after more out'
+unfolding symbols_ahead
+glide_next font run before used current after rest code more out out' way is turned front right stands e =
+    let symbols : List Symbol = map Char more ++ (if stands then Right ∷ [] else []) in
+    let here : IsUnderWay font run right before used current (Char code ∷ symbols) out =
+    subst (λ rest. IsUnderWay font run right before used current (symbols_ahead [] rest stands) out) is (way right stands e) in
+    under_way_next font run right before used current after (Char code) (Char code ∷ symbols) symbols out out' here refl (turned symbols) front
 
 -- ---- its ends
 

@@ -1,14 +1,16 @@
 -- What the body keeps of a run that is being set: the current symbol and the symbols ahead of it; all that stands to the
 -- left is items already. This project's own representation; what it stands for is a configuration (Rewriting).
-use Rattle.std.specs.Prelude.{◌≡◌, ℕ, ◌+◌, Bool, true, false, List, [], ◌∷◌, ◌++◌, map, take, drop, reverse, get_or, Option, Some, None, if◌then◌else◌}
+use Rattle.std.specs.Prelude.{◌≡◌, ℕ, zero, suc, ◌+◌, ◌<◌, Bool, true, false, List, [], ◌∷◌, ◌++◌, map, take, drop, reverse, get_or, Option, Some, None, if◌then◌else◌}
 use Rattle.tfm_tables.specs.Font.{FontValue}
 use Rattle.lig_kern.specs.declared.symbol.Symbol.{Symbol}
 use Rattle.lig_kern.specs.declared.symbol.Symbol.TheVariants.{Char, Right}
 use Rattle.lig_kern.specs.declared.action.Action.{Action}
 use Rattle.lig_kern.specs.declared.action.Action.TheVariants.{Kern, Lig}
 use Rattle.lig_kern.specs.declared.item.Item.{Item}
+use Rattle.std.specs.Option.{option_map}
 use Rattle.lig_kern.specs.Matching.{action_between}
 use Rattle.lig_kern.specs.Rewriting.{of_symbol, of_kern, items_of}
+use Rattle.lig_kern.specs.Result.{StaysInFront, result_after}
 
 -- the symbols ahead: characters that operations put there, the last one first, then the rest of the run, then perhaps the
 -- right boundary
@@ -51,3 +53,18 @@ pub record HasTurned (turn : Turn) (symbol : Symbol) (symbols : List Symbol) (be
   pub current : symbol ≡ turn.current
   pub ahead : symbols ≡ turn.ahead
   pub sent : after ≡ before ++ turn.sent
+
+-- the items that are still to come, where just so many more steps lead to the end
+unfoldable pub finish : FontValue → ℕ → Symbol → List Symbol → Option (List Item)
+finish font zero current [] = Some (items_of font (of_symbol current ∷ []))
+finish font zero current (next ∷ rest) = None
+finish font (suc n) current [] = None
+finish font (suc n) current (next ∷ rest) =
+    option_map (λ items. (turn_of font current (next ∷ rest)).sent ++ items)
+    (finish font n (turn_of font current (next ∷ rest)).current (turn_of font current (next ∷ rest)).ahead)
+
+-- after so many steps of a run: no fewer led to the end, and what is still to come, behind what was sent out, is the result
+pub record IsUnderWay (font : FontValue) (run : List ℕ) (right : Bool) (before : List Item) (used : ℕ) (current : Symbol) (ahead : List Symbol) (out : List Item) : Type 0 where
+  pub not_before : (n : ℕ) → n < used → result_after font run right n ≡ None
+  pub onward : (n m : ℕ) → m ≡ used + n → option_map (λ items. before ++ items) (result_after font run right m) ≡ option_map (λ items. out ++ items) (finish font n current ahead)
+  pub front : StaysInFront before out

@@ -1,11 +1,13 @@
 //! One run, set step by step.
-ghost use Rattle.std.specs.Prelude.{◌≡◌, ◌++◌, [], ◌∷◌, ◌&&◌, map, is_some, Err, Some, IfOk, OnOk, OnErr, MatchOption};
+ghost use Rattle.std.specs.Prelude.{◌≡◌, ◌≤◌, ◌++◌, Bool, List, [], ◌∷◌, ◌&&◌, map, is_some, Err, Some, IfOk, OnOk, OnErr, MatchOption};
 ghost use Rattle.std.specs.List.{slice_get};
 ghost use Rattle.tfm_tables.specs.Program.{program_of, right_code_of};
 ghost use Rattle.lig_kern.specs.declared.word_fault.WordFault.TheVariants.{TooManySteps as TooMany};
 ghost use Rattle.lig_kern.specs.Rewriting.{items_of, of_symbol};
 ghost use Rattle.lig_kern.specs.Result.{HasNoResultWithin, IsAppendedResult, StaysInFront};
-ghost use Rattle.lig_kern.specs.Ahead.{HasTurned, stays, turn_of};
+ghost use Rattle.lig_kern.specs.declared.symbol.Symbol.{Symbol as SymbolValue};
+ghost use Rattle.lig_kern.specs.declared.symbol.Symbol.TheVariants.{Char as CharSymbol};
+ghost use Rattle.lig_kern.specs.Ahead.{HasTurned, IsUnderWay, stays, symbols_ahead, turn_of};
 
 use crate::ahead::Ahead;
 use crate::{Action, Item, Symbol, WordFault, first_match};
@@ -88,6 +90,75 @@ fn step(
     }
 }
 
+/// One step between the current symbol and a character ahead of it, where the step passes just that
+/// character: nothing matches, a kern comes between, or a ligature stands for both. What is current
+/// then; `None`, with nothing done, where another operation matches.
+#[tactic(auto, using(crate::proofs::UnderWay::fronts))]
+fn plain_step(
+    font: &Font,
+    current: Symbol,
+    next: u8,
+    out: &mut Vec<Item>,
+) -> Result<Option<Symbol>, AllocError>
+    ensures front { StaysInFront out.old.items out.new.items }
+    ensures turned { IfOk result (λ after. MatchOption after (out.new.items ≡ out.old.items)
+        (λ symbol. (rest : List SymbolValue) →
+        HasTurned (turn_of font.now current (CharSymbol next ∷ rest))
+        symbol rest out.old.items out.new.items)) }
+{
+    match first_match(font, current, Symbol::Char(next)) {
+        None => {
+            send(font, current, out)?;
+            Ok(Some(Symbol::Char(next)))
+        }
+        Some(Action::Kern(kern)) => {
+            send(font, current, out)?;
+            out.push(Item::Kern(kern))?;
+            Ok(Some(Symbol::Char(next)))
+        }
+        Some(
+            Action::Lig {
+                code,
+                keep_left: false,
+                keep_right: false,
+                pass: 0,
+            },
+        ) => Ok(Some(Symbol::Char(code))),
+        Some(_) => Ok(None),
+    }
+}
+
+/// Steps along a run as long as each step passes one character: how many steps, what is current then,
+/// and the rest of the run. Few runs need more, so that most are set without any symbols put ahead.
+#[tactic(auto, using(crate::proofs::UnderWay::ways))]
+fn glide<'a>(
+    font: &Font,
+    word: &'a [u8],
+    steps_left: u32,
+    out: &mut Vec<Item>,
+) -> Result<(u32, Symbol, &'a [u8]), AllocError>
+    ensures within { IfOk result (λ reached. reached.0 ≤ steps_left) }
+    ensures front { StaysInFront out.old.items out.new.items }
+    ensures under_way { IfOk result (λ reached. (right stands : Bool)
+        → stands ≡ (right && is_some (right_code_of (program_of font.now.words)))
+        → IsUnderWay font.now word.now right out.old.items reached.0 reached.1
+        (symbols_ahead [] reached.2.now stands) out.new.items) }
+{
+    let mut rest = word;
+    let mut current = Symbol::Left;
+    for used in 0..steps_left {
+        let Some((next, more)) = rest.split_first() else {
+            return Ok((used, current, rest));
+        };
+        match plain_step(font, current, *next, out)? {
+            None => return Ok((used, current, rest)),
+            Some(after) => current = after,
+        }
+        rest = more;
+    }
+    Ok((steps_left, current, rest))
+}
+
 /// Whether the right boundary stands after a run.
 fn right_stands(font: &Font, right: bool) -> bool
     ensures { result ≡ (right && is_some (right_code_of (program_of font.now.words))) }
@@ -108,9 +179,9 @@ fn run_steps(
     ensures front { StaysInFront out.old.items out.new.items }
     ensures ended { IfOk result (λ steps. MatchOption steps (HasNoResultWithin font.now word.now right steps_left) (IsAppendedResult font.now word.now right steps_left out.old.items out.new.items)) }
 {
-    let mut ahead = Ahead::new(*out.allocator(), word, right_stands(font, right));
-    let mut current = Symbol::Left;
-    for used in 0..steps_left {
+    let (glided, mut current, rest) = glide(font, word, steps_left, out)?;
+    let mut ahead = Ahead::new(*out.allocator(), rest, right_stands(font, right));
+    for used in glided..steps_left {
         let Some(next) = ahead.first() else {
             send(font, current, out)?;
             return Ok(Some(used));

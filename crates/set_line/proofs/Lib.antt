@@ -5,3 +5,4 @@ pub mod PlaceLemmas
 pub mod RecordLemmas
 pub mod WidthLemmas
 pub mod WorkedRows
+pub mod WritingLemmas

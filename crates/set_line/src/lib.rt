@@ -30,3 +30,4 @@ mod terms;
 mod tests;
 mod version;
 mod width;
+mod writing;

@@ -1,11 +1,15 @@
 //! The text of an answer.
-ghost use Rattle.std.specs.Prelude.{◌≡◌, ◌++◌, ◌∷◌, OnOk, OnErr, codes, decimal, flat_map};
+ghost use Rattle.std.specs.Prelude.{◌≡◌, ◌≤◌, ◌++◌, ◌∷◌, OnOk, OnErr, codes, decimal, length, flat_map};
 ghost use Rattle.set_line.specs.Record.{StaysInFront, item_text, outcome_text, record_text, refusal_text, steps_text};
 
+use crate::writing::{ITEM_BYTES, write_items};
 use crate::{Answer, LineRefusal, OutOfMemory, Outcome, Version};
 use itoa::{Buffer, Integer};
 use lig_kern::Item;
 use std::alloc::AllocError;
+
+/// So many items are put together at once.
+const ITEMS_AT_ONCE: usize = 32;
 
 /// Appends some bytes, and a number in decimal.
 #[tactic(auto, using(crate::proofs::RecordLemmas::fronts))]
@@ -18,20 +22,16 @@ fn push_number<I: Integer>(text: &mut Vec<u8>, before: &[u8], number: I) -> Resu
     text.extend_from_slice(buffer.format(number).as_bytes())
 }
 
-#[tactic(auto, using(crate::proofs::RecordLemmas::fronts), unfolding(crate::specs::Record::item_text))]
-fn push_item(text: &mut Vec<u8>, item: Item) -> Result<(), AllocError>
+/// Appends some items: their texts are put together first, and copied once.
+#[tactic(auto, using(crate::proofs::RecordLemmas::fronts))]
+fn push_some(text: &mut Vec<u8>, items: &[Item]) -> Result<(), AllocError>
+    requires { length items.now ≤ 32 }
     ensures front { StaysInFront text.old.items text.new.items }
-    ensures pushed { OnOk result (text.new.items ≡ text.old.items ++ item_text item) }
+    ensures pushed { OnOk result (text.new.items ≡ text.old.items ++ flat_map item_text items.now) }
 {
-    match item {
-        Item::Char { code, width } => {
-            push_number(text, b" c", code)?;
-            push_number(text, b"=", width)
-        }
-        Item::Kern(amount) => push_number(text, b" k", amount),
-        Item::Space(amount) => push_number(text, b" s", amount),
-        Item::Skipped(code) => push_number(text, b" m", code),
-    }
+    let mut room = [0; ITEMS_AT_ONCE * ITEM_BYTES];
+    let start = write_items(&mut room, items);
+    text.extend_from_slice(&room[start..])
 }
 
 #[tactic(auto, using(crate::proofs::RecordLemmas::fronts))]
@@ -39,10 +39,13 @@ fn push_items(text: &mut Vec<u8>, items: &[Item]) -> Result<(), AllocError>
     ensures front { StaysInFront text.old.items text.new.items }
     ensures pushed { OnOk result (text.new.items ≡ text.old.items ++ flat_map item_text items.now) }
 {
-    for item in items {
-        push_item(text, *item)?;
+    let mut rest = items;
+    while rest.len() > ITEMS_AT_ONCE {
+        let (some, more) = rest.split_at(ITEMS_AT_ONCE);
+        push_some(text, some)?;
+        rest = more;
     }
-    Ok(())
+    push_some(text, rest)
 }
 
 #[tactic(auto, using(crate::proofs::RecordLemmas::fronts), unfolding(crate::specs::Record::refusal_text))]

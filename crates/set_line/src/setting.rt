@@ -34,7 +34,9 @@ fn refusal(terms: &Terms, line: &[u8]) -> Option<LineRefusal>
     missing(terms.font(), terms.policy(), line)
 }
 
-/// Sets a line that isn't refused at sight.
+/// Sets a line that isn't refused at sight. The answer holds a copy of the items, which takes just the
+/// memory that they need: what a vector with spare room gives back when it shrinks is a gap too small
+/// for the next line's.
 fn set_items(alloc: Global, terms: &Terms, line: &[u8]) -> Result<Outcome, AllocError>
     requires { refusal_of terms.now line.now ≡ None }
     ensures { IfOk result (λ outcome. outcome ≡ outcome_of terms.now line.now) }
@@ -43,10 +45,10 @@ fn set_items(alloc: Global, terms: &Terms, line: &[u8]) -> Result<Outcome, Alloc
     let mut items = Vec::with_capacity(alloc, line.len() + line.len() / 4)?;
     match set_portions(terms, line, &mut items)? {
         Some(steps) => {
-            items.shrink_to_fit();
-            let width = width::total(&items);
+            let kept = Vec::from_slice(alloc, items.as_slice())?;
+            let width = width::total(&kept);
             Ok(Outcome::Set {
-                items: Items::new(items),
+                items: Items::new(kept),
                 width,
                 steps,
             })

@@ -3,6 +3,7 @@ ghost use Rattle.std.specs.Prelude.{◌≡◌, ◌++◌, codes, count_by, IfOk, 
 ghost use Rattle.std.specs.Arc.{arc_value};
 ghost use Rattle.std.specs.Io.KnownBytes.{Appends};
 ghost use Rattle.set_line.specs.Answer.{answer_of};
+ghost use Rattle.set_line.specs.Lines.{lines_of};
 ghost use Rattle.tfm_tool.specs.RunText.{head_text, is_refused, lane_text};
 ghost use Rattle.tfm_tool.specs.Status.{text_status_of};
 ghost use Rattle.tfm_tool.specs.OneFile.{answers_to, summary_of};
@@ -23,16 +24,36 @@ fn set_next(alloc: Global, terms: &Arc<Terms>, line: Line) -> Result<Answer, Too
     set(alloc, terms, line).map_err(|_| ToolFault::OutOfMemory)
 }
 
-/// The answers to the lines of a text, in order.
-fn set_lines(alloc: Global, terms: &Arc<Terms>, text: &[u8]) -> Result<Vec<Answer>, ToolFault>
+/// The lines of a text, whose own memory isn't needed from then on.
+fn cut(alloc: Global, text: Vec<u8>) -> Result<Vec<Line>, ToolFault>
     ensures fault { IfErr result (λ fault. text_status_of fault ≡ 5) }
-    ensures answers { IfOk result (λ answers. answers.items ≡ answers_to (arc_value terms.now) text.now) }
+    ensures lines { IfOk result (λ lines. lines.items ≡ lines_of text.items) }
 {
-    let lines = lines(alloc, text).map_err(|_| ToolFault::OutOfMemory)?;
+    lines(alloc, text.as_slice()).map_err(|_| ToolFault::OutOfMemory)
+}
+
+/// Gives back the room of lines that were taken out, once it is more than half of all.
+fn give_back(lines: &mut Vec<Line>)
+    ensures { lines.new.items ≡ lines.old.items }
+{
+    if lines.len() < lines.capacity() / 2 {
+        lines.shrink_to_fit();
+    }
+}
+
+/// The answers to the lines of a text, in order.
+fn set_lines(alloc: Global, terms: &Arc<Terms>, text: Vec<u8>) -> Result<Vec<Answer>, ToolFault>
+    ensures fault { IfErr result (λ fault. text_status_of fault ≡ 5) }
+    ensures answers { IfOk result (λ answers. answers.items
+        ≡ answers_to (arc_value terms.now) text.items) }
+{
+    let mut lines = cut(alloc, text)?;
+    lines.reverse();
     let mut answers = Vec::with_capacity(alloc, lines.len()).map_err(|_| ToolFault::OutOfMemory)?;
-    for line in lines {
+    while let Some(line) = lines.pop() {
         let answer = set_next(alloc, terms, line)?;
         answers.push(answer).map_err(|_| ToolFault::OutOfMemory)?;
+        give_back(&mut lines);
     }
     Ok(answers)
 }
@@ -51,18 +72,21 @@ fn refused(answers: &[Answer]) -> u64
 }
 
 /// Sets a text's lines with these terms, and writes the text of a run of this one source, which was
-/// read to its end. Nothing is written before all lines are set.
+/// read to its end. The text is freed once it is cut into lines, and nothing is written before all
+/// lines are set.
 pub fn set_one<W: Write>(
     alloc: Global,
     terms: &Arc<Terms>,
-    text: &[u8],
+    text: Vec<u8>,
     version: Version,
     out: &mut W,
 ) -> Result<Summary, ToolFault>
     ensures fault { IfErr result (λ fault. text_status_of fault ≡ 5) }
     ensures text { OnOk result (Appends (W.contents out.old) (W.contents out.new)
-        (head_text version ++ lane_text 1 version (answers_to (arc_value terms.now) text.now) (codes "complete"))) }
-    ensures summary { IfOk result (λ summary. summary ≡ summary_of (count_by is_refused (answers_to (arc_value terms.now) text.now))) }
+        (head_text version ++ lane_text 1 version
+        (answers_to (arc_value terms.now) text.items) (codes "complete"))) }
+    ensures summary { IfOk result (λ summary. summary
+        ≡ summary_of (count_by is_refused (answers_to (arc_value terms.now) text.items))) }
 {
     let answers = set_lines(alloc, terms, text)?;
     write_text(alloc, &answers, b"complete", version, out)?;

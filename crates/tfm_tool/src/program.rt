@@ -126,7 +126,7 @@ where
     let font = accepted(rt.alloc(), bytes.as_slice(), setting.size)?;
     let text = file_bytes(rt, setting.file)?;
     let terms = shared(rt.alloc(), Terms::new(font, setting.limit, setting.policy))?;
-    let summary = set_one(rt.alloc(), &terms, text.as_slice(), setting.version, out)?;
+    let summary = set_one(rt.alloc(), &terms, text, setting.version, out)?;
     Ok(status(&summary))
 }
 

@@ -1,11 +1,9 @@
 use Rattle.std.proofs.Common.{arith}
-use Rattle.lig_kern.proofs.UnderWay.{under_way_first, under_way_next, no_result}
+use Rattle.lig_kern.proofs.UnderWay.{under_way_next, no_result}
 use Rattle.lig_kern.proofs.setting.run_steps.Goals as goal
 
 pub loop-used-init : goal.loop-used-init
-loop-used-init c =
-    rw c.new-ahead.ensures
-    (under_way_first c.args.font.now c.args.word.now c.args.right c.args.out.now.items c.right_stands.result c.right_stands.ensures)
+loop-used-init c = rw c.new-ahead.ensures (c.in_ok-glided.ensures.under_way c.args.right c.right_stands.result c.right_stands.ensures)
 
 pub loop-used-preserved : goal.loop-used-preserved
 loop-used-preserved c =

@@ -1,4 +1,4 @@
-use Rattle.lig_kern.proofs.UnderWay.{IsUnderWay}
+use Rattle.lig_kern.specs.Ahead.{IsUnderWay}
 use Rattle.lig_kern.proofs.setting.run_steps.Given as goal
 
 abbrev pub invariant-loop-used : goal.invariant-loop-used

@@ -1,10 +1,13 @@
--- the text has the items so far
-use Rattle.std.proofs.Common.{◌≡◌, ◌++◌, take, flat_map}
+-- what is in the text and what is left give the whole
+use Rattle.std.proofs.Common.{◌≡◌, ℕ, ◌++◌, length, flat_map}
 use Rattle.set_line.specs.Record.{StaysInFront, item_text}
 use Rattle.set_line.proofs.record_text.push_items.Given as goal
 
-abbrev pub invariant-loop-item : goal.invariant-loop-item
-invariant-loop-item l = record {
+abbrev pub invariant-loop-rest : goal.invariant-loop-rest
+invariant-loop-rest l = record {
   front : StaysInFront l.initial.text.items l.text.items;
-  pushed : l.text.items ≡ l.initial.text.items ++ flat_map item_text (take l.item-index l.items);
+  pushed : l.text.items ++ flat_map item_text l.rest ≡ l.initial.text.items ++ flat_map item_text l.items;
 }
+
+abbrev pub decreases-loop-rest : goal.decreases-loop-rest
+decreases-loop-rest l = length l.rest

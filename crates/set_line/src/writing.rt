@@ -1,0 +1,100 @@
+//! The texts of items, written from the last byte to the first: so the place of a number's first
+//! digit needn't be known beforehand.
+ghost use Rattle.std.specs.Prelude.{◌≡◌, ◌+◌, ◌*◌, ◌≤◌, ◌∷◌, ◌++◌, length, drop, decimal, flat_map};
+ghost use Rattle.std.specs.Fmt.{signed_decimal};
+ghost use Rattle.set_line.specs.Record.{item_text};
+
+use itoa::write_digits;
+use lig_kern::Item;
+
+/// The text of an item has at most so many bytes.
+pub(crate) const ITEM_BYTES: usize = 17;
+
+/// Writes a byte before `end`.
+fn write_byte(text: &mut [u8], end: usize, byte: u8) -> usize
+    requires { (1 ≤ end) × (end ≤ length text.old) }
+    ensures place { result + 1 ≡ end }
+    ensures written { drop result text.new ≡ byte ∷ drop end text.old }
+{
+    text[end - 1] = byte;
+    end - 1
+}
+
+/// Writes a space and the letter for a kind of item before `end`.
+fn write_kind(text: &mut [u8], end: usize, letter: u8) -> usize
+    requires { (2 ≤ end) × (end ≤ length text.old) }
+    ensures place { result + 2 ≡ end }
+    ensures written { drop result text.new ≡ 32 ∷ letter ∷ drop end text.old }
+{
+    let at = write_byte(text, end, letter);
+    write_byte(text, at, b' ')
+}
+
+/// Writes a code before `end`.
+#[tactic(auto, using(crate::proofs::WritingLemmas::numbers))]
+fn write_code(text: &mut [u8], end: usize, code: u8) -> usize
+    requires { (3 ≤ end) × (end ≤ length text.old) }
+    ensures place { (result ≤ end) × (end ≤ result + 3) }
+    ensures written { drop result text.new ≡ decimal code ++ drop end text.old }
+{
+    write_digits(u64::from(code), text, end)
+}
+
+/// Writes an amount before `end`.
+#[tactic(auto, using(crate::proofs::WritingLemmas::numbers))]
+fn write_amount(text: &mut [u8], end: usize, amount: i32) -> usize
+    requires { (11 ≤ end) × (end ≤ length text.old) }
+    ensures place { (result ≤ end) × (end ≤ result + 11) }
+    ensures written { drop result text.new ≡ signed_decimal amount ++ drop end text.old }
+{
+    let start = write_digits(u64::from(amount.unsigned_abs()), text, end);
+    if amount >= 0 {
+        return start;
+    }
+    write_byte(text, start, b'-')
+}
+
+/// Writes the text of an item before `end`: where it begins.
+#[tactic(auto, using(crate::proofs::WritingLemmas::items), unfolding(crate::specs::Record::item_text))]
+fn write_item(text: &mut [u8], end: usize, item: Item) -> usize
+    requires { (17 ≤ end) × (end ≤ length text.old) }
+    ensures place { (result ≤ end) × (end ≤ result + 17) }
+    ensures written { drop result text.new ≡ item_text item ++ drop end text.old }
+{
+    match item {
+        Item::Char { code, width } => {
+            let width_at = write_amount(text, end, width);
+            let equals_at = write_byte(text, width_at, b'=');
+            let code_at = write_code(text, equals_at, code);
+            write_kind(text, code_at, b'c')
+        }
+        Item::Kern(amount) => {
+            let amount_at = write_amount(text, end, amount);
+            write_kind(text, amount_at, b'k')
+        }
+        Item::Space(amount) => {
+            let amount_at = write_amount(text, end, amount);
+            write_kind(text, amount_at, b's')
+        }
+        Item::Skipped(code) => {
+            let code_at = write_code(text, end, code);
+            write_kind(text, code_at, b'm')
+        }
+    }
+}
+
+/// Writes the texts of items at the end of `text`: where they begin.
+#[tactic(auto, using(crate::proofs::WritingLemmas::items))]
+pub(crate) fn write_items(text: &mut [u8], items: &[Item]) -> usize
+    requires { length items.now * 17 ≤ length text.old }
+    ensures place { result ≤ length text.old }
+    ensures written { drop result text.new ≡ flat_map item_text items.now }
+{
+    let mut at = text.len();
+    let mut left = items.len();
+    while left > 0 {
+        left -= 1;
+        at = write_item(text, at, items[left]);
+    }
+    at
+}
