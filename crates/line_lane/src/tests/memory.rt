@@ -7,7 +7,7 @@ use super::lane::Lane;
 use super::samples::{ligature, line, sizes};
 use crate::{LaneEnd, SourceEnd, Took, Turn, open};
 use lig_kern::Item;
-use set_line::{Answer, OutOfMemory, Outcome};
+use set_line::{Answer, Line, OutOfMemory, Outcome};
 use std::alloc::Global;
 use std::process::Abort;
 use std::test::Fail;
@@ -28,12 +28,17 @@ fn a_refused_request_of_an_opening(rt: HostRuntime) -> Result<(), Fail> {
     Ok(println!(rt; "{told}")?)
 }
 
+/// Feeds the line; `None` where it isn't accepted.
+fn feed(lane: &mut Lane, line: Line) -> Option<()> {
+    lane.feeder.offer(line).ok()
+}
+
 /// A closed lane with two lines in its first message, and one in the next; `None` where memory was
 /// refused.
 fn ready(alloc: Global) -> Option<Lane> {
     let mut lane = Lane::open(alloc, ligature(alloc)?, 2, 2)?;
     for _ in 0..3 {
-        lane.feeder.offer(line(alloc, "ab")?).ok()?;
+        feed(&mut lane, line(alloc, "ab")?)?;
     }
     if !lane.feeder.close(SourceEnd::Complete) {
         return None;
@@ -99,14 +104,19 @@ fn is_right(answer: &Answer) -> bool {
     }
 }
 
+/// Takes an answer, which is right.
+fn takes_answer<R: Abort>(rt: &R, lane: &mut Lane) {
+    match lane.taker.take() {
+        Took::Answer(answer) => assert!(rt; is_right(&answer)),
+        Took::Nothing | Took::End(_) => panic!(rt; "an answer is missing"),
+    }
+}
+
 /// The three answers come out, and the end; and the lane is over.
 fn gives_all<R: Abort>(rt: &R, lane: Lane) {
     let mut lane = lane;
     for _ in 0..3 {
-        match lane.taker.take() {
-            Took::Answer(answer) => assert!(rt; is_right(&answer)),
-            Took::Nothing | Took::End(_) => panic!(rt; "an answer is missing"),
-        }
+        takes_answer(rt, &mut lane);
     }
     assert!(rt; matches!(lane.taker.take(), Took::End(LaneEnd::Complete)));
     assert!(rt; matches!(lane.settle(), Ok(LaneEnd::Complete)));

@@ -17,7 +17,7 @@ const LINES: u32 = 1_000;
 /// The line of this number: a letter for each bit, and every tenth has a character that is missing.
 fn numbered(alloc: Global, number: u32) -> Result<Line, AllocError> {
     let mut bytes = Vec::new(alloc);
-    for bit in 0..10 {
+    for bit in 0..10u32 {
         bytes.push(if number >> bit & 1 == 0 { b'a' } else { b'b' })?;
     }
     if number % 10 == 9 {

@@ -144,12 +144,15 @@ const SECOND: &str = "1:1 set 962560 c97=327680 k-40960 c99=491520 k20480 c98=16
 fn two_lanes_through_lists(rt: HostRuntime) -> Result<(), Fail> {
     let alloc = rt.alloc();
     let sizes = sizes(4, 2).ok_or("sizes out of range")?;
-    let first = (plain(alloc), lines(alloc, &["a", "ab", "ad"]));
-    let second = (ligature(alloc), lines(alloc, &["ab", "a"]));
-    let ((Some(plain), Some(ones)), (Some(ligature), Some(others))) = (first, second) else {
-        return Err(Fail::new("out of memory"));
-    };
-    let both = two_lanes(alloc, sizes, (plain, ligature), (ones, others));
+    let terms = (
+        plain(alloc).ok_or("out of memory")?,
+        ligature(alloc).ok_or("out of memory")?,
+    );
+    let lines = (
+        lines(alloc, &["a", "ab", "ad"]).ok_or("out of memory")?,
+        lines(alloc, &["ab", "a"]).ok_or("out of memory")?,
+    );
+    let both = two_lanes(alloc, sizes, terms, lines);
     let (ones, others) = both.ok_or("a lane isn't over")?;
     are(&rt, ones, FIRST)?;
     are(&rt, others, SECOND)
