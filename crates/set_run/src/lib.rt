@@ -1,0 +1,6 @@
+//! Many sources of lines, each set by a lane of its own, in threads.
+#![tactic(auto)]
+
+pub use source::LineSource;
+
+mod source;

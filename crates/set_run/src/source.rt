@@ -1,0 +1,18 @@
+//! Sources of lines.
+ghost use Rattle.std.specs.Prelude.{ℕ, List, Option};
+ghost use Rattle.line_lane.specs.declared.fault.SourceFault.{SourceFault as Fault};
+ghost use Rattle.set_run.specs.Sources.{Reads};
+
+use line_lane::SourceFault;
+use set_line::Line;
+
+/// A source of lines. In proofs it may tell the lines that are still to come, and goes on telling them
+/// until it fails; of a source that doesn't tell them, nothing is said of its lines.
+pub trait LineSource {
+    ghost to_come: { Self → Option (List (List ℕ)) };
+    ghost failed: { Self → Option Fault };
+
+    /// The next line; `None` where none is to come, now and later; or a fault, once and for all.
+    fn next_line(&mut self) -> Result<Option<Line>, SourceFault>
+        ensures { Reads (to_come self.old) (failed self.old) result (to_come self.new) (failed self.new) };
+}
