@@ -1,6 +1,26 @@
 //! Many sources of lines, each set by a lane of its own, in threads.
 #![tactic(auto)]
 
+pub use gate::{Gate, NoGate, Stage};
+pub use plan::Plan;
+pub use report::{Answers, LaneReport, Report};
+pub use run_fault::RunFault;
 pub use source::LineSource;
+pub use workers::Workers;
 
+mod came;
+mod collected;
+mod collecting;
+mod feeding;
+mod feeding_lines;
+mod gate;
+mod hand;
+mod lane;
+mod levels;
+mod patience;
+mod plan;
+mod report;
+mod run_fault;
+mod serving;
 mod source;
+mod workers;
