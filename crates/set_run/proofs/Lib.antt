@@ -1,3 +1,5 @@
 pub mod Zips
 pub mod SameEnds
 pub mod HandLemmas
+pub mod LaneLemmas
+pub mod LevelLemmas

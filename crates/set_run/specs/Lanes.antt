@@ -1,6 +1,6 @@
 -- A lane of a run, when it is opened and when it is settled.
 -- This project's own.
-use Rattle.std.specs.Prelude.{◌≡◌, [], None, Some, true, false}
+use Rattle.std.specs.Prelude.{◌≡◌, ℕ, List, [], ◌∷◌, ◌++◌, get_or, None, Some, true, false}
 use Rattle.std.specs.Option.{option_map}
 use Rattle.set_line.specs.Terms.{TermsValue}
 use Rattle.line_lane.specs.Lane.{answers_of, lane_end_of, pipeline}
@@ -9,6 +9,7 @@ use Rattle.line_lane.specs.Ends.{IsLane, fed, feeder_end, state_of}
 use Rattle.line_lane.specs.declared.ends.Feeder.{Feeder}
 use Rattle.line_lane.specs.declared.ends.Setter.{Setter}
 use Rattle.line_lane.specs.declared.ending.LaneEnd.TheVariants.{GaveUp}
+use Rattle.set_run.specs.Hands.{IsWith}
 use Rattle.set_run.specs.declared.feeding.Feeding.{Feeding}
 use Rattle.set_run.specs.declared.collected.Collected.{Collected}
 use Rattle.set_run.specs.declared.report.LaneReport.{LaneReport}
@@ -31,3 +32,28 @@ module _ {S : Type 0} where
       × (is_given_up (state_of setter).made ≡ true → report.end ≡ GaveUp)
       × (is_given_up (state_of setter).made ≡ false → option_map lane_end_of (feeder_end feeding.feeder) ≡ Some report.end)
       × (is_given_up (state_of setter).made ≡ false → report.answers ≡ answers_of (state_of setter).terms (fed feeding.feeder))
+
+  -- a lane begins: its setter is given to a hand, its taker stands behind those of the other lanes, and its feeder beside the source
+  abbrev pub Begins :
+      ℕ → TermsValue → S → Feeding S → List (List Setter) → List (List Setter) → List Collected → List Collected → Type 0
+  Begins hand terms source feeding hands hands' lanes lanes' =
+      (feeding.source ≡ source)
+      × ((setter : Setter) × (collected : Collected) × IsFresh terms feeding.feeder setter collected × IsWith hand setter hands hands'
+        × (lanes' ≡ lanes ++ collected ∷ []))
+
+-- a lane can end: there are a setter in the hand and a taker, and the last of each are the ends of one lane with the feeder
+abbrev pub CanEnd : ℕ → Feeder → List (List Setter) → List Collected → Type 0
+CanEnd hand feeder hands lanes =
+    (get_or hands hand [] ≡ [] → ⊥)
+    × (lanes ≡ [] → ⊥)
+    × ((setter : Setter) (collected : Collected) (hands' : List (List Setter)) (lanes' : List Collected)
+      → IsWith hand setter hands' hands → lanes ≡ lanes' ++ collected ∷ [] → IsLane feeder setter collected.taker)
+
+module _ {S : Type 0} where
+  -- a lane has ended: the last setter of the hand and the last taker are gone, and there is one more report
+  abbrev pub Ends :
+      ℕ → Feeding S → List (LaneReport S) → List (LaneReport S) → List (List Setter) → List (List Setter) → List Collected
+        → List Collected → Type 0
+  Ends hand feeding reports reports' hands hands' lanes lanes' =
+      (setter : Setter) × (collected : Collected) × (report : LaneReport S) × IsWith hand setter hands' hands
+      × (lanes ≡ lanes' ++ collected ∷ []) × (reports' ≡ reports ++ report ∷ []) × IsFinished feeding setter report

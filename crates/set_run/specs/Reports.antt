@@ -1,7 +1,10 @@
 -- What a run reports of a source.
 -- This project's own.
 use Rattle.std.specs.Prelude.{◌≡◌, ℕ, List, [], length, take, Option, Some, None}
+use Rattle.std.specs.List.{AllZip}
 use Rattle.std.specs.Arc.{arc_value}
+use Rattle.std.specs.declared.sync.Arc.{Arc}
+use Rattle.std.specs.declared.alloc.Global.{Global}
 use Rattle.set_line.specs.Terms.{TermsValue}
 use Rattle.set_line.specs.Answer.{AnswerValue}
 use Rattle.line_lane.specs.Lane.{answers_of}
@@ -37,3 +40,9 @@ module _ {S : Type 0} where
       (S → Option (List (List ℕ))) → (S → Option SourceFault) → TermsValue → S → LaneReport S → Type 0
   IsReported to_come failed terms source report =
       IsLaneOf terms (to_come source) report.answers report.end (to_come report.source) (failed report.source)
+
+  -- the reports of sources with their terms, place by place
+  abbrev pub AreReported :
+      (S → Option (List (List ℕ))) → (S → Option SourceFault) → List (S × Arc TermsValue Global) → List (LaneReport S) → Type 0
+  AreReported to_come failed sources reports =
+      AllZip (λ source report. IsReported to_come failed (arc_value source.1) source.0 report) sources reports

@@ -17,7 +17,7 @@ use std::sync::Arc;
 /// Opens a lane with these terms.
 pub(crate) fn open_lane(
     alloc: Global,
-    plan: Plan,
+    plan: &Plan,
     terms: Arc<Terms>,
 ) -> Result<(Feeder, Setter, Collected), OutOfMemory>
     ensures { IfOk result (λ lane. IsFresh (arc_value terms) lane.0 lane.1 lane.2) }

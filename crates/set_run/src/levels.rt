@@ -5,9 +5,8 @@ ghost use Rattle.std.specs.Arc.{arc_value};
 ghost use Rattle.std.specs.List.{AllZip};
 ghost use Rattle.line_lane.specs.Ends.{SameSetter};
 ghost use Rattle.set_run.specs.Collecting.{SameCollected};
-
-
-
+ghost use Rattle.set_run.specs.Lanes.{Begins, CanEnd, Ends};
+ghost use Rattle.set_run.specs.Reports.{AreReported};
 
 use crate::collected::Collected;
 use crate::collecting::collect;
@@ -64,4 +63,97 @@ pub(crate) fn serve_and_collect<'s, E, R: Threads + Wait + Clock + Sync, G: Gate
         Ok(()) => Ok((hands, lanes)),
         Err(_) => Err(RunFault::OutOfMemory),
     }
+}
+
+/// A lane begins: it is opened with these terms, and its setter is given to a hand.
+fn begin<S: Drop>(
+    alloc: Global,
+    plan: &Plan,
+    number: usize,
+    source: (S, Arc<Terms>),
+    hands: Vec<Hand>,
+    lanes: Vec<Collected>,
+) -> Result<(Feeding<S>, Vec<Hand>, Vec<Collected>), OutOfMemory>
+    requires { 0 < vec_len hands }
+    ensures { IfOk result (λ begun. Begins (number % length hands.items) (arc_value source.1) source.0 begun.0
+        hands.items begun.1.items lanes.items begun.2.items) }
+{
+    let (mut hands, mut lanes) = (hands, lanes);
+    let (source, terms) = source;
+    let (feeder, setter, collected) = open_lane(alloc, plan, terms)?;
+    give(&mut hands, number, setter)?;
+    match lanes.push(collected) {
+        Ok(()) => Ok((Feeding { source, feeder }, hands, lanes)),
+        Err(_) => Err(OutOfMemory),
+    }
+}
+
+/// A lane ends: it is settled, and its report stands behind the others.
+fn end<S: Drop>(
+    number: usize,
+    feeding: Feeding<S>,
+    reports: Vec<LaneReport<S>>,
+    hands: Vec<Hand>,
+    lanes: Vec<Collected>,
+) -> Result<(Vec<LaneReport<S>>, Vec<Hand>, Vec<Collected>), RunFault>
+    requires some { 0 < vec_len hands }
+    requires lane { CanEnd (number % length hands.items) feeding.feeder hands.items lanes.items }
+    ensures { IfOk result (λ ended. Ends (number % length hands.items) feeding reports.items ended.0.items
+        hands.items ended.1.items lanes.items ended.2.items) }
+{
+    let (mut reports, mut hands, mut lanes) = (reports, hands, lanes);
+    let Some(setter) = take_back(&mut hands, number) else {
+        unreachable!()
+    };
+    let Some(collected) = lanes.pop() else {
+        unreachable!()
+    };
+    let report = finish_lane(feeding, setter, collected)?;
+    match reports.push(report) {
+        Ok(()) => Ok((reports, hands, lanes)),
+        Err(_) => Err(RunFault::OutOfMemory),
+    }
+}
+
+/// A thread for each source, from the last one on, with a lane each; then the threads of the setters,
+/// and the answers are collected. Once a source's thread is joined, its lane is settled.
+pub(crate) fn feed_and_serve<
+    's,
+    E,
+    R: Threads + Wait + Clock + Sync,
+    S: LineSource + Send + Drop + 's,
+    G: Gate + Sync,
+>(
+    scope: &'s Scope<'s, E>,
+    rt: &'s R,
+    gate: &'s G,
+    stop: &'s AtomicBool,
+    alloc: Global,
+    plan: &Plan,
+    sources: Vec<(S, Arc<Terms>)>,
+    hands: Vec<Hand>,
+    lanes: Vec<Collected>,
+) -> Result<(Vec<LaneReport<S>>, Vec<Hand>, Vec<Collected>), RunFault>
+    requires { 0 < vec_len sources → 0 < vec_len hands }
+    ensures reports { IfOk result (λ back. AreReported S.to_come S.failed sources.items back.0.items) }
+    ensures hands { IfOk result (λ back. AllZip (AllZip SameSetter) hands.items back.1.items) }
+    ensures lanes { IfOk result (λ back. AllZip SameCollected lanes.items back.2.items) }
+{
+    let mut sources = sources;
+    let Some(source) = sources.pop() else {
+        let (hands, lanes) = serve_and_collect(scope, rt, gate, stop, hands, lanes)?;
+        return Ok((Vec::new(alloc), hands, lanes));
+    };
+    let number = sources.len();
+    let Ok((feeding, hands, lanes)) = begin(alloc, plan, number, source, hands, lanes) else {
+        return Err(stopped(stop, RunFault::OutOfMemory));
+    };
+    let promise = FedFrom(Snapshot::of(&feeding));
+    let Ok(child) = scope.spawn_with(promise, move || feed(rt, gate, stop, number, feeding)) else {
+        return Err(stopped(stop, RunFault::Thread));
+    };
+    let below = feed_and_serve(scope, rt, gate, stop, alloc, plan, sources, hands, lanes);
+    let feeding = child.join(rt);
+    let (reports, hands, lanes) = below?;
+    end(number, feeding, reports, hands, lanes)
 }

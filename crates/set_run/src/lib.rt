@@ -5,6 +5,7 @@ pub use gate::{Gate, NoGate, Stage};
 pub use plan::Plan;
 pub use report::{Answers, LaneReport, Report};
 pub use run_fault::RunFault;
+pub use running::run;
 pub use source::LineSource;
 pub use workers::Workers;
 
@@ -21,6 +22,7 @@ mod patience;
 mod plan;
 mod report;
 mod run_fault;
+mod running;
 mod serving;
 mod source;
 mod workers;
