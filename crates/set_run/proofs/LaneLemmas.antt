@@ -64,18 +64,16 @@ lane_of : (terms : TermsValue) (answers : List AnswerValue) (given : List (List 
     (before after : Option (List (List ℕ))) (fails : Option SourceFault) → AreFed source given before after fails → pipeline terms given answers
     → (up ≡ true → end ≡ GaveUp) → (up ≡ false → option_map lane_end_of source ≡ Some end) → (up ≡ false → answers ≡ answers_of terms given)
     → IsLaneOf terms before answers end after fails
-lane_of terms answers given source end true before after fails fed line gave_up ended all =
-    (
-      answers_first terms answers given before fed.0 line,
-      (λ whole. absurd (let no = sym whole ∙ gave_up refl in search rules)),
-      (λ fault failed. absurd (let no = sym failed ∙ gave_up refl in search rules)),
-    )
-lane_of terms answers given source end false before after fails fed line gave_up ended all =
-    (
-      answers_first terms answers given before fed.0 line,
-      complete_lane terms answers given source end before after fails (ended refl) fed.1 (all refl),
-      (λ fault. failed_lane given source end before after fails fault (ended refl) fed.1),
-    )
+lane_of terms answers given source end true before after fails fed line gave_up ended all = (
+  answers_first terms answers given before fed.0 line,
+  (λ whole. absurd (let no = sym whole ∙ gave_up refl in search rules)),
+  (λ fault failed. absurd (let no = sym failed ∙ gave_up refl in search rules)),
+)
+lane_of terms answers given source end false before after fails fed line gave_up ended all = (
+  answers_first terms answers given before fed.0 line,
+  complete_lane terms answers given source end before after fails (ended refl) fed.1 (all refl),
+  (λ fault. failed_lane given source end before after fails fault (ended refl) fed.1),
+)
 
 module _ {S : Type 0} where
   -- the report of a source
@@ -86,7 +84,7 @@ module _ {S : Type 0} where
       let own : (state_of t).terms ≡ terms = grind (rules, fresh, same) in
       let given = fed back.feeder in let e = feeder_end back.feeder in
       let of_back : IsLaneOf terms (to_come start.source) report.answers report.end (to_come back.source) (failed back.source) =
-        lane_of terms report.answers given e report.end (is_given_up (state_of t).made) (to_come start.source) (to_come back.source) (failed back.source)
-        (hands.1 fresh.1 fresh.2) (subst (λ x. pipeline x given report.answers) own finished.1) finished.2 finished.3
-        (subst (λ x. is_given_up (state_of t).made ≡ false → report.answers ≡ answers_of x given) own finished.4)
+      lane_of terms report.answers given e report.end (is_given_up (state_of t).made) (to_come start.source) (to_come back.source) (failed back.source)
+      (hands.1 fresh.1 fresh.2) (subst (λ x. pipeline x given report.answers) own finished.1) finished.2 finished.3
+      (subst (λ x. is_given_up (state_of t).made ≡ false → report.answers ≡ answers_of x given) own finished.4)
       in subst (λ x. IsLaneOf terms (to_come start.source) report.answers report.end (to_come x) (failed x)) (sym finished.0) of_back

@@ -40,7 +40,7 @@ some_in_hand : (i : ℕ) (s : Setter) (hands hands1 hands2 : List (List Setter))
     → AllZip (AllZip SameSetter) hands1 hands2 → get_or hands2 i [] ≡ [] → ⊥
 some_in_hand i s hands hands1 hands2 with_one same none =
     let there = zip_there (AllZip SameSetter) [] hands hands2 i (get_or hands i [] ++ s ∷ []) with_one.0
-      (subst (λ x. AllZip (AllZip SameSetter) x hands2) with_one.1 same)
+    (subst (λ x. AllZip (AllZip SameSetter) x hands2) with_one.1 same)
     in zip_none SameSetter (get_or hands i []) s (subst (λ x. AllZip SameSetter (get_or hands i [] ++ s ∷ []) x) none there)
 
 -- the setter that is taken back is that of the same lane, and the hands are as before
@@ -49,8 +49,8 @@ same_in_hand : (i : ℕ) (s t : Setter) (hands hands1 hands2 hands3 : List (List
 same_in_hand i s t hands hands1 hands2 hands3 with_one same back =
     let x = get_or hands i [] in let y = get_or hands3 i [] in
     let both : AllZip (AllZip SameSetter) (set hands i (x ++ s ∷ [])) (set hands3 i (y ++ t ∷ [])) =
-      subst (λ h. AllZip (AllZip SameSetter) h (set hands3 i (y ++ t ∷ []))) with_one.1
-      (subst (λ h. AllZip (AllZip SameSetter) hands1 h) back.1 same)
+    subst (λ h. AllZip (AllZip SameSetter) h (set hands3 i (y ++ t ∷ []))) with_one.1
+    (subst (λ h. AllZip (AllZip SameSetter) hands1 h) back.1 same)
     in let place = zip_place (AllZip SameSetter) [] hands hands3 i (x ++ s ∷ []) (y ++ t ∷ []) with_one.0 back.0 both in
     let last = zip_last SameSetter x y s t place.0 in (last.1, place.1 last.0)
 
@@ -73,8 +73,7 @@ module _ {S : Type 0} where
       → AllZip (AllZip SameSetter) hands1 hands2 → AllZip SameCollected lanes1 lanes2 → SameFeeder start.feeder back.feeder
       → CanEnd (n % length hands2) back.feeder hands2 lanes2
   can_end terms source n start back hands hands1 hands2 lanes lanes1 lanes2 (is, (s, c, fresh, with_one, more)) same_hands same_lanes same =
-      subst (λ m. CanEnd (n % m) back.feeder hands2 lanes2) (as_many n s hands hands1 hands2 with_one same_hands)
-      (
+      subst (λ m. CanEnd (n % m) back.feeder hands2 lanes2) (as_many n s hands hands1 hands2 with_one same_hands) (
         some_in_hand (n % length hands) s hands hands1 hands2 with_one same_hands,
         some_takers c lanes lanes1 lanes2 more same_lanes,
         (λ t d hands3 lanes3 taken popped.
@@ -91,7 +90,7 @@ module _ {S : Type 0} where
   one_more to_come failed sources rest source reports reports' report was are now it =
       subst (λ xs. AreReported to_come failed xs reports') (sym was)
       (subst (λ ys. AreReported to_come failed (rest ++ source ∷ []) ys) (sym now)
-        (zip_append (λ x y. IsReported to_come failed (arc_value x.1) x.0 y) rest reports source report are it))
+      (zip_append (λ x y. IsReported to_come failed (arc_value x.1) x.0 y) rest reports source report are it))
 
   -- once it has ended, the other ends are as they were handed down, and the lane's report says what it is to say of its source
   pub has_ended : (to_come : S → Option (List (List ℕ))) (failed : S → Option SourceFault) (sources rest : List (S × Arc TermsValue Global))
@@ -105,12 +104,12 @@ module _ {S : Type 0} where
       (is, (s, c, fresh, with_one, more)) are same_hands same_lanes handed (t, d, report, taken, popped, one, finished) =
       let i = n % length hands in
       let taken_here : IsWith i t hands3 hands2 =
-        subst (λ m. IsWith (n % m) t hands3 hands2) (sym (as_many n s hands hands1 hands2 with_one same_hands)) taken
+      subst (λ m. IsWith (n % m) t hands3 hands2) (sym (as_many n s hands hands1 hands2 with_one same_hands)) taken
       in let own = same_in_hand i s t hands hands1 hands2 hands3 with_one same_hands taken_here in
       let of_taker = same_takers c d lanes lanes1 lanes2 lanes3 more same_lanes popped in
       let terms = arc_value source.1 in
       let it : IsReported to_come failed terms start.source report =
-        reported to_come failed terms start back s t c report fresh own.0 handed finished
+      reported to_come failed terms start back s t c report fresh own.0 handed finished
       in (
         one_more to_come failed sources rest source reports reports' report was are one (subst (λ x. IsReported to_come failed terms x report) is it),
         own.1,

@@ -43,4 +43,4 @@ module _ {S : Type 0} where
   HandsBack to_come failed a b =
       SameFeeder a.feeder b.feeder
       × (fed a.feeder ≡ [] → feeder_end a.feeder ≡ None
-        → AreFed (feeder_end b.feeder) (fed b.feeder) (to_come a.source) (to_come b.source) (failed b.source))
+      → AreFed (feeder_end b.feeder) (fed b.feeder) (to_come a.source) (to_come b.source) (failed b.source))

@@ -39,7 +39,7 @@ module _ {S : Type 0} where
   Begins hand terms source feeding hands hands' lanes lanes' =
       (feeding.source ≡ source)
       × ((setter : Setter) × (collected : Collected) × IsFresh terms feeding.feeder setter collected × IsWith hand setter hands hands'
-        × (lanes' ≡ lanes ++ collected ∷ []))
+      × (lanes' ≡ lanes ++ collected ∷ []))
 
 -- a lane can end: there are a setter in the hand and a taker, and the last of each are the ends of one lane with the feeder
 abbrev pub CanEnd : ℕ → Feeder → List (List Setter) → List Collected → Type 0
@@ -47,13 +47,13 @@ CanEnd hand feeder hands lanes =
     (get_or hands hand [] ≡ [] → ⊥)
     × (lanes ≡ [] → ⊥)
     × ((setter : Setter) (collected : Collected) (hands' : List (List Setter)) (lanes' : List Collected)
-      → IsWith hand setter hands' hands → lanes ≡ lanes' ++ collected ∷ [] → IsLane feeder setter collected.taker)
+    → IsWith hand setter hands' hands → lanes ≡ lanes' ++ collected ∷ [] → IsLane feeder setter collected.taker)
 
 module _ {S : Type 0} where
   -- a lane has ended: the last setter of the hand and the last taker are gone, and there is one more report
   abbrev pub Ends :
       ℕ → Feeding S → List (LaneReport S) → List (LaneReport S) → List (List Setter) → List (List Setter) → List Collected
-        → List Collected → Type 0
+      → List Collected → Type 0
   Ends hand feeding reports reports' hands hands' lanes lanes' =
       (setter : Setter) × (collected : Collected) × (report : LaneReport S) × IsWith hand setter hands' hands
       × (lanes ≡ lanes' ++ collected ∷ []) × (reports' ≡ reports ++ report ∷ []) × IsFinished feeding setter report

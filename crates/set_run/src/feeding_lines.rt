@@ -46,12 +46,7 @@ fn offer<R: Wait + Clock>(rt: &R, stop: &AtomicBool, feeder: &mut Feeder, line: 
 }
 
 /// Closes the feeder, as soon as there is room for its end; false where the run is stopped.
-fn close<R: Wait + Clock>(
-    rt: &R,
-    stop: &AtomicBool,
-    feeder: &mut Feeder,
-    end: SourceEnd,
-) -> bool
+fn close<R: Wait + Clock>(rt: &R, stop: &AtomicBool, feeder: &mut Feeder, end: SourceEnd) -> bool
     ensures lane { SameFeeder feeder.old feeder.new }
     ensures fed { fed feeder.new ≡ fed feeder.old }
     ensures end { feeder_end feeder.new ≡ (if result then first_end (feeder_end feeder.old) (Some end) else feeder_end feeder.old) }

@@ -8,7 +8,8 @@ ghost use Rattle.set_run.specs.Lanes.{IsFresh, IsFinished};
 
 use crate::collected::Collected;
 use crate::feeding::Feeding;
-use crate::{Answers, LaneReport, Plan, RunFault};
+use crate::want::Want;
+use crate::{Answers, LaneReport, Plan};
 use line_lane::{Feeder, Setter, open, settle};
 use set_line::{OutOfMemory, Terms};
 use std::alloc::Global;
@@ -31,7 +32,7 @@ pub(crate) fn finish_lane<S: Drop>(
     feeding: Feeding<S>,
     setter: Setter,
     collected: Collected,
-) -> Result<LaneReport<S>, RunFault>
+) -> Result<LaneReport<S>, Want>
     requires { IsLane feeding.feeder setter collected.taker }
     ensures { IfOk result (λ report. IsFinished feeding setter report) }
 {
@@ -47,6 +48,6 @@ pub(crate) fn finish_lane<S: Drop>(
             answers: Answers::new(answers),
             end,
         }),
-        Err(_) => Err(RunFault::Thread),
+        Err(_) => Err(Want::Thread),
     }
 }

@@ -15,7 +15,8 @@ use crate::feeding_lines::{FedFrom, feed};
 use crate::hand::{Hand, give, take_back};
 use crate::lane::{finish_lane, open_lane};
 use crate::serving::{ServedFrom, serve};
-use crate::{Gate, LaneReport, LineSource, Plan, RunFault};
+use crate::want::Want;
+use crate::{Gate, LaneReport, LineSource, Plan};
 use set_line::{OutOfMemory, Terms};
 use std::alloc::Global;
 use std::snapshot::Snapshot;
@@ -25,7 +26,7 @@ use std::thread::{Scope, Threads};
 use std::time::Clock;
 
 /// Stops the run's threads.
-fn stopped(stop: &AtomicBool, fault: RunFault) -> RunFault
+fn stopped(stop: &AtomicBool, fault: Want) -> Want
     ensures { result ≡ fault }
 {
     stop.store(true, Ordering::SeqCst);
@@ -40,7 +41,7 @@ pub(crate) fn serve_and_collect<'s, E, R: Threads + Wait + Clock + Sync, G: Gate
     stop: &'s AtomicBool,
     hands: Vec<Hand>,
     lanes: Vec<Collected>,
-) -> Result<(Vec<Hand>, Vec<Collected>), RunFault>
+) -> Result<(Vec<Hand>, Vec<Collected>), Want>
     ensures hands { IfOk result (λ back. AllZip (AllZip SameSetter) hands.items back.0.items) }
     ensures lanes { IfOk result (λ back. AllZip SameCollected lanes.items back.1.items) }
 {
@@ -48,20 +49,20 @@ pub(crate) fn serve_and_collect<'s, E, R: Threads + Wait + Clock + Sync, G: Gate
     let Some(hand) = hands.pop() else {
         return match collect(rt, gate, lanes) {
             Ok(lanes) => Ok((hands, lanes)),
-            Err(OutOfMemory) => Err(stopped(stop, RunFault::OutOfMemory)),
+            Err(OutOfMemory) => Err(stopped(stop, Want::Memory)),
         };
     };
     let number = hands.len();
     let promise = ServedFrom(Snapshot::of(&hand));
     let Ok(child) = scope.spawn_with(promise, move || serve(rt, gate, stop, number, hand)) else {
-        return Err(stopped(stop, RunFault::Thread));
+        return Err(stopped(stop, Want::Thread));
     };
     let below = serve_and_collect(scope, rt, gate, stop, hands, lanes);
     let hand = child.join(rt);
     let (mut hands, lanes) = below?;
     match hands.push(hand) {
         Ok(()) => Ok((hands, lanes)),
-        Err(_) => Err(RunFault::OutOfMemory),
+        Err(_) => Err(Want::Memory),
     }
 }
 
@@ -95,7 +96,7 @@ fn end<S: Drop>(
     reports: Vec<LaneReport<S>>,
     hands: Vec<Hand>,
     lanes: Vec<Collected>,
-) -> Result<(Vec<LaneReport<S>>, Vec<Hand>, Vec<Collected>), RunFault>
+) -> Result<(Vec<LaneReport<S>>, Vec<Hand>, Vec<Collected>), Want>
     requires some { 0 < vec_len hands }
     requires lane { CanEnd (number % length hands.items) feeding.feeder hands.items lanes.items }
     ensures { IfOk result (λ ended. Ends (number % length hands.items) feeding reports.items ended.0.items
@@ -111,7 +112,7 @@ fn end<S: Drop>(
     let report = finish_lane(feeding, setter, collected)?;
     match reports.push(report) {
         Ok(()) => Ok((reports, hands, lanes)),
-        Err(_) => Err(RunFault::OutOfMemory),
+        Err(_) => Err(Want::Memory),
     }
 }
 
@@ -133,7 +134,7 @@ pub(crate) fn feed_and_serve<
     sources: Vec<(S, Arc<Terms>)>,
     hands: Vec<Hand>,
     lanes: Vec<Collected>,
-) -> Result<(Vec<LaneReport<S>>, Vec<Hand>, Vec<Collected>), RunFault>
+) -> Result<(Vec<LaneReport<S>>, Vec<Hand>, Vec<Collected>), Want>
     requires { 0 < vec_len sources → 0 < vec_len hands }
     ensures reports { IfOk result (λ back. AreReported S.to_come S.failed sources.items back.0.items) }
     ensures hands { IfOk result (λ back. AllZip (AllZip SameSetter) hands.items back.1.items) }
@@ -146,11 +147,11 @@ pub(crate) fn feed_and_serve<
     };
     let number = sources.len();
     let Ok((feeding, hands, lanes)) = begin(alloc, plan, number, source, hands, lanes) else {
-        return Err(stopped(stop, RunFault::OutOfMemory));
+        return Err(stopped(stop, Want::Memory));
     };
     let promise = FedFrom(Snapshot::of(&feeding));
     let Ok(child) = scope.spawn_with(promise, move || feed(rt, gate, stop, number, feeding)) else {
-        return Err(stopped(stop, RunFault::Thread));
+        return Err(stopped(stop, Want::Thread));
     };
     let below = feed_and_serve(scope, rt, gate, stop, alloc, plan, sources, hands, lanes);
     let feeding = child.join(rt);

@@ -25,4 +25,5 @@ mod run_fault;
 mod running;
 mod serving;
 mod source;
+mod want;
 mod workers;

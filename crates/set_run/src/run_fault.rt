@@ -1,8 +1,3 @@
-ghost use Rattle.std.specs.Prelude.{◌≡◌};
-
-use set_line::OutOfMemory;
-use std::alloc::AllocError;
-
 /// Why a run has no report.
 #[derive(Clone, Copy, Debug, PartialEq, Eq, Hash)]
 pub enum RunFault {
@@ -12,16 +7,4 @@ pub enum RunFault {
     OutOfMemory,
     /// A thread was refused.
     Thread,
-}
-
-impl From<AllocError> for RunFault {
-    fn from(_: AllocError) -> Self {
-        RunFault::OutOfMemory
-    }
-}
-
-impl From<OutOfMemory> for RunFault {
-    fn from(_: OutOfMemory) -> Self {
-        RunFault::OutOfMemory
-    }
 }

@@ -6,6 +6,7 @@ ghost use Rattle.set_run.specs.Reports.{AreReported};
 use crate::collected::Collected;
 use crate::hand::Hand;
 use crate::levels::feed_and_serve;
+use crate::want::Want;
 use crate::{Gate, LaneReport, LineSource, Plan, Report, RunFault};
 use set_line::Terms;
 use std::alloc::{AllocError, Global};
@@ -23,7 +24,7 @@ fn empty_hands(alloc: Global, threads: usize) -> Result<Vec<Hand>, AllocError>
     ensures { IfOk result (λ hands. vec_len hands ≡ threads) }
 {
     let mut hands = Vec::new(alloc);
-    for _ in 0..threads {
+    for made in 0..threads {
         hands.push(Hand::new(alloc))?;
     }
     Ok(hands)
@@ -37,7 +38,7 @@ fn run_threads<R: Threads + Wait + Clock + Sync, S: LineSource + Send + Drop, G:
     plan: &Plan,
     gate: &G,
     hands: Vec<Hand>,
-) -> Result<Vec<LaneReport<S>>, RunFault>
+) -> Result<Vec<LaneReport<S>>, Want>
     requires { 0 < vec_len sources → 0 < vec_len hands }
     ensures { IfOk result (λ reports. AreReported S.to_come S.failed sources.items reports.items) }
 {
@@ -47,12 +48,13 @@ fn run_threads<R: Threads + Wait + Clock + Sync, S: LineSource + Send + Drop, G:
     thread::scope(
         thread::scope_env(),
         rt,
-        move |scope| -> Result<Vec<LaneReport<S>>, RunFault>
+        move |scope| -> Result<Vec<LaneReport<S>>, Want>
             requires { 0 < vec_len sources → 0 < vec_len hands }
             ensures { IfOk result (λ reports. AreReported S.to_come S.failed sources.items reports.items) }
         {
-            let (reports, _, _) =
-                feed_and_serve(scope, rt, gate, stop, alloc, plan, sources, hands, lanes)?;
+            let (reports, _, _) = feed_and_serve(
+                scope, rt, gate, stop, alloc, plan, sources, hands, lanes,
+            )?;
             Ok(reports)
         },
     )
@@ -75,7 +77,12 @@ pub fn run<R: Threads + Wait + Clock + Sync, S: LineSource + Send + Drop, G: Gat
         return Err(RunFault::TooManySources);
     }
     let threads = plan.workers.get().min(sources.len());
-    let hands = empty_hands(alloc, threads)?;
-    let reports = run_threads(rt, alloc, sources, &plan, gate, hands)?;
-    Ok(Report::new(reports))
+    let Ok(hands) = empty_hands(alloc, threads) else {
+        return Err(RunFault::OutOfMemory);
+    };
+    match run_threads(rt, alloc, sources, &plan, gate, hands) {
+        Ok(reports) => Ok(Report::new(reports)),
+        Err(Want::Memory) => Err(RunFault::OutOfMemory),
+        Err(Want::Thread) => Err(RunFault::Thread),
+    }
 }

@@ -11,17 +11,15 @@ returns-in-Done g c =
     zip_trans SameCollected collected_trans c.args.lanes.items c.loop.lanes.items c.go_round.new.lanes.items c.loop.invariant.2 c.go_round.ensures
 
 pub loop-preserved-in-Moved : goal.loop-preserved-in-Moved
-loop-preserved-in-Moved g c =
-    (
-      tt,
-      tt,
-      zip_trans SameCollected collected_trans c.args.lanes.items c.loop.lanes.items c.go_round.new.lanes.items c.loop.invariant.2 c.go_round.ensures,
-    )
+loop-preserved-in-Moved g c = (
+  tt,
+  tt,
+  zip_trans SameCollected collected_trans c.args.lanes.items c.loop.lanes.items c.go_round.new.lanes.items c.loop.invariant.2 c.go_round.ensures,
+)
 
 pub loop-preserved : goal.loop-preserved
-loop-preserved g c =
-    (
-      tt,
-      tt,
-      zip_trans SameCollected collected_trans c.args.lanes.items c.loop.lanes.items c.go_round.new.lanes.items c.loop.invariant.2 c.go_round.ensures,
-    )
+loop-preserved g c = (
+  tt,
+  tt,
+  zip_trans SameCollected collected_trans c.args.lanes.items c.loop.lanes.items c.go_round.new.lanes.items c.loop.invariant.2 c.go_round.ensures,
+)

@@ -14,7 +14,7 @@ end-requires-clause-lane g t c =
     let to_come = g.S.LineSource.to_come in let failed = g.S.LineSource.failed in
     let from : c.in-Ok-spawn_with.child.promise.0.value ≡ c.in-Ok.feeding = search rules in
     let handed : HandsBack to_come failed c.in-Ok.feeding c.join-feeding.result =
-      subst (λ f. HandsBack to_come failed f c.join-feeding.result) from c.join-feeding.ensures
+    subst (λ f. HandsBack to_come failed f c.join-feeding.result) from c.join-feeding.ensures
     in
     can_end (arc_value c.in-Some.source.1) c.in-Some.source.0 c.len-number.result c.in-Ok.feeding c.join-feeding.result c.args.hands.items
     c.in-Ok.hands.items c.in_ok-reports.hands.items c.args.lanes.items c.in-Ok.lanes.items c.in_ok-reports.lanes.items c.in-Ok.ensures
@@ -25,17 +25,17 @@ returns-clause-reports g t c =
     let to_come = g.S.LineSource.to_come in let failed = g.S.LineSource.failed in let here = c.in_ok-reports in
     let from : c.in-Ok-spawn_with.child.promise.0.value ≡ c.in-Ok.feeding = search rules in
     let handed : HandsBack to_come failed c.in-Ok.feeding c.join-feeding.result =
-      subst (λ f. HandsBack to_come failed f c.join-feeding.result) from c.join-feeding.ensures
+    subst (λ f. HandsBack to_come failed f c.join-feeding.result) from c.join-feeding.ensures
     in
     by_ok
     (λ back. Ends (c.len-number.result % length here.hands.items) c.join-feeding.result here.reports.items back.0.items here.hands.items
-      back.1.items here.lanes.items back.2.items)
+    back.1.items here.lanes.items back.2.items)
     (λ back. AreReported to_come failed c.args.sources.items back.0.items) c.end.result
     (λ back ends.
-        (has_ended to_come failed c.args.sources.items c.pop.new.self.items c.in-Some.source c.len-number.result c.in-Ok.feeding
-          c.join-feeding.result here.reports.items back.0.items c.args.hands.items c.in-Ok.hands.items here.hands.items back.1.items
-          c.args.lanes.items c.in-Ok.lanes.items here.lanes.items back.2.items c.in-Some.ensures.items c.in-Ok.ensures here.ensures.reports
-          here.ensures.hands here.ensures.lanes handed ends).0)
+    (has_ended to_come failed c.args.sources.items c.pop.new.self.items c.in-Some.source c.len-number.result c.in-Ok.feeding
+    c.join-feeding.result here.reports.items back.0.items c.args.hands.items c.in-Ok.hands.items here.hands.items back.1.items
+    c.args.lanes.items c.in-Ok.lanes.items here.lanes.items back.2.items c.in-Some.ensures.items c.in-Ok.ensures here.ensures.reports
+    here.ensures.hands here.ensures.lanes handed ends).0)
     c.end.ensures
 
 pub returns-clause-hands : goal.returns-clause-hands
@@ -43,17 +43,17 @@ returns-clause-hands g t c =
     let to_come = g.S.LineSource.to_come in let failed = g.S.LineSource.failed in let here = c.in_ok-reports in
     let from : c.in-Ok-spawn_with.child.promise.0.value ≡ c.in-Ok.feeding = search rules in
     let handed : HandsBack to_come failed c.in-Ok.feeding c.join-feeding.result =
-      subst (λ f. HandsBack to_come failed f c.join-feeding.result) from c.join-feeding.ensures
+    subst (λ f. HandsBack to_come failed f c.join-feeding.result) from c.join-feeding.ensures
     in
     by_ok
     (λ back. Ends (c.len-number.result % length here.hands.items) c.join-feeding.result here.reports.items back.0.items here.hands.items
-      back.1.items here.lanes.items back.2.items)
+    back.1.items here.lanes.items back.2.items)
     (λ back. AllZip (AllZip SameSetter) c.args.hands.items back.1.items) c.end.result
     (λ back ends.
-        (has_ended to_come failed c.args.sources.items c.pop.new.self.items c.in-Some.source c.len-number.result c.in-Ok.feeding
-          c.join-feeding.result here.reports.items back.0.items c.args.hands.items c.in-Ok.hands.items here.hands.items back.1.items
-          c.args.lanes.items c.in-Ok.lanes.items here.lanes.items back.2.items c.in-Some.ensures.items c.in-Ok.ensures here.ensures.reports
-          here.ensures.hands here.ensures.lanes handed ends).1)
+    (has_ended to_come failed c.args.sources.items c.pop.new.self.items c.in-Some.source c.len-number.result c.in-Ok.feeding
+    c.join-feeding.result here.reports.items back.0.items c.args.hands.items c.in-Ok.hands.items here.hands.items back.1.items
+    c.args.lanes.items c.in-Ok.lanes.items here.lanes.items back.2.items c.in-Some.ensures.items c.in-Ok.ensures here.ensures.reports
+    here.ensures.hands here.ensures.lanes handed ends).1)
     c.end.ensures
 
 pub returns-clause-lanes : goal.returns-clause-lanes
@@ -61,15 +61,15 @@ returns-clause-lanes g t c =
     let to_come = g.S.LineSource.to_come in let failed = g.S.LineSource.failed in let here = c.in_ok-reports in
     let from : c.in-Ok-spawn_with.child.promise.0.value ≡ c.in-Ok.feeding = search rules in
     let handed : HandsBack to_come failed c.in-Ok.feeding c.join-feeding.result =
-      subst (λ f. HandsBack to_come failed f c.join-feeding.result) from c.join-feeding.ensures
+    subst (λ f. HandsBack to_come failed f c.join-feeding.result) from c.join-feeding.ensures
     in
     by_ok
     (λ back. Ends (c.len-number.result % length here.hands.items) c.join-feeding.result here.reports.items back.0.items here.hands.items
-      back.1.items here.lanes.items back.2.items)
+    back.1.items here.lanes.items back.2.items)
     (λ back. AllZip SameCollected c.args.lanes.items back.2.items) c.end.result
     (λ back ends.
-        (has_ended to_come failed c.args.sources.items c.pop.new.self.items c.in-Some.source c.len-number.result c.in-Ok.feeding
-          c.join-feeding.result here.reports.items back.0.items c.args.hands.items c.in-Ok.hands.items here.hands.items back.1.items
-          c.args.lanes.items c.in-Ok.lanes.items here.lanes.items back.2.items c.in-Some.ensures.items c.in-Ok.ensures here.ensures.reports
-          here.ensures.hands here.ensures.lanes handed ends).2)
+    (has_ended to_come failed c.args.sources.items c.pop.new.self.items c.in-Some.source c.len-number.result c.in-Ok.feeding
+    c.join-feeding.result here.reports.items back.0.items c.args.hands.items c.in-Ok.hands.items here.hands.items back.1.items
+    c.args.lanes.items c.in-Ok.lanes.items here.lanes.items back.2.items c.in-Some.ensures.items c.in-Ok.ensures here.ensures.reports
+    here.ensures.hands here.ensures.lanes handed ends).2)
     c.end.ensures
