@@ -10,6 +10,7 @@ use set_line::Line;
 /// until it fails; of a source that doesn't tell them, nothing is said of its lines.
 pub trait LineSource {
     ghost to_come: { Self → Option (List (List ℕ)) };
+
     ghost failed: { Self → Option Fault };
 
     /// The next line; `None` where none is to come, now and later; or a fault, once and for all.
