@@ -1,8 +1,8 @@
 -- Lines from a reader.
-use Rattle.std.proofs.Common.{◌≡◌, ◌≢◌, ℕ, suc, ◌+◌, ◌-◌, ◌<◌, ◌≤◌, ◌==◌, true, false, List, [], ◌∷◌, ◌++◌, length, get_or, take, drop, Option, Some, None, Ok, IfSome, arith, refl, ap, sym, subst, ◌∙◌, append_assoc, append-nil, add-one}
+use Rattle.std.proofs.Common.{◌≡◌, ◌≢◌, ℕ, suc, ◌+◌, ◌-◌, ◌<◌, ◌≤◌, ◌==◌, true, false, List, [], ◌∷◌, ◌++◌, length, get_or, take, drop, Option, Some, None, Ok, arith, refl, ap, sym, subst, ◌∙◌, append_assoc, add-one}
 use Rattle.std.specs.List.{position, position_or_len}
 use Rattle.std.specs.Option.{option_map}
-use Rattle.std.specs.Io.KnownBytes.{Consumes, IsAtEnd, prepend_known}
+use Rattle.std.specs.Io.KnownBytes.{Consumes, prepend_known}
 use Rattle.std.proofs.lemmas.Bool.Decides.{nat_tests}
 use Rattle.std.proofs.lemmas.List.{get_or_default, get_or-take, length-take, drop_all, drop-drop, take-append-drop}
 use Rattle.std.proofs.lemmas.Slice.{between_is}
@@ -56,6 +56,7 @@ in_hand : (items buffer view : List ℕ) (start end : ℕ) → drop start (take 
 in_hand items buffer view start end same read =
     ap (λ xs. take (end - start) (drop start xs)) read ∙ between_is items start end ∙ same
 
+-- the bytes up to the line feed were moved behind the line, and the rest is in hand
 pub moves_to_feed : (items buffer view line longer : List ℕ) (start end at : ℕ) → drop start (take end items) ≡ view
     → buffer ≡ items → position (λ byte. byte == 10) (take (end - start) (drop start buffer)) ≡ Some at
     → longer ≡ line ++ take at (take (end - start) (drop start buffer))
@@ -75,6 +76,7 @@ moves_to_feed items buffer view line longer start end at same read here appended
     whole : view ≡ take at view ++ 10 ∷ drop (start + (at + 1)) (take end items)
     whole = (found view at at_first).1 ∙ ap (λ xs. take at view ++ 10 ∷ xs) rest
 
+-- all bytes were moved behind the line
 pub moves_all : (items buffer view line longer : List ℕ) (start end : ℕ) → drop start (take end items) ≡ view
     → buffer ≡ items → position (λ byte. byte == 10) (take (end - start) (drop start buffer)) ≡ None
     → longer ≡ line ++ take (end - start) (drop start buffer)
@@ -94,6 +96,7 @@ moves_all items buffer view line longer start end same read none appended =
 to_feed : (line part rest known : List ℕ) → line ++ ((part ++ 10 ∷ rest) ++ known) ≡ ((line ++ part) ++ 10 ∷ []) ++ (rest ++ known)
 to_feed line part rest known = simp append_assoc
 
+-- the line with its line feed is what came first of all that was to come
 still_consumes : (before known known' : Option (List ℕ)) (line longer bytes part rest : List ℕ) → Consumes before known line
     → Consumes known known' bytes → bytes ≡ part ++ 10 ∷ rest → longer ≡ line ++ part
     → Consumes before (prepend_known rest known') (longer ++ 10 ∷ [])
@@ -104,6 +107,7 @@ still_consumes (Some all) (Some left) (Some left') line longer bytes part rest s
     so_far ∙ ap (λ xs. line ++ xs) (more ∙ ap (λ xs. xs ++ left') cut) ∙ to_feed line part rest left'
     ∙ ap (λ xs. (xs ++ 10 ∷ []) ++ (rest ++ left')) (sym appended)
 
+-- bytes were read, and those up to a line feed are in the line now
 pub takes_to_feed : (before known known' : Option (List ℕ)) (line longer bytes rest : List ℕ) → HasNoFeed line → Consumes before known line
     → Consumes known known' bytes → MovesLine bytes line true longer rest
     → HasNoFeed longer × Consumes before (prepend_known rest known') (longer ++ 10 ∷ [])
@@ -112,6 +116,7 @@ takes_to_feed before known known' line longer bytes rest none so_far more moved 
   still_consumes before known known' line longer bytes moved.0 rest so_far more moved.2 moved.3,
 )
 
+-- the longer line is what came first of all that was to come
 still_all : (before known known' : Option (List ℕ)) (line longer bytes : List ℕ) → Consumes before known line
     → Consumes known known' bytes → longer ≡ line ++ bytes → Consumes before known' longer
 still_all None known known' line longer bytes so_far more appended = so_far
@@ -120,6 +125,7 @@ still_all (Some all) (Some left) None line longer bytes so_far more appended = a
 still_all (Some all) (Some left) (Some left') line longer bytes so_far more appended =
     so_far ∙ ap (λ xs. line ++ xs) more ∙ sym (append_assoc line bytes left') ∙ ap (λ xs. xs ++ left') (sym appended)
 
+-- bytes were read, and all of them are in the line now
 pub takes_all : (before known known' : Option (List ℕ)) (line longer bytes rest : List ℕ) → HasNoFeed line → Consumes before known line
     → Consumes known known' bytes → MovesLine bytes line false longer rest
     → (rest ≡ []) × HasNoFeed longer × Consumes before known' longer
@@ -131,13 +137,6 @@ takes_all before known known' line longer bytes rest none so_far more moved = (
 
 -- ---- lines
 
--- at the end the line so far is all that was to come
-pub all_taken : (before known : Option (List ℕ)) (line : List ℕ) → Consumes before known line → IsAtEnd known
-    → IfSome before (λ bytes. bytes ≡ line)
-all_taken None known line so_far ended = tt
-all_taken (Some all) None line so_far ended = absurd so_far
-all_taken (Some all) (Some left) line so_far ended = so_far ∙ ap (λ xs. line ++ xs) ended ∙ append-nil line
-
 -- a line up to a line feed is the first of those to come
 first_line : (before after : Option (List ℕ)) (line : List ℕ) → ((part rest : List ℕ) → IsCutAtFeed part rest) → HasNoFeed line
     → Consumes before after (line ++ 10 ∷ []) → GivesNext line (option_map lines_of before) (option_map lines_of after)
@@ -147,6 +146,7 @@ first_line (Some all) (Some left) line law none taken =
     let cut : lines_of all ≡ line ∷ lines_of left = ap lines_of (taken ∙ append_assoc line (10 ∷ []) left) ∙ law line left none in
     subst (λ lines. GivesNext line (Some lines) (Some (lines_of left))) (sym cut) (refl, refl)
 
+-- an answer with such a line is right
 pub gives_line : (state : ReaderState) (before after : Option (List ℕ)) (line : List ℕ) → ((part rest : List ℕ) → IsCutAtFeed part rest)
     → state ≡ Open → HasNoFeed line → Consumes before after (line ++ 10 ∷ [])
     → Reads (lines_to_come state before) (fault_of state) (Ok (Some line)) (lines_to_come state after) (fault_of state)

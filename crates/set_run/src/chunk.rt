@@ -26,7 +26,8 @@ impl Model for Chunk {
 
     ghost view = { λ chunk. drop chunk.start (take chunk.end chunk.buffer.items) };
 
-    ghost invariant = { λ chunk. (chunk.start ≤ chunk.end) × (chunk.end ≤ length chunk.buffer.items) };
+    ghost invariant = { λ chunk. (chunk.start ≤ chunk.end)
+        × (chunk.end ≤ length chunk.buffer.items) };
 }
 
 impl Chunk {
@@ -47,8 +48,10 @@ impl Chunk {
         alloc: Global,
         reader: &mut R,
     ) -> Result<usize, SourceFault>
-        ensures read { OnOk result (Consumes (R.remaining reader.old) (R.remaining reader.new) self.new) }
-        ensures end { IfOk result (λ count. count ≡ 0 → (self.new ≡ []) × IsAtEnd (R.remaining reader.new)) }
+        ensures read { OnOk result
+            (Consumes (R.remaining reader.old) (R.remaining reader.new) self.new) }
+        ensures end { IfOk result (λ count. count ≡ 0
+            → (self.new ≡ []) × IsAtEnd (R.remaining reader.new)) }
     {
         if self.buffer.is_empty() {
             match Vec::from_elem(alloc, 0, READ_SIZE) {
@@ -67,10 +70,11 @@ impl Chunk {
         }
     }
 
-    /// Moves the bytes up to a line feed behind `line` and lets the line feed go; where there is none, all of
-    /// them. Answers whether there was one.
+    /// Moves its bytes behind `line`: those up to a line feed, which is dropped, else all. Answers
+    /// whether there was a line feed.
     pub(crate) fn move_line(&mut self, line: &mut Vec<u8>) -> Result<bool, SourceFault>
-        ensures { IfOk result (λ ended. MovesLine self.old line.old.items ended line.new.items self.new) }
+        ensures { IfOk result (λ ended.
+            MovesLine self.old line.old.items ended line.new.items self.new) }
     {
         let bytes = &self.buffer[self.start..self.end];
         match first_feed(bytes) {
@@ -89,7 +93,6 @@ impl Chunk {
 }
 
 /// The place of the first line feed.
-#[tactic(auto, using(crate::proofs::ReadingLemmas::none_found))]
 fn first_feed(bytes: &[u8]) -> Option<usize>
     ensures { result ≡ position (λ byte. byte == 10) bytes.now }
 {

@@ -7,7 +7,7 @@ use line_lane::SourceFault;
 use std::alloc::Global;
 use std::io::Read;
 
-/// A line is found by at most this many reads.
+/// The end of a line is looked for in at most this many reads.
 const MAX_READS: u32 = 1_048_576;
 
 /// The bytes up to a line feed, or to the end.

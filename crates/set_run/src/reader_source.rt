@@ -25,7 +25,8 @@ pub struct ReaderSource<R> {
 impl<R: Read> ReaderSource<R> {
     /// A source of the lines of this reader, which isn't read yet.
     pub fn new(alloc: Global, reader: R) -> Self
-        ensures to_come { ⟦<ReaderSource<R> as LineSource>⟧.to_come result ≡ option_map lines_of (R.remaining reader) }
+        ensures to_come { ⟦<ReaderSource<R> as LineSource>⟧.to_come result
+            ≡ option_map lines_of (R.remaining reader) }
         ensures failed { ⟦<ReaderSource<R> as LineSource>⟧.failed result ≡ None }
     {
         ReaderSource {
@@ -39,10 +40,10 @@ impl<R: Read> ReaderSource<R> {
     /// The next line of a reader that neither came to its end nor failed.
     fn read_line(&mut self) -> Result<Option<Line>, SourceFault>
         requires { self.old.state ≡ ReaderState.Open }
-        ensures { Reads (lines_to_come self.old.state (prepend_known self.old.chunk (R.remaining self.old.reader)))
-            (fault_of self.old.state) result
-            (lines_to_come self.new.state (prepend_known self.new.chunk (R.remaining self.new.reader)))
-            (fault_of self.new.state) }
+        ensures { let before = prepend_known self.old.chunk (R.remaining self.old.reader) in
+            let after = prepend_known self.new.chunk (R.remaining self.new.reader) in
+            Reads (lines_to_come self.old.state before) (fault_of self.old.state) result
+            (lines_to_come self.new.state after) (fault_of self.new.state) }
     {
         cut_at_feeds();
         match next_piece(self.alloc, &mut self.reader, &mut self.chunk) {
@@ -67,7 +68,8 @@ impl<R: Read> LineSource for ReaderSource<R> {
     ghost use Rattle.std.specs.Io.KnownBytes.{prepend_known};
     ghost use Rattle.set_run.specs.Reading.{fault_of, lines_to_come};
 
-    ghost to_come = { λ source. lines_to_come source.state (prepend_known source.chunk (R.remaining source.reader)) };
+    ghost to_come = { λ source.
+        lines_to_come source.state (prepend_known source.chunk (R.remaining source.reader)) };
 
     ghost failed = { λ source. fault_of source.state };
 
