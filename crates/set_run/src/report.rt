@@ -1,0 +1,85 @@
+//! What a run answers.
+ghost use Rattle.std.specs.Prelude.{◌≡◌, ◌↔◌, All, IsTrue};
+ghost use Rattle.line_lane.specs.declared.ending.LaneEnd.TheVariants.{Complete};
+
+use line_lane::LaneEnd;
+use set_line::Answer;
+use std::marker::Model;
+
+/// The answers of a lane, in order.
+#[derive(Debug, Drop)]
+pub struct Answers {
+    list: Vec<Answer>,
+}
+
+impl Model for Answers {
+    ghost use Rattle.std.specs.Prelude.{List};
+    ghost use Rattle.set_line.specs.Answer.{AnswerValue};
+
+    ghost Value = { List AnswerValue };
+
+    ghost view = { λ a. a.list.items };
+}
+
+impl Answers {
+    pub(crate) fn new(list: Vec<Answer>) -> Self
+        ensures { result ≡ list.items }
+    {
+        Answers { list }
+    }
+
+    /// The answers.
+    pub fn as_slice(&self) -> &[Answer]
+        ensures { result.now ≡ self.now }
+    {
+        self.list.as_slice()
+    }
+}
+
+/// What became of a source.
+#[derive(Debug, Drop)]
+pub struct LaneReport<S> {
+    /// The source, as its thread handed it back.
+    pub source: S,
+    /// The answers of its lines.
+    pub answers: Answers,
+    /// How its lane ended.
+    pub end: LaneEnd,
+}
+
+/// What became of each source, in order.
+#[derive(Debug, Drop)]
+pub struct Report<S> {
+    lanes: Vec<LaneReport<S>>,
+}
+
+impl<S> Model for Report<S> {
+    ghost use Rattle.std.specs.Prelude.{List};
+    ghost use Rattle.set_run.specs.declared.report.LaneReport.{LaneReport};
+
+    ghost Value = { List (LaneReport S) };
+
+    ghost view = { λ r. r.lanes.items };
+}
+
+impl<S> Report<S> {
+    pub(crate) fn new(lanes: Vec<LaneReport<S>>) -> Self
+        ensures { result ≡ lanes.items }
+    {
+        Report { lanes }
+    }
+
+    /// What became of each source.
+    pub fn lanes(&self) -> &[LaneReport<S>]
+        ensures { result.now ≡ self.now }
+    {
+        self.lanes.as_slice()
+    }
+
+    /// Whether every lane is complete.
+    pub fn is_finished(&self) -> bool
+        ensures { IsTrue result ↔ All (λ lane. lane.end ≡ Complete) self.now }
+    {
+        self.lanes.iter().all(|lane| lane.end == LaneEnd::Complete)
+    }
+}
