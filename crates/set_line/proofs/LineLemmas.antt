@@ -1,9 +1,10 @@
 -- The lines of a text, one after the other.
-use Rattle.std.proofs.Common.{◌≡◌, ℕ, suc, zero, ◌+◌, ◌<◌, ◌≤◌, ◌==◌, List, [], ◌∷◌, ◌++◌, length, take, drop, arith, refl, ap, sym, ◌∙◌, append_assoc, append-nil, length-drop}
+use Rattle.std.proofs.Common.{◌≡◌, ℕ, false, ◌+◌, ◌<◌, ◌≤◌, ◌==◌, List, [], ◌∷◌, ◌++◌, length, take, drop, arith, refl, ap, sym, ◌∙◌, append_assoc, append-nil, length-drop}
 use Rattle.std.proofs.Math.Seq.{take-length}
-use Rattle.std.specs.List.{slice_split, position_or_len}
-use Rattle.std.proofs.lemmas.List.Splits.{slice_split_first, length-slice_split}
-use Rattle.set_line.specs.Lines.{without_empty_last, lines_of}
+use Rattle.std.specs.List.{All, slice_split, position_or_len}
+use Rattle.std.proofs.lemmas.Bool.Decides.{nat_tests}
+use Rattle.std.proofs.lemmas.List.Splits.{slice_split_none, slice_split_at, slice_split_first, length-slice_split}
+use Rattle.set_line.specs.Lines.{without_empty_last, lines_of, HasNoFeed}
 use Rattle.set_line.proofs.OnwardLemmas.{drop-more, slice_split_to_end}
 
 more_lines : (line : List ℕ) (lines : List (List ℕ)) → 0 < length lines → without_empty_last (line ∷ lines) ≡ line ∷ without_empty_last lines
@@ -52,3 +53,25 @@ pub last_line_more : (so_far so_far' : List (List ℕ)) (line pushed rest all : 
     → lines_of rest ≡ line ∷ [] → so_far ++ lines_of rest ≡ lines_of all → so_far' ≡ lines_of all
 last_line_more so_far so_far' line pushed rest all appended same cut whole =
     appended ∙ ap (λ x. so_far ++ x ∷ []) same ∙ ap (λ xs. so_far ++ xs) (sym cut) ∙ whole
+
+-- ---- the laws
+
+-- no byte passes the test for a line feed
+none_passes : (line : List ℕ) → HasNoFeed line → All (λ byte. (byte == 10) ≡ false) line
+none_passes line none = λ k d within. let other = none k d within in grind (arith, nat_tests)
+
+pub cut_at_feed : (line rest : List ℕ) → HasNoFeed line → lines_of (line ++ 10 ∷ rest) ≡ line ∷ lines_of rest
+unfolding lines_of
+cut_at_feed line rest none =
+    ap without_empty_last (slice_split_at (λ byte. byte == 10) line 10 rest (none_passes line none) refl)
+    ∙ more_lines line (slice_split (λ byte. byte == 10) rest) (omega (arith, length-slice_split (λ byte. byte == 10) rest))
+
+pub one_line : (line : List ℕ) → HasNoFeed line → 0 < length line → lines_of line ≡ line ∷ []
+unfolding lines_of
+one_line line none some = ap without_empty_last (slice_split_none (λ byte. byte == 10) line (none_passes line none)) ∙ last_line line some
+
+pub no_bytes : lines_of [] ≡ []
+unfolding lines_of
+no_bytes = refl
+
+pub ruleset laws = (cut_at_feed, one_line, no_bytes)

@@ -4,6 +4,7 @@
 pub use answer::Answer;
 pub use cutting::lines;
 pub use items::Items;
+pub use laws::cut_at_feeds;
 pub use limit::Limit;
 pub use line::Line;
 pub use out_of_memory::OutOfMemory;
@@ -17,6 +18,7 @@ pub use version::Version;
 mod answer;
 mod cutting;
 mod items;
+mod laws;
 mod limit;
 mod line;
 mod out_of_memory;

@@ -1,3 +1,4 @@
+pub mod ReadingLemmas
 pub mod Zips
 pub mod SameEnds
 pub mod HandLemmas

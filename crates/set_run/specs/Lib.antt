@@ -1,4 +1,5 @@
 pub mod Sources
+pub mod Reading
 pub mod Given
 pub mod Hands
 pub mod Collecting

@@ -1,0 +1,83 @@
+ghost use Rattle.std.specs.Prelude.{◌≡◌, None, option_map};
+ghost use Rattle.std.specs.Io.KnownBytes.{prepend_known};
+ghost use Rattle.set_line.specs.Lines.{lines_of};
+ghost use Rattle.set_run.specs.Sources.{Reads};
+ghost use Rattle.set_run.specs.Reading.{fault_of, lines_to_come};
+
+use crate::LineSource;
+use crate::chunk::Chunk;
+use crate::piece::{Piece, next_piece};
+use crate::reader_state::ReaderState;
+use line_lane::SourceFault;
+use set_line::{Line, cut_at_feeds};
+use std::alloc::Global;
+use std::io::Read;
+
+/// A source that gives the lines of the bytes that a reader gives.
+#[derive(Drop)]
+pub struct ReaderSource<R> {
+    reader: R,
+    chunk: Chunk,
+    state: ReaderState,
+    alloc: Global,
+}
+
+impl<R: Read> ReaderSource<R> {
+    /// A source of the lines of this reader, which isn't read yet.
+    pub fn new(alloc: Global, reader: R) -> Self
+        ensures to_come { ⟦<ReaderSource<R> as LineSource>⟧.to_come result
+            ≡ option_map lines_of (R.remaining reader) }
+        ensures failed { ⟦<ReaderSource<R> as LineSource>⟧.failed result ≡ None }
+    {
+        ReaderSource {
+            reader,
+            chunk: Chunk::new(alloc),
+            state: ReaderState::Open,
+            alloc,
+        }
+    }
+
+    /// The next line of a reader that neither came to its end nor failed.
+    fn read_line(&mut self) -> Result<Option<Line>, SourceFault>
+        requires { self.old.state ≡ ReaderState.Open }
+        ensures { let before = prepend_known self.old.chunk (R.remaining self.old.reader) in
+            let after = prepend_known self.new.chunk (R.remaining self.new.reader) in
+            Reads (lines_to_come self.old.state before) (fault_of self.old.state) result
+            (lines_to_come self.new.state after) (fault_of self.new.state) }
+    {
+        cut_at_feeds();
+        match next_piece(self.alloc, &mut self.reader, &mut self.chunk) {
+            Ok(Piece::Ended(line)) => Ok(Some(Line::new(line))),
+            Ok(Piece::Last(line)) => {
+                self.state = ReaderState::AtEnd;
+                Ok(if line.is_empty() {
+                    None
+                } else {
+                    Some(Line::new(line))
+                })
+            }
+            Err(fault) => {
+                self.state = ReaderState::Failed(fault);
+                Err(fault)
+            }
+        }
+    }
+}
+
+impl<R: Read> LineSource for ReaderSource<R> {
+    ghost use Rattle.std.specs.Io.KnownBytes.{prepend_known};
+    ghost use Rattle.set_run.specs.Reading.{fault_of, lines_to_come};
+
+    ghost to_come = { λ source.
+        lines_to_come source.state (prepend_known source.chunk (R.remaining source.reader)) };
+
+    ghost failed = { λ source. fault_of source.state };
+
+    fn next_line(&mut self) -> Result<Option<Line>, SourceFault> {
+        match self.state {
+            ReaderState::Open => self.read_line(),
+            ReaderState::AtEnd => Ok(None),
+            ReaderState::Failed(fault) => Err(fault),
+        }
+    }
+}
