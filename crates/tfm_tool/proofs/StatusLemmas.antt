@@ -2,13 +2,17 @@
 use Rattle.std.proofs.Common.{[], ◌∷◌, Contains, lit<, refl}
 use Rattle.tfm_tool.specs.declared.failure.Failure.{Failure}
 use Rattle.tfm_tool.specs.declared.failure.Failure.TheVariants.{Usage, NotRead, FileNotOpened, FileNotEnded, Tool}
-use Rattle.tfm_tool.specs.declared.fault.ToolFault.TheVariants.{Font, OutOfMemory, Write}
+use Rattle.tfm_tool.specs.declared.fault.ToolFault.TheVariants.{Font, Run, OutOfMemory, Write}
+use Rattle.set_run.specs.declared.run_fault.RunFault.TheVariants.{TooManySources, OutOfMemory as RunOutOfMemory, Thread}
 use Rattle.tfm_tool.specs.Status.{status_of}
 
 -- a failure has one of the statuses of the table
 pub status_listed : (failure : Failure) → Contains (0 ∷ 1 ∷ 2 ∷ 3 ∷ 4 ∷ 5 ∷ []) (status_of failure)
 status_listed (Usage _) = (2, lit< tt, refl)
 status_listed (Tool (Font _)) = (3, lit< tt, refl)
+status_listed (Tool (Run TooManySources)) = (2, lit< tt, refl)
+status_listed (Tool (Run RunOutOfMemory)) = (5, lit< tt, refl)
+status_listed (Tool (Run Thread)) = (5, lit< tt, refl)
 status_listed NotRead = (4, lit< tt, refl)
 status_listed FileNotOpened = (4, lit< tt, refl)
 status_listed FileNotEnded = (4, lit< tt, refl)

@@ -3,4 +3,6 @@ pub mod Listing
 pub mod ListingWords
 pub mod OneFile
 pub mod RunText
+pub mod ReportText
+pub mod Setting
 pub mod Status

@@ -1,21 +1,32 @@
 -- The status that the program ends with, by what went wrong.
 -- The table is this project's own; 2 for a command line that is refused is common use.
-use Rattle.std.specs.Prelude.{ℕ, ◌==◌, if◌then◌else◌}
+use Rattle.std.specs.Prelude.{ℕ, ◌==◌, Bool, true, false, if◌then◌else◌}
 use Rattle.tfm_tool.specs.declared.failure.Failure.{Failure}
 use Rattle.tfm_tool.specs.declared.failure.Failure.TheVariants.{Usage, NotRead, FileNotOpened, FileNotEnded, Tool}
 use Rattle.tfm_tool.specs.declared.summary.Summary.{Summary}
 use Rattle.tfm_tool.specs.declared.fault.ToolFault.{ToolFault}
-use Rattle.tfm_tool.specs.declared.fault.ToolFault.TheVariants.{Font, OutOfMemory, Write}
+use Rattle.tfm_tool.specs.declared.fault.ToolFault.TheVariants.{Font, Run, OutOfMemory, Write}
+use Rattle.set_run.specs.declared.run_fault.RunFault.TheVariants.{TooManySources, OutOfMemory as RunOutOfMemory, Thread}
 use Rattle.tfm_tool.specs.declared.files.FileFault.{FileFault}
 use Rattle.tfm_tool.specs.declared.files.FileFault.TheVariants.{NotOpened, NotEnded, OutOfMemory as FileNoRoom}
 use Rattle.tfm_tool.specs.declared.files.ReadFault.{ReadFault}
 use Rattle.tfm_tool.specs.declared.files.ReadFault.TheVariants.{NotRead as Unread, OutOfMemory as NoRoom}
 
--- a text that was not written: the font is refused, or else the memory or the output
+-- a text that was not written: the font is refused, or there are too many files, or else the memory, a thread or the output
 abbrev pub text_status_of : ToolFault → ℕ
 text_status_of (Font _) = 3
+text_status_of (Run TooManySources) = 2
+text_status_of (Run RunOutOfMemory) = 5
+text_status_of (Run Thread) = 5
 text_status_of OutOfMemory = 5
 text_status_of Write = 5
+
+-- whether a fault is one of writing a text: want of memory, or the output
+abbrev pub is_text_fault : ToolFault → Bool
+is_text_fault (Font _) = false
+is_text_fault (Run _) = false
+is_text_fault OutOfMemory = true
+is_text_fault Write = true
 
 -- the status of a failure
 abbrev pub status_of : Failure → ℕ

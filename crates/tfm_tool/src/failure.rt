@@ -4,6 +4,7 @@ ghost use Rattle.tfm_tool.specs.Status.{failure_of, file_failure_of, status_of};
 
 use crate::ToolFault;
 use crate::files::{FileFault, ReadFault};
+use set_run::RunFault;
 use thiserror::Error;
 
 /// Why the program ends with a status other than 0. Its message is all that goes to the standard
@@ -38,6 +39,8 @@ impl Failure {
             Failure::NotRead => 4,
             Failure::FileNotOpened => 4,
             Failure::FileNotEnded => 4,
+            Failure::Tool(ToolFault::Run(RunFault::TooManySources)) => 2,
+            Failure::Tool(ToolFault::Run(RunFault::OutOfMemory | RunFault::Thread)) => 5,
             Failure::Tool(ToolFault::OutOfMemory) => 5,
             Failure::Tool(ToolFault::Write) => 5,
         }

@@ -1,3 +1,4 @@
+use set_run::RunFault;
 use std::fmt;
 use tfm_tables::FontFault;
 use tfm_words::CountFault;
@@ -9,12 +10,29 @@ pub enum ToolFault {
     /// The font is refused.
     #[error("font refused: {fault}", fault = Numbered(.0))]
     Font(FontFault),
+    /// The run has no report.
+    #[error("{told}", told = Told(.0))]
+    Run(RunFault),
     /// A request for memory was refused.
     #[error("out of memory")]
     OutOfMemory,
     /// The writer failed.
     #[error("output failed")]
     Write,
+}
+
+/// What is said of a run that has no report.
+#[derive(Clone, Copy)]
+struct Told<'a>(&'a RunFault);
+
+impl fmt::Display for Told<'_> {
+    fn fmt<W: fmt::Write>(&self, f: &mut fmt::Formatter<W>) -> fmt::Result {
+        f.write_str(match self.0 {
+            RunFault::TooManySources => "more than 64 files",
+            RunFault::OutOfMemory => "out of memory",
+            RunFault::Thread => "no thread",
+        })
+    }
 }
 
 /// A fault behind its number among all that can be wrong with a font. A file that ends within its

@@ -6,6 +6,7 @@ pub use fault::ToolFault;
 pub use listing::list_text;
 pub use one_file::set_one;
 pub use program::{tool, words_refused};
+pub use setting::{set_each, set_text};
 pub use summary::{Summary, status};
 
 mod appending;
@@ -16,8 +17,10 @@ mod files;
 mod listing;
 mod one_file;
 mod program;
+mod report_text;
 mod rows;
 mod run_text;
+mod setting;
 mod summary;
 #[cfg(test)]
 mod tests;

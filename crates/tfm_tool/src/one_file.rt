@@ -1,11 +1,11 @@
 //! One text, set as a whole.
-ghost use Rattle.std.specs.Prelude.{◌≡◌, ◌++◌, codes, count_by, IfOk, IfErr, OnOk};
+ghost use Rattle.std.specs.Prelude.{true, ◌≡◌, ◌++◌, codes, count_by, IfOk, IfErr, OnOk};
 ghost use Rattle.std.specs.Arc.{arc_value};
 ghost use Rattle.std.specs.Io.KnownBytes.{Appends};
 ghost use Rattle.set_line.specs.Answer.{answer_of};
 ghost use Rattle.set_line.specs.Lines.{lines_of};
 ghost use Rattle.tfm_tool.specs.RunText.{head_text, is_refused, lane_text};
-ghost use Rattle.tfm_tool.specs.Status.{text_status_of};
+ghost use Rattle.tfm_tool.specs.Status.{is_text_fault};
 ghost use Rattle.tfm_tool.specs.OneFile.{answers_to, summary_of};
 
 use crate::run_text::write_text;
@@ -17,7 +17,7 @@ use std::sync::Arc;
 
 /// The answer to a line.
 fn set_next(alloc: Global, terms: &Arc<Terms>, line: Line) -> Result<Answer, ToolFault>
-    ensures fault { IfErr result (λ fault. text_status_of fault ≡ 5) }
+    ensures fault { IfErr result (λ fault. is_text_fault fault ≡ true) }
     ensures answer { IfOk result (λ answer. answer ≡ answer_of (arc_value terms.now) line) }
 {
     let terms = terms.clone().map_err(|_| ToolFault::OutOfMemory)?;
@@ -26,7 +26,7 @@ fn set_next(alloc: Global, terms: &Arc<Terms>, line: Line) -> Result<Answer, Too
 
 /// The lines of a text, whose own memory isn't needed from then on.
 fn cut(alloc: Global, text: Vec<u8>) -> Result<Vec<Line>, ToolFault>
-    ensures fault { IfErr result (λ fault. text_status_of fault ≡ 5) }
+    ensures fault { IfErr result (λ fault. is_text_fault fault ≡ true) }
     ensures lines { IfOk result (λ lines. lines.items ≡ lines_of text.items) }
 {
     lines(alloc, text.as_slice()).map_err(|_| ToolFault::OutOfMemory)
@@ -43,7 +43,7 @@ fn give_back(lines: &mut Vec<Line>)
 
 /// The answers to the lines of a text, in order.
 fn set_lines(alloc: Global, terms: &Arc<Terms>, text: Vec<u8>) -> Result<Vec<Answer>, ToolFault>
-    ensures fault { IfErr result (λ fault. text_status_of fault ≡ 5) }
+    ensures fault { IfErr result (λ fault. is_text_fault fault ≡ true) }
     ensures answers { IfOk result (λ answers. answers.items
         ≡ answers_to (arc_value terms.now) text.items) }
 {
@@ -81,7 +81,7 @@ pub fn set_one<W: Write>(
     version: Version,
     out: &mut W,
 ) -> Result<Summary, ToolFault>
-    ensures fault { IfErr result (λ fault. text_status_of fault ≡ 5) }
+    ensures fault { IfErr result (λ fault. is_text_fault fault ≡ true) }
     ensures text { OnOk result (Appends (W.contents out.old) (W.contents out.new)
         (head_text version ++ lane_text 1 version
         (answers_to (arc_value terms.now) text.items) (codes "complete"))) }

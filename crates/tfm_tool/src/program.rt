@@ -3,24 +3,18 @@ ghost use Rattle.std.specs.Io.KnownBytes.{Appends, Keeps};
 ghost use Rattle.std.specs.IoError.{error_kind};
 ghost use Rattle.tfm_tool.specs.CountsText.{counts_text_of};
 ghost use Rattle.tfm_tool.specs.Status.{status_of};
-ghost use Rattle.tfm_tables.specs.declared.fault.FontFault.{FontFault};
-ghost use Rattle.tfm_tables.specs.Acceptance.{font_fault_of};
-ghost use Rattle.tfm_tables.specs.Font.{IsFontOf};
 
 use crate::failure::Failure;
 use crate::files::{file_bytes, font_bytes};
+use crate::setting::{accepted, shared};
 use crate::words::{Request, Setting, requested};
 use crate::{ToolFault, counts_text, list_text, set_one, status};
 use clap::error::ErrorKind as WordsKind;
 use set_line::Terms;
-use std::alloc::Global;
 use std::convert::AsStr;
 use std::io;
 use std::io::{ErrorKind, Read, Write};
 use std::rt::Files;
-use std::sync::Arc;
-use tfm_tables::{Font, FontFault};
-use tfm_words::Size;
 
 /// The whole program: does what the words behind its name ask for, and returns the status that it
 /// ends with. The font `-` is read from `input`, and any other word is the name of a file.
@@ -128,24 +122,6 @@ where
     let terms = shared(rt.alloc(), Terms::new(font, setting.limit, setting.policy))?;
     let summary = set_one(rt.alloc(), &terms, text, setting.version, out)?;
     Ok(status(&summary))
-}
-
-fn shared(alloc: Global, terms: Terms) -> Result<Arc<Terms>, ToolFault>
-    ensures { IfErr result (λ fault. fault ≡ ToolFault.OutOfMemory) }
-{
-    Arc::new(alloc, terms).map_err(|_| ToolFault::OutOfMemory)
-}
-
-/// The font in these bytes, at a size, else at its design size.
-fn accepted(alloc: Global, bytes: &[u8], size: Option<Size>) -> Result<Font, ToolFault>
-    ensures ok { IfOk result (IsFontOf bytes.now size) }
-    ensures font { (f : FontFault) → result ≡ Err (ToolFault.Font f) → font_fault_of bytes.now ≡ Some f }
-{
-    match Font::read(alloc, bytes, size) {
-        Ok(font) => Ok(font),
-        Err(FontFault::OutOfMemory) => Err(ToolFault::OutOfMemory),
-        Err(fault) => Err(ToolFault::Font(fault)),
-    }
 }
 
 /// Help and the version are an answer; any other error is why there is none.

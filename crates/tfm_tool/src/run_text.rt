@@ -1,8 +1,8 @@
 //! The text of a run, written in blocks.
-ghost use Rattle.std.specs.Prelude.{◌≡◌, ◌++◌, [], IfErr, OnOk};
+ghost use Rattle.std.specs.Prelude.{true, ◌≡◌, ◌++◌, [], IfErr, OnOk};
 ghost use Rattle.std.specs.Io.KnownBytes.{Appends};
 ghost use Rattle.set_line.specs.Record.{record_text};
-ghost use Rattle.tfm_tool.specs.Status.{text_status_of};
+ghost use Rattle.tfm_tool.specs.Status.{is_text_fault};
 ghost use Rattle.tfm_tool.specs.RunText.{Goes, end_text, head_text, lane_text, records_from};
 
 use crate::ToolFault;
@@ -16,8 +16,8 @@ const BLOCK: usize = 65_536;
 
 /// Writes the block, and empties it.
 #[tactic(auto, using(crate::proofs::RunTextLemmas::goes))]
-fn write_block<W: Write>(block: &mut Vec<u8>, out: &mut W) -> Result<(), ToolFault>
-    ensures fault { IfErr result (λ fault. text_status_of fault ≡ 5) }
+pub(crate) fn write_block<W: Write>(block: &mut Vec<u8>, out: &mut W) -> Result<(), ToolFault>
+    ensures fault { IfErr result (λ fault. is_text_fault fault ≡ true) }
     ensures emptied { OnOk result (block.new.items ≡ []) }
     ensures goes { OnOk result (Goes (W.contents out.old) block.old.items (W.contents out.new) block.new.items []) }
 {
@@ -30,7 +30,7 @@ fn write_block<W: Write>(block: &mut Vec<u8>, out: &mut W) -> Result<(), ToolFau
 /// Writes the block where it is long enough.
 #[tactic(auto, using(crate::proofs::RunTextLemmas::goes))]
 fn write_full<W: Write>(block: &mut Vec<u8>, out: &mut W) -> Result<(), ToolFault>
-    ensures fault { IfErr result (λ fault. text_status_of fault ≡ 5) }
+    ensures fault { IfErr result (λ fault. is_text_fault fault ≡ true) }
     ensures goes { OnOk result (Goes (W.contents out.old) block.old.items (W.contents out.new) block.new.items []) }
 {
     if block.len() < BLOCK {
@@ -48,7 +48,7 @@ fn write_record<W: Write>(
     block: &mut Vec<u8>,
     out: &mut W,
 ) -> Result<(), ToolFault>
-    ensures fault { IfErr result (λ fault. text_status_of fault ≡ 5) }
+    ensures fault { IfErr result (λ fault. is_text_fault fault ≡ true) }
     ensures goes { OnOk result (Goes (W.contents out.old) block.old.items (W.contents out.new) block.new.items (record_text source place answer.now.outcome version)) }
 {
     record(source, place, answer, version, block).map_err(|_| ToolFault::OutOfMemory)?;
@@ -64,7 +64,7 @@ fn write_records<W: Write>(
     block: &mut Vec<u8>,
     out: &mut W,
 ) -> Result<(), ToolFault>
-    ensures fault { IfErr result (λ fault. text_status_of fault ≡ 5) }
+    ensures fault { IfErr result (λ fault. is_text_fault fault ≡ true) }
     ensures goes { OnOk result (Goes (W.contents out.old) block.old.items (W.contents out.new) block.new.items (records_from source 1 version answers.now)) }
 {
     for place in 0..answers.len() {
@@ -80,7 +80,7 @@ fn write_records<W: Write>(
     Ok(())
 }
 
-fn push_head(text: &mut Vec<u8>, version: Version) -> Result<(), AllocError>
+pub(crate) fn push_head(text: &mut Vec<u8>, version: Version) -> Result<(), AllocError>
     ensures { OnOk result (text.new.items ≡ text.old.items ++ head_text version) }
 {
     match version {
@@ -102,7 +102,7 @@ fn push_end(text: &mut Vec<u8>, source: u64, why: &[u8], count: u64) -> Result<(
 
 /// Puts the records and the end line of a source into the block, and writes each block that is long
 /// enough.
-fn write_lane<W: Write>(
+pub(crate) fn write_lane<W: Write>(
     source: u64,
     answers: &[Answer],
     why: &[u8],
@@ -110,7 +110,7 @@ fn write_lane<W: Write>(
     block: &mut Vec<u8>,
     out: &mut W,
 ) -> Result<(), ToolFault>
-    ensures fault { IfErr result (λ fault. text_status_of fault ≡ 5) }
+    ensures fault { IfErr result (λ fault. is_text_fault fault ≡ true) }
     ensures goes { OnOk result (Goes (W.contents out.old) block.old.items (W.contents out.new) block.new.items (lane_text source version answers.now why.now)) }
 {
     write_records(source, answers, version, block, out)?;
@@ -126,7 +126,7 @@ pub(crate) fn write_text<W: Write>(
     version: Version,
     out: &mut W,
 ) -> Result<(), ToolFault>
-    ensures fault { IfErr result (λ fault. text_status_of fault ≡ 5) }
+    ensures fault { IfErr result (λ fault. is_text_fault fault ≡ true) }
     ensures goes { OnOk result (Appends (W.contents out.old) (W.contents out.new) (head_text version ++ lane_text 1 version answers.now why.now)) }
 {
     let mut block = Vec::new(alloc);
