@@ -51,8 +51,8 @@ module _ {S : Type 0} where
       → AllZip (HasTerms (record { font = font; limit = limit; policy = policy })) sources pairs
       → IfOk r (λ summary. (reports : List (LaneReport S)) × AreReported to_come failed pairs reports × IsWritten version reports before after summary)
       → IfOk r (λ summary. (f : FontValue) × (reports : List (LaneReport S)) × IsFontOf bytes size f
-        × AreReportedWith to_come failed (record { font = f; limit = limit; policy = policy }) sources reports
-        × IsWritten version reports before after summary)
+      × AreReportedWith to_come failed (record { font = f; limit = limit; policy = policy }) sources reports
+      × IsWritten version reports before after summary)
   all_set to_come failed bytes size font limit policy version sources pairs before after (Ok summary) is have (reports, are, written) =
       (font, reports, is, reported_with to_come failed (record { font = font; limit = limit; policy = policy }) sources pairs reports have are, written)
   all_set to_come failed bytes size font limit policy version sources pairs before after (Err fault) is have all = all

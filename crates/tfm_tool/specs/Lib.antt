@@ -1,7 +1,6 @@
 pub mod CountsText
 pub mod Listing
 pub mod ListingWords
-pub mod OneFile
 pub mod RunText
 pub mod ReportText
 pub mod Setting

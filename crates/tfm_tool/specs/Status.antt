@@ -1,14 +1,12 @@
 -- The status that the program ends with, by what went wrong.
 -- The table is this project's own; 2 for a command line that is refused is common use.
-use Rattle.std.specs.Prelude.{ℕ, ◌==◌, Bool, true, false, if◌then◌else◌}
+use Rattle.std.specs.Prelude.{ℕ, ◌==◌, ◌||◌, Bool, true, false, if◌then◌else◌}
 use Rattle.tfm_tool.specs.declared.failure.Failure.{Failure}
-use Rattle.tfm_tool.specs.declared.failure.Failure.TheVariants.{Usage, NotRead, FileNotOpened, FileNotEnded, Tool}
+use Rattle.tfm_tool.specs.declared.failure.Failure.TheVariants.{Usage, NotInThrees, TooManyFiles, LimitRange, NotRead, FontNotRead, FontRefused, FileNotOpened, FileNotEnded, Tool}
 use Rattle.tfm_tool.specs.declared.summary.Summary.{Summary}
 use Rattle.tfm_tool.specs.declared.fault.ToolFault.{ToolFault}
 use Rattle.tfm_tool.specs.declared.fault.ToolFault.TheVariants.{Font, Run, OutOfMemory, Write}
 use Rattle.set_run.specs.declared.run_fault.RunFault.TheVariants.{TooManySources, OutOfMemory as RunOutOfMemory, Thread}
-use Rattle.tfm_tool.specs.declared.files.FileFault.{FileFault}
-use Rattle.tfm_tool.specs.declared.files.FileFault.TheVariants.{NotOpened, NotEnded, OutOfMemory as FileNoRoom}
 use Rattle.tfm_tool.specs.declared.files.ReadFault.{ReadFault}
 use Rattle.tfm_tool.specs.declared.files.ReadFault.TheVariants.{NotRead as Unread, OutOfMemory as NoRoom}
 
@@ -31,8 +29,13 @@ is_text_fault Write = true
 -- the status of a failure
 abbrev pub status_of : Failure → ℕ
 status_of (Usage _) = 2
+status_of NotInThrees = 2
+status_of TooManyFiles = 2
+status_of (LimitRange _) = 2
+status_of (FontRefused _ _) = 3
 status_of NotRead = 4
-status_of FileNotOpened = 4
+status_of (FontNotRead _) = 4
+status_of (FileNotOpened _) = 4
 status_of FileNotEnded = 4
 status_of (Tool fault) = text_status_of fault
 
@@ -41,11 +44,9 @@ abbrev pub failure_of : ReadFault → Failure
 failure_of Unread = NotRead
 failure_of NoRoom = Tool OutOfMemory
 
--- what it means for the program that the lines were not read
-abbrev pub file_failure_of : FileFault → Failure
-file_failure_of NotOpened = FileNotOpened
-file_failure_of NotEnded = FileNotEnded
-file_failure_of FileNoRoom = Tool OutOfMemory
+-- whether a failure comes with nothing written: the command line or a font is refused
+abbrev pub is_refusal : Failure → Bool
+is_refusal failure = (status_of failure == 2) || (status_of failure == 3)
 
 -- the status where a text was written: want of memory before a failed read, and that before refused lines
 abbrev pub summary_status : Summary → ℕ

@@ -1,10 +1,12 @@
 ghost use Rattle.std.specs.Prelude.{◌≡◌};
 ghost use Rattle.tfm_tool.specs.declared.failure.Failure.TheVariants.{Tool};
-ghost use Rattle.tfm_tool.specs.Status.{failure_of, file_failure_of, status_of};
+ghost use Rattle.tfm_tool.specs.Status.{failure_of, status_of};
 
 use crate::ToolFault;
-use crate::files::{FileFault, ReadFault};
+use crate::fault::Numbered;
+use crate::files::ReadFault;
 use set_run::RunFault;
+use tfm_tables::FontFault;
 use thiserror::Error;
 
 /// Why the program ends with a status other than 0. Its message is all that goes to the standard
@@ -14,13 +16,33 @@ pub(crate) enum Failure {
     /// The words are refused.
     #[error("{0}")]
     Usage(clap::Error),
+    /// The words of `each` don't come in threes.
+    #[error("tfmset: words not in threes\n")]
+    NotInThrees,
+    /// More than 64 files.
+    #[error("tfmset: more than 64 files\n")]
+    TooManyFiles,
+    /// A limit of `each` is no number, or out of range; from 1.
+    #[error("tfmset: limit {0} out of range\n")]
+    LimitRange(usize),
     /// The font's bytes were not had.
     #[error("tfmset: font not read\n")]
     NotRead,
-    /// The file with the lines was not opened.
-    #[error("tfmset: file 1 not read\n")]
-    FileNotOpened,
-    /// It was not read to its end.
+    /// The bytes of a font of `each` were not had; from 1.
+    #[error("tfmset: font {0} not read\n")]
+    FontNotRead(usize),
+    /// A font of `each` is refused; from 1.
+    #[error("tfmset: font {number} refused: {fault}\n", fault = Numbered(fault))]
+    FontRefused {
+        /// The font's number.
+        number: usize,
+        /// Its fault.
+        fault: FontFault,
+    },
+    /// A file with lines was not opened; from 1.
+    #[error("tfmset: file {0} not read\n")]
+    FileNotOpened(usize),
+    /// Some file was not read to its end; the text was written.
     #[error("tfmset: some file was not read to its end\n")]
     FileNotEnded,
     /// The text was not written.
@@ -35,14 +57,13 @@ impl Failure {
     {
         match self {
             Failure::Usage(_) => 2,
-            Failure::Tool(ToolFault::Font(_)) => 3,
-            Failure::NotRead => 4,
-            Failure::FileNotOpened => 4,
-            Failure::FileNotEnded => 4,
+            Failure::NotInThrees | Failure::TooManyFiles | Failure::LimitRange(_) => 2,
+            Failure::Tool(ToolFault::Font(_)) | Failure::FontRefused { .. } => 3,
+            Failure::NotRead | Failure::FontNotRead(_) => 4,
+            Failure::FileNotOpened(_) | Failure::FileNotEnded => 4,
             Failure::Tool(ToolFault::Run(RunFault::TooManySources)) => 2,
             Failure::Tool(ToolFault::Run(RunFault::OutOfMemory | RunFault::Thread)) => 5,
-            Failure::Tool(ToolFault::OutOfMemory) => 5,
-            Failure::Tool(ToolFault::Write) => 5,
+            Failure::Tool(ToolFault::OutOfMemory | ToolFault::Write) => 5,
         }
     }
 }
@@ -62,18 +83,6 @@ impl From<ReadFault> for Failure {
         match fault {
             ReadFault::NotRead => Failure::NotRead,
             ReadFault::OutOfMemory => Failure::Tool(ToolFault::OutOfMemory),
-        }
-    }
-}
-
-impl From<FileFault> for Failure {
-    ghost from_gives = { λ fault failure. failure ≡ file_failure_of fault };
-
-    fn from(fault: FileFault) -> Failure {
-        match fault {
-            FileFault::NotOpened => Failure::FileNotOpened,
-            FileFault::NotEnded => Failure::FileNotEnded,
-            FileFault::OutOfMemory => Failure::Tool(ToolFault::OutOfMemory),
         }
     }
 }

@@ -38,7 +38,7 @@ impl fmt::Display for Told<'_> {
 /// A fault behind its number among all that can be wrong with a font. A file that ends within its
 /// counts has number 1, and one that ends behind them number 8.
 #[derive(Clone, Copy)]
-struct Numbered<'a>(&'a FontFault);
+pub(crate) struct Numbered<'a>(pub &'a FontFault);
 
 impl fmt::Display for Numbered<'_> {
     fn fmt<W: fmt::Write>(&self, f: &mut fmt::Formatter<W>) -> fmt::Result {

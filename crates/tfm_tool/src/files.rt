@@ -1,6 +1,7 @@
 ghost use Rattle.std.specs.Prelude.{◌≡◌, ◌≢◌, codes, IfOk, IfSome, OnOk};
 ghost use Rattle.std.specs.Io.KnownBytes.{IsAtEnd};
 
+use set_run::ReaderSource;
 use std::alloc::Global;
 use std::fs;
 use std::io::{ErrorKind, Read};
@@ -12,10 +13,10 @@ const MAX_READS: u32 = 1_048_576;
 /// Each read asks for this many bytes.
 const READ_SIZE: usize = 4096;
 
-/// Why the bytes of a font were not had.
+/// Why a file was not had.
 #[derive(Clone, Copy, Debug, PartialEq, Eq, Hash)]
 pub(crate) enum ReadFault {
-    /// The file was not opened, a read failed, or there were too many.
+    /// It was not opened, a read failed, or there were too many.
     NotRead,
     /// A request for memory was refused.
     OutOfMemory,
@@ -34,11 +35,7 @@ where
     if font == "-" {
         return all_bytes(rt.alloc(), input);
     }
-    match fs::open(rt, font) {
-        Ok(mut file) => all_bytes(rt.alloc(), &mut file),
-        Err(error) if error.kind() == ErrorKind::OutOfMemory => Err(ReadFault::OutOfMemory),
-        Err(_) => Err(ReadFault::NotRead),
-    }
+    font_file(rt, font)
 }
 
 /// The bytes that a reader has left, to its end.
@@ -61,27 +58,23 @@ fn all_bytes<I: Read>(alloc: Global, input: &mut I) -> Result<Vec<u8>, ReadFault
     Err(ReadFault::NotRead)
 }
 
-/// Why the bytes of a file with lines were not had.
-#[derive(Clone, Copy, Debug, PartialEq, Eq, Hash)]
-pub(crate) enum FileFault {
-    /// The file was not opened.
-    NotOpened,
-    /// A read failed, or there were too many.
-    NotEnded,
-    /// A request for memory was refused.
-    OutOfMemory,
+/// All the bytes of the font file of this name.
+pub(crate) fn font_file<R: Files + AllocGlobal>(rt: &R, name: &str) -> Result<Vec<u8>, ReadFault> {
+    match fs::open(rt, name) {
+        Ok(mut file) => all_bytes(rt.alloc(), &mut file),
+        Err(error) if error.kind() == ErrorKind::OutOfMemory => Err(ReadFault::OutOfMemory),
+        Err(_) => Err(ReadFault::NotRead),
+    }
 }
 
-/// All the bytes of the file of this name.
-pub(crate) fn file_bytes<R: Files + AllocGlobal>(rt: &R, name: &str) -> Result<Vec<u8>, FileFault> {
-    let mut file = match fs::open(rt, name) {
-        Ok(file) => file,
-        Err(error) if error.kind() == ErrorKind::OutOfMemory => return Err(FileFault::OutOfMemory),
-        Err(_) => return Err(FileFault::NotOpened),
-    };
-    match all_bytes(rt.alloc(), &mut file) {
-        Ok(bytes) => Ok(bytes),
-        Err(ReadFault::NotRead) => Err(FileFault::NotEnded),
-        Err(ReadFault::OutOfMemory) => Err(FileFault::OutOfMemory),
+/// The file of this name, opened as a source of lines.
+pub(crate) fn line_file<R: Files + AllocGlobal>(
+    rt: &R,
+    name: &str,
+) -> Result<ReaderSource<R::File>, ReadFault> {
+    match fs::open(rt, name) {
+        Ok(file) => Ok(ReaderSource::new(rt.alloc(), file)),
+        Err(error) if error.kind() == ErrorKind::OutOfMemory => Err(ReadFault::OutOfMemory),
+        Err(_) => Err(ReadFault::NotRead),
     }
 }

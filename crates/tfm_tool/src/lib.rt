@@ -4,18 +4,17 @@
 pub use counts::counts_text;
 pub use fault::ToolFault;
 pub use listing::list_text;
-pub use one_file::set_one;
 pub use program::{tool, words_refused};
 pub use setting::{set_each, set_text};
 pub use summary::{Summary, status};
 
 mod appending;
+mod commands;
 mod counts;
 mod failure;
 mod fault;
 mod files;
 mod listing;
-mod one_file;
 mod program;
 mod report_text;
 mod rows;
@@ -24,4 +23,5 @@ mod setting;
 mod summary;
 #[cfg(test)]
 mod tests;
+mod threes;
 mod words;

@@ -1,20 +1,24 @@
-ghost use Rattle.std.specs.Prelude.{◌≡◌, ◌≢◌, [], ◌∷◌, codes, Contains, Err, None, Some, IfErr, IfOk, IfSome, OnOk};
+ghost use Rattle.std.specs.Prelude.{◌≡◌, ◌≢◌, true, false, [], ◌∷◌, codes, Contains, Err, None, Some, IfErr, IfOk, IfSome, OnOk};
 ghost use Rattle.std.specs.Io.KnownBytes.{Appends, Keeps};
 ghost use Rattle.std.specs.IoError.{error_kind};
 ghost use Rattle.tfm_tool.specs.CountsText.{counts_text_of};
-ghost use Rattle.tfm_tool.specs.Status.{status_of};
+ghost use Rattle.tfm_tool.specs.Status.{is_refusal, status_of};
 
 use crate::failure::Failure;
-use crate::files::{file_bytes, font_bytes};
-use crate::setting::{accepted, shared};
-use crate::words::{Request, Setting, requested};
-use crate::{ToolFault, counts_text, list_text, set_one, status};
+use crate::files::font_bytes;
+use crate::setting::accepted;
+use crate::threes::{FILES, all_terms, open_each, open_files, threes};
+use crate::words::{Request, Setting, Threes, requested};
+use crate::{Summary, ToolFault, counts_text, list_text, set_each, set_text, status};
 use clap::error::ErrorKind as WordsKind;
-use set_line::Terms;
+use set_run::NoGate;
 use std::convert::AsStr;
 use std::io;
 use std::io::{ErrorKind, Read, Write};
 use std::rt::Files;
+use std::sync::Wait;
+use std::thread::Threads;
+use std::time::Clock;
 
 /// The whole program: does what the words behind its name ask for, and returns the status that it
 /// ends with. The font `-` is read from `input`, and any other word is the name of a file.
@@ -24,7 +28,8 @@ use std::rt::Files;
 /// what went wrong.
 pub fn tool<R, S, I, O, E>(rt: &R, words: &[S], input: &mut I, out: &mut O, err: &mut E) -> u8
 where
-    R: Files + AllocGlobal,
+    R: Files + AllocGlobal + Threads + Wait + Clock + Sync,
+    R::File: Send,
     S: AsStr,
     I: Read,
     O: Write,
@@ -57,17 +62,19 @@ pub fn words_refused<E: Write>(error: &io::Error, err: &mut E) -> u8
 /// Does what the words ask for: the status where nothing went wrong.
 fn answer<R, S, I, O>(rt: &R, words: &[S], input: &mut I, out: &mut O) -> Result<u8, Failure>
 where
-    R: Files + AllocGlobal,
+    R: Files + AllocGlobal + Threads + Wait + Clock + Sync,
+    R::File: Send,
     S: AsStr,
     I: Read,
     O: Write,
-    ensures status { IfOk result (λ status. Contains (0 ∷ 1 ∷ 4 ∷ 5 ∷ []) status) }
-    ensures untouched { IfErr result (λ failure. status_of failure ≢ 5 → out.new ≡ out.old) }
+    ensures status { IfOk result (λ status. Contains (0 ∷ 1 ∷ []) status) }
+    ensures untouched { IfErr result (λ failure. is_refusal failure ≡ true → out.new ≡ out.old) }
 {
     match requested(rt.alloc(), words) {
         Ok(Request::Counts { font }) => counts(rt, font, input, out)?,
         Ok(Request::List { font }) => list(rt, font, input, out)?,
-        Ok(Request::Set(setting)) => return set_file(rt, &setting, input, out),
+        Ok(Request::Set(setting)) => return set_files(rt, setting, input, out),
+        Ok(Request::Each(threes)) => return set_threes(rt, threes, out),
         Err(error) => show(error, out)?,
     }
     Ok(0)
@@ -81,7 +88,7 @@ where
     O: Write,
     ensures text { OnOk result (font.now ≡ codes "-" → IfSome (I.remaining input.old)
         (λ all. Appends (O.contents out.old) (O.contents out.new) (counts_text_of all))) }
-    ensures untouched { IfErr result (λ failure. status_of failure ≢ 5 → out.new ≡ out.old) }
+    ensures untouched { IfErr result (λ failure. is_refusal failure ≡ true → out.new ≡ out.old) }
 {
     let bytes = font_bytes(rt, font, input)?;
     counts_text(rt.alloc(), bytes.as_slice(), out)?;
@@ -94,7 +101,7 @@ where
     R: Files + AllocGlobal,
     I: Read,
     O: Write,
-    ensures { IfErr result (λ failure. status_of failure ≢ 5 → out.new ≡ out.old) }
+    ensures { IfErr result (λ failure. is_refusal failure ≡ true → out.new ≡ out.old) }
 {
     let bytes = font_bytes(rt, font, input)?;
     let font = accepted(rt.alloc(), bytes.as_slice(), None)?;
@@ -102,31 +109,88 @@ where
     Ok(())
 }
 
-/// The lines of a file, set: the status that the records lead to.
-fn set_file<R, I, O>(
+/// The lines of files, set with one font: the status that the records lead to. The font is looked at
+/// before any file is opened.
+fn set_files<R, I, O>(
     rt: &R,
-    setting: &Setting<'_>,
+    setting: Setting<'_>,
     input: &mut I,
     out: &mut O,
 ) -> Result<u8, Failure>
 where
-    R: Files + AllocGlobal,
+    R: Files + AllocGlobal + Threads + Wait + Clock + Sync,
+    R::File: Send,
     I: Read,
     O: Write,
-    ensures status { IfOk result (λ status. Contains (0 ∷ 1 ∷ 4 ∷ 5 ∷ []) status) }
-    ensures untouched { IfErr result (λ failure. status_of failure ≢ 5 → out.new ≡ out.old) }
+    ensures status { IfOk result (λ status. Contains (0 ∷ 1 ∷ []) status) }
+    ensures untouched { IfErr result (λ failure. is_refusal failure ≡ true → out.new ≡ out.old) }
 {
+    if setting.files.len() > FILES {
+        return Err(Failure::TooManyFiles);
+    }
     let bytes = font_bytes(rt, setting.font, input)?;
-    let font = accepted(rt.alloc(), bytes.as_slice(), setting.size)?;
-    let text = file_bytes(rt, setting.file)?;
-    let terms = shared(rt.alloc(), Terms::new(font, setting.limit, setting.policy))?;
-    let summary = set_one(rt.alloc(), &terms, text, setting.version, out)?;
-    Ok(status(&summary))
+    let layout = setting.layout;
+    accepted(rt.alloc(), bytes.as_slice(), layout.size)?;
+    let files = open_files(rt, setting.files.as_slice())?;
+    let summary = set_text(
+        rt,
+        rt.alloc(),
+        bytes.as_slice(),
+        layout.size,
+        setting.limit,
+        layout.policy,
+        files,
+        layout.plan,
+        layout.version,
+        &NoGate,
+        out,
+    )?;
+    finish(&summary, out)
+}
+
+/// The lines of files, each set with a font and a limit of its own: the status that the records lead
+/// to. All fonts are read before any file is opened.
+fn set_threes<R, O>(rt: &R, asked: Threes<'_>, out: &mut O) -> Result<u8, Failure>
+where
+    R: Files + AllocGlobal + Threads + Wait + Clock + Sync,
+    R::File: Send,
+    O: Write,
+    ensures status { IfOk result (λ status. Contains (0 ∷ 1 ∷ []) status) }
+    ensures untouched { IfErr result (λ failure. is_refusal failure ≡ true → out.new ≡ out.old) }
+{
+    let layout = asked.layout;
+    let threes = threes(rt.alloc(), asked.words.as_slice())?;
+    let terms = all_terms(rt, threes.as_slice(), &layout)?;
+    let files = open_each(rt, threes.as_slice(), terms)?;
+    let summary = set_each(
+        rt,
+        rt.alloc(),
+        files,
+        layout.plan,
+        layout.version,
+        &NoGate,
+        out,
+    )?;
+    finish(&summary, out)
+}
+
+/// The status behind a text that was written, once all of it is out; 4 and 5 are told as faults.
+fn finish<O: Write>(summary: &Summary, out: &mut O) -> Result<u8, Failure>
+    ensures status { IfOk result (λ status. Contains (0 ∷ 1 ∷ []) status) }
+    ensures told { IfErr result (λ failure. is_refusal failure ≡ false) }
+{
+    out.flush().map_err(|_| Failure::Tool(ToolFault::Write))?;
+    match status(summary) {
+        0 => Ok(0),
+        1 => Ok(1),
+        4 => Err(Failure::FileNotEnded),
+        _ => Err(Failure::Tool(ToolFault::OutOfMemory)),
+    }
 }
 
 /// Help and the version are an answer; any other error is why there is none.
 fn show<O: Write>(error: clap::Error, out: &mut O) -> Result<(), Failure>
-    ensures { IfErr result (λ failure. status_of failure ≢ 5 → out.new ≡ out.old) }
+    ensures { IfErr result (λ failure. is_refusal failure ≡ true → out.new ≡ out.old) }
 {
     match error.kind() {
         WordsKind::DisplayHelp | WordsKind::DisplayVersion => {

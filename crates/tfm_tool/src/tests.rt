@@ -1,9 +1,15 @@
 use crate::tool;
 use std::alloc::{AllocError, Global};
+use std::env::Env;
+use std::process::Abort;
 use std::rt::Files;
+use std::sync::Wait;
+use std::thread::Threads;
+use std::time::Clock;
 
 mod counts_of_fonts;
 mod listings;
+mod runs;
 mod settings;
 mod streams;
 mod words_given;
@@ -97,7 +103,14 @@ impl Outcome {
 }
 
 /// A run on words, with the bytes of a font as standard input.
-fn run<R: Files + AllocGlobal>(rt: &R, words: &[&str], font: &[u8]) -> Outcome {
+fn run<R: Abort + Files + Env + Threads + Wait + Clock + Sync + AllocGlobal>(
+    rt: &R,
+    words: &[&str],
+    font: &[u8],
+) -> Outcome
+where
+    R::File: Send,
+{
     let mut input = font;
     let mut out = Vec::new(rt.alloc());
     let mut err = Vec::new(rt.alloc());

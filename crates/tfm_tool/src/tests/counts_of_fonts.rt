@@ -28,7 +28,14 @@ fn counts_of_fonts_without_characters(rt: HostRuntime) -> Result<(), Fail> {
 }
 
 /// The status and the one line on standard error; nothing on standard output.
-fn refuses(rt: &(impl Files + AllocGlobal), font: &[u8], line: &str) -> Result<bool, AllocError> {
+fn refuses<R: Abort + Files + Env + Threads + Wait + Clock + Sync + AllocGlobal>(
+    rt: &R,
+    font: &[u8],
+    line: &str,
+) -> Result<bool, AllocError>
+where
+    R::File: Send,
+{
     let line = format!(in rt.alloc(); "tfmset: font refused: {line}\n")?;
     Ok(run(rt, &["counts", "-"], font).is(3, b"", line.as_str().as_bytes()))
 }

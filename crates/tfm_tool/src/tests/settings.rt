@@ -1,13 +1,11 @@
 use super::listings::letters;
 use super::*;
 use crate::{Summary, status};
-use std::env::Env;
-use std::process::Abort;
 use std::test::Fail;
 use std::{env, fs, process};
 
 /// The char_info words of a, b and c without programs.
-const PLAIN: [[u8; 4]; 3] = [[1, 0, 0, 0], [2, 0, 0, 0], [3, 0, 0, 0]];
+pub const PLAIN: [[u8; 4]; 3] = [[1, 0, 0, 0], [2, 0, 0, 0], [3, 0, 0, 0]];
 
 /// A text, options of `set`, the status and what is printed.
 type Case = (&'static [u8], &'static [&'static str], u8, &'static str);
@@ -82,18 +80,21 @@ const ENDLESS_CASES: [Case; 2] = [
 ];
 
 /// A name for a file of this process's own.
-fn file_name<R: Env + AllocGlobal>(rt: &R, part: &str, id: u32) -> Result<String, Fail> {
+pub fn file_name<R: Env + AllocGlobal>(rt: &R, part: &str, id: u32) -> Result<String, Fail> {
     let folder = env::temp_dir(rt)?;
     Ok(format!(in rt.alloc(); "{}/tfmset-{part}-{id}", folder.as_path().display())?)
 }
 
 /// A run of `set` with these options, on the font as standard input and a text in a file.
-fn set<'a, R: Files + AllocGlobal>(
+fn set<'a, R: Abort + Files + Env + Threads + Wait + Clock + Sync + AllocGlobal>(
     rt: &R,
     font: &[u8],
     options: &'a [&'a str],
     file: &'a str,
-) -> Result<Outcome, Fail> {
+) -> Result<Outcome, Fail>
+where
+    R::File: Send,
+{
     let mut words = Vec::new(rt.alloc());
     words.push("set")?;
     words.extend_from_slice(options)?;
@@ -102,12 +103,15 @@ fn set<'a, R: Files + AllocGlobal>(
     Ok(run(rt, &words, font))
 }
 
-fn set_cases<R: Abort + Files + AllocGlobal>(
+fn set_cases<R: Abort + Files + Env + Threads + Wait + Clock + Sync + AllocGlobal>(
     rt: &R,
     font: &[u8],
     file: &str,
     cases: &[Case],
-) -> Result<(), Fail> {
+) -> Result<(), Fail>
+where
+    R::File: Send,
+{
     for (text, options, status, out) in cases {
         fs::write(rt, file, *text)?;
         let done = set(rt, font, options, file)?;
@@ -138,11 +142,13 @@ fn files_that_are_not_read(rt: HostRuntime) -> Result<(), Fail> {
     for (file, line) in [
         ("no/such/file", "tfmset: file 1 not read\n"),
         ("", "tfmset: file 1 not read\n"),
-        (".", "tfmset: some file was not read to its end\n"),
     ] {
         let done = set(&rt, &font, &[], file)?;
         assert!(rt; done.is(4, b"", line.as_bytes()), "{file:?}");
     }
+    let done = set(&rt, &font, &[], ".")?;
+    let line = b"tfmset: some file was not read to its end\n";
+    assert!(rt; done.is(4, b"1 end read 0\n", line), "a folder");
     // the font comes first
     let _ = font.pop();
     let line = b"tfmset: font refused: 8 truncated, 80 bytes needed\n";

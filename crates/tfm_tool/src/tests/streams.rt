@@ -82,7 +82,13 @@ fn fonts_that_are_not_read(rt: HostRuntime) -> Result<(), Fail> {
 }
 
 /// The counts of what a reader gives.
-fn run_on<R: Files + AllocGlobal>(rt: &R, mut input: Trickle<'_>) -> Outcome {
+fn run_on<R: Abort + Files + Env + Threads + Wait + Clock + Sync + AllocGlobal>(
+    rt: &R,
+    mut input: Trickle<'_>,
+) -> Outcome
+where
+    R::File: Send,
+{
     let mut out = Vec::new(rt.alloc());
     let mut err = Vec::new(rt.alloc());
     let status = tool(rt, &["counts", "-"], &mut input, &mut out, &mut err);
@@ -159,7 +165,14 @@ fn a_font_is_read_whole_by_1048576_reads(rt: HostRuntime) -> Result<(), Fail> {
 }
 
 /// The status of a run over a writer, and what is on standard error.
-fn run_to<R: Files + AllocGlobal>(rt: &R, words: &[&str], out: &mut Frail) -> (u8, Vec<u8>) {
+fn run_to<R: Abort + Files + Env + Threads + Wait + Clock + Sync + AllocGlobal>(
+    rt: &R,
+    words: &[&str],
+    out: &mut Frail,
+) -> (u8, Vec<u8>)
+where
+    R::File: Send,
+{
     let mut input = NO_CHARACTERS.as_slice();
     let mut err = Vec::new(rt.alloc());
     let status = tool(rt, words, &mut input, out, &mut err);

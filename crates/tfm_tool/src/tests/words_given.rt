@@ -11,12 +11,18 @@ fn words_that_are_refused(rt: HostRuntime) -> Result<(), Fail> {
         (&["measure"], "error: unrecognized subcommand 'measure'\n"),
         (
             &["set", "-"],
-            "  <FILE>\n\nUsage: tfmset set <FONT> <FILE>\n",
+            "  <FILE>...\n\nUsage: tfmset set <FONT> <FILE>...\n",
         ),
         (
-            &["set", "-", "a", "b"],
-            "error: unexpected argument 'b' found\n",
+            &["set", "--workers", "17", "-", "a"],
+            "17 is not in 1..=16\n",
         ),
+        (
+            &["set", "--capacity", "65537", "-", "a"],
+            "65537 is not in 1..=65536\n",
+        ),
+        (&["set", "--block", "9", "-", "a"], "9 is not in 1..=8\n"),
+        (&["each"], "  <WORD>...\n\nUsage: tfmset each <WORD>...\n"),
         (
             &["set", "--size", "0", "-", "a"],
             "error: invalid value '0' for '--size <N>': 0 is not in 1..=134217727\n",
@@ -41,7 +47,6 @@ fn words_that_are_refused(rt: HostRuntime) -> Result<(), Fail> {
             &["set", "--record", "3", "-", "a"],
             "error: invalid value '3' for '--record <V>'\n",
         ),
-        (&["each", "-"], "error: unrecognized subcommand 'each'\n"),
         (&["counts"], "  <FONT>\n\nUsage: tfmset counts <FONT>\n"),
         (&["list"], "  <FONT>\n\nUsage: tfmset list <FONT>\n"),
         (
@@ -91,10 +96,15 @@ fn help_and_version_go_to_standard_output(rt: HostRuntime) -> Result<(), Fail> {
         (&["counts", "-h"], "  tfmset counts cmr10.tfm\n"),
         (
             &["set", "--help"],
-            "Usage: tfmset set [OPTIONS] <FONT> <FILE>\n",
+            "Usage: tfmset set [OPTIONS] <FONT> <FILE>...\n",
         ),
         (&["set", "--help"], "not Unicode"),
         (&["set", "--help"], "[default: 1048576]"),
+        (
+            &["each", "--help"],
+            "Usage: tfmset each [OPTIONS] <WORD>...\n",
+        ),
+        (&["each", "--help"], "[default: 16]"),
         (&["set", "--help"], "The text is written when all is done."),
         (&["list", "--help"], "Usage: tfmset list <FONT>\n"),
         (&["help", "list"], "  tfmset list cmr10.tfm\n"),

@@ -1,0 +1,189 @@
+//! The command line, as `clap` reads it, and its help.
+use clap::{Arg, Command, value_parser};
+use std::alloc::{AllocError, Global};
+
+const VERSION: &str = "0.1.0";
+
+const ABOUT: &str = "Reads TeX font metric (TFM) files and sets lines with them";
+
+const AFTER_HELP: &str = "Examples:
+  tfmset counts cmr10.tfm   the counts and the design size of a font
+  tfmset list cmr10.tfm     all that a font holds
+  tfmset set cmr10.tfm text the lines of a file, set with a font
+  tfmset each cmr10.tfm 1048576 text cmtt10.tfm 1048576 code
+                            a font and a limit for each file
+
+Exit status:
+  0  done; also help and the version
+  1  done, and some line was refused
+  2  the command line is refused
+  3  the font is refused
+  4  a file was not opened, or not read to its end
+  5  memory, a thread or the output was refused";
+
+const COUNTS_ABOUT: &str = "Prints the twelve counts and the design size of a font";
+
+const COUNTS_AFTER_HELP: &str = "Example:
+  tfmset counts cmr10.tfm
+
+Prints twelve lines, from `lf N` to `np N`, and `design N` in scaled points.";
+
+const LIST_ABOUT: &str = "Prints all that a font holds, a line each";
+
+const LIST_AFTER_HELP: &str = "Example:
+  tfmset list cmr10.tfm
+
+Prints the header, the boundaries, the characters with their measures, the
+instructions of the lig/kern program, the kerns and the parameters. Measures
+are in scaled points at the design size.";
+
+const SET_ABOUT: &str = "Sets the lines of files with a font, and prints a record for each";
+
+const SET_AFTER_HELP: &str = "Examples:
+  tfmset set cmr10.tfm text
+  tfmset set --workers 4 --block 8 cmr10.tfm first second third
+
+Reads FONT and the lines of each FILE, 1 to 64 of them, all at once. Prints for
+each file, in order, a record for each line and then a line on its end. A record
+has the width of its line, and its characters, kerns and spaces, in scaled
+points, or why the line was refused. Bytes are codes of the font, not Unicode;
+byte 32 is a space. The text is written when all is done.
+
+Exit status: 0 done; 1 done, and some line was refused; 2 the command line is
+refused, or there are more than 64 files; 3 the font is refused; 4 a file was
+not opened or not read to its end; 5 memory, a thread or the output was refused.";
+
+const EACH_ABOUT: &str = "Sets the lines of files, each with a font and a limit of its own";
+
+const EACH_AFTER_HELP: &str = "Example:
+  tfmset each cmr10.tfm 1048576 text cmtt10.tfm 1048576 code
+
+The words come in threes: FONT, LIMIT, FILE. FONT is a TFM file, LIMIT the steps
+that a line may take, 1 to 16777216, and FILE a file with lines; 1 to 64 threes.
+Prints what `tfmset set` prints of its files. Bytes are codes of the font, not
+Unicode; byte 32 is a space. The text is written when all is done.
+
+Exit status: 0 done; 1 done, and some line was refused; 2 the command line is
+refused; 3 a font is refused; 4 a font or a file was not read; 5 memory, a
+thread or the output was refused.";
+
+const WORKERS_HELP: &str = "Threads that set lines, 1 to 16";
+
+const CAPACITY_HELP: &str = "Messages on the way, 1 to 65536";
+
+const BLOCK_HELP: &str = "Lines in a message, 1 to 8";
+
+const WORDS_HELP: &str = "FONT LIMIT FILE, again and again";
+
+const FILE_HELP: &str = "The files with the lines";
+
+const SIZE_HELP: &str = "Scaled points, 1 to 134217727; else the design size";
+
+const LIMIT_HELP: &str = "Steps a line may take, 1 to 16777216";
+
+const MISSING_HELP: &str = "Missing characters: refuse or skip";
+
+const RECORD_HELP: &str = "Form of the records, 1 or 2; 2 has the steps";
+
+const FONT_HELP: &str = "A TFM file, or - for standard input";
+
+/// The whole command.
+pub(crate) fn tfmset_command<'a>(alloc: Global) -> Result<Command<'a>, AllocError> {
+    Command::new(alloc, "tfmset")
+        .bin_name("tfmset")?
+        .no_binary_name(true)
+        .version(VERSION)
+        .about(ABOUT)
+        .after_help(AFTER_HELP)
+        .arg_required_else_help(true)
+        .subcommand_required(true)
+        .subcommand(counts_command(alloc)?)?
+        .subcommand(list_command(alloc)?)?
+        .subcommand(set_command(alloc)?)?
+        .subcommand(each_command(alloc)?)
+}
+
+fn counts_command<'a>(alloc: Global) -> Result<Command<'a>, AllocError> {
+    Command::new(alloc, "counts")
+        .about(COUNTS_ABOUT)
+        .after_help(COUNTS_AFTER_HELP)
+        .arg(font_argument(alloc))
+}
+
+fn list_command<'a>(alloc: Global) -> Result<Command<'a>, AllocError> {
+    Command::new(alloc, "list")
+        .about(LIST_ABOUT)
+        .after_help(LIST_AFTER_HELP)
+        .arg(font_argument(alloc))
+}
+
+fn font_argument<'a>(alloc: Global) -> Arg<'a> {
+    Arg::new(alloc, "FONT").required(true).help(FONT_HELP)
+}
+
+fn set_command<'a>(alloc: Global) -> Result<Command<'a>, AllocError> {
+    let command = Command::new(alloc, "set")
+        .about(SET_ABOUT)
+        .after_help(SET_AFTER_HELP)
+        .arg(number_option(alloc, "size", SIZE_HELP, 134_217_727))?
+        .arg(number_option(alloc, "limit", LIMIT_HELP, 16_777_216).default_value("1048576"))?;
+    run_options(alloc, command)?
+        .arg(font_argument(alloc))?
+        .arg(many(alloc, "FILE", FILE_HELP))
+}
+
+fn each_command<'a>(alloc: Global) -> Result<Command<'a>, AllocError> {
+    let command = Command::new(alloc, "each")
+        .about(EACH_ABOUT)
+        .after_help(EACH_AFTER_HELP)
+        .arg(number_option(alloc, "size", SIZE_HELP, 134_217_727))?;
+    run_options(alloc, command)?.arg(many(alloc, "WORD", WORDS_HELP))
+}
+
+/// The options that every run has.
+fn run_options<'a>(alloc: Global, command: Command<'a>) -> Result<Command<'a>, AllocError> {
+    command
+        .arg(choice_option(
+            alloc,
+            ["missing", "P", MISSING_HELP],
+            &["refuse", "skip"],
+            "refuse",
+        ))?
+        .arg(number_option(alloc, "workers", WORKERS_HELP, 16).default_value("2"))?
+        .arg(number_option(alloc, "capacity", CAPACITY_HELP, 65_536).default_value("16"))?
+        .arg(number_option(alloc, "block", BLOCK_HELP, 8).default_value("1"))?
+        .arg(choice_option(alloc, ["record", "V", RECORD_HELP], &["1", "2"], "1"))
+}
+
+/// One word or more.
+fn many<'a>(alloc: Global, name: &'a str, help: &'a str) -> Arg<'a> {
+    Arg::new(alloc, name)
+        .required(true)
+        .num_args(1..)
+        .help(help)
+}
+
+/// An option for a number from 1 on.
+fn number_option<'a>(alloc: Global, name: &'a str, help: &'a str, most: i64) -> Arg<'a> {
+    Arg::new(alloc, name)
+        .long(name)
+        .value_name("N")
+        .help(help)
+        .value_parser(value_parser!(u32).range(1..=most))
+}
+
+/// An option for one of some words.
+fn choice_option<'a>(
+    alloc: Global,
+    [name, value, help]: [&'a str; 3],
+    words: &'a [&'a str],
+    default: &'a str,
+) -> Arg<'a> {
+    Arg::new(alloc, name)
+        .long(name)
+        .value_name(value)
+        .help(help)
+        .value_parser(words)
+        .hide_possible_values(true)
+        .default_value(default)
+}
