@@ -1,5 +1,5 @@
 //! Lines are set.
-ghost use Rattle.std.specs.Prelude.{◌≡◌, [], true, false, None, is_some, OnOk, OnErr, IfOk};
+ghost use Rattle.std.specs.Prelude.{◌≡◌, [], true, false, is_some, OnErr, IfOk};
 ghost use Rattle.line_lane.specs.Messages.{are_none, first_end};
 ghost use Rattle.line_lane.specs.Lane.{lane_end_of};
 ghost use Rattle.line_lane.specs.Turns.{IsOrderly, Turns, end_with, given_up, is_done, is_given_up};
@@ -25,7 +25,8 @@ fn lane_end(end: SourceEnd) -> LaneEnd
 fn finish(lines: &Message<Line, SourceEnd>, answers: &mut Message<Answer, LaneEnd>) -> bool
     ensures ready { result ≡ are_none lines.now.items }
     ensures items { answers.new.items ≡ answers.old.items }
-    ensures ending { answers.new.ending ≡ first_end (end_with lines.now.items lines.now.ending) answers.old.ending }
+    ensures ending {
+        answers.new.ending ≡ first_end (end_with lines.now.items lines.now.ending) answers.old.ending }
 {
     if lines.len() > 0 {
         return false;

@@ -3,7 +3,6 @@ use super::script::Offered::{Accepted, Closed, NoRoom};
 use super::script::Step::{Close, Flush, GiveUp, Offer, Stay, Take, Turns};
 use super::script::{Script, Step, Taken, plays};
 use crate::{LaneEnd, SourceEnd, SourceFault, Turn};
-use std::test::Fail;
 
 const MOVED: Step = Turns(Turn::Moved);
 
@@ -19,15 +18,15 @@ const NOT_CLOSED: Step = Close(SourceEnd::Complete, false);
 
 const NOTHING: Step = Take(Taken::Nothing);
 
-const A: Step = Take(Taken::Answer("a", "set 327680 c97=327680"));
+const A: Step = Take(Taken::Answer("a", "1:1 set 327680 c97=327680\n"));
 
-const B: Step = Take(Taken::Answer("b", "set 163840 c98=163840"));
+const B: Step = Take(Taken::Answer("b", "1:1 set 163840 c98=163840\n"));
 
-const C: Step = Take(Taken::Answer("c", "set 491520 c99=491520"));
+const C: Step = Take(Taken::Answer("c", "1:1 set 491520 c99=491520\n"));
 
-const D: Step = Take(Taken::Answer("d", "refused missing 0 100"));
+const D: Step = Take(Taken::Answer("d", "1:1 refused missing 0 100\n"));
 
-const E: Step = Take(Taken::Answer("e", "refused missing 0 101"));
+const E: Step = Take(Taken::Answer("e", "1:1 refused missing 0 101\n"));
 
 const COMPLETE: Step = Take(Taken::End(LaneEnd::Complete));
 
@@ -57,23 +56,6 @@ const ONE_LINE_A_MESSAGE: [Step; 19] = [
 
 /// Where the setter is done, giving up changes nothing.
 const GIVEN_UP_LATE: [Step; 2] = [GiveUp, DONE];
-
-const ONE_PLACE: [Script; 2] = [
-    Script {
-        name: "one place, one line a message",
-        capacity: 1,
-        block: 1,
-        calls: &[&ONE_LINE_A_MESSAGE, &[COMPLETE]],
-        end: LaneEnd::Complete,
-    },
-    Script {
-        name: "given up when done",
-        capacity: 1,
-        block: 1,
-        calls: &[&ONE_LINE_A_MESSAGE, &GIVEN_UP_LATE, &[COMPLETE]],
-        end: LaneEnd::Complete,
-    },
-];
 
 const EIGHT_LINES_A_MESSAGE: [Step; 18] = [
     Offer("a", Accepted),
@@ -150,7 +132,21 @@ const SETTLED_EARLY: [Step; 16] = [
     COMPLETE,
 ];
 
-const BLOCKS: [Script; 3] = [
+static SCRIPTS: [Script; 5] = [
+    Script {
+        name: "one place, one line a message",
+        capacity: 1,
+        block: 1,
+        calls: &[&ONE_LINE_A_MESSAGE, &[COMPLETE]],
+        end: LaneEnd::Complete,
+    },
+    Script {
+        name: "given up when done",
+        capacity: 1,
+        block: 1,
+        calls: &[&ONE_LINE_A_MESSAGE, &GIVEN_UP_LATE, &[COMPLETE]],
+        end: LaneEnd::Complete,
+    },
     Script {
         name: "eight lines a message",
         capacity: 1,
@@ -175,14 +171,10 @@ const BLOCKS: [Script; 3] = [
 ];
 
 #[test]
-fn a_lane_call_by_call(rt: HostRuntime) -> Result<(), Fail> {
-    for script in ONE_PLACE {
-        plays(&rt, script)?;
+fn a_lane_call_by_call(rt: HostRuntime) {
+    for script in &SCRIPTS {
+        plays(&rt, script);
     }
-    for script in BLOCKS {
-        plays(&rt, script)?;
-    }
-    Ok(())
 }
 
 const IN_THE_MIDDLE: [Step; 13] = [
@@ -222,7 +214,7 @@ const FAILED: [Step; 6] = [
     Take(Taken::End(LaneEnd::SourceFailed(SourceFault::Read))),
 ];
 
-const OTHER_ENDS: [Script; 3] = [
+static OTHER_ENDS: [Script; 3] = [
     Script {
         name: "given up in the middle",
         capacity: 4,
@@ -247,9 +239,8 @@ const OTHER_ENDS: [Script; 3] = [
 ];
 
 #[test]
-fn lanes_that_end_otherwise(rt: HostRuntime) -> Result<(), Fail> {
-    for script in OTHER_ENDS {
-        plays(&rt, script)?;
+fn lanes_that_end_otherwise(rt: HostRuntime) {
+    for script in &OTHER_ENDS {
+        plays(&rt, script);
     }
-    Ok(())
 }

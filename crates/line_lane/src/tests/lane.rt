@@ -7,13 +7,12 @@ use set_line::Terms;
 use std::alloc::Global;
 use std::sync::Arc;
 
-/// The three ends of a lane, and how many answers came out.
+/// The three ends of a lane.
 #[derive(Drop)]
 pub struct Lane {
     pub feeder: Feeder,
     pub setter: Setter,
     pub taker: Taker,
-    pub taken: u64,
     ghost whole: { IsLane feeder setter taker },
 }
 
@@ -27,13 +26,11 @@ impl Lane {
             feeder,
             setter,
             taker,
-            taken: 0,
         })
     }
 
     /// The lane's end, or else the lane again.
     pub fn settle(self) -> Result<LaneEnd, Lane> {
-        let taken = self.taken;
         match settle(self.feeder, self.setter, self.taker) {
             Ok(end) => Ok(end),
             Err(
@@ -46,8 +43,12 @@ impl Lane {
                 feeder,
                 setter,
                 taker,
-                taken,
             }),
         }
+    }
+
+    /// The lane's end, where it is over.
+    pub fn end(self) -> Option<LaneEnd> {
+        self.settle().ok()
     }
 }

@@ -4,33 +4,38 @@
 //! it is made again, and a line that was in hand is set by the next turn. The text that is printed
 //! says which it was.
 use super::lane::Lane;
-use super::samples::{ligature, line, sizes};
-use crate::{LaneEnd, SourceEnd, Took, Turn, open};
+use super::samples::{ligature, line};
+use crate::{LaneEnd, SourceEnd, Took, Turn};
 use lig_kern::Item;
-use set_line::{Answer, Line, OutOfMemory, Outcome};
+use set_line::{Answer, OutOfMemory, Outcome, Terms};
 use std::alloc::Global;
 use std::process::Abort;
+use std::sync::Arc;
 use std::test::Fail;
+
+/// Opens a lane with these terms, again where memory was refused, and says what became of it.
+fn told_of_opening<R: Abort + AllocGlobal>(rt: &R, terms: Arc<Terms>) -> &'static str {
+    let again = terms.clone().expect(rt, "memory");
+    if Lane::open(rt.alloc(), terms, 2, 2).is_some() {
+        return "opened";
+    }
+    let lane = Lane::open(rt.alloc(), again, 2, 2);
+    assert!(rt; lane.is_some());
+    "out of memory, and opened again"
+}
 
 #[test]
 fn a_refused_request_of_an_opening(rt: HostRuntime) -> Result<(), Fail> {
-    let (Some(terms), Some(again)) = (ligature(rt.alloc()), ligature(rt.alloc())) else {
-        return Ok(println!(rt; "refused before the opening")?);
-    };
-    let (capacity, block) = sizes(2, 2).ok_or("sizes out of range")?;
-    let told = match open(rt.alloc(), terms, capacity, block) {
-        Ok(_) => "opened",
-        Err(OutOfMemory) => {
-            let _ends = open(rt.alloc(), again, capacity, block)?;
-            "out of memory, and opened again"
-        }
+    let told = match ligature(rt.alloc()) {
+        Some(terms) => told_of_opening(&rt, terms),
+        None => "refused before the opening",
     };
     Ok(println!(rt; "{told}")?)
 }
 
-/// Feeds the line; `None` where it isn't accepted.
-fn feed(lane: &mut Lane, line: Line) -> Option<()> {
-    lane.feeder.offer(line).ok()
+/// Feeds a line of a and b; `None` where memory was refused, or it isn't accepted.
+fn feed(alloc: Global, lane: &mut Lane) -> Option<()> {
+    lane.feeder.offer(line(alloc, "ab")?).ok()
 }
 
 /// A closed lane with two lines in its first message, and one in the next; `None` where memory was
@@ -38,16 +43,17 @@ fn feed(lane: &mut Lane, line: Line) -> Option<()> {
 fn ready(alloc: Global) -> Option<Lane> {
     let mut lane = Lane::open(alloc, ligature(alloc)?, 2, 2)?;
     for _ in 0..3 {
-        feed(&mut lane, line(alloc, "ab")?)?;
+        feed(alloc, &mut lane)?;
     }
-    if !lane.feeder.close(SourceEnd::Complete) {
-        return None;
+    if lane.feeder.close(SourceEnd::Complete) {
+        Some(lane)
+    } else {
+        None
     }
-    Some(lane)
 }
 
 /// The setter's turns where no memory is refused.
-const TURNS: [Turn; 8] = [
+static TURNS: [Turn; 8] = [
     Turn::Moved, // two lines are received
     Turn::Moved, // one is set
     Turn::Moved, // the other is set
@@ -58,24 +64,30 @@ const TURNS: [Turn; 8] = [
     Turn::Done,
 ];
 
-/// Takes the turns, each again where memory was refused. How often it was.
-fn takes_turns<R: Abort>(rt: &R, lane: &mut Lane) -> Result<u32, Fail> {
-    let mut refused: u32 = 0;
-    for wanted in TURNS {
-        let turn = match lane.setter.turn() {
-            Ok(turn) => turn,
-            Err(OutOfMemory) => {
-                refused = refused.wrapping_add(1);
-                lane.setter.turn()?
-            }
-        };
-        assert_eq!(rt; turn, wanted);
+/// Takes this turn, again where memory was refused. Whether it was.
+fn takes_turn<R: Abort>(rt: &R, lane: &mut Lane, wanted: Turn) -> bool {
+    let turn = lane.setter.turn();
+    if turn == Err(OutOfMemory) {
+        assert!(rt; lane.setter.turn() == Ok(wanted));
+        return true;
     }
-    Ok(refused)
+    assert!(rt; turn == Ok(wanted));
+    false
 }
 
-/// The items of the line, which are more than it has bytes.
-const ITEMS: [Item; 5] = [
+/// Takes all turns. How often memory was refused.
+fn takes_turns<R: Abort>(rt: &R, lane: &mut Lane) -> u32 {
+    let mut refused: u32 = 0;
+    for wanted in &TURNS {
+        if takes_turn(rt, lane, *wanted) {
+            refused = refused.wrapping_add(1);
+        }
+    }
+    refused
+}
+
+/// The items of each line, which are more than it has bytes.
+static ITEMS: [Item; 5] = [
     Item::Char {
         code: 97,
         width: 327_680,
@@ -104,11 +116,11 @@ fn is_right(answer: &Answer) -> bool {
     }
 }
 
-/// Takes an answer, which is right.
-fn takes_answer<R: Abort>(rt: &R, lane: &mut Lane) {
+/// Whether an answer is taken, which is right.
+fn takes_answer(lane: &mut Lane) -> bool {
     match lane.taker.take() {
-        Took::Answer(answer) => assert!(rt; is_right(&answer)),
-        Took::Nothing | Took::End(_) => panic!(rt; "an answer is missing"),
+        Took::Answer(answer) => is_right(&answer),
+        Took::Nothing | Took::End(_) => false,
     }
 }
 
@@ -116,23 +128,29 @@ fn takes_answer<R: Abort>(rt: &R, lane: &mut Lane) {
 fn gives_all<R: Abort>(rt: &R, lane: Lane) {
     let mut lane = lane;
     for _ in 0..3 {
-        takes_answer(rt, &mut lane);
+        assert!(rt; takes_answer(&mut lane));
     }
     assert!(rt; matches!(lane.taker.take(), Took::End(LaneEnd::Complete)));
-    assert!(rt; matches!(lane.settle(), Ok(LaneEnd::Complete)));
+    assert!(rt; lane.end() == Some(LaneEnd::Complete));
+}
+
+/// What became of the setter's turns.
+fn told_of_turns<R: Abort>(rt: &R, lane: Lane) -> &'static str {
+    let mut lane = lane;
+    let refused = takes_turns(rt, &mut lane);
+    gives_all(rt, lane);
+    match refused {
+        0 => "set",
+        1 => "out of memory, and set by the next turn",
+        _ => "out of memory more than once",
+    }
 }
 
 #[test]
 fn a_refused_request_of_a_turn(rt: HostRuntime) -> Result<(), Fail> {
-    let Some(mut lane) = ready(rt.alloc()) else {
-        return Ok(println!(rt; "refused before the turns")?);
-    };
-    let refused = takes_turns(&rt, &mut lane)?;
-    gives_all(&rt, lane);
-    let told = match refused {
-        0 => "set",
-        1 => "out of memory, and set by the next turn",
-        _ => "out of memory more than once",
+    let told = match ready(rt.alloc()) {
+        Some(lane) => told_of_turns(&rt, lane),
+        None => "refused before the turns",
     };
     Ok(println!(rt; "{told}")?)
 }

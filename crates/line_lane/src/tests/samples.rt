@@ -2,12 +2,12 @@
 use crate::{Block, Capacity};
 use set_line::{Answer, Limit, Line, Policy, Terms, Version, record};
 use std::alloc::Global;
+use std::process::Abort;
 use std::sync::Arc;
-use std::test::Fail;
 use tfm_tables::Font;
 
 /// A font of a, b and c without programs, of 10 points.
-const PLAIN: [u32; 20] = [
+static PLAIN: [u32; 20] = [
     0x0014_0002, // 20 words, 2 of them in the header
     0x0061_0063, // from a to c
     0x0004_0001, // 4 widths, 1 height
@@ -32,7 +32,7 @@ const PLAIN: [u32; 20] = [
 
 /// The same with programs of a and of c: between a and b a c is inserted, and kerns stand between a
 /// and c and between c and b.
-const LIGATURE: [u32; 25] = [
+static LIGATURE: [u32; 25] = [
     0x0019_0002, // 25 words, 2 of them in the header
     0x0061_0063, // from a to c
     0x0004_0001, // 4 widths, 1 height
@@ -92,9 +92,14 @@ pub fn sizes(capacity: usize, block: usize) -> Option<(Capacity, Block)> {
     Some((Capacity::new(capacity)?, Block::new(block)?))
 }
 
-/// The record of an answer, from source 1 and this place.
-pub fn text_of(alloc: Global, place: u64, answer: &Answer) -> Result<String, Fail> {
-    let mut out = Vec::new(alloc);
-    record(1, place, answer, Version::One, &mut out)?;
-    Ok(String::from_utf8(out)?)
+/// The record of an answer, as from source 1 and place 1.
+pub fn recorded<R: Abort + AllocGlobal>(rt: &R, answer: &Answer) -> Vec<u8> {
+    let mut out = Vec::new(rt.alloc());
+    record(1, 1, answer, Version::One, &mut out).expect(rt, "memory");
+    out
+}
+
+/// Whether the answer is to this line and has this record.
+pub fn is_answer<R: Abort + AllocGlobal>(rt: &R, answer: &Answer, line: &str, text: &str) -> bool {
+    answer.line().bytes() == line.as_bytes() && recorded(rt, answer).as_slice() == text.as_bytes()
 }

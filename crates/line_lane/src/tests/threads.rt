@@ -1,13 +1,12 @@
 //! The three ends of a lane in three threads.
 ghost use Rattle.line_lane.specs.Ends.{IsLane, SameFeeder, SameSetter, SameTaker};
 
-use super::samples::{plain, sizes, text_of};
+use super::samples::{plain, recorded, sizes};
 use crate::{Feeder, LaneEnd, OfferFault, Setter, SourceEnd, Taker, Took, Turn, open, settle};
 use set_line::{Answer, Line, OutOfMemory, Terms, set};
-use std::alloc::{AllocError, Global};
+use std::alloc::Global;
 use std::process::Abort;
 use std::sync::{Arc, Wait};
-use std::test::Fail;
 use std::thread;
 use std::thread::Threads;
 
@@ -15,15 +14,16 @@ use std::thread::Threads;
 const LINES: u32 = 1_000;
 
 /// The line of this number: a letter for each bit, and every tenth has a character that is missing.
-fn numbered(alloc: Global, number: u32) -> Result<Line, AllocError> {
-    let mut bytes = Vec::new(alloc);
+fn numbered<R: Abort + AllocGlobal>(rt: &R, number: u32) -> Line {
+    let mut bytes = Vec::new(rt.alloc());
     for bit in 0..10u32 {
-        bytes.push(if number >> bit & 1 == 0 { b'a' } else { b'b' })?;
+        let letter = if number >> bit & 1 == 0 { b'a' } else { b'b' };
+        bytes.push(letter).expect(rt, "memory");
     }
     if number % 10 == 9 {
-        bytes.push(b'd')?;
+        bytes.push(b'd').expect(rt, "memory");
     }
-    Ok(Line::new(bytes))
+    Line::new(bytes)
 }
 
 /// Feeds a line, as soon as there is room.
@@ -128,61 +128,58 @@ fn in_threads<R: Threads + Wait + Abort + Sync>(
 }
 
 /// The lines of all numbers, in order.
-fn all_lines(alloc: Global) -> Result<Vec<Line>, AllocError> {
-    let mut lines = Vec::new(alloc);
+fn all_lines<R: Abort + AllocGlobal>(rt: &R) -> Vec<Line> {
+    let mut lines = Vec::new(rt.alloc());
     for number in 0..LINES {
-        lines.push(numbered(alloc, number)?)?;
+        lines.push(numbered(rt, number)).expect(rt, "memory");
     }
-    Ok(lines)
+    lines
 }
 
-/// The answers are those of the same lines, set one after the other.
-fn are_in_order<R: Abort>(
-    rt: &R,
-    alloc: Global,
-    terms: &Arc<Terms>,
-    answers: Vec<Answer>,
-) -> Result<(), Fail> {
+/// The answer to the line of this number, set by itself.
+fn answer_to<R: Abort + AllocGlobal>(rt: &R, terms: &Arc<Terms>, number: u32) -> Answer {
+    let terms = terms.clone().expect(rt, "memory");
+    let answer = set(rt.alloc(), terms, numbered(rt, number));
+    answer.ok().expect(rt, "memory")
+}
+
+/// Whether two answers are to the same line, and have the same record.
+fn are_same<R: Abort + AllocGlobal>(rt: &R, one: &Answer, other: &Answer) -> bool {
+    one.line().bytes() == other.line().bytes()
+        && recorded(rt, one).as_slice() == recorded(rt, other).as_slice()
+}
+
+/// The answers are those of all lines, set one after the other.
+fn are_in_order<R: Abort + AllocGlobal>(rt: &R, terms: &Arc<Terms>, answers: &[Answer]) {
     let mut number = 0;
     for found in answers {
-        let line = numbered(alloc, number)?;
-        let Ok(answer) = set(alloc, terms.clone()?, line) else {
-            return Err(Fail::new("out of memory"));
-        };
+        let is_right = are_same(rt, found, &answer_to(rt, terms, number));
+        assert!(rt; is_right, "line {number}");
         number = number.wrapping_add(1);
-        assert_eq!(rt; found.line().bytes(), answer.line().bytes(), "{number}");
-        let place = u64::from(number);
-        let (found, wanted) = (
-            text_of(alloc, place, &found)?,
-            text_of(alloc, place, &answer)?,
-        );
-        assert_eq!(rt; found, wanted);
     }
-    assert_eq!(rt; number, LINES);
-    Ok(())
+    assert!(rt; number == LINES);
 }
 
 /// All lines go through a lane of this capacity and block.
-fn goes_through<R: Threads + Wait + Abort + AllocGlobal + Sync>(
+fn go_through<R: Threads + Wait + Abort + AllocGlobal + Sync>(
     rt: &R,
     capacity: usize,
     block: usize,
-) -> Result<(), Fail> {
+) {
     let alloc = rt.alloc();
-    let (capacity, block) = sizes(capacity, block).ok_or("sizes out of range")?;
-    let terms = plain(alloc).ok_or("out of memory")?;
-    let (feeder, setter, taker) = open(alloc, terms.clone()?, capacity, block)?;
-    let lines = all_lines(alloc)?;
+    let (capacity, block) = sizes(capacity, block).expect(rt, "sizes in range");
+    let terms = plain(alloc).expect(rt, "memory");
+    let again = terms.clone().expect(rt, "memory");
+    let (feeder, setter, taker) = open(alloc, again, capacity, block).expect(rt, "memory");
+    let lines = all_lines(rt);
     let (feeder, setter, taker, answers) = in_threads(rt, alloc, feeder, setter, taker, lines);
-    match settle(feeder, setter, taker) {
-        Ok(end) => assert_eq!(rt; end, LaneEnd::Complete),
-        Err(_) => panic!(rt; "not over"),
-    }
-    are_in_order(rt, alloc, &terms, answers)
+    let end = settle(feeder, setter, taker).ok();
+    assert!(rt; end == Some(LaneEnd::Complete));
+    are_in_order(rt, &terms, &answers)
 }
 
 #[test]
-fn a_thousand_lines_through_three_threads(rt: HostRuntime) -> Result<(), Fail> {
-    goes_through(&rt, 2, 1)?;
-    goes_through(&rt, 16, 8)
+fn a_thousand_lines_through_three_threads(rt: HostRuntime) {
+    go_through(&rt, 2, 1);
+    go_through(&rt, 16, 8)
 }

@@ -4,4 +4,4 @@ use Rattle.line_lane.specs.Ends.{SameTaker, taken}
 use Rattle.line_lane.proofs.tests.two_lanes.take_all.Given as goal
 
 abbrev pub invariant-loop : goal.invariant-loop
-invariant-loop l = SameTaker l.initial.taker l.taker × (taken l.taker ≡ taken l.initial.taker ++ l.answers.items)
+invariant-loop g l = SameTaker l.initial.taker l.taker × (taken l.taker ≡ taken l.initial.taker ++ l.answers.items)
