@@ -25,8 +25,7 @@ fn lane_end(end: SourceEnd) -> LaneEnd
 fn finish(lines: &Message<Line, SourceEnd>, answers: &mut Message<Answer, LaneEnd>) -> bool
     ensures ready { result ≡ are_none lines.now.items }
     ensures items { answers.new.items ≡ answers.old.items }
-    ensures ending {
-        answers.new.ending ≡ first_end (end_with lines.now.items lines.now.ending) answers.old.ending }
+    ensures ending { answers.new.ending ≡ first_end (end_with lines.now.items lines.now.ending) answers.old.ending }
 {
     if lines.len() > 0 {
         return false;

@@ -13,14 +13,18 @@ use std::process::Abort;
 use std::sync::Arc;
 use std::test::Fail;
 
+/// Whether a lane with these terms is opened.
+fn opens(alloc: Global, terms: Arc<Terms>) -> bool {
+    Lane::open(alloc, terms, 2, 2).is_some()
+}
+
 /// Opens a lane with these terms, again where memory was refused, and says what became of it.
 fn told_of_opening<R: Abort + AllocGlobal>(rt: &R, terms: Arc<Terms>) -> &'static str {
     let again = terms.clone().expect(rt, "memory");
-    if Lane::open(rt.alloc(), terms, 2, 2).is_some() {
+    if opens(rt.alloc(), terms) {
         return "opened";
     }
-    let lane = Lane::open(rt.alloc(), again, 2, 2);
-    assert!(rt; lane.is_some());
+    assert!(rt; opens(rt.alloc(), again));
     "out of memory, and opened again"
 }
 
@@ -38,14 +42,21 @@ fn feed(alloc: Global, lane: &mut Lane) -> Option<()> {
     lane.feeder.offer(line(alloc, "ab")?).ok()
 }
 
+/// Feeds three such lines, and closes the feeder. Whether all went well.
+fn fill(alloc: Global, lane: &mut Lane) -> bool {
+    for _ in 0..3 {
+        if feed(alloc, lane).is_none() {
+            return false;
+        }
+    }
+    lane.feeder.close(SourceEnd::Complete)
+}
+
 /// A closed lane with two lines in its first message, and one in the next; `None` where memory was
 /// refused.
 fn ready(alloc: Global) -> Option<Lane> {
     let mut lane = Lane::open(alloc, ligature(alloc)?, 2, 2)?;
-    for _ in 0..3 {
-        feed(alloc, &mut lane)?;
-    }
-    if lane.feeder.close(SourceEnd::Complete) {
+    if fill(alloc, &mut lane) {
         Some(lane)
     } else {
         None
