@@ -65,6 +65,7 @@ impl Feeder {
         ensures again { is_some (feeder_end self.old) ≡ true → IsAsFed self.old self.new × (open_lines self.old ≡ []) }
     {
         if self.is_closed() {
+            // The first end stands.
             return true;
         }
         if !self.outlet.has_room() {

@@ -28,5 +28,7 @@ mod sending;
 mod setter;
 mod settling;
 mod taker;
+#[cfg(test)]
+mod tests;
 mod took;
 mod turn;

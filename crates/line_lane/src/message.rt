@@ -1,5 +1,5 @@
 //! A message of a ring: up to eight items, kept inline, and perhaps an end.
-ghost use Rattle.std.specs.Prelude.{◌≡◌, ◌≤◌, ◌<◌, ◌+◌, ◌==◌, [], ◌∷◌, ◌++◌, length, None, Some, MatchOption};
+ghost use Rattle.std.specs.Prelude.{◌≡◌, ◌≤◌, ◌<◌, [], ◌∷◌, ◌++◌, length, Some, MatchOption};
 ghost use Rattle.line_lane.specs.Messages.{nothing};
 
 use smallvec::SmallVec;

@@ -26,12 +26,15 @@ impl<T: Drop, E: Copy> Inlet<T, E> {
     pub fn receive(&mut self) -> bool
         requires { end_received self.old ≡ None }
         ensures same { SameInlet self.old self.new }
-        ensures received { IsTrue result → received self.new.consumer ≡ received self.old.consumer ++ self.new.hand ∷ [] }
-        ensures items { IsTrue result → items_received self.new ≡ items_received self.old ++ self.new.hand.items }
+        ensures received { IsTrue result →
+            received self.new.consumer ≡ received self.old.consumer ++ self.new.hand ∷ [] }
+        ensures items { IsTrue result →
+            items_received self.new ≡ items_received self.old ++ self.new.hand.items }
         ensures ended { IsTrue result → end_received self.new ≡ self.new.hand.ending }
         ensures count { IsTrue result → messages_received self.new ≡ messages_received self.old + 1 }
         ensures few { IsTrue result → length self.new.hand.items ≤ 8 }
-        ensures nothing { IsFalse result → (received self.new.consumer ≡ received self.old.consumer) × (self.new.hand ≡ self.old.hand) }
+        ensures nothing { IsFalse result →
+            (received self.new.consumer ≡ received self.old.consumer) × (self.new.hand ≡ self.old.hand) }
     {
         match self.consumer.pop() {
             Ok(message) => {

@@ -1,7 +1,7 @@
 //! Messages made and sent.
 ghost use Rattle.std.specs.Prelude.{◌≡◌, ◌+◌, ◌<◌, [], ◌∷◌, ◌++◌, None, IsTrue};
 ghost use Rattle.rtrb.specs.Ring.{sent, known_free};
-ghost use Rattle.line_lane.specs.Messages.{nothing, end_of};
+ghost use Rattle.line_lane.specs.Messages.{nothing};
 ghost use Rattle.line_lane.specs.Rings.{SameOutlet, end_sent, items_sent, messages_sent};
 
 use crate::message::Message;

@@ -1,5 +1,5 @@
 //! Lines are set.
-ghost use Rattle.std.specs.Prelude.{◌≡◌, [], true, false, None, is_some, OnOk, OnErr, IfOk};
+ghost use Rattle.std.specs.Prelude.{◌≡◌, [], true, false, is_some, OnErr, IfOk};
 ghost use Rattle.line_lane.specs.Messages.{are_none, first_end};
 ghost use Rattle.line_lane.specs.Lane.{lane_end_of};
 ghost use Rattle.line_lane.specs.Turns.{IsOrderly, Turns, end_with, given_up, is_done, is_given_up};

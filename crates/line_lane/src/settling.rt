@@ -1,5 +1,5 @@
 //! The ends of a lane come together again.
-ghost use Rattle.std.specs.Prelude.{◌≡◌, true, false, is_some, Some, IfOk, IfErr, MatchOption};
+ghost use Rattle.std.specs.Prelude.{◌≡◌, true, false, Some, IfOk, IfErr, MatchOption};
 ghost use Rattle.line_lane.specs.Lane.{pipeline};
 ghost use Rattle.line_lane.specs.Ends.{IsLane, fed, state_of, taken, taker_end};
 ghost use Rattle.line_lane.specs.Settled.{AreAsBefore, HaveMet, IsSettled, is_over};

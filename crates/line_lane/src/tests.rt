@@ -1,0 +1,8 @@
+mod bounds;
+mod call_by_call;
+mod lane;
+mod memory;
+mod samples;
+mod script;
+mod threads;
+mod two_lanes;

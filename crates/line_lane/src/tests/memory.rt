@@ -1,0 +1,167 @@
+//! Refused memory. With memory enough a lane is opened, and its lines are set. The kit's option
+//! `--fail-alloc` refuses one request: the first ones make what is handed in, and the next ones are
+//! the call's own. A refused one of these is told as want of memory. An opening then succeeds when
+//! it is made again, and a line that was in hand is set by the next turn. The text that is printed
+//! says which it was.
+use super::lane::Lane;
+use super::samples::{ligature, line};
+use crate::{LaneEnd, SourceEnd, Took, Turn};
+use lig_kern::Item;
+use set_line::{Answer, OutOfMemory, Outcome, Terms};
+use std::alloc::Global;
+use std::process::Abort;
+use std::sync::Arc;
+use std::test::Fail;
+
+/// Whether a lane with these terms is opened.
+fn opens(alloc: Global, terms: Arc<Terms>) -> bool {
+    Lane::open(alloc, terms, 2, 2).is_some()
+}
+
+/// Opens a lane with these terms, again where memory was refused, and says what became of it.
+fn told_of_opening<R: Abort + AllocGlobal>(rt: &R, terms: Arc<Terms>) -> &'static str {
+    let again = terms.clone().expect(rt, "memory");
+    if opens(rt.alloc(), terms) {
+        return "opened";
+    }
+    assert!(rt; opens(rt.alloc(), again));
+    "out of memory, and opened again"
+}
+
+#[test]
+fn a_refused_request_of_an_opening(rt: HostRuntime) -> Result<(), Fail> {
+    let told = match ligature(rt.alloc()) {
+        Some(terms) => told_of_opening(&rt, terms),
+        None => "refused before the opening",
+    };
+    Ok(println!(rt; "{told}")?)
+}
+
+/// Feeds a line of a and b; `None` where memory was refused, or it isn't accepted.
+fn feed(alloc: Global, lane: &mut Lane) -> Option<()> {
+    lane.feeder.offer(line(alloc, "ab")?).ok()
+}
+
+/// Feeds three such lines, and closes the feeder. Whether all went well.
+fn fill(alloc: Global, lane: &mut Lane) -> bool {
+    for _ in 0..3 {
+        if feed(alloc, lane).is_none() {
+            return false;
+        }
+    }
+    lane.feeder.close(SourceEnd::Complete)
+}
+
+/// A closed lane with two lines in its first message, and one in the next; `None` where memory was
+/// refused.
+fn ready(alloc: Global) -> Option<Lane> {
+    let mut lane = Lane::open(alloc, ligature(alloc)?, 2, 2)?;
+    if fill(alloc, &mut lane) {
+        Some(lane)
+    } else {
+        None
+    }
+}
+
+/// The setter's turns where no memory is refused.
+static TURNS: [Turn; 8] = [
+    Turn::Moved, // two lines are received
+    Turn::Moved, // one is set
+    Turn::Moved, // the other is set
+    Turn::Moved, // both are sent
+    Turn::Moved, // the last line is received
+    Turn::Moved, // it is set
+    Turn::Moved, // it is sent, with the end
+    Turn::Done,
+];
+
+/// Takes this turn, again where memory was refused. Whether it was.
+fn takes_turn<R: Abort>(rt: &R, lane: &mut Lane, wanted: Turn) -> bool {
+    let turn = lane.setter.turn();
+    if turn == Err(OutOfMemory) {
+        assert!(rt; lane.setter.turn() == Ok(wanted));
+        return true;
+    }
+    assert!(rt; turn == Ok(wanted));
+    false
+}
+
+/// Takes all turns. How often memory was refused.
+fn takes_turns<R: Abort>(rt: &R, lane: &mut Lane) -> u32 {
+    let mut refused: u32 = 0;
+    for wanted in &TURNS {
+        if takes_turn(rt, lane, *wanted) {
+            refused = refused.wrapping_add(1);
+        }
+    }
+    refused
+}
+
+/// The items of each line, which are more than it has bytes.
+static ITEMS: [Item; 5] = [
+    Item::Char {
+        code: 97,
+        width: 327_680,
+    },
+    Item::Kern(-40_960),
+    Item::Char {
+        code: 99,
+        width: 491_520,
+    },
+    Item::Kern(20_480),
+    Item::Char {
+        code: 98,
+        width: 163_840,
+    },
+];
+
+/// Whether the line was set in four steps with its items.
+fn is_right(answer: &Answer) -> bool {
+    match answer.outcome() {
+        Outcome::Set {
+            items,
+            width,
+            steps,
+        } => items.as_slice() == ITEMS.as_slice() && *width == 962_560 && *steps == 4,
+        Outcome::Refused(_) => false,
+    }
+}
+
+/// Whether an answer is taken, which is right.
+fn takes_answer(lane: &mut Lane) -> bool {
+    match lane.taker.take() {
+        Took::Answer(answer) => is_right(&answer),
+        Took::Nothing | Took::End(_) => false,
+    }
+}
+
+/// The three answers come out, and the end; and the lane is over.
+fn gives_all<R: Abort>(rt: &R, lane: Lane) {
+    let mut lane = lane;
+    for _ in 0..3 {
+        assert!(rt; takes_answer(&mut lane));
+    }
+    assert!(rt; matches!(lane.taker.take(), Took::End(LaneEnd::Complete)));
+    assert!(rt; lane.end() == Some(LaneEnd::Complete));
+}
+
+/// What became of the setter's turns.
+fn told_of_turns<R: Abort>(rt: &R, lane: Lane) -> &'static str {
+    let mut lane = lane;
+    let refused = takes_turns(rt, &mut lane);
+    gives_all(rt, lane);
+    match refused {
+        0 => "set",
+        1 => "out of memory, and set by the next turn",
+        _ => "out of memory more than once",
+    }
+}
+
+#[test]
+fn a_refused_request_of_a_turn(rt: HostRuntime) -> Result<(), Fail> {
+    let told = match ready(rt.alloc()) {
+        Some(lane) => told_of_turns(&rt, lane),
+        None => "refused before the turns",
+    };
+    Ok(println!(rt; "{told}")?)
+}
