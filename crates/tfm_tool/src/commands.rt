@@ -43,25 +43,27 @@ const SET_AFTER_HELP: &str = "Examples:
   tfmset set cmr10.tfm text
   tfmset set --workers 4 --block 8 cmr10.tfm first second third
 
-Reads FONT and the lines of each FILE, 1 to 64 of them, all at once. Prints for
-each file, in order, a record for each line and then a line on its end. A record
-has the width of its line, and its characters, kerns and spaces, in scaled
-points, or why the line was refused. Bytes are codes of the font, not Unicode;
-byte 32 is a space. The text is written when all is done.
+Reads FONT and the lines of each FILE, 1 to 64 of them, all at once. Prints
+for each file, in order, a record for each line and then a line on its end. A
+record has the width of its line, and its characters, kerns and spaces, in
+scaled points, or why the line was refused. Bytes are codes of the font,
+not Unicode; byte 32 is a space. The text is written when all is done.
 
 Exit status: 0 done; 1 done, and some line was refused; 2 the command line is
 refused, or there are more than 64 files; 3 the font is refused; 4 a file was
-not opened or not read to its end; 5 memory, a thread or the output was refused.";
+not opened or not read to its end; 5 memory, a thread or the output was
+refused.";
 
 const EACH_ABOUT: &str = "Sets the lines of files, each with a font and a limit of its own";
 
 const EACH_AFTER_HELP: &str = "Example:
   tfmset each cmr10.tfm 1048576 text cmtt10.tfm 1048576 code
 
-The words come in threes: FONT, LIMIT, FILE. FONT is a TFM file, LIMIT the steps
-that a line may take, 1 to 16777216, and FILE a file with lines; 1 to 64 threes.
-Prints what `tfmset set` prints of its files. Bytes are codes of the font, not
-Unicode; byte 32 is a space. The text is written when all is done.
+The words come in threes: FONT, LIMIT, FILE. FONT is a TFM file, LIMIT the
+steps that a line may take, 1 to 16777216, and FILE a file with lines; 1 to
+64 threes. Prints what `tfmset set` prints of its files. Bytes are codes of
+the font, not Unicode; byte 32 is a space. The text is written when all is
+done.
 
 Exit status: 0 done; 1 done, and some line was refused; 2 the command line is
 refused; 3 a font is refused; 4 a font or a file was not read; 5 memory, a

@@ -106,6 +106,7 @@ fn help_and_version_go_to_standard_output(rt: HostRuntime) -> Result<(), Fail> {
         ),
         (&["each", "--help"], "[default: 16]"),
         (&["set", "--help"], "The text is written when all is done."),
+        (&["each", "--help"], "FONT, LIMIT, FILE"),
         (&["list", "--help"], "Usage: tfmset list <FONT>\n"),
         (&["help", "list"], "  tfmset list cmr10.tfm\n"),
         (&["help", "counts"], "standard input\n"),
