@@ -110,7 +110,7 @@ const TWO_READERS: &str = "\
 ";
 
 #[test]
-fn a_line_that_wasn_t_ended_before_a_fault_is_not_given(rt: HostRuntime) -> Result<(), Fail> {
+fn a_line_cut_off_by_a_fault_is_not_given(rt: HostRuntime) -> Result<(), Fail> {
     let asked = Asked::new();
     for block in [1, 8] {
         let first = Trickle::new(b"ab\nc", 4, 1, &asked);

@@ -69,16 +69,28 @@ fn three_sources_are_reported_in_order(rt: HostRuntime) -> Result<(), Fail> {
     Ok(())
 }
 
+/// Numbers of lines, of no sources and of 64.
+const COUNTS: [&[usize]; 2] = [&[], &[1; 64]];
+
 #[test]
 fn up_to_64_sources_are_taken(rt: HostRuntime) -> Result<(), Fail> {
     let terms = plain(rt.alloc()).ok_or("out of memory")?;
     let plan = plan(1, 1, 16).ok_or("a plan out of range")?;
-    let sources = sources_of_ab(rt.alloc(), &terms, &[])?;
-    reports(&rt, "no sources", sources, plan, ("", true))?;
-    let sources = sources_of_ab(rt.alloc(), &terms, &[1; 64])?;
-    let wanted = text_of_ab(rt.alloc(), &[1; 64])?;
-    reports(&rt, "64 sources", sources, plan, (&wanted, true))?;
-    let sources = sources_of_ab(rt.alloc(), &terms, &[1; 65])?;
+    for counts in COUNTS {
+        let wanted = text_of_ab(rt.alloc(), counts)?;
+        let sources = sources_of_ab(rt.alloc(), &terms, counts)?;
+        reports(&rt, "up to 64 sources", sources, plan, (&wanted, true))?;
+    }
+    Ok(())
+}
+
+const TOO_MANY: [usize; 65] = [1; 65];
+
+#[test]
+fn more_than_64_sources_are_refused(rt: HostRuntime) -> Result<(), Fail> {
+    let terms = plain(rt.alloc()).ok_or("out of memory")?;
+    let plan = plan(1, 1, 16).ok_or("a plan out of range")?;
+    let sources = sources_of_ab(rt.alloc(), &terms, &TOO_MANY)?;
     match run(&rt, rt.alloc(), sources, plan, &NoGate) {
         Ok(_) => panic!(rt; "65 sources were taken"),
         Err(fault) => assert_eq!(rt; fault, RunFault::TooManySources),
