@@ -90,19 +90,27 @@ impl Meeting {
 
     /// Waits until the count is so far.
     fn wait_for(&self, count: &AtomicU64, wanted: u64) {
-        for _ in 0..LOOKS {
+        for look in 0..LOOKS {
             if count.load(Ordering::SeqCst) >= wanted {
                 return;
             }
-            thread::yield_now();
+            if look % 64 == 0 {
+                thread::yield_now();
+            } else {
+                hint::spin_loop();
+            }
         }
         self.fail();
     }
 
-    /// Looks on for a while: meanwhile the count doesn't go on.
-    fn stays(&self, count: &AtomicU64, most: u64) {
+    /// Looks on for a while. Meanwhile the sources aren't asked more often than this.
+    fn looks_on(&self, first: u64, second: u64) {
         for look in 0..MORE_LOOKS {
-            if count.load(Ordering::SeqCst) > most {
+            let asked = (
+                self.first.asked.load(Ordering::SeqCst),
+                self.second.asked.load(Ordering::SeqCst),
+            );
+            if asked.0 > first || asked.1 > second {
                 return self.fail();
             }
             if look % 1024 == 0 {
@@ -114,19 +122,19 @@ impl Meeting {
     }
 
     fn hold_setter(&self, number: usize) {
-        let asked = &self.side(number).asked;
-        self.wait_for(asked, 2);
-        if number == 1 {
+        self.wait_for(&self.side(number).asked, 2);
+        if number == 0 {
+            self.looks_on(2, u64::MAX);
+        } else {
             self.wait_for(&self.first.asked, 6);
+            self.looks_on(u64::MAX, 2);
         }
-        self.stays(asked, 2);
     }
 
     fn hold_collector(&self) {
         self.wait_for(&self.first.asked, 4);
         self.wait_for(&self.second.asked, 4);
-        self.stays(&self.first.asked, 4);
-        self.stays(&self.second.asked, 4);
+        self.looks_on(4, 4);
     }
 
     /// Nobody was missed, and no source was asked too early. Each thread entered once, and each
