@@ -94,7 +94,7 @@ impl Meeting {
             if count.load(Ordering::SeqCst) >= wanted {
                 return;
             }
-            if look % 64 == 0 {
+            if look % 8 == 0 {
                 thread::yield_now();
             } else {
                 hint::spin_loop();
@@ -113,7 +113,7 @@ impl Meeting {
             if asked.0 > first || asked.1 > second {
                 return self.fail();
             }
-            if look % 1024 == 0 {
+            if look % 4096 == 0 {
                 thread::yield_now();
             } else {
                 hint::spin_loop();
