@@ -32,5 +32,7 @@ mod run_fault;
 mod running;
 mod serving;
 mod source;
+#[cfg(test)]
+mod tests;
 mod want;
 mod workers;

@@ -1,0 +1,11 @@
+mod entries;
+mod failing;
+mod many_lines;
+mod meeting;
+mod memory;
+mod plans;
+mod readers;
+mod reports;
+mod samples;
+mod threads;
+mod trickle;

@@ -1,0 +1,62 @@
+//! A gate that notes who entered it.
+use crate::{Gate, Stage};
+use std::process::Abort;
+use std::sync::atomic::{AtomicU64, Ordering};
+
+/// How often each thread entered: a hexadecimal digit for each number of a stage, the last one for
+/// number 0.
+#[derive(Drop)]
+pub struct Entries {
+    sources: AtomicU64,
+    setters: AtomicU64,
+    collectors: AtomicU64,
+}
+
+impl Entries {
+    pub fn new() -> Entries {
+        Entries {
+            sources: AtomicU64::new(0),
+            setters: AtomicU64::new(0),
+            collectors: AtomicU64::new(0),
+        }
+    }
+
+    /// The sources, the setters and the collectors that entered are these.
+    pub fn are<R: Abort>(
+        &self,
+        rt: &R,
+        case: &str,
+        (sources, setters, collectors): (u64, u64, u64),
+    ) {
+        assert_eq!(rt;
+            self.sources.load(Ordering::SeqCst),
+            sources,
+            "sources, {case}"
+        );
+        assert_eq!(rt;
+            self.setters.load(Ordering::SeqCst),
+            setters,
+            "setters, {case}"
+        );
+        assert_eq!(rt;
+            self.collectors.load(Ordering::SeqCst),
+            collectors,
+            "collectors, {case}"
+        );
+    }
+}
+
+impl Gate for Entries {
+    fn enter(&self, stage: Stage, number: usize) {
+        let mut digit = 1u64;
+        for _ in 0..number {
+            digit = digit.wrapping_mul(16);
+        }
+        let entered = match stage {
+            Stage::Source => &self.sources,
+            Stage::Setter => &self.setters,
+            Stage::Collector => &self.collectors,
+        };
+        entered.fetch_add(digit, Ordering::SeqCst);
+    }
+}

@@ -1,0 +1,110 @@
+//! Many lines of many sources, compared with the same lines set one after the other.
+use super::samples::{LIGATURE, LIMIT, plan, terms_of};
+use crate::{ListSource, NoGate, run};
+use set_line::{Answer, Line, OutOfMemory, Outcome, Terms, set};
+use std::alloc::Global;
+use std::process::Abort;
+use std::sync::{Arc, Wait};
+use std::test::Fail;
+use std::thread::Threads;
+use std::time::Clock;
+
+const SOURCES: usize = 64;
+
+/// How many lines each source has.
+const LINES: usize = 2_000;
+
+/// What the lines are, in turn.
+const TEXTS: [&str; 7] = ["ab", "", "acb", "ab abc", "ad", "  ", "cbacb a"];
+
+/// The line of a source at this place; `None` where memory was refused.
+fn line_at(alloc: Global, source: usize, place: usize) -> Option<Line> {
+    let kind = source.wrapping_add(place) % 7;
+    let text = TEXTS.get(kind)?;
+    let bytes = Vec::from_slice(alloc, text.as_bytes()).ok()?;
+    Some(Line::new(bytes))
+}
+
+/// All sources; `None` where memory was refused.
+fn sources_of(alloc: Global, terms: &Arc<Terms>) -> Option<Vec<(ListSource, Arc<Terms>)>> {
+    let mut sources = Vec::with_capacity(alloc, SOURCES).ok()?;
+    for source in 0..SOURCES {
+        let mut lines = Vec::with_capacity(alloc, LINES).ok()?;
+        for place in 0..LINES {
+            lines.push(line_at(alloc, source, place)?).ok()?;
+        }
+        sources
+            .push((ListSource::new(lines), terms.clone().ok()?))
+            .ok()?;
+    }
+    Some(sources)
+}
+
+/// Whether both answers say the same of the same line.
+fn are_equal(one: &Answer, other: &Answer) -> bool {
+    let outcomes = match (one.outcome(), other.outcome()) {
+        (
+            Outcome::Set {
+                items,
+                width,
+                steps,
+            },
+            Outcome::Set {
+                items: others,
+                width: breadth,
+                steps: turns,
+            },
+        ) => items.as_slice() == others.as_slice() && width == breadth && steps == turns,
+        (Outcome::Refused(refusal), Outcome::Refused(reason)) => refusal == reason,
+        _ => false,
+    };
+    outcomes && one.line().bytes() == other.line().bytes()
+}
+
+/// The answers of a source are those of its lines, set one after the other.
+fn are_right<R: Abort + AllocGlobal>(
+    rt: &R,
+    terms: &Arc<Terms>,
+    source: usize,
+    answers: &[Answer],
+) -> Result<(), Fail> {
+    assert_eq!(rt; answers.len(), LINES, "source {source}");
+    let mut place = 0usize;
+    for found in answers {
+        let line = line_at(rt.alloc(), source, place).ok_or("out of memory")?;
+        match set(rt.alloc(), terms.clone()?, line) {
+            Ok(wanted) => assert!(rt; are_equal(found, &wanted), "source {source} place {place}"),
+            Err((_, OutOfMemory)) => return Err(Fail::new("out of memory")),
+        }
+        place = place.wrapping_add(1);
+    }
+    Ok(())
+}
+
+/// All lines are set by so many threads, in blocks of so many.
+fn sets_all<R: Threads + Wait + Clock + Abort + AllocGlobal + Sync>(
+    rt: &R,
+    threads: usize,
+    block: usize,
+) -> Result<(), Fail> {
+    let terms = terms_of(rt.alloc(), &LIGATURE, LIMIT).ok_or("out of memory")?;
+    let sources = sources_of(rt.alloc(), &terms).ok_or("out of memory")?;
+    let plan = plan(1, block, threads).ok_or("a plan out of range")?;
+    let report = run(rt, rt.alloc(), sources, plan, &NoGate)?;
+    assert!(rt; report.is_finished(), "threads {threads} block {block}");
+    let mut source = 0usize;
+    for lane in report.lanes() {
+        are_right(rt, &terms, source, lane.answers.as_slice())?;
+        source = source.wrapping_add(1);
+    }
+    assert_eq!(rt; source, SOURCES);
+    Ok(())
+}
+
+#[test]
+fn many_lines_are_answered_as_if_set_alone(rt: HostRuntime) -> Result<(), Fail> {
+    for (threads, block) in [(1, 1), (3, 1), (16, 1), (3, 8)] {
+        sets_all(&rt, threads, block)?;
+    }
+    Ok(())
+}

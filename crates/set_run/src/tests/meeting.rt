@@ -1,0 +1,222 @@
+//! A gate that holds threads until others came by, and sources that tell it when they are asked.
+use super::samples::line;
+use crate::{Gate, LineSource, Stage};
+use line_lane::SourceFault;
+use set_line::Line;
+use std::alloc::Global;
+use std::process::Abort;
+use std::sync::atomic::{AtomicBool, AtomicU64, Ordering};
+use std::{hint, thread, vec};
+
+/// How often a thread looks for another one, before it notes a failure.
+const LOOKS: u32 = 67_108_864;
+
+/// How often a thread that is held looks, once those that it was held for came by.
+const MORE_LOOKS: u32 = 1_048_576;
+
+/// Who is held.
+#[derive(Clone, Copy, Debug, PartialEq, Eq)]
+pub enum Held {
+    /// Each source's thread and each source until the other came, and each setter's thread likewise.
+    Pairs,
+    /// Each setter's thread, until its source was asked twice; the second one's until the first
+    /// source was asked for all of its five lines and for one more.
+    Setters,
+    /// The collector, until each source was asked four times.
+    Collector,
+}
+
+/// What is known of one of two lanes.
+#[derive(Drop)]
+struct Side {
+    /// How often its source's thread entered the gate.
+    sources: AtomicU64,
+    /// How often the setter's thread of this number entered it.
+    setters: AtomicU64,
+    /// How often its source was asked for a line.
+    asked: AtomicU64,
+}
+
+impl Side {
+    fn new() -> Side {
+        Side {
+            sources: AtomicU64::new(0),
+            setters: AtomicU64::new(0),
+            asked: AtomicU64::new(0),
+        }
+    }
+}
+
+/// A gate for a run of two sources.
+#[derive(Drop)]
+pub struct Meeting {
+    held: Held,
+    first: Side,
+    second: Side,
+    collectors: AtomicU64,
+    failed: AtomicBool,
+}
+
+impl Meeting {
+    pub fn new(held: Held) -> Meeting {
+        Meeting {
+            held,
+            first: Side::new(),
+            second: Side::new(),
+            collectors: AtomicU64::new(0),
+            failed: AtomicBool::new(false),
+        }
+    }
+
+    fn side(&self, number: usize) -> &Side {
+        if number == 0 {
+            &self.first
+        } else {
+            &self.second
+        }
+    }
+
+    fn other(&self, number: usize) -> &Side {
+        if number == 0 {
+            &self.second
+        } else {
+            &self.first
+        }
+    }
+
+    fn fail(&self) {
+        self.failed.store(true, Ordering::SeqCst);
+    }
+
+    /// Waits until the count is so far.
+    fn wait_for(&self, count: &AtomicU64, wanted: u64) {
+        for look in 0..LOOKS {
+            if count.load(Ordering::SeqCst) >= wanted {
+                return;
+            }
+            if look % 8 == 0 {
+                thread::yield_now();
+            } else {
+                hint::spin_loop();
+            }
+        }
+        self.fail();
+    }
+
+    /// Looks on for a while. Meanwhile the sources aren't asked more often than this.
+    fn looks_on(&self, first: u64, second: u64) {
+        for look in 0..MORE_LOOKS {
+            let asked = (
+                self.first.asked.load(Ordering::SeqCst),
+                self.second.asked.load(Ordering::SeqCst),
+            );
+            if asked.0 > first || asked.1 > second {
+                return self.fail();
+            }
+            if look % 4096 == 0 {
+                thread::yield_now();
+            } else {
+                hint::spin_loop();
+            }
+        }
+    }
+
+    fn hold_setter(&self, number: usize) {
+        self.wait_for(&self.side(number).asked, 2);
+        if number == 0 {
+            self.looks_on(2, u64::MAX);
+        } else {
+            self.wait_for(&self.first.asked, 6);
+            self.looks_on(u64::MAX, 2);
+        }
+    }
+
+    fn hold_collector(&self) {
+        self.wait_for(&self.first.asked, 4);
+        self.wait_for(&self.second.asked, 4);
+        self.looks_on(4, 4);
+    }
+
+    /// Nobody was missed, and no source was asked too early. Each thread entered once, and each
+    /// source was asked for all its lines and for one more.
+    pub fn went_well<R: Abort>(&self, rt: &R, case: &str, asked: u64) {
+        assert!(rt; !self.failed.load(Ordering::SeqCst), "{case}");
+        for side in [&self.first, &self.second] {
+            assert_eq!(rt; side.sources.load(Ordering::SeqCst), 1, "sources, {case}");
+            assert_eq!(rt; side.setters.load(Ordering::SeqCst), 1, "setters, {case}");
+            assert_eq!(rt; side.asked.load(Ordering::SeqCst), asked, "asked, {case}");
+        }
+        assert_eq!(rt;
+            self.collectors.load(Ordering::SeqCst),
+            1,
+            "collectors, {case}"
+        );
+    }
+}
+
+impl Gate for Meeting {
+    fn enter(&self, stage: Stage, number: usize) {
+        let entered = match stage {
+            Stage::Source => &self.side(number).sources,
+            Stage::Setter => &self.side(number).setters,
+            Stage::Collector => &self.collectors,
+        };
+        entered.fetch_add(1, Ordering::SeqCst);
+        match (self.held, stage) {
+            (Held::Pairs, Stage::Source) => self.wait_for(&self.other(number).sources, 1),
+            (Held::Pairs, Stage::Setter) => self.wait_for(&self.other(number).setters, 1),
+            (Held::Setters, Stage::Setter) => self.hold_setter(number),
+            (Held::Collector, Stage::Collector) => self.hold_collector(),
+            _ => (),
+        }
+    }
+}
+
+/// A source of a meeting.
+#[derive(Drop)]
+pub struct Guest<'a> {
+    meeting: &'a Meeting,
+    number: usize,
+    lines: vec::IntoIter<Line>,
+}
+
+impl<'a> Guest<'a> {
+    /// A source of so many lines `ab`; `None` where memory was refused.
+    pub fn new(
+        alloc: Global,
+        meeting: &'a Meeting,
+        number: usize,
+        count: usize,
+    ) -> Option<Guest<'a>> {
+        let mut lines = Vec::new(alloc);
+        for _ in 0..count {
+            lines.push(line(alloc, "ab")?).ok()?;
+        }
+        Some(Guest {
+            meeting,
+            number,
+            lines: lines.into_iter(),
+        })
+    }
+}
+
+impl LineSource for Guest<'_> {
+    ghost use Rattle.std.specs.Prelude.{None};
+
+    ghost to_come = { λ _. None };
+
+    ghost failed = { λ _. None };
+
+    /// The first line is held until the other source was asked for its own.
+    fn next_line(&mut self) -> Result<Option<Line>, SourceFault> {
+        let meeting = self.meeting;
+        let before = meeting
+            .side(self.number)
+            .asked
+            .fetch_add(1, Ordering::SeqCst);
+        if meeting.held == Held::Pairs && before == 0 {
+            meeting.wait_for(&meeting.other(self.number).asked, 1);
+        }
+        Ok(self.lines.next())
+    }
+}

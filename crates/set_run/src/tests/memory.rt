@@ -1,0 +1,106 @@
+//! Refused memory. With memory enough a run has its whole report. The kit's option `--fail-alloc`
+//! refuses one request: the first ones make what is handed in, and the next ones are the run's own.
+//! A refused one of these makes the run a fault, or it makes a setter give its lane up: then the
+//! lane's first answers are there, and all those of the other lanes. The text that is printed says
+//! which it was.
+use super::plans::three_sources;
+use super::samples::plan;
+use crate::{LaneReport, ListSource, NoGate, Report, RunFault, run};
+use lig_kern::Item;
+use line_lane::LaneEnd;
+use set_line::{Answer, LineRefusal, Outcome};
+use std::process::Abort;
+use std::test::Fail;
+
+const A: Item = Item::Char {
+    code: 97,
+    width: 327_680,
+};
+
+const B: Item = Item::Char {
+    code: 98,
+    width: 163_840,
+};
+
+const C: Item = Item::Char {
+    code: 99,
+    width: 491_520,
+};
+
+/// Whether an answer has these items, with this width, a step each.
+fn is_set(answer: &Answer, wanted: (&[Item], i64)) -> bool {
+    match answer.outcome() {
+        Outcome::Set { items, width, .. } => items.as_slice() == wanted.0 && *width == wanted.1,
+        Outcome::Refused(_) => false,
+    }
+}
+
+/// Whether the answer is that of the line of this source at this place.
+fn is_right(source: u32, place: u32, answer: &Answer) -> bool {
+    match (source, place) {
+        (2, 1) => is_set(answer, (&[A, B, C], 983_040)),
+        (3, 50) => matches!(
+            answer.outcome(),
+            Outcome::Refused(LineRefusal::TooLong(65_536))
+        ),
+        (3, 1..=100) => is_set(answer, (&[A, B], 491_520)),
+        _ => false,
+    }
+}
+
+/// The answers of a lane are its first ones, and all where the lane is complete. Whether it is.
+fn is_complete<R: Abort>(rt: &R, source: u32, lane: &LaneReport<ListSource>) -> bool {
+    let mut place = 0u32;
+    for answer in lane.answers.as_slice() {
+        place = place.wrapping_add(1);
+        assert!(rt; is_right(source, place, answer), "{source}:{place}");
+    }
+    let all = match source {
+        1 => 0,
+        2 => 1,
+        _ => 100,
+    };
+    match lane.end {
+        LaneEnd::Complete => {
+            assert_eq!(rt; place, all, "{source}");
+            true
+        }
+        end => {
+            assert_eq!(rt; end, LaneEnd::GaveUp, "{source}");
+            false
+        }
+    }
+}
+
+/// How many of the three lanes were given up.
+fn given_up<R: Abort>(rt: &R, report: &Report<ListSource>) -> u32 {
+    let mut source = 0u32;
+    let mut given_up = 0u32;
+    for lane in report.lanes() {
+        source = source.wrapping_add(1);
+        if !is_complete(rt, source, lane) {
+            given_up = given_up.wrapping_add(1);
+        }
+    }
+    assert_eq!(rt; source, 3);
+    given_up
+}
+
+#[test]
+fn a_refused_request_of_a_run(rt: HostRuntime) -> Result<(), Fail> {
+    let Some(sources) = three_sources(rt.alloc()) else {
+        return Ok(println!(rt; "refused before the run")?);
+    };
+    let plan = plan(1, 1, 2).ok_or("a plan out of range")?;
+    let told = match run(&rt, rt.alloc(), sources, plan, &NoGate) {
+        Ok(report) => match given_up(&rt, &report) {
+            0 => "finished",
+            1 => "one lane was given up",
+            _ => panic!(rt; "more than one lane was given up"),
+        },
+        Err(RunFault::OutOfMemory) => "out of memory",
+        Err(RunFault::Thread) => "a thread was refused",
+        Err(RunFault::TooManySources) => panic!(rt; "too many sources"),
+    };
+    Ok(println!(rt; "{told}")?)
+}

@@ -1,0 +1,175 @@
+//! What a run reports doesn't hang on its plan.
+use super::entries::Entries;
+use super::reports::{reports, sources_of_ab, text_of, text_of_ab};
+use super::samples::{ENDLESS, LIGATURE, LIMIT, PLAIN, line, plain, plan, source_of, terms_of};
+use crate::{ListSource, NoGate, RunFault, run};
+use set_line::{Line, Terms};
+use std::alloc::Global;
+use std::process::Abort;
+use std::sync::{Arc, Wait};
+use std::test::Fail;
+use std::thread::Threads;
+use std::time::Clock;
+
+/// A hundred lines. That of number 50 has 65,536 bytes.
+fn hundred(alloc: Global) -> Option<ListSource> {
+    let mut lines = Vec::with_capacity(alloc, 100).ok()?;
+    for place in 1..101u32 {
+        lines
+            .push(if place == 50 {
+                Line::new(Vec::from_elem(alloc, b'a', 65_536).ok()?)
+            } else {
+                line(alloc, "ab")?
+            })
+            .ok()?;
+    }
+    Some(ListSource::new(lines))
+}
+
+/// A source without lines, one with one line, and one with a hundred; `None` where memory was refused.
+pub fn three_sources(alloc: Global) -> Option<Vec<(ListSource, Arc<Terms>)>> {
+    let terms = plain(alloc)?;
+    let mut sources = Vec::with_capacity(alloc, 3).ok()?;
+    sources
+        .push((source_of(alloc, &[])?, terms.clone().ok()?))
+        .ok()?;
+    sources
+        .push((source_of(alloc, &["abc"])?, terms.clone().ok()?))
+        .ok()?;
+    sources.push((hundred(alloc)?, terms)).ok()?;
+    Some(sources)
+}
+
+/// What is reported of them.
+fn text_of_three(alloc: Global) -> Result<String, Fail> {
+    let mut text = String::new(alloc);
+    text.push_str("1 end complete 0\n")?;
+    text.push_str("2:1 set 983040 c97=327680 c98=163840 c99=491520\n2 end complete 1\n")?;
+    for place in 1..101u32 {
+        let record = if place == 50 {
+            format!(in alloc; "3:50 refused too-long 65536\n")?
+        } else {
+            format!(in alloc; "3:{place} set 491520 c97=327680 c98=163840\n")?
+        };
+        text.push_str(&record)?;
+    }
+    text.push_str("3 end complete 100\n")?;
+    Ok(text)
+}
+
+#[test]
+fn three_sources_are_reported_in_order(rt: HostRuntime) -> Result<(), Fail> {
+    let wanted = text_of_three(rt.alloc())?;
+    for block in [1, 3, 8] {
+        let case = format!(in rt.alloc(); "block {block}")?;
+        let sources = three_sources(rt.alloc()).ok_or("out of memory")?;
+        let plan = plan(1, block, 2).ok_or("a plan out of range")?;
+        reports(&rt, &case, sources, plan, (&wanted, true))?;
+    }
+    Ok(())
+}
+
+/// Sources of so many lines are all answered.
+fn takes<R: Threads + Wait + Clock + Abort + AllocGlobal + Sync>(
+    rt: &R,
+    counts: &[usize],
+) -> Result<(), Fail> {
+    let case = format!(in rt.alloc(); "{} sources", counts.len())?;
+    let terms = plain(rt.alloc()).ok_or("out of memory")?;
+    let plan = plan(1, 1, 16).ok_or("a plan out of range")?;
+    let wanted = text_of_ab(rt.alloc(), counts)?;
+    let sources = sources_of_ab(rt.alloc(), &terms, counts)?;
+    reports(rt, &case, sources, plan, (&wanted, true))
+}
+
+const MOST: [usize; 64] = [1; 64];
+
+#[test]
+fn up_to_64_sources_are_taken(rt: HostRuntime) -> Result<(), Fail> {
+    takes(&rt, &MOST[..0])?;
+    takes(&rt, &MOST)
+}
+
+const TOO_MANY: [usize; 65] = [1; 65];
+
+#[test]
+fn more_than_64_sources_are_refused(rt: HostRuntime) -> Result<(), Fail> {
+    let terms = plain(rt.alloc()).ok_or("out of memory")?;
+    let plan = plan(1, 1, 16).ok_or("a plan out of range")?;
+    let sources = sources_of_ab(rt.alloc(), &terms, &TOO_MANY)?;
+    match run(&rt, rt.alloc(), sources, plan, &NoGate) {
+        Ok(_) => panic!(rt; "65 sources were taken"),
+        Err(fault) => assert_eq!(rt; fault, RunFault::TooManySources),
+    }
+    Ok(())
+}
+
+/// Numbers of threads that set lines, and the entries of these threads: a hexadecimal digit each,
+/// the last one for number 0.
+const THREADS: [(usize, u64); 4] = [(1, 0x1), (2, 0x11), (3, 0x111), (16, 0x1_1111)];
+
+/// Five sources are set by so many threads. Each thread enters the gate once.
+fn sets_five<R: Threads + Wait + Clock + Abort + AllocGlobal + Sync>(
+    rt: &R,
+    (threads, entered): (usize, u64),
+    (capacity, block): (usize, usize),
+) -> Result<(), Fail> {
+    let case = format!(in rt.alloc(); "threads {threads} capacity {capacity} block {block}")?;
+    let terms = plain(rt.alloc()).ok_or("out of memory")?;
+    let plan = plan(capacity, block, threads).ok_or("a plan out of range")?;
+    let sources = sources_of_ab(rt.alloc(), &terms, &[1, 2, 3, 4, 5])?;
+    let gate = Entries::new();
+    let report = run(rt, rt.alloc(), sources, plan, &gate)?;
+    let text = text_of(rt.alloc(), &report)?;
+    let wanted = text_of_ab(rt.alloc(), &[1, 2, 3, 4, 5])?;
+    assert_eq!(rt; text, wanted, "{case}");
+    assert!(rt; report.is_finished(), "{case}");
+    gate.are(rt, &case, (0x1_1111, entered, 0x1));
+    Ok(())
+}
+
+#[test]
+fn threads_and_rings_change_no_report(rt: HostRuntime) -> Result<(), Fail> {
+    for threads in THREADS {
+        for sizes in [(1, 1), (1, 8), (16, 1), (16, 8)] {
+            sets_five(&rt, threads, sizes)?;
+        }
+    }
+    Ok(())
+}
+
+/// Three sources, each with terms of its own.
+fn with_own_terms(alloc: Global) -> Option<Vec<(ListSource, Arc<Terms>)>> {
+    let mut sources = Vec::with_capacity(alloc, 3).ok()?;
+    let terms = terms_of(alloc, &LIGATURE, LIMIT)?;
+    sources.push((source_of(alloc, &["ab"])?, terms)).ok()?;
+    let terms = terms_of(alloc, &PLAIN, 4)?;
+    sources
+        .push((source_of(alloc, &["ab abc", "ab"])?, terms))
+        .ok()?;
+    let terms = terms_of(alloc, &ENDLESS, 100)?;
+    sources.push((source_of(alloc, &["aa", "a"])?, terms)).ok()?;
+    Some(sources)
+}
+
+const WITH_OWN_TERMS: &str = "\
+1:1 set 491520 c99=491520
+1 end complete 1
+2:1 refused steps 4
+2:2 set 491520 c97=327680 c98=163840
+2 end complete 2
+3:1 refused steps 100
+3:2 set 327680 c97=327680
+3 end complete 2
+";
+
+#[test]
+fn each_source_has_its_own_terms(rt: HostRuntime) -> Result<(), Fail> {
+    for (threads, block) in [(1, 1), (2, 8), (3, 1)] {
+        let case = format!(in rt.alloc(); "threads {threads} block {block}")?;
+        let sources = with_own_terms(rt.alloc()).ok_or("out of memory")?;
+        let plan = plan(1, block, threads).ok_or("a plan out of range")?;
+        reports(&rt, &case, sources, plan, (WITH_OWN_TERMS, true))?;
+    }
+    Ok(())
+}

@@ -1,0 +1,185 @@
+//! Lines of readers.
+use super::trickle::{Asked, Trickle};
+use crate::{LineSource, ReaderSource};
+use line_lane::SourceFault;
+use set_line::lines;
+use std::process::Abort;
+use std::sync::atomic::Ordering;
+use std::test::Fail;
+
+/// More reads than any text takes here.
+const ALL: usize = 2_000_000;
+
+/// The next line of a source is this one.
+fn gives<R: Abort, S: LineSource>(rt: &R, case: &str, source: &mut S, wanted: &[u8]) {
+    match source.next_line() {
+        Ok(Some(line)) => assert!(rt; line.bytes() == wanted, "{case}"),
+        Ok(None) => panic!(rt; "a line is missing, {case}"),
+        Err(fault) => panic!(rt; "{fault:?}, {case}"),
+    }
+}
+
+/// A source gives no more lines, now and later.
+fn is_at_its_end<R: Abort, S: LineSource>(rt: &R, case: &str, source: &mut S) {
+    for _ in 0..2 {
+        assert!(rt; matches!(source.next_line(), Ok(None)), "{case}");
+    }
+}
+
+/// A source fails so, now and later.
+fn fails<R: Abort, S: LineSource>(rt: &R, case: &str, source: &mut S, wanted: SourceFault) {
+    for _ in 0..2 {
+        match source.next_line() {
+            Ok(_) => panic!(rt; "it goes on, {case}"),
+            Err(fault) => assert_eq!(rt; fault, wanted, "{case}"),
+        }
+    }
+}
+
+/// Texts and their lines.
+const TEXTS: [(&str, &[&str]); 8] = [
+    ("ab\n\nc", &["ab", "", "c"]),
+    ("ab\n", &["ab"]),
+    ("", &[]),
+    ("\n", &[""]),
+    ("\n\n", &["", ""]),
+    ("ab\n\n", &["ab", ""]),
+    ("\nab", &["", "ab"]),
+    ("a \r\nbcabc\nabca\n", &["a \r", "bcabc", "abca"]),
+];
+
+/// A text is cut into these lines, however many bytes a read gives.
+fn is_cut<R: Abort + AllocGlobal>(rt: &R, text: &str, wanted: &[&str]) -> Result<(), Fail> {
+    let asked = Asked::new();
+    for step in [1, 2, 3, 4096] {
+        let case = format!(in rt.alloc(); "{text:?} step {step}")?;
+        let reader = Trickle::new(text.as_bytes(), step, ALL, &asked);
+        let mut source = ReaderSource::new(rt.alloc(), reader);
+        for line in wanted {
+            gives(rt, &case, &mut source, line.as_bytes());
+        }
+        is_at_its_end(rt, &case, &mut source);
+    }
+    assert_eq!(rt;
+        lines(rt.alloc(), text.as_bytes())?.len(),
+        wanted.len(),
+        "{text:?}"
+    );
+    Ok(())
+}
+
+#[test]
+fn a_text_is_cut_in_the_same_way_whatever_a_read_gives(rt: HostRuntime) -> Result<(), Fail> {
+    for (text, wanted) in TEXTS {
+        is_cut(&rt, text, wanted)?;
+    }
+    Ok(())
+}
+
+/// A text of 300 lines, more than two reads give.
+fn long_text<R: AllocGlobal>(rt: &R) -> Result<Vec<u8>, Fail> {
+    let mut text = Vec::new(rt.alloc());
+    for length in 0..300usize {
+        text.extend_from_slice(vec![in rt.alloc(); b'a'; length % 61]?.as_slice())?;
+        text.push(b'\n')?;
+    }
+    Ok(text)
+}
+
+#[test]
+fn a_reader_has_the_lines_that_its_bytes_have(rt: HostRuntime) -> Result<(), Fail> {
+    let text = long_text(&rt)?;
+    let asked = Asked::new();
+    for step in [1, 7, 4095, 4096] {
+        let case = format!(in rt.alloc(); "step {step}")?;
+        let reader = Trickle::new(&text, step, ALL, &asked);
+        let mut source = ReaderSource::new(rt.alloc(), reader);
+        let wanted = lines(rt.alloc(), &text)?;
+        assert_eq!(rt; wanted.len(), 300);
+        for line in &wanted {
+            gives(&rt, &case, &mut source, line.bytes());
+        }
+        is_at_its_end(&rt, &case, &mut source);
+    }
+    Ok(())
+}
+
+/// How many reads were made behind each line of `ab`, `c`, `b` and at the end, by the bytes of a read.
+const READS: [(usize, [u32; 4]); 4] = [
+    (1, [3, 5, 7, 7]),
+    (2, [2, 3, 4, 4]),
+    (3, [1, 2, 3, 3]),
+    (4096, [1, 1, 2, 2]),
+];
+
+/// Each read asks for 4,096 bytes. None is made while a whole line is in hand, and none behind the end.
+#[test]
+fn a_reader_is_read_when_its_next_line_needs_it(rt: HostRuntime) -> Result<(), Fail> {
+    for (step, wanted) in READS {
+        let asked = Asked::new();
+        let reader = Trickle::new(b"ab\nc\nb", step, ALL, &asked);
+        let mut source = ReaderSource::new(rt.alloc(), reader);
+        assert_eq!(rt; asked.counts(), (0, 0), "step {step}");
+        for reads in wanted {
+            let _line = source.next_line()?;
+            assert_eq!(rt; asked.counts(), (reads, 0), "step {step}");
+        }
+        is_at_its_end(&rt, "behind the end", &mut source);
+        assert_eq!(rt;
+            asked.reads.load(Ordering::SeqCst),
+            wanted[3],
+            "step {step}"
+        );
+    }
+    Ok(())
+}
+
+/// How many bytes, whether a line feed follows, and whether they are a line.
+const LONG: [(usize, bool, bool); 4] = [
+    (1_048_575, true, true),
+    (1_048_575, false, true),
+    (1_048_576, true, false),
+    (1_048_576, false, false),
+];
+
+#[test]
+fn a_line_is_read_by_1048576_reads(rt: HostRuntime) -> Result<(), Fail> {
+    for (count, fed, line) in LONG {
+        let case = format!(in rt.alloc(); "{count} bytes")?;
+        let mut text = vec![in rt.alloc(); b'a'; count]?;
+        let wanted = vec![in rt.alloc(); b'a'; count]?;
+        if fed {
+            text.push(b'\n')?;
+        }
+        let asked = Asked::new();
+        let mut source = ReaderSource::new(rt.alloc(), Trickle::new(&text, 1, ALL, &asked));
+        if line {
+            gives(&rt, &case, &mut source, &wanted);
+            is_at_its_end(&rt, &case, &mut source);
+        } else {
+            fails(&rt, &case, &mut source, SourceFault::ReadBound);
+        }
+        assert_eq!(rt; asked.counts().1, 0, "{case}");
+    }
+    Ok(())
+}
+
+/// How many lines come before the read of each number fails, from the first on. After that no read
+/// fails: all three come.
+const BEFORE: [usize; 7] = [0, 0, 0, 1, 1, 2, 2];
+
+#[test]
+fn a_read_that_fails_is_no_end(rt: HostRuntime) -> Result<(), Fail> {
+    let lines = ["ab", "c", "b"];
+    for (good_reads, before) in BEFORE.iter().enumerate() {
+        let case = format!(in rt.alloc(); "{good_reads} good reads")?;
+        let asked = Asked::new();
+        let reader = Trickle::new(b"ab\nc\nb", 1, good_reads, &asked);
+        let mut source = ReaderSource::new(rt.alloc(), reader);
+        for line in lines.iter().take(*before) {
+            gives(&rt, &case, &mut source, line.as_bytes());
+        }
+        fails(&rt, &case, &mut source, SourceFault::Read);
+    }
+    Ok(())
+}

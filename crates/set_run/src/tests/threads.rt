@@ -1,0 +1,66 @@
+//! The threads of a run really run beside one another, and each line goes through its lane's rings.
+use super::meeting::{Guest, Held, Meeting};
+use super::reports::{text_of, text_of_ab};
+use super::samples::{plain, plan};
+use crate::run;
+use set_line::Terms;
+use std::alloc::Global;
+use std::process::Abort;
+use std::sync::{Arc, Wait};
+use std::test::Fail;
+use std::thread::Threads;
+use std::time::Clock;
+
+/// Two sources of a meeting, of so many lines each.
+fn guests<'a>(
+    alloc: Global,
+    meeting: &'a Meeting,
+    lines: usize,
+) -> Option<Vec<(Guest<'a>, Arc<Terms>)>> {
+    let terms = plain(alloc)?;
+    let mut sources = Vec::with_capacity(alloc, 2).ok()?;
+    let guest = Guest::new(alloc, meeting, 0, lines)?;
+    sources.push((guest, terms.clone().ok()?)).ok()?;
+    sources
+        .push((Guest::new(alloc, meeting, 1, lines)?, terms))
+        .ok()?;
+    Some(sources)
+}
+
+/// A run of two sources comes to its end while these are held.
+fn meets<R: Threads + Wait + Clock + Abort + AllocGlobal + Sync>(
+    rt: &R,
+    held: Held,
+    lines: usize,
+) -> Result<(), Fail> {
+    let case = format!(in rt.alloc(); "{held:?}")?;
+    let meeting = Meeting::new(held);
+    let sources = guests(rt.alloc(), &meeting, lines).ok_or("out of memory")?;
+    let plan = plan(1, 1, 2).ok_or("a plan out of range")?;
+    let report = run(rt, rt.alloc(), sources, plan, &meeting)?;
+    let text = text_of(rt.alloc(), &report)?;
+    let wanted = text_of_ab(rt.alloc(), &[lines, lines])?;
+    assert_eq!(rt; text, wanted, "{case}");
+    assert!(rt; report.is_finished(), "{case}");
+    meeting.went_well(rt, &case, (lines as u64).wrapping_add(1));
+    Ok(())
+}
+
+#[test]
+fn sources_and_setters_run_beside_one_another(rt: HostRuntime) -> Result<(), Fail> {
+    meets(&rt, Held::Pairs, 1)
+}
+
+/// A source is asked again only after its last line was accepted. While a setter is held its lane has
+/// room for one line, and the other lane goes on to its end.
+#[test]
+fn a_setter_that_is_held_holds_its_own_source(rt: HostRuntime) -> Result<(), Fail> {
+    meets(&rt, Held::Setters, 5)
+}
+
+/// While the collector is held a lane has an answer on its second ring, one in its setter's hand and a
+/// line on its first ring; the fourth line isn't accepted.
+#[test]
+fn a_collector_that_is_held_holds_all_sources(rt: HostRuntime) -> Result<(), Fail> {
+    meets(&rt, Held::Collector, 5)
+}
