@@ -4,3 +4,4 @@ pub mod SameEnds
 pub mod HandLemmas
 pub mod LaneLemmas
 pub mod LevelLemmas
+pub mod FinishedLemmas

@@ -1,6 +1,6 @@
 -- What a run reports of a source.
 -- This project's own.
-use Rattle.std.specs.Prelude.{◌≡◌, ℕ, List, [], length, take, Option, Some, None}
+use Rattle.std.specs.Prelude.{◌≡◌, ℕ, List, [], length, take, Option, Some, None, IfSome}
 use Rattle.std.specs.List.{AllZip}
 use Rattle.std.specs.Arc.{arc_value}
 use Rattle.std.specs.declared.sync.Arc.{Arc}
@@ -46,3 +46,8 @@ module _ {S : Type 0} where
       (S → Option (List (List ℕ))) → (S → Option SourceFault) → List (S × Arc TermsValue Global) → List (LaneReport S) → Type 0
   AreReported to_come failed sources reports =
       AllZip (λ source report. IsReported to_come failed (arc_value source.1) source.0 report) sources reports
+
+  -- each source that tells its lines has the answers of all of them, in order
+  abbrev pub AreAnswered : (S → Option (List (List ℕ))) → List (S × Arc TermsValue Global) → List (LaneReport S) → Type 0
+  AreAnswered to_come sources reports =
+      AllZip (λ source report. IfSome (to_come source.0) (λ lines. report.answers ≡ answers_of (arc_value source.1) lines)) sources reports

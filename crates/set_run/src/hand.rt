@@ -9,6 +9,7 @@ use line_lane::{Setter, Turn};
 use set_line::OutOfMemory;
 use std::alloc::{AllocError, Global};
 use std::marker::Model;
+use std::sync::atomic::{AtomicBool, Ordering};
 
 /// The setters of the lanes that one thread sets.
 #[derive(Drop)]
@@ -78,12 +79,15 @@ impl Hand {
         self.setters.pop()
     }
 
-    /// The turns of all lanes, one lane after the other.
-    pub fn go_round(&mut self) -> Came
+    /// The turns of all lanes, one lane after the other; done at once where the run is stopped.
+    pub fn go_round(&mut self, stop: &AtomicBool) -> Came
         ensures { AllZip SameSetter self.old self.new }
     {
         let mut all = Came::Done;
         for i in 0..self.setters.len() {
+            if stop.load(Ordering::SeqCst) {
+                return Came::Done;
+            }
             match take_turns(&mut self.setters[i]) {
                 Came::Done => (),
                 Came::Moved => all = Came::Moved,

@@ -12,10 +12,10 @@ pub struct ListSource {
 }
 
 impl ListSource {
-    /// A source of these lines.
+    /// A source of these lines. No list of lines fails, now or later.
     pub fn new(lines: Vec<Line>) -> Self
         ensures to_come { ⟦<ListSource as LineSource>⟧.to_come result ≡ Some lines.items }
-        ensures failed { ⟦<ListSource as LineSource>⟧.failed result ≡ None }
+        ensures never { (source : ListSource) → ⟦<ListSource as LineSource>⟧.failed source ≡ None }
     {
         ListSource {
             lines: lines.into_iter(),

@@ -1,7 +1,8 @@
 //! A run.
-ghost use Rattle.std.specs.Prelude.{◌≡◌, ◌<◌, ◌≤◌, ◌⊎◌, Err, IfOk, IfErr, OnErr, vec_len};
+ghost use Rattle.std.specs.Prelude.{All, ◌≡◌, ◌<◌, ◌≤◌, ◌⊎◌, Err, IfOk, IfErr, OnErr, vec_len};
 ghost use Rattle.set_run.specs.declared.run_fault.RunFault.TheVariants.{TooManySources, OutOfMemory as WantOfMemory, Thread};
-ghost use Rattle.set_run.specs.Reports.{AreReported};
+ghost use Rattle.line_lane.specs.declared.ending.LaneEnd.TheVariants.{Complete};
+ghost use Rattle.set_run.specs.Reports.{AreAnswered, AreReported};
 
 use crate::collected::Collected;
 use crate::hand::Hand;
@@ -62,6 +63,7 @@ fn run_threads<R: Threads + Wait + Clock + Sync, S: LineSource + Send + Drop, G:
 
 /// Sets the lines of all sources, each with its terms: a lane and a thread for each, as many threads
 /// that set lines as the plan says, at most, and this thread to collect the answers.
+#[tactic(auto, using(crate::proofs::FinishedLemmas::answered))]
 pub fn run<R: Threads + Wait + Clock + Sync, S: LineSource + Send + Drop, G: Gate + Sync>(
     rt: &R,
     alloc: Global,
@@ -70,6 +72,8 @@ pub fn run<R: Threads + Wait + Clock + Sync, S: LineSource + Send + Drop, G: Gat
     gate: &G,
 ) -> Result<Report<S>, RunFault>
     ensures lanes { IfOk result (λ report. AreReported S.to_come S.failed sources.items report) }
+    ensures finished { IfOk result (λ report. All (λ lane. lane.end ≡ Complete) report
+        → AreAnswered S.to_come sources.items report) }
     ensures many { 64 < vec_len sources → result ≡ Err TooManySources }
     ensures few { vec_len sources ≤ 64 → IfErr result (λ fault. (fault ≡ WantOfMemory) ⊎ (fault ≡ Thread)) }
 {

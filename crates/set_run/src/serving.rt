@@ -8,7 +8,7 @@ use crate::patience::Patience;
 use crate::{Gate, Stage};
 use std::snapshot::Snapshot;
 use std::sync::Wait;
-use std::sync::atomic::{AtomicBool, Ordering};
+use std::sync::atomic::AtomicBool;
 use std::thread::Promise;
 use std::time::Clock;
 
@@ -34,10 +34,7 @@ pub(crate) fn serve<R: Wait + Clock, G: Gate>(
     let mut hand = hand;
     let mut patience = Patience::new();
     for _ in rt.forever() {
-        if stop.load(Ordering::SeqCst) {
-            return hand;
-        }
-        match hand.go_round() {
+        match hand.go_round(stop) {
             Came::Done => return hand,
             Came::Moved => patience.renew(),
             Came::Nothing => patience.wait(rt),

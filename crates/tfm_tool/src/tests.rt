@@ -12,6 +12,7 @@ mod listings;
 mod runs;
 mod settings;
 mod streams;
+mod texts;
 mod words_given;
 
 /// The font without characters, of 5 points.

@@ -5,10 +5,10 @@ use std::{env, fs, io, process};
 
 /// Gives its bytes a few at a time, and fails once its good reads are used up.
 #[derive(Drop)]
-struct Trickle<'a> {
-    bytes: &'a [u8],
-    step: usize,
-    good_reads: usize,
+pub struct Trickle<'a> {
+    pub bytes: &'a [u8],
+    pub step: usize,
+    pub good_reads: usize,
 }
 
 impl Read for Trickle<'_> {
@@ -27,15 +27,15 @@ impl Read for Trickle<'_> {
 
 /// Takes a few bytes at a time, and fails once its good writes are used up, or at each flush.
 #[derive(Drop)]
-struct Frail {
-    text: Vec<u8>,
+pub struct Frail {
+    pub text: Vec<u8>,
     step: usize,
     good_writes: usize,
     flushes: bool,
 }
 
 impl Frail {
-    fn new(alloc: Global, step: usize, good_writes: usize, flushes: bool) -> Frail {
+    pub fn new(alloc: Global, step: usize, good_writes: usize, flushes: bool) -> Frail {
         Frail {
             text: Vec::new(alloc),
             step,

@@ -1,0 +1,137 @@
+//! `set_text` itself: sources that fail, writers that fail, and refused memory.
+use super::listings::letters;
+use super::settings::PLAIN;
+use super::streams::{Frail, Trickle};
+use super::*;
+use crate::{Summary, ToolFault, set_text};
+use line_lane::{Block, Capacity};
+use set_line::{Limit, Policy, Version};
+use set_run::{NoGate, Plan, ReaderSource, Workers};
+use std::io::Write;
+use std::test::Fail;
+
+/// The smallest rings, and two setters.
+fn small_plan() -> Option<Plan> {
+    Some(Plan {
+        capacity: Capacity::new(1)?,
+        block: Block::new(1)?,
+        workers: Workers::new(2)?,
+    })
+}
+
+/// A source of these bytes, one a read, which fails behind so many reads.
+fn source<'a>(alloc: Global, bytes: &'a [u8], good_reads: usize) -> ReaderSource<Trickle<'a>> {
+    let step = 1;
+    ReaderSource::new(
+        alloc,
+        Trickle {
+            bytes,
+            step,
+            good_reads,
+        },
+    )
+}
+
+/// Two sources: one of `ab` and `c`, which fails behind so many reads, and one of `a`.
+fn set_two<R, W>(
+    rt: &R,
+    font: &[u8],
+    good_reads: usize,
+    version: Version,
+    out: &mut W,
+) -> Result<Summary, ToolFault>
+where
+    R: Abort + Threads + Wait + Clock + Sync + AllocGlobal,
+    W: Write,
+{
+    let alloc = rt.alloc();
+    let mut sources = Vec::new(alloc);
+    for (bytes, good_reads) in [(b"ab\nc".as_slice(), good_reads), (b"a", 2)] {
+        if sources.push(source(alloc, bytes, good_reads)).is_err() {
+            return Err(ToolFault::OutOfMemory);
+        }
+    }
+    let limit = Limit::new(100).expect(rt, "a limit");
+    let plan = small_plan().expect(rt, "a plan");
+    set_text(
+        rt,
+        alloc,
+        font,
+        None,
+        limit,
+        Policy::Refuse,
+        sources,
+        plan,
+        version,
+        &NoGate,
+        out,
+    )
+}
+
+const WHOLE: &str = "records 2\n1:1 set 491520 steps 2 c97=327680 c98=163840\n\
+1:2 set 491520 steps 1 c99=491520\n1 end complete 2\n\
+2:1 set 327680 steps 1 c97=327680\n2 end complete 1\n";
+
+const BROKEN: &str = "1:1 set 491520 c97=327680 c98=163840\n1 end read 1\n\
+2:1 set 327680 c97=327680\n2 end complete 1\n";
+
+const EMPTY: &str = "1 end read 0\n2:1 set 327680 c97=327680\n2 end complete 1\n";
+
+/// How many reads are good, the version, the text, and whether a read failed.
+static CASES: [(usize, Version, &str, bool); 3] = [
+    (5, Version::Two, WHOLE, false),
+    (4, Version::One, BROKEN, true),
+    (2, Version::One, EMPTY, true),
+];
+
+#[test]
+fn a_source_that_fails_has_its_first_lines(rt: HostRuntime) -> Result<(), Fail> {
+    let font = letters(rt.alloc(), [20, 0, 0], PLAIN, &[], &[])?;
+    for (good_reads, version, text, read_failed) in &CASES {
+        let mut out = Vec::new(rt.alloc());
+        let summary = set_two(&rt, &font, *good_reads, *version, &mut out)?;
+        assert!(rt; out.as_slice() == text.as_bytes(), "{text}");
+        assert!(rt; summary.read_failed == *read_failed && !summary.memory);
+        assert!(rt; summary.refused == 0);
+    }
+    Ok(())
+}
+
+#[test]
+fn a_text_whose_write_fails(rt: HostRuntime) -> Result<(), Fail> {
+    let font = letters(rt.alloc(), [20, 0, 0], PLAIN, &[], &[])?;
+    // 163 bytes, twenty at a time
+    for good_writes in 0..9 {
+        let mut out = Frail::new(rt.alloc(), 20, good_writes, true);
+        let done = set_two(&rt, &font, 5, Version::Two, &mut out);
+        let all = out.text.as_slice() == WHOLE.as_bytes();
+        match done {
+            Ok(_) => assert!(rt; all, "{good_writes}"),
+            Err(ToolFault::Write) => assert!(rt; !all, "{good_writes}"),
+            Err(_) => panic!(rt; "another fault"),
+        }
+        assert!(rt; WHOLE.as_bytes().starts_with(out.text.as_slice()));
+    }
+    Ok(())
+}
+
+/// With memory enough the whole text is written. The kit's option `--fail-alloc` refuses one request:
+/// then the font or the run is refused for want of memory or of a thread, or a lane is given up.
+#[test]
+fn a_refused_request_of_a_text(rt: HostRuntime) -> Result<(), Fail> {
+    let Ok(font) = letters(rt.alloc(), [20, 0, 0], PLAIN, &[], &[]) else {
+        return Ok(println!(rt; "refused before the text")?);
+    };
+    let mut out = Vec::new(rt.alloc());
+    let told = match set_two(&rt, &font, 5, Version::Two, &mut out) {
+        Ok(summary) if summary.memory => "given up",
+        Ok(_) => {
+            assert!(rt; out.as_slice() == WHOLE.as_bytes());
+            "whole"
+        }
+        Err(ToolFault::OutOfMemory) => "out of memory",
+        Err(ToolFault::Run(_)) => "the run is refused",
+        Err(ToolFault::Font(_) | ToolFault::Write) => panic!(rt; "another fault"),
+    };
+    Ok(println!(rt; "{told}")?)
+}
