@@ -12,7 +12,8 @@ pub fn one_result()
 /// The result within a limit is the run's result, where that takes no more steps than the limit.
 #[tactic(auto, using(crate::proofs::LawLemmas::laws))]
 pub fn result_within_limit()
-    ensures { (font : FontValue) (run : List ℕ) (right : Bool) (limit : ℕ) → FindsResult font run right limit }
+    ensures { (font : FontValue) (run : List ℕ) (right : Bool) (limit : ℕ)
+        → FindsResult font run right limit }
 {}
 
 /// A run between whose symbols the font's program does nothing is set as itself.

@@ -209,7 +209,8 @@ pub fn set_word(
     steps_left: u32,
     out: &mut Vec<Item>,
 ) -> Result<u32, WordFault>
-    ensures set { IfOk result (IsAppendedResult font.now word.now right steps_left out.old.items out.new.items) }
+    ensures set { IfOk result
+        (IsAppendedResult font.now word.now right steps_left out.old.items out.new.items) }
     ensures too_many { result ≡ Err TooMany → HasNoResultWithin font.now word.now right steps_left }
     ensures refused { OnErr result (out.new.items ≡ out.old.items) }
 {

@@ -19,7 +19,8 @@ impl Feeder {
         ensures end { feeder_end self.new ≡ feeder_end self.old }
         ensures short { length (open_lines self.new) < block_of self.new }
         ensures fed { OnOk result (IsFed self.old line self.new) }
-        ensures refused { IfErr result (λ fault. IsAsFed self.old self.new × IsRefused self.old line fault) }
+        ensures refused { IfErr result (λ fault. IsAsFed self.old self.new
+            × IsRefused self.old line fault) }
     {
         if self.is_closed() {
             return Err(OfferFault::Closed(line));
@@ -43,7 +44,8 @@ impl Feeder {
         ensures fed { fed self.new ≡ fed self.old }
         ensures end { feeder_end self.new ≡ feeder_end self.old }
         ensures flushed { IsTrue result → IsFlushed self.old self.new }
-        ensures refused { IsFalse result → IsAsFed self.old self.new × (open_lines self.old ≡ [] → ⊥) }
+        ensures refused { IsFalse result → IsAsFed self.old self.new
+            × (open_lines self.old ≡ [] → ⊥) }
     {
         if self.outlet.hand.len() == 0 {
             return true;
@@ -61,8 +63,10 @@ impl Feeder {
         ensures lane { SameFeeder self.old self.new }
         ensures fed { fed self.new ≡ fed self.old }
         ensures closed { IsTrue result → IsClosedWith self.old end self.new }
-        ensures refused { IsFalse result → (feeder_end self.old ≡ None) × IsAsFed self.old self.new }
-        ensures again { is_some (feeder_end self.old) ≡ true → IsAsFed self.old self.new × (open_lines self.old ≡ []) }
+        ensures refused { IsFalse result → (feeder_end self.old ≡ None)
+            × IsAsFed self.old self.new }
+        ensures again { is_some (feeder_end self.old) ≡ true → IsAsFed self.old self.new
+            × (open_lines self.old ≡ []) }
     {
         if self.is_closed() {
             // The first end stands.

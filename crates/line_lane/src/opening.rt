@@ -23,7 +23,8 @@ pub fn open(
 ) -> Result<(Feeder, Setter, Taker), OutOfMemory>
     ensures lane { IfOk result (λ ends. IsLane ends.0 ends.1 ends.2) }
     ensures places { IfOk result (λ ends. HasPlaces capacity ends.0 ends.1 ends.2) }
-    ensures feeder { IfOk result (λ ends. (fed ends.0 ≡ []) × (open_lines ends.0 ≡ []) × (feeder_end ends.0 ≡ None) × (block_of ends.0 ≡ block)) }
+    ensures feeder { IfOk result (λ ends. (fed ends.0 ≡ []) × (open_lines ends.0 ≡ [])
+        × (feeder_end ends.0 ≡ None) × (block_of ends.0 ≡ block)) }
     ensures setter { IfOk result (λ ends. state_of ends.1 ≡ fresh (arc_value terms)) }
     ensures taker { IfOk result (λ ends. hands_of ends.2 ≡ empty_handed) }
 {

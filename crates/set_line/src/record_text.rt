@@ -122,7 +122,8 @@ pub fn record(
     version: Version,
     out: &mut Vec<u8>,
 ) -> Result<(), OutOfMemory>
-    ensures ok { OnOk result (out.new.items ≡ out.old.items ++ record_text source place answer.now.outcome version) }
+    ensures ok { OnOk result (out.new.items
+        ≡ out.old.items ++ record_text source place answer.now.outcome version) }
     ensures refused { OnErr result (out.new.items ≡ out.old.items) }
 {
     let before = out.len();

@@ -75,7 +75,8 @@ pub fn run<R: Threads + Wait + Clock + Sync, S: LineSource + Send + Drop, G: Gat
     ensures finished { IfOk result (λ report. All (λ lane. lane.end ≡ Complete) report
         → AreAnswered S.to_come sources.items report) }
     ensures many { 64 < vec_len sources → result ≡ Err TooManySources }
-    ensures few { vec_len sources ≤ 64 → IfErr result (λ fault. (fault ≡ WantOfMemory) ⊎ (fault ≡ Thread)) }
+    ensures few { vec_len sources ≤ 64
+        → IfErr result (λ fault. (fault ≡ WantOfMemory) ⊎ (fault ≡ Thread)) }
 {
     if sources.len() > SOURCES {
         return Err(RunFault::TooManySources);

@@ -1,3 +1,6 @@
+ghost use Rattle.std.specs.Prelude.{◌≡◌};
+ghost use Rattle.set_run.specs.declared.want.Want.TheVariants.{Memory};
+
 use set_line::OutOfMemory;
 use std::alloc::AllocError;
 
@@ -11,12 +14,16 @@ pub(crate) enum Want {
 }
 
 impl From<AllocError> for Want {
+    ghost from_gives = { λ fault want. want ≡ Memory };
+
     fn from(_: AllocError) -> Self {
         Want::Memory
     }
 }
 
 impl From<OutOfMemory> for Want {
+    ghost from_gives = { λ fault want. want ≡ Memory };
+
     fn from(_: OutOfMemory) -> Self {
         Want::Memory
     }

@@ -1,6 +1,5 @@
 //! The text of a run, written in blocks.
 ghost use Rattle.std.specs.Prelude.{true, ◌≡◌, ◌++◌, [], IfErr, OnOk};
-ghost use Rattle.std.specs.Io.KnownBytes.{Appends};
 ghost use Rattle.set_line.specs.Record.{record_text};
 ghost use Rattle.tfm_tool.specs.Status.{is_text_fault};
 ghost use Rattle.tfm_tool.specs.RunText.{Goes, end_text, head_text, lane_text, records_from};
@@ -8,7 +7,7 @@ ghost use Rattle.tfm_tool.specs.RunText.{Goes, end_text, head_text, lane_text, r
 use crate::ToolFault;
 use crate::appending::push_number;
 use set_line::{Answer, Version, record};
-use std::alloc::{AllocError, Global};
+use std::alloc::AllocError;
 use std::io::Write;
 
 /// A block is written once it has so many bytes.
@@ -115,23 +114,5 @@ pub(crate) fn write_lane<W: Write>(
 {
     write_records(source, answers, version, block, out)?;
     push_end(block, source, why, answers.len() as u64).map_err(|_| ToolFault::OutOfMemory)?;
-    Ok(())
-}
-
-/// Writes the text of one source.
-pub(crate) fn write_text<W: Write>(
-    alloc: Global,
-    answers: &[Answer],
-    why: &[u8],
-    version: Version,
-    out: &mut W,
-) -> Result<(), ToolFault>
-    ensures fault { IfErr result (λ fault. is_text_fault fault ≡ true) }
-    ensures goes { OnOk result (Appends (W.contents out.old) (W.contents out.new) (head_text version ++ lane_text 1 version answers.now why.now)) }
-{
-    let mut block = Vec::new(alloc);
-    push_head(&mut block, version).map_err(|_| ToolFault::OutOfMemory)?;
-    write_lane(1, answers, why, version, &mut block, out)?;
-    write_block(&mut block, out)?;
     Ok(())
 }

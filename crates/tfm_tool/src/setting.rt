@@ -39,7 +39,8 @@ where
     S: LineSource + Send + Drop,
     G: Gate + Sync,
     W: Write,
-    ensures text { IfOk result (λ summary. (reports : List (Lane S)) × AreReported S.to_come S.failed sources.items reports
+    ensures text { IfOk result (λ summary. (reports : List (Lane S))
+        × AreReported S.to_come S.failed sources.items reports
         × IsWritten version reports (W.contents out.old) (W.contents out.new) summary) }
     ensures many { 64 < vec_len sources → result ≡ Err (ToolFault.Run TooManySources) }
     ensures run { (fault : Fault) → result ≡ Err (ToolFault.Run fault) → out.new ≡ out.old }
@@ -112,8 +113,10 @@ where
     S: LineSource + Send + Drop,
     G: Gate + Sync,
     W: Write,
-    ensures text { IfOk result (λ summary. (f : FontValue) × (reports : List (Lane S)) × IsFontOf font.now size f
-        × AreReportedWith S.to_come S.failed (record { font = f; limit = limit; policy = policy }) sources.items reports
+    ensures text { IfOk result (λ summary. (f : FontValue) × (reports : List (Lane S))
+        × IsFontOf font.now size f
+        × AreReportedWith S.to_come S.failed
+        (record { font = f; limit = limit; policy = policy }) sources.items reports
         × IsWritten version reports (W.contents out.old) (W.contents out.new) summary) }
     ensures font { (fault : Refusal) → result ≡ Err (ToolFault.Font fault)
         → (font_fault_of font.now ≡ Some fault) × (out.new ≡ out.old) }

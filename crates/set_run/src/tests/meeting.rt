@@ -22,8 +22,8 @@ pub enum Held {
     /// Each setter's thread, until its source was asked twice; the second one's until the first
     /// source was asked for all of its five lines and for one more.
     Setters,
-    /// The collector, until each source was asked four times.
-    Collector,
+    /// The collector, until each source was asked so many times.
+    Collector(u64),
 }
 
 /// What is known of one of two lanes.
@@ -131,10 +131,10 @@ impl Meeting {
         }
     }
 
-    fn hold_collector(&self) {
-        self.wait_for(&self.first.asked, 4);
-        self.wait_for(&self.second.asked, 4);
-        self.looks_on(4, 4);
+    fn hold_collector(&self, asks: u64) {
+        self.wait_for(&self.first.asked, asks);
+        self.wait_for(&self.second.asked, asks);
+        self.looks_on(asks, asks);
     }
 
     /// Nobody was missed, and no source was asked too early. Each thread entered once, and each
@@ -166,7 +166,7 @@ impl Gate for Meeting {
             (Held::Pairs, Stage::Source) => self.wait_for(&self.other(number).sources, 1),
             (Held::Pairs, Stage::Setter) => self.wait_for(&self.other(number).setters, 1),
             (Held::Setters, Stage::Setter) => self.hold_setter(number),
-            (Held::Collector, Stage::Collector) => self.hold_collector(),
+            (Held::Collector(asks), Stage::Collector) => self.hold_collector(asks),
             _ => (),
         }
     }

@@ -32,11 +32,12 @@ fn meets<R: Threads + Wait + Clock + Abort + AllocGlobal + Sync>(
     rt: &R,
     held: Held,
     lines: usize,
+    (capacity, block): (usize, usize),
 ) -> Result<(), Fail> {
     let case = format!(in rt.alloc(); "{held:?}")?;
     let meeting = Meeting::new(held);
     let sources = guests(rt.alloc(), &meeting, lines).ok_or("out of memory")?;
-    let plan = plan(1, 1, 2).ok_or("a plan out of range")?;
+    let plan = plan(capacity, block, 2).ok_or("a plan out of range")?;
     let report = run(rt, rt.alloc(), sources, plan, &meeting)?;
     let text = text_of(rt.alloc(), &report)?;
     let wanted = text_of_ab(rt.alloc(), &[lines, lines])?;
@@ -48,19 +49,28 @@ fn meets<R: Threads + Wait + Clock + Abort + AllocGlobal + Sync>(
 
 #[test]
 fn sources_and_setters_run_beside_one_another(rt: HostRuntime) -> Result<(), Fail> {
-    meets(&rt, Held::Pairs, 1)
+    meets(&rt, Held::Pairs, 1, (1, 1))
 }
 
 /// A source is asked again only after its last line was accepted. While a setter is held its lane has
 /// room for one line, and the other lane goes on to its end.
 #[test]
 fn a_setter_that_is_held_holds_its_own_source(rt: HostRuntime) -> Result<(), Fail> {
-    meets(&rt, Held::Setters, 5)
+    meets(&rt, Held::Setters, 5, (1, 1))
 }
 
 /// While the collector is held a lane has an answer on its second ring, one in its setter's hand and a
 /// line on its first ring; the fourth line isn't accepted.
 #[test]
 fn a_collector_that_is_held_holds_all_sources(rt: HostRuntime) -> Result<(), Fail> {
-    meets(&rt, Held::Collector, 5)
+    meets(&rt, Held::Collector(4), 5, (1, 1))
+}
+
+/// While the collector is held, both rings are full of whole messages, one more is in the setter's
+/// hand, and the feeder's open block lacks the line that isn't accepted.
+#[test]
+fn rings_and_messages_are_as_large_as_the_plan_says(rt: HostRuntime) -> Result<(), Fail> {
+    meets(&rt, Held::Collector(16), 40, (3, 2))?;
+    meets(&rt, Held::Collector(18), 40, (2, 3))?;
+    meets(&rt, Held::Collector(32), 40, (1, 8))
 }
