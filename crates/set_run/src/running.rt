@@ -61,8 +61,14 @@ fn run_threads<R: Threads + Wait + Clock + Sync, S: LineSource + Send + Drop, G:
     )
 }
 
-/// Sets the lines of all sources, each with its terms: a lane and a thread for each, as many threads
-/// that set lines as the plan says, at most, and this thread to collect the answers.
+/// Sets the lines of up to 64 sources, each with its terms: a lane and a thread for each, as many
+/// threads that set lines as the plan says, at most, and this thread to collect the answers. It may
+/// wait: for its threads, for a source and for the gate.
+///
+/// A lane whose setter is refused memory is given up, and the others go on. Faults:
+/// `TooManySources`, which is looked for first; `OutOfMemory`, where memory was refused to this
+/// thread; `Thread`, where a thread was refused. After a fault all threads that were started have
+/// been joined, and sources and answers are gone.
 #[tactic(auto, using(crate::proofs::FinishedLemmas::answered))]
 pub fn run<R: Threads + Wait + Clock + Sync, S: LineSource + Send + Drop, G: Gate + Sync>(
     rt: &R,

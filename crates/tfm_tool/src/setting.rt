@@ -24,7 +24,8 @@ use tfm_tables::{Font, FontFault};
 use tfm_words::Size;
 
 /// Sets the lines of all sources, each with its terms, in one run, and writes the text of its report
-/// once the run has returned.
+/// once the run has returned. `Run` says why there is no report, and nothing was written then; after
+/// `Write` and `OutOfMemory` some of the text may be out. It never answers `Font`.
 pub fn set_each<R, S, G, W>(
     rt: &R,
     alloc: Global,
@@ -94,7 +95,9 @@ fn with_terms<S: Drop>(
 }
 
 /// Sets the lines of all sources in one run, with the font in these bytes at a size, else at its
-/// design size, and writes the text of the run's report once the run has returned.
+/// design size, and writes the text of the run's report once the run has returned. `Font` is the
+/// font's first fault and `Run` why there is no report; nothing was written then. After `Write` and
+/// `OutOfMemory` some of the text may be out.
 pub fn set_text<R, S, G, W>(
     rt: &R,
     alloc: Global,
