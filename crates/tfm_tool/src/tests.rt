@@ -16,7 +16,7 @@ mod texts;
 mod words_given;
 
 /// The font without characters, of 5 points.
-const NO_CHARACTERS: [u8; 48] = [
+static NO_CHARACTERS: [u8; 48] = [
     0, 12, 0, 2, // lf, lh
     0, 1, 0, 0, // bc, ec
     0, 1, 0, 1, // nw, nh
@@ -58,34 +58,26 @@ const NP: usize = 22;
 
 const DESIGN: usize = 28;
 
-/// The places of the counts, with their names.
-const COUNTS: [(usize, &str); 12] = [
-    (LF, "lf"),
-    (LH, "lh"),
-    (BC, "bc"),
-    (EC, "ec"),
-    (NW, "nw"),
-    (NH, "nh"),
-    (ND, "nd"),
-    (NI, "ni"),
-    (NL, "nl"),
-    (NK, "nk"),
-    (NE, "ne"),
-    (NP, "np"),
-];
-
 const TEXT: &str =
     "lf 12\nlh 2\nbc 1\nec 0\nnw 1\nnh 1\nnd 1\nni 1\nnl 0\nnk 0\nne 0\nnp 0\ndesign 327680\n";
 
+/// Bytes that are put into a font, and their place.
+type Change = (usize, [u8; 2]);
+
 /// The font without characters, with other bytes from some places on.
-fn changed(alloc: Global, changes: &[(usize, [u8; 2])]) -> Result<Vec<u8>, AllocError> {
+fn changed(alloc: Global, changes: &[Change]) -> Result<Vec<u8>, AllocError> {
     let mut font = Vec::from_slice(alloc, &NO_CHARACTERS)?;
     for (place, bytes) in changes {
-        for (slot, byte) in font.iter_mut().skip(*place).zip(bytes) {
-            *slot = *byte;
-        }
+        put(&mut font, *place, bytes);
     }
     Ok(font)
+}
+
+/// Puts bytes into a font, from a place on.
+fn put(font: &mut [u8], place: usize, bytes: &[u8]) {
+    for (slot, byte) in font.iter_mut().skip(place).zip(bytes) {
+        *slot = *byte;
+    }
 }
 
 /// What a run of the program left behind.
@@ -100,6 +92,19 @@ impl Outcome {
     /// The run answered this, with this on its two outputs.
     fn is(&self, status: u8, out: &[u8], err: &[u8]) -> bool {
         self.status == status && self.out.as_slice() == out && self.err.as_slice() == err
+    }
+
+    /// The font was refused with this line, and nothing was printed.
+    fn refused_font(&self, line: &str) -> bool {
+        self.status == 3 && self.out.is_empty() && is_font_line(&self.err, line)
+    }
+}
+
+/// What was told is this line on a refused font.
+fn is_font_line(err: &[u8], line: &str) -> bool {
+    match err.strip_prefix(b"tfmset: font refused: ") {
+        Some(told) => told.strip_suffix(b"\n") == Some(line.as_bytes()),
+        None => false,
     }
 }
 

@@ -5,7 +5,7 @@ use clap::{ArgMatches, Error};
 use line_lane::{Block, Capacity};
 use set_line::{Limit, Policy, Version};
 use set_run::{Plan, Workers};
-use std::alloc::Global;
+use std::alloc::{AllocError, Global};
 use std::convert::AsStr;
 use tfm_words::Size;
 
@@ -51,34 +51,70 @@ pub(crate) struct Threes<'a> {
 pub(crate) fn requested<'a, S: AsStr>(alloc: Global, words: &'a [S]) -> Result<Request<'a>, Error> {
     let mut command = tfmset_command(alloc)?;
     let matches = command.try_get_matches_from_mut(words)?;
+    match given(alloc, &matches)? {
+        Some(request) => Ok(request),
+        None => Err(command.error(ErrorKind::MissingSubcommand, "no subcommand was given")?),
+    }
+}
+
+/// What the subcommand asks for, where there is one.
+fn given<'a>(alloc: Global, matches: &ArgMatches<'a>) -> Result<Option<Request<'a>>, AllocError> {
+    if let Some(request) = given_font(matches) {
+        return Ok(Some(request));
+    }
+    if let Some(setting) = given_setting(alloc, matches)? {
+        return Ok(Some(Request::Set(setting)));
+    }
+    match given_threes(alloc, matches)? {
+        Some(threes) => Ok(Some(Request::Each(threes))),
+        None => Ok(None),
+    }
+}
+
+/// What `counts` or `list` asks for.
+fn given_font<'a>(matches: &ArgMatches<'a>) -> Option<Request<'a>> {
     if let Some(matches) = matches.subcommand_matches("counts") {
-        if let Some(font) = matches.get_str("FONT") {
-            return Ok(Request::Counts { font });
-        }
+        let font = matches.get_str("FONT")?;
+        return Some(Request::Counts { font });
     }
-    if let Some(matches) = matches.subcommand_matches("list") {
-        if let Some(font) = matches.get_str("FONT") {
-            return Ok(Request::List { font });
-        }
-    }
-    if let Some(matches) = matches.subcommand_matches("set") {
-        if let Some((font, limit, files, layout)) = asked_setting(matches) {
-            let files = Vec::from_slice(alloc, files)?;
-            return Ok(Request::Set(Setting {
-                font,
-                limit,
-                files,
-                layout,
-            }));
-        }
-    }
-    if let Some(matches) = matches.subcommand_matches("each") {
-        if let Some((words, layout)) = asked_threes(matches) {
-            let words = Vec::from_slice(alloc, words)?;
-            return Ok(Request::Each(Threes { words, layout }));
-        }
-    }
-    Err(command.error(ErrorKind::MissingSubcommand, "no subcommand was given")?)
+    let matches = matches.subcommand_matches("list")?;
+    let font = matches.get_str("FONT")?;
+    Some(Request::List { font })
+}
+
+/// What `set` asks for.
+fn given_setting<'a>(
+    alloc: Global,
+    matches: &ArgMatches<'a>,
+) -> Result<Option<Setting<'a>>, AllocError> {
+    let Some(matches) = matches.subcommand_matches("set") else {
+        return Ok(None);
+    };
+    let Some((font, limit, files, layout)) = asked_setting(matches) else {
+        return Ok(None);
+    };
+    let files = Vec::from_slice(alloc, files)?;
+    Ok(Some(Setting {
+        font,
+        limit,
+        files,
+        layout,
+    }))
+}
+
+/// What `each` asks for.
+fn given_threes<'a>(
+    alloc: Global,
+    matches: &ArgMatches<'a>,
+) -> Result<Option<Threes<'a>>, AllocError> {
+    let Some(matches) = matches.subcommand_matches("each") else {
+        return Ok(None);
+    };
+    let Some((words, layout)) = asked_threes(matches) else {
+        return Ok(None);
+    };
+    let words = Vec::from_slice(alloc, words)?;
+    Ok(Some(Threes { words, layout }))
 }
 
 fn asked_setting<'b, 'a>(

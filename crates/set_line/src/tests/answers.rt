@@ -60,10 +60,20 @@ pub fn has_records<R: Abort + AllocGlobal>(
 ) -> Result<(), Fail> {
     let answer = answer_to(rt, terms, line)?;
     assert!(rt; answer.line().bytes() == line, "{case}");
-    let text = text_of(rt, &answer, Version::One)?;
-    assert_eq!(rt; text.as_str(), one, "{case}, version one");
-    let text = text_of(rt, &answer, Version::Two)?;
-    assert_eq!(rt; text.as_str(), two, "{case}, version two");
+    has_record(rt, case, &answer, (Version::One, "version one"), one)?;
+    has_record(rt, case, &answer, (Version::Two, "version two"), two)
+}
+
+/// The record of an answer in this version is this one.
+fn has_record<R: Abort + AllocGlobal>(
+    rt: &R,
+    case: &str,
+    answer: &Answer,
+    (version, name): (Version, &str),
+    wanted: &str,
+) -> Result<(), Fail> {
+    let text = text_of(rt, answer, version)?;
+    assert_eq!(rt; text.as_str(), wanted, "{case}, {name}");
     Ok(())
 }
 
@@ -78,10 +88,22 @@ pub fn sets<R: Abort + AllocGlobal>(
     let one = format!(in rt.alloc(); "1:1 set {width}{items}\n")?;
     let two = format!(in rt.alloc(); "1:1 set {width} steps {steps}{items}\n")?;
     for limit in [steps.max(1), LIMIT, 16_777_216] {
-        let terms = terms_of(rt, file, limit, policy)?;
-        has_records(rt, case, &terms, line.as_bytes(), (&one, &two))?;
+        sets_within(rt, case, file, (limit, policy), line, (&one, &two))?;
     }
     Ok(())
+}
+
+/// The records of the line are these under this limit.
+fn sets_within<R: Abort + AllocGlobal>(
+    rt: &R,
+    case: &str,
+    file: &[u8],
+    (limit, policy): (u32, Policy),
+    line: &str,
+    records: (&str, &str),
+) -> Result<(), Fail> {
+    let terms = terms_of(rt, file, limit, policy)?;
+    has_records(rt, case, &terms, line.as_bytes(), records)
 }
 
 /// The line is refused so, and versions one and two say the same.
@@ -121,10 +143,21 @@ pub fn sets_each<R: Abort + AllocGlobal>(
     rows: &[Row],
 ) -> Result<(), Fail> {
     for row in rows {
-        for policy in [Policy::Refuse, Policy::Skip] {
-            sets(rt, case, file, policy, *row)?;
-            refuses_with_one_step_less(rt, case, file, policy, *row)?;
-        }
+        sets_row(rt, case, file, *row)?;
+    }
+    Ok(())
+}
+
+/// The line is set so under both policies, and refused with one step less.
+pub fn sets_row<R: Abort + AllocGlobal>(
+    rt: &R,
+    case: &str,
+    file: &[u8],
+    row: Row,
+) -> Result<(), Fail> {
+    for policy in [Policy::Refuse, Policy::Skip] {
+        sets(rt, case, file, policy, row)?;
+        refuses_with_one_step_less(rt, case, file, policy, row)?;
     }
     Ok(())
 }

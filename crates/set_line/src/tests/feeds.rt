@@ -4,7 +4,7 @@ use std::process::Abort;
 use std::test::Fail;
 
 /// A text, and its lines.
-const TEXTS: [(&str, &[&str]); 12] = [
+static TEXTS: [(&str, &[&str]); 12] = [
     ("ab\n\nc", &["ab", "", "c"]),
     ("ab\n", &["ab"]),
     ("", &[]),
@@ -32,7 +32,7 @@ fn are<R: Abort>(rt: &R, text: &str, found: &[Line], wanted: &[&str]) {
 
 #[test]
 fn lines_stand_between_line_feeds(rt: HostRuntime) -> Result<(), Fail> {
-    for (text, wanted) in TEXTS {
+    for (text, wanted) in &TEXTS {
         let found = lines(rt.alloc(), text.as_bytes())?;
         are(&rt, text, &found, wanted);
     }

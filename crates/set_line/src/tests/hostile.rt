@@ -15,7 +15,7 @@ use tfm_tables::Font;
 const LIMIT: u32 = 100;
 
 /// What a byte of a font becomes.
-const DAMAGE: [u8; 5] = [0x00, 0x01, 0x7F, 0x80, 0xFF];
+static DAMAGE: [u8; 5] = [0x00, 0x01, 0x7F, 0x80, 0xFF];
 
 /// How many files were accepted, how many lines were set and how many took too many steps.
 #[derive(Clone, Copy, Debug)]
@@ -124,14 +124,20 @@ fn sets_short_lines<R: Abort + AllocGlobal>(
         return Ok(());
     }
     tally.accept();
+    let lines = lines_of(rt, file)?;
     let refuse = terms_of(rt, file, LIMIT, Policy::Refuse)?;
     let skip = terms_of(rt, file, LIMIT, Policy::Skip)?;
-    let codes = characters(rt.alloc(), refuse.font())?;
-    let lines = short_lines(rt.alloc(), &codes)?;
     for line in &lines {
         tally.count(sets_alike(rt, case, (&refuse, &skip), line)?);
     }
     Ok(())
+}
+
+/// The short lines of a font's characters.
+fn lines_of<R: AllocGlobal>(rt: &R, file: &[u8]) -> Result<Vec<Vec<u8>>, Fail> {
+    let font = Font::read(rt.alloc(), file, None)?;
+    let codes = characters(rt.alloc(), &font)?;
+    Ok(short_lines(rt.alloc(), &codes)?)
 }
 
 /// A font as it is, cut at every length, and with each of its bytes damaged.
@@ -146,9 +152,9 @@ fn sets_with_damage<R: Abort + AllocGlobal>(
         sets_short_lines(rt, case, &file[..len], tally)?;
     }
     for place in 0..file.len() {
-        for byte in DAMAGE {
+        for byte in &DAMAGE {
             let mut damaged = Vec::from_slice(rt.alloc(), file)?;
-            damaged[place] = byte;
+            damaged[place] = *byte;
             sets_short_lines(rt, case, &damaged, tally)?;
         }
     }

@@ -92,18 +92,29 @@ fn sets_or_refuses<R: Abort + AllocGlobal + Print>(
     bytes: &[u8],
     wanted: (&[Item], i64),
 ) -> Result<(), Fail> {
-    let Some((terms, line)) = ready_to_set(rt.alloc(), bytes) else {
-        return Ok(println!(rt; "refused before the setting")?);
+    let told = match ready_to_set(rt.alloc(), bytes) {
+        Some(ready) => told_of_setting(rt, ready, bytes, wanted)?,
+        None => "refused before the setting",
     };
+    Ok(println!(rt; "{told}")?)
+}
+
+/// Sets the line of these bytes, and says what became of it.
+fn told_of_setting<R: Abort + AllocGlobal>(
+    rt: &R,
+    (terms, line): (Arc<Terms>, Line),
+    bytes: &[u8],
+    wanted: (&[Item], i64),
+) -> Result<&'static str, Fail> {
     match set(rt.alloc(), terms, line) {
         Ok(answer) => {
             assert!(rt; is_right(&answer, wanted));
-            Ok(println!(rt; "set")?)
+            Ok("set")
         }
         Err((line, OutOfMemory)) => {
             assert_eq!(rt; line.bytes(), bytes);
             sets_again(rt, line, wanted)?;
-            Ok(println!(rt; "out of memory, and set again")?)
+            Ok("out of memory, and set again")
         }
     }
 }
@@ -131,17 +142,26 @@ fn a_refused_skipped_character(rt: HostRuntime) -> Result<(), Fail> {
 #[test]
 fn a_refused_character_ahead(rt: HostRuntime) -> Result<(), Fail> {
     let file = endless(rt.alloc(), 3);
-    let Some((terms, line)) = ready(rt.alloc(), file, Policy::Refuse, b"aa") else {
-        return Ok(println!(rt; "refused before the setting")?);
+    let told = match ready(rt.alloc(), file, Policy::Refuse, b"aa") {
+        Some(ready) => told_of_steps(&rt, ready),
+        None => "refused before the setting",
     };
+    Ok(println!(rt; "{told}")?)
+}
+
+/// Sets a line `aa`, which takes too many steps, and says what became of it.
+fn told_of_steps<R: Abort + AllocGlobal>(
+    rt: &R,
+    (terms, line): (Arc<Terms>, Line),
+) -> &'static str {
     match set(rt.alloc(), terms, line) {
         Ok(answer) => {
             assert_eq!(rt; refusal_of(&answer), Some(LineRefusal::Steps(100)));
-            Ok(println!(rt; "too many steps")?)
+            "too many steps"
         }
         Err((line, OutOfMemory)) => {
             assert_eq!(rt; line.bytes(), b"aa".as_slice());
-            Ok(println!(rt; "out of memory")?)
+            "out of memory"
         }
     }
 }
@@ -153,13 +173,23 @@ fn refuses_without_memory<R: Abort + AllocGlobal + Print>(
     refusal: LineRefusal,
 ) -> Result<(), Fail> {
     let file = ligature(rt.alloc(), 3);
-    let Some((terms, line)) = ready(rt.alloc(), file, Policy::Refuse, bytes) else {
+    let Some(ready) = ready(rt.alloc(), file, Policy::Refuse, bytes) else {
         return Ok(println!(rt; "refused before the setting")?);
     };
+    refuses(rt, ready, refusal)?;
+    Ok(println!(rt; "{refusal:?}")?)
+}
+
+/// The line is refused so.
+fn refuses<R: Abort + AllocGlobal>(
+    rt: &R,
+    (terms, line): (Arc<Terms>, Line),
+    refusal: LineRefusal,
+) -> Result<(), Fail> {
     match set(rt.alloc(), terms, line) {
         Ok(answer) => {
             assert_eq!(rt; refusal_of(&answer), Some(refusal));
-            Ok(println!(rt; "{refusal:?}")?)
+            Ok(())
         }
         Err(_) => Err(Fail::new("a refusal took memory")),
     }

@@ -11,7 +11,7 @@ use tfm_words::Size;
 /// Numbers of source and place, a line, and its record.
 type Numbered = (u64, u64, &'static str, &'static str);
 
-const PLAIN: [Numbered; 8] = [
+static PLAIN: [Numbered; 8] = [
     (1, 2, "c", "1:2 set 491520 c99=491520\n"),
     (2, 1, "a", "2:1 set 327680 c97=327680\n"),
     (
@@ -32,7 +32,7 @@ const PLAIN: [Numbered; 8] = [
     ),
 ];
 
-const ENDLESS: [Numbered; 2] = [
+static ENDLESS: [Numbered; 2] = [
     (1, 1, "aa", "1:1 refused steps 100\n"),
     (1, 2, "a", "1:2 set 327680 c97=327680\n"),
 ];

@@ -43,29 +43,22 @@ impl Sample {
     ) -> Result<Vec<u8>, AllocError> {
         let tables = self.tables(alloc, characters, program)?;
         let lf = count(tables.len() / 4).wrapping_add(6);
-        let ec = count(characters.len())
-            .wrapping_add(self.first)
-            .wrapping_sub(1);
-        let counts = [
-            lf,
-            count(self.texts.len()).wrapping_add(2),
-            self.first,
-            ec,
-            count(self.width.len()),
-            1,
-            1,
-            1,
-            count(program.len()),
-            count(self.kerns.len()),
-            0,
-            count(self.parameters.len()),
-        ];
         let mut file = Vec::with_capacity(alloc, ROOM)?;
-        for count in counts {
+        for count in self.counts(lf, count(characters.len()), count(program.len())) {
             file.extend_from_slice(&count.to_be_bytes())?;
         }
         file.extend_from_slice(&tables)?;
         Ok(file)
+    }
+
+    /// The counts of a font of so many words, with so many characters and instructions.
+    fn counts(&self, lf: u16, characters: u16, steps: u16) -> [u16; 12] {
+        let lh = count(self.texts.len()).wrapping_add(2);
+        let ec = characters.wrapping_add(self.first).wrapping_sub(1);
+        let nw = count(self.width.len());
+        let nk = count(self.kerns.len());
+        let np = count(self.parameters.len());
+        [lf, lh, self.first, ec, nw, 1, 1, 1, steps, nk, 0, np]
     }
 
     /// All that follows the counts.
@@ -79,15 +72,11 @@ impl Sample {
         // no check sum
         append(&mut bytes, &[0, self.design])?;
         append(&mut bytes, self.texts)?;
-        for character in characters {
-            bytes.extend_from_slice(&character.bytes())?;
-        }
+        append_characters(&mut bytes, characters)?;
         append(&mut bytes, self.width)?;
         // no height, no depth, no italic correction
         append(&mut bytes, &[0, 0, 0])?;
-        for step in program {
-            bytes.extend_from_slice(&[step.skip, step.next, step.op, step.remainder])?;
-        }
+        append_program(&mut bytes, program)?;
         append(&mut bytes, self.kerns)?;
         append(&mut bytes, self.parameters)?;
         Ok(bytes)
@@ -97,6 +86,20 @@ impl Sample {
 fn append(bytes: &mut Vec<u8>, words: &[u32]) -> Result<(), AllocError> {
     for word in words {
         bytes.extend_from_slice(&word.to_be_bytes())?;
+    }
+    Ok(())
+}
+
+fn append_characters(bytes: &mut Vec<u8>, characters: &[Character]) -> Result<(), AllocError> {
+    for character in characters {
+        bytes.extend_from_slice(&character.bytes())?;
+    }
+    Ok(())
+}
+
+fn append_program(bytes: &mut Vec<u8>, program: &[Step]) -> Result<(), AllocError> {
+    for step in program {
+        bytes.extend_from_slice(&[step.skip, step.next, step.op, step.remainder])?;
     }
     Ok(())
 }

@@ -1,9 +1,10 @@
 //! The small types give what was put in.
 use super::answers::{answer_to, refusal_of, terms_of};
 use super::samples::plain;
-use crate::{Answer, Items, Limit, Line, LineRefusal, OutOfMemory, Outcome, Policy};
+use crate::{Answer, Items, Limit, Line, LineRefusal, OutOfMemory, Outcome, Policy, Terms};
 use lig_kern::Item;
 use std::alloc::AllocError;
+use std::process::Abort;
 use std::test::Fail;
 
 /// How many steps a limit has.
@@ -12,17 +13,25 @@ fn steps_of(limit: Option<Limit>) -> Option<u32> {
     Some(limit.get())
 }
 
+/// A number of steps, and the limit's where it is one.
+static STEPS: [(u32, Option<u32>); 7] = [
+    (0, None),
+    (16_777_217, None),
+    (u32::MAX, None),
+    (1, Some(1)),
+    (2, Some(2)),
+    (1_048_576, Some(1_048_576)),
+    (16_777_216, Some(16_777_216)),
+];
+
 #[test]
 fn a_limit_is_from_1_to_16777216(rt: HostRuntime) {
-    for steps in [0, 16_777_217, u32::MAX] {
-        assert_eq!(rt; Limit::new(steps), None, "{steps} steps");
-    }
-    for steps in [1, 2, 1_048_576, 16_777_216] {
-        assert_eq!(rt; steps_of(Limit::new(steps)), Some(steps));
+    for (steps, wanted) in &STEPS {
+        assert_eq!(rt; steps_of(Limit::new(*steps)), *wanted, "{steps} steps");
     }
 }
 
-const ITEMS: [Item; 4] = [
+static ITEMS: [Item; 4] = [
     Item::Char {
         code: 97,
         width: -1,
@@ -49,12 +58,17 @@ fn an_answer_has_its_terms_and_its_line(rt: HostRuntime) -> Result<(), Fail> {
         let terms = terms_of(&rt, &plain(rt.alloc())?, 100, policy)?;
         let answer = answer_to(&rt, &terms, b"ad")?;
         assert_eq!(rt; answer.line().bytes(), b"ad".as_slice());
-        assert_eq!(rt; answer.terms().limit().get(), 100);
-        assert_eq!(rt; answer.terms().policy(), policy);
-        assert_eq!(rt; answer.terms().font().space(), 218_453);
-        assert!(rt; answer.terms().font().exists(97));
+        are_plain(&rt, answer.terms(), policy);
     }
     Ok(())
+}
+
+/// The terms have the plain font, a limit of 100 and this policy.
+fn are_plain<R: Abort>(rt: &R, terms: &Terms, policy: Policy) {
+    assert_eq!(rt; terms.limit().get(), 100);
+    assert_eq!(rt; terms.policy(), policy);
+    assert_eq!(rt; terms.font().space(), 218_453);
+    assert!(rt; terms.font().exists(97));
 }
 
 /// The items, the width and the steps of a line that was set.
@@ -69,20 +83,22 @@ fn setting_of(answer: &Answer) -> Option<(&[Item], i64, u32)> {
     }
 }
 
+/// The items of `d a`, where d is skipped.
+static D_A: [Item; 3] = [
+    Item::Skipped(100),
+    Item::Space(218_453),
+    Item::Char {
+        code: 97,
+        width: 327_680,
+    },
+];
+
 #[test]
 fn a_line_that_is_set_has_items_and_a_width_and_steps(rt: HostRuntime) -> Result<(), Fail> {
     let terms = terms_of(&rt, &plain(rt.alloc())?, 1, Policy::Skip)?;
     let answer = answer_to(&rt, &terms, b"d a")?;
-    let items = [
-        Item::Skipped(100),
-        Item::Space(218_453),
-        Item::Char {
-            code: 97,
-            width: 327_680,
-        },
-    ];
     let (found, width, steps) = setting_of(&answer).ok_or("refused")?;
-    assert_eq!(rt; found, items.as_slice());
+    assert_eq!(rt; found, D_A.as_slice());
     assert_eq!(rt; width, 546_133);
     assert_eq!(rt; steps, 1);
     assert_eq!(rt; refusal_of(&answer), None);

@@ -1,18 +1,19 @@
 //! Lines that are set, each with its whole record in both versions.
-use super::answers::{LIMIT, Row, refuses, sets_each, terms_of};
+use super::answers::{LIMIT, Row, refuses, sets_each, sets_row, terms_of};
 use super::samples::{
     boundary_exists, endless, indirect, left_boundary, ligature, plain, right_boundary,
 };
 use crate::Policy;
+use std::process::Abort;
 use std::test::Fail;
 
-const PLAIN: [Row; 3] = [
+static PLAIN: [Row; 3] = [
     ("a", 327_680, 1, " c97=327680"),
     ("ab", 491_520, 2, " c97=327680 c98=163840"),
     ("abc", 983_040, 3, " c97=327680 c98=163840 c99=491520"),
 ];
 
-const LIGATURES: [Row; 6] = [
+static LIGATURES: [Row; 6] = [
     ("a", 327_680, 1, " c97=327680"),
     ("ab", 491_520, 2, " c99=491520"),
     ("ac", 778_240, 2, " c97=327680 k-40960 c99=491520"),
@@ -32,7 +33,7 @@ fn characters_ligatures_and_kerns(rt: HostRuntime) -> Result<(), Fail> {
     sets_each(&rt, "a ligature", &ligature(rt.alloc(), 0)?, &LIGATURES)
 }
 
-const INDIRECT: [Row; 1] = [("ab", 491_520, 2, " c97=327680 c98=163840")];
+static INDIRECT: [Row; 1] = [("ab", 491_520, 2, " c97=327680 c98=163840")];
 
 #[test]
 fn a_second_indirection_is_not_followed(rt: HostRuntime) -> Result<(), Fail> {
@@ -40,7 +41,7 @@ fn a_second_indirection_is_not_followed(rt: HostRuntime) -> Result<(), Fail> {
 }
 
 /// What each operation makes of a and b: the width, the steps and the items.
-const OPERATIONS: [(u8, i64, u32, &str); 14] = [
+static OPERATIONS: [(u8, i64, u32, &str); 14] = [
     (0, 491_520, 2, " c99=491520"),
     (1, 675_840, 3, " c99=491520 k20480 c98=163840"),
     (2, 778_240, 3, " c97=327680 k-40960 c99=491520"),
@@ -65,15 +66,15 @@ const OPERATIONS: [(u8, i64, u32, &str); 14] = [
 
 #[test]
 fn each_operation_does_what_it_says(rt: HostRuntime) -> Result<(), Fail> {
-    for (op, width, steps, items) in OPERATIONS {
+    for (op, width, steps, items) in &OPERATIONS {
         let case = format!(in rt.alloc(); "operation {op}")?;
-        let file = ligature(rt.alloc(), op)?;
-        sets_each(&rt, &case, &file, &[("ab", width, steps, items)])?;
+        let file = ligature(rt.alloc(), *op)?;
+        sets_row(&rt, &case, &file, ("ab", *width, *steps, items))?;
     }
     Ok(())
 }
 
-const RIGHT_BOUNDARY: [Row; 3] = [
+static RIGHT_BOUNDARY: [Row; 3] = [
     ("a", 450_560, 3, " c97=327680 k-40960 c98=163840"),
     ("b", 184_320, 2, " c98=163840 k20480"),
     (
@@ -84,7 +85,7 @@ const RIGHT_BOUNDARY: [Row; 3] = [
     ),
 ];
 
-const BOUNDARY_EXISTS: [Row; 2] = [
+static BOUNDARY_EXISTS: [Row; 2] = [
     ("a", 286_720, 2, " c97=327680 k-40960"),
     ("ab", 450_560, 3, " c97=327680 k-40960 c98=163840"),
 ];
@@ -97,7 +98,7 @@ fn the_right_boundary_stands_after_a_run(rt: HostRuntime) -> Result<(), Fail> {
     sets_each(&rt, "a boundary that exists", &file, &BOUNDARY_EXISTS)
 }
 
-const LEFT_BOUNDARY: [Row; 2] = [
+static LEFT_BOUNDARY: [Row; 2] = [
     ("a", 286_720, 1, " k-40960 c97=327680"),
     ("b", 655_360, 3, " c99=491520 c98=163840"),
 ];
@@ -110,20 +111,25 @@ fn the_left_boundary_stands_before_a_run(rt: HostRuntime) -> Result<(), Fail> {
 
 const ALONE: Row = ("a", 327_680, 1, " c97=327680");
 
+/// A program with this operation has no end, and a line without it is set.
+fn is_stopped<R: Abort + AllocGlobal>(rt: &R, op: u8) -> Result<(), Fail> {
+    let case = format!(in rt.alloc(); "operation {op} without end")?;
+    let file = endless(rt.alloc(), op)?;
+    let terms = terms_of(rt, &file, 100, Policy::Refuse)?;
+    refuses(rt, &case, &terms, b"aa", "steps 100")?;
+    sets_row(rt, &case, &file, ALONE)
+}
+
 #[test]
 fn a_program_without_end_is_stopped(rt: HostRuntime) -> Result<(), Fail> {
     for op in [1, 2, 3, 7] {
-        let case = format!(in rt.alloc(); "operation {op} without end")?;
-        let file = endless(rt.alloc(), op)?;
-        let terms = terms_of(&rt, &file, 100, Policy::Refuse)?;
-        refuses(&rt, &case, &terms, b"aa", "steps 100")?;
-        sets_each(&rt, &case, &file, &[ALONE])?;
+        is_stopped(&rt, op)?;
     }
     Ok(())
 }
 
 /// Operations that come to an end between a and a, in two steps: the width and the items.
-const WITH_AN_END: [(u8, i64, &str); 4] = [
+static WITH_AN_END: [(u8, i64, &str); 4] = [
     (0, 327_680, " c97=327680"),
     (5, 655_360, " c97=327680 c97=327680"),
     (6, 655_360, " c97=327680 c97=327680"),
@@ -132,10 +138,10 @@ const WITH_AN_END: [(u8, i64, &str); 4] = [
 
 #[test]
 fn other_operations_come_to_an_end(rt: HostRuntime) -> Result<(), Fail> {
-    for (op, width, items) in WITH_AN_END {
+    for (op, width, items) in &WITH_AN_END {
         let case = format!(in rt.alloc(); "operation {op}")?;
-        let file = endless(rt.alloc(), op)?;
-        sets_each(&rt, &case, &file, &[("aa", width, 2, items)])?;
+        let file = endless(rt.alloc(), *op)?;
+        sets_row(&rt, &case, &file, ("aa", *width, 2, items))?;
     }
     Ok(())
 }
@@ -147,7 +153,7 @@ fn a_program_without_end_is_stopped_at_a_high_limit(rt: HostRuntime) -> Result<(
     refuses(&rt, "a high limit", &terms, b"aa", "steps 1048576")
 }
 
-const RUNS: [Row; 1] = [(
+static RUNS: [Row; 1] = [(
     "ab abc",
     1_693_013,
     5,

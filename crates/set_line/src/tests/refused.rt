@@ -1,10 +1,12 @@
 //! Lines that are refused at sight.
 use super::answers::{LIMIT, refuses, terms_of};
 use super::samples::{endless, plain};
-use crate::Policy;
+use crate::{Policy, Terms};
+use std::process::Abort;
+use std::sync::Arc;
 use std::test::Fail;
 
-const MISSING: [(&str, &str); 5] = [
+static MISSING: [(&str, &str); 5] = [
     ("ad", "missing 1 100"),
     ("e", "missing 0 101"),
     ("ab  dad", "missing 4 100"),
@@ -15,7 +17,7 @@ const MISSING: [(&str, &str); 5] = [
 #[test]
 fn the_first_missing_character_is_named(rt: HostRuntime) -> Result<(), Fail> {
     let terms = terms_of(&rt, &plain(rt.alloc())?, LIMIT, Policy::Refuse)?;
-    for (line, why) in MISSING {
+    for (line, why) in &MISSING {
         refuses(&rt, why, &terms, line.as_bytes(), why)?;
     }
     Ok(())
@@ -33,21 +35,32 @@ fn a_missing_character_comes_before_too_many_steps(rt: HostRuntime) -> Result<()
     )
 }
 
-const TOO_LONG: [(&str, usize, &str); 4] = [
+static TOO_LONG: [(&str, usize, &str); 4] = [
     ("a", 65_536, "too-long 65536"),
     ("d", 65_536, "too-long 65536"),
     (" ", 65_536, "too-long 65536"),
     ("a", 1_048_575, "too-long 1048575"),
 ];
 
+/// A line of this byte, so many times, is refused so.
+fn refuses_long<R: Abort + AllocGlobal>(
+    rt: &R,
+    terms: &Arc<Terms>,
+    byte: &str,
+    count: usize,
+    why: &str,
+) -> Result<(), Fail> {
+    let line = byte.repeat(rt.alloc(), count)?;
+    refuses(rt, byte, terms, line.as_bytes(), why)
+}
+
 #[test]
 fn a_line_that_is_too_long_is_refused_whatever_is_in_it(rt: HostRuntime) -> Result<(), Fail> {
     let file = plain(rt.alloc())?;
     for policy in [Policy::Refuse, Policy::Skip] {
         let terms = terms_of(&rt, &file, LIMIT, policy)?;
-        for (byte, count, why) in TOO_LONG {
-            let line = byte.repeat(rt.alloc(), count)?;
-            refuses(&rt, byte, &terms, line.as_bytes(), why)?;
+        for (byte, count, why) in &TOO_LONG {
+            refuses_long(&rt, &terms, byte, *count, why)?;
         }
     }
     Ok(())

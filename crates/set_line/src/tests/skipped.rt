@@ -19,7 +19,7 @@ fn skips_each<R: Abort + AllocGlobal>(
     Ok(())
 }
 
-const RIGHT_BOUNDARY: [Row; 4] = [
+static RIGHT_BOUNDARY: [Row; 4] = [
     ("adb", 512_000, 3, " c97=327680 m100 c98=163840 k20480"),
     ("ad", 327_680, 1, " c97=327680 m100"),
     (
@@ -31,14 +31,14 @@ const RIGHT_BOUNDARY: [Row; 4] = [
     ("a|b", 512_000, 3, " c97=327680 m124 c98=163840 k20480"),
 ];
 
-const LEFT_BOUNDARY: [Row; 1] = [(
+static LEFT_BOUNDARY: [Row; 1] = [(
     "ada",
     573_440,
     2,
     " k-40960 c97=327680 m100 k-40960 c97=327680",
 )];
 
-const PLAIN: [Row; 3] = [
+static PLAIN: [Row; 3] = [
     ("d", 0, 0, " m100"),
     ("dd", 0, 0, " m100 m100"),
     (" d ", 436_906, 0, " s218453 m100 s218453"),

@@ -4,13 +4,13 @@ use super::samples::{largest, plain, without_parameters, without_space};
 use crate::Policy;
 use std::test::Fail;
 
-const SPACES: [Row; 3] = [
+static SPACES: [Row; 3] = [
     ("", 0, 0, ""),
     (" ", 218_453, 0, " s218453"),
     ("  ", 436_906, 0, " s218453 s218453"),
 ];
 
-const NO_SPACE: [Row; 3] = [
+static NO_SPACE: [Row; 3] = [
     ("", 0, 0, ""),
     ("  ", 0, 0, " s0 s0"),
     ("a b", 491_520, 2, " c97=327680 s0 c98=163840"),

@@ -28,22 +28,15 @@ impl Entries {
         case: &str,
         (sources, setters, collectors): (u64, u64, u64),
     ) {
-        assert_eq!(rt;
-            self.sources.load(Ordering::SeqCst),
-            sources,
-            "sources, {case}"
-        );
-        assert_eq!(rt;
-            self.setters.load(Ordering::SeqCst),
-            setters,
-            "setters, {case}"
-        );
-        assert_eq!(rt;
-            self.collectors.load(Ordering::SeqCst),
-            collectors,
-            "collectors, {case}"
-        );
+        is_entered(rt, &self.sources, sources, "sources", case);
+        is_entered(rt, &self.setters, setters, "setters", case);
+        is_entered(rt, &self.collectors, collectors, "collectors", case);
     }
+}
+
+/// These threads entered.
+fn is_entered<R: Abort>(rt: &R, entered: &AtomicU64, wanted: u64, stage: &str, case: &str) {
+    assert_eq!(rt; entered.load(Ordering::SeqCst), wanted, "{stage}, {case}");
 }
 
 impl Gate for Entries {

@@ -72,34 +72,55 @@ fn two<S: Drop>(alloc: Global, first: S, second: S) -> Option<Vec<(S, Arc<Terms>
     Some(sources)
 }
 
+/// A source of `ab` and `c` that fails so, and one of `a`; `None` where memory was refused.
+fn frail_and_good(alloc: Global, fault: SourceFault) -> Option<Vec<(Frail, Arc<Terms>)>> {
+    let frail = Frail::new(alloc, &["ab", "c"], Some(fault))?;
+    let good = Frail::new(alloc, &["a"], None)?;
+    two(alloc, frail, good)
+}
+
+/// Faults, their words and what is reported of both sources.
+static FAULTS: [(SourceFault, &str, &str); 3] = [
+    (
+        SourceFault::Read,
+        "read",
+        "1:1 set 491520 c97=327680 c98=163840\n1:2 set 491520 c99=491520\n1 end read 2\n\
+         2:1 set 327680 c97=327680\n2 end complete 1\n",
+    ),
+    (
+        SourceFault::OutOfMemory,
+        "memory",
+        "1:1 set 491520 c97=327680 c98=163840\n1:2 set 491520 c99=491520\n1 end memory 2\n\
+         2:1 set 327680 c97=327680\n2 end complete 1\n",
+    ),
+    (
+        SourceFault::ReadBound,
+        "bound",
+        "1:1 set 491520 c97=327680 c98=163840\n1:2 set 491520 c99=491520\n1 end bound 2\n\
+         2:1 set 327680 c97=327680\n2 end complete 1\n",
+    ),
+];
+
+/// The lines before this fault are answered in blocks of so many.
+fn answers_before<R: Threads + Wait + Clock + Abort + AllocGlobal + Sync>(
+    rt: &R,
+    (fault, word, wanted): (SourceFault, &str, &str),
+    block: usize,
+) -> Result<(), Fail> {
+    let plan = plan(1, block, 2)?;
+    let case = format!(in rt.alloc(); "{word} block {block}")?;
+    let sources = frail_and_good(rt.alloc(), fault).ok_or("out of memory")?;
+    reports(rt, &case, sources, plan, (wanted, false))
+}
+
 #[test]
 fn the_lines_before_a_fault_are_answered(rt: HostRuntime) -> Result<(), Fail> {
-    let faults = [
-        (SourceFault::Read, "read"),
-        (SourceFault::OutOfMemory, "memory"),
-        (SourceFault::ReadBound, "bound"),
-    ];
-    for (fault, word) in faults {
+    for fault in &FAULTS {
         for block in [1, 3, 8] {
-            let case = format!(in rt.alloc(); "{word} block {block}")?;
-            let frail = Frail::new(rt.alloc(), &["ab", "c"], Some(fault)).ok_or("out of memory")?;
-            let good = Frail::new(rt.alloc(), &["a"], None).ok_or("out of memory")?;
-            let sources = two(rt.alloc(), frail, good).ok_or("out of memory")?;
-            let plan = plan(1, block, 2).ok_or("a plan out of range")?;
-            let wanted = text_of_frail(rt.alloc(), word)?;
-            reports(&rt, &case, sources, plan, (&wanted, false))?;
+            answers_before(&rt, *fault, block)?;
         }
     }
     Ok(())
-}
-
-/// What is reported of a source of `ab` and `c` that fails, and of one of `a`.
-fn text_of_frail(alloc: Global, word: &str) -> Result<String, Fail> {
-    let mut text = String::new(alloc);
-    text.push_str("1:1 set 491520 c97=327680 c98=163840\n1:2 set 491520 c99=491520\n")?;
-    text.push_str(&format!(in alloc; "1 end {word} 2\n")?)?;
-    text.push_str("2:1 set 327680 c97=327680\n2 end complete 1\n")?;
-    Ok(text)
 }
 
 const TWO_READERS: &str = "\
@@ -109,19 +130,37 @@ const TWO_READERS: &str = "\
 2 end complete 1
 ";
 
+/// A reader of `ab` and `c` that fails at its second read, and one of `a`; `None` where memory was
+/// refused.
+fn two_readers(
+    alloc: Global,
+    asked: &Asked,
+) -> Option<Vec<(ReaderSource<Trickle<'_>>, Arc<Terms>)>> {
+    let first = ReaderSource::new(alloc, Trickle::new(b"ab\nc", 4, 1, asked));
+    let second = ReaderSource::new(alloc, Trickle::new(b"a", 4, ALL, asked));
+    two(alloc, first, second)
+}
+
 #[test]
 fn a_line_cut_off_by_a_fault_is_not_given(rt: HostRuntime) -> Result<(), Fail> {
     let asked = Asked::new();
     for block in [1, 8] {
-        let first = Trickle::new(b"ab\nc", 4, 1, &asked);
-        let second = Trickle::new(b"a", 4, ALL, &asked);
-        let first = ReaderSource::new(rt.alloc(), first);
-        let second = ReaderSource::new(rt.alloc(), second);
-        let sources = two(rt.alloc(), first, second).ok_or("out of memory")?;
-        let plan = plan(1, block, 2).ok_or("a plan out of range")?;
+        let plan = plan(1, block, 2)?;
+        let sources = two_readers(rt.alloc(), &asked).ok_or("out of memory")?;
         reports(&rt, "two readers", sources, plan, (TWO_READERS, false))?;
     }
     Ok(())
+}
+
+/// A source of this reader.
+fn alone(
+    alloc: Global,
+    reader: Trickle<'_>,
+) -> Result<Vec<(ReaderSource<Trickle<'_>>, Arc<Terms>)>, Fail> {
+    let terms = plain(alloc).ok_or("out of memory")?;
+    let mut sources = Vec::new(alloc);
+    sources.push((ReaderSource::new(alloc, reader), terms))?;
+    Ok(sources)
 }
 
 /// A run of one reader, which gives a byte at a time, has this report.
@@ -131,16 +170,14 @@ fn reads_alone<R: Threads + Wait + Clock + Abort + AllocGlobal + Sync>(
     (bytes, good_reads): (&[u8], usize),
     wanted: (&str, bool),
 ) -> Result<(), Fail> {
+    let plan = plan(1, 1, 1)?;
     let asked = Asked::new();
-    let terms = plain(rt.alloc()).ok_or("out of memory")?;
     let reader = Trickle::new(bytes, 1, good_reads, &asked);
-    let mut sources = Vec::new(rt.alloc());
-    sources.push((ReaderSource::new(rt.alloc(), reader), terms))?;
-    let plan = plan(1, 1, 1).ok_or("a plan out of range")?;
+    let sources = alone(rt.alloc(), reader)?;
     reports(rt, case, sources, plan, wanted)
 }
 
-const ENDS: [&str; 4] = [
+static ENDS: [&str; 4] = [
     "1 end read 0\n",
     "\
 1:1 set 491520 c97=327680 c98=163840
@@ -160,7 +197,7 @@ const ENDS: [&str; 4] = [
 ];
 
 /// How many lines come before the read of each number fails, from the first on.
-const BEFORE: [usize; 9] = [0, 0, 0, 1, 1, 2, 2, 3, 3];
+static BEFORE: [usize; 9] = [0, 0, 0, 1, 1, 2, 2, 3, 3];
 
 #[test]
 fn a_reader_fails_at_each_of_its_reads(rt: HostRuntime) -> Result<(), Fail> {

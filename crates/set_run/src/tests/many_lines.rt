@@ -1,7 +1,7 @@
 //! Many lines of many sources, compared with the same lines set one after the other.
 use super::samples::{LIGATURE, LIMIT, plan, terms_of};
-use crate::{ListSource, NoGate, run};
-use set_line::{Answer, Line, OutOfMemory, Outcome, Terms, set};
+use crate::{ListSource, NoGate, Report, run};
+use set_line::{Answer, Line, Outcome, Terms, set};
 use std::alloc::Global;
 use std::process::Abort;
 use std::sync::{Arc, Wait};
@@ -15,7 +15,7 @@ const SOURCES: usize = 64;
 const LINES: usize = 2_000;
 
 /// What the lines are, in turn.
-const TEXTS: [&str; 7] = ["ab", "", "acb", "ab abc", "ad", "  ", "cbacb a"];
+static TEXTS: [&str; 7] = ["ab", "", "acb", "ab abc", "ad", "  ", "cbacb a"];
 
 /// The line of a source at this place; `None` where memory was refused.
 fn line_at(alloc: Global, source: usize, place: usize) -> Option<Line> {
@@ -29,15 +29,20 @@ fn line_at(alloc: Global, source: usize, place: usize) -> Option<Line> {
 fn sources_of(alloc: Global, terms: &Arc<Terms>) -> Option<Vec<(ListSource, Arc<Terms>)>> {
     let mut sources = Vec::with_capacity(alloc, SOURCES).ok()?;
     for source in 0..SOURCES {
-        let mut lines = Vec::with_capacity(alloc, LINES).ok()?;
-        for place in 0..LINES {
-            lines.push(line_at(alloc, source, place)?).ok()?;
-        }
         sources
-            .push((ListSource::new(lines), terms.clone().ok()?))
+            .push((lines_of(alloc, source)?, terms.clone().ok()?))
             .ok()?;
     }
     Some(sources)
+}
+
+/// The lines of a source; `None` where memory was refused.
+fn lines_of(alloc: Global, source: usize) -> Option<ListSource> {
+    let mut lines = Vec::with_capacity(alloc, LINES).ok()?;
+    for place in 0..LINES {
+        lines.push(line_at(alloc, source, place)?).ok()?;
+    }
+    Some(ListSource::new(lines))
 }
 
 /// Whether both answers say the same of the same line.
@@ -61,6 +66,12 @@ fn are_equal(one: &Answer, other: &Answer) -> bool {
     outcomes && one.line().bytes() == other.line().bytes()
 }
 
+/// The line of a source at this place, set alone; `None` where memory was refused.
+fn answer_at(alloc: Global, terms: &Arc<Terms>, source: usize, place: usize) -> Option<Answer> {
+    let line = line_at(alloc, source, place)?;
+    set(alloc, terms.clone().ok()?, line).ok()
+}
+
 /// The answers of a source are those of its lines, set one after the other.
 fn are_right<R: Abort + AllocGlobal>(
     rt: &R,
@@ -71,11 +82,8 @@ fn are_right<R: Abort + AllocGlobal>(
     assert_eq!(rt; answers.len(), LINES, "source {source}");
     let mut place = 0usize;
     for found in answers {
-        let line = line_at(rt.alloc(), source, place).ok_or("out of memory")?;
-        match set(rt.alloc(), terms.clone()?, line) {
-            Ok(wanted) => assert!(rt; are_equal(found, &wanted), "source {source} place {place}"),
-            Err((_, OutOfMemory)) => return Err(Fail::new("out of memory")),
-        }
+        let wanted = answer_at(rt.alloc(), terms, source, place).ok_or("out of memory")?;
+        assert!(rt; are_equal(found, &wanted), "source {source} place {place}");
         place = place.wrapping_add(1);
     }
     Ok(())
@@ -87,14 +95,23 @@ fn sets_all<R: Threads + Wait + Clock + Abort + AllocGlobal + Sync>(
     threads: usize,
     block: usize,
 ) -> Result<(), Fail> {
+    let plan = plan(1, block, threads)?;
     let terms = terms_of(rt.alloc(), &LIGATURE, LIMIT).ok_or("out of memory")?;
     let sources = sources_of(rt.alloc(), &terms).ok_or("out of memory")?;
-    let plan = plan(1, block, threads).ok_or("a plan out of range")?;
     let report = run(rt, rt.alloc(), sources, plan, &NoGate)?;
     assert!(rt; report.is_finished(), "threads {threads} block {block}");
+    is_right(rt, &terms, &report)
+}
+
+/// All sources have the answers of their lines, set one after the other.
+fn is_right<R: Abort + AllocGlobal>(
+    rt: &R,
+    terms: &Arc<Terms>,
+    report: &Report<ListSource>,
+) -> Result<(), Fail> {
     let mut source = 0usize;
     for lane in report.lanes() {
-        are_right(rt, &terms, source, lane.answers.as_slice())?;
+        are_right(rt, terms, source, lane.answers.as_slice())?;
         source = source.wrapping_add(1);
     }
     assert_eq!(rt; source, SOURCES);

@@ -45,6 +45,18 @@ impl Side {
             asked: AtomicU64::new(0),
         }
     }
+
+    /// Each of its threads entered once, and its source was asked so often.
+    fn went_well<R: Abort>(&self, rt: &R, case: &str, asked: u64) {
+        is_counted(rt, &self.sources, 1, "sources", case);
+        is_counted(rt, &self.setters, 1, "setters", case);
+        is_counted(rt, &self.asked, asked, "asked", case);
+    }
+}
+
+/// A count is this one.
+fn is_counted<R: Abort>(rt: &R, count: &AtomicU64, wanted: u64, what: &str, case: &str) {
+    assert_eq!(rt; count.load(Ordering::SeqCst), wanted, "{what}, {case}");
 }
 
 /// A gate for a run of two sources.
@@ -141,16 +153,9 @@ impl Meeting {
     /// source was asked for all its lines and for one more.
     pub fn went_well<R: Abort>(&self, rt: &R, case: &str, asked: u64) {
         assert!(rt; !self.failed.load(Ordering::SeqCst), "{case}");
-        for side in [&self.first, &self.second] {
-            assert_eq!(rt; side.sources.load(Ordering::SeqCst), 1, "sources, {case}");
-            assert_eq!(rt; side.setters.load(Ordering::SeqCst), 1, "setters, {case}");
-            assert_eq!(rt; side.asked.load(Ordering::SeqCst), asked, "asked, {case}");
-        }
-        assert_eq!(rt;
-            self.collectors.load(Ordering::SeqCst),
-            1,
-            "collectors, {case}"
-        );
+        self.first.went_well(rt, case, asked);
+        self.second.went_well(rt, case, asked);
+        is_counted(rt, &self.collectors, 1, "collectors", case);
     }
 }
 

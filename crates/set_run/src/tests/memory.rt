@@ -91,7 +91,7 @@ fn a_refused_request_of_a_run(rt: HostRuntime) -> Result<(), Fail> {
     let Some(sources) = three_sources(rt.alloc()) else {
         return Ok(println!(rt; "refused before the run")?);
     };
-    let plan = plan(1, 1, 2).ok_or("a plan out of range")?;
+    let plan = plan(1, 1, 2)?;
     let told = match run(&rt, rt.alloc(), sources, plan, &NoGate) {
         Ok(report) => match given_up(&rt, &report) {
             0 => "finished",

@@ -1,6 +1,6 @@
 //! What a run reports doesn't hang on its plan.
 use super::entries::Entries;
-use super::reports::{reports, sources_of_ab, text_of, text_of_ab};
+use super::reports::{reports, says_ab, sources_of_ab, text_of_ab};
 use super::samples::{ENDLESS, LIGATURE, LIMIT, PLAIN, line, plain, plan, source_of, terms_of};
 use crate::{ListSource, NoGate, RunFault, run};
 use set_line::{Line, Terms};
@@ -11,32 +11,40 @@ use std::test::Fail;
 use std::thread::Threads;
 use std::time::Clock;
 
-/// A hundred lines. That of number 50 has 65,536 bytes.
+/// A hundred lines; `None` where memory was refused.
 fn hundred(alloc: Global) -> Option<ListSource> {
     let mut lines = Vec::with_capacity(alloc, 100).ok()?;
     for place in 1..101u32 {
-        lines
-            .push(if place == 50 {
-                Line::new(Vec::from_elem(alloc, b'a', 65_536).ok()?)
-            } else {
-                line(alloc, "ab")?
-            })
-            .ok()?;
+        lines.push(line_at(alloc, place)?).ok()?;
     }
     Some(ListSource::new(lines))
+}
+
+/// A line `ab`. That of number 50 has 65,536 bytes.
+fn line_at(alloc: Global, place: u32) -> Option<Line> {
+    if place == 50 {
+        Some(Line::new(Vec::from_elem(alloc, b'a', 65_536).ok()?))
+    } else {
+        line(alloc, "ab")
+    }
+}
+
+/// Appends a source with these terms; `None` where memory was refused.
+fn push(
+    sources: &mut Vec<(ListSource, Arc<Terms>)>,
+    source: ListSource,
+    terms: &Arc<Terms>,
+) -> Option<()> {
+    sources.push((source, terms.clone().ok()?)).ok()
 }
 
 /// A source without lines, one with one line, and one with a hundred; `None` where memory was refused.
 pub fn three_sources(alloc: Global) -> Option<Vec<(ListSource, Arc<Terms>)>> {
     let terms = plain(alloc)?;
     let mut sources = Vec::with_capacity(alloc, 3).ok()?;
-    sources
-        .push((source_of(alloc, &[])?, terms.clone().ok()?))
-        .ok()?;
-    sources
-        .push((source_of(alloc, &["abc"])?, terms.clone().ok()?))
-        .ok()?;
-    sources.push((hundred(alloc)?, terms)).ok()?;
+    push(&mut sources, source_of(alloc, &[])?, &terms)?;
+    push(&mut sources, source_of(alloc, &["abc"])?, &terms)?;
+    push(&mut sources, hundred(alloc)?, &terms)?;
     Some(sources)
 }
 
@@ -60,11 +68,10 @@ fn text_of_three(alloc: Global) -> Result<String, Fail> {
 #[test]
 fn three_sources_are_reported_in_order(rt: HostRuntime) -> Result<(), Fail> {
     let wanted = text_of_three(rt.alloc())?;
-    for block in [1, 3, 8] {
-        let case = format!(in rt.alloc(); "block {block}")?;
+    for (block, case) in [(1, "block 1"), (3, "block 3"), (8, "block 8")] {
+        let plan = plan(1, block, 2)?;
         let sources = three_sources(rt.alloc()).ok_or("out of memory")?;
-        let plan = plan(1, block, 2).ok_or("a plan out of range")?;
-        reports(&rt, &case, sources, plan, (&wanted, true))?;
+        reports(&rt, case, sources, plan, (&wanted, true))?;
     }
     Ok(())
 }
@@ -74,15 +81,14 @@ fn takes<R: Threads + Wait + Clock + Abort + AllocGlobal + Sync>(
     rt: &R,
     counts: &[usize],
 ) -> Result<(), Fail> {
+    let plan = plan(1, 1, 16)?;
     let case = format!(in rt.alloc(); "{} sources", counts.len())?;
-    let terms = plain(rt.alloc()).ok_or("out of memory")?;
-    let plan = plan(1, 1, 16).ok_or("a plan out of range")?;
     let wanted = text_of_ab(rt.alloc(), counts)?;
-    let sources = sources_of_ab(rt.alloc(), &terms, counts)?;
+    let sources = sources_of_ab(rt.alloc(), counts)?;
     reports(rt, &case, sources, plan, (&wanted, true))
 }
 
-const MOST: [usize; 64] = [1; 64];
+static MOST: [usize; 64] = [1; 64];
 
 #[test]
 fn up_to_64_sources_are_taken(rt: HostRuntime) -> Result<(), Fail> {
@@ -90,13 +96,12 @@ fn up_to_64_sources_are_taken(rt: HostRuntime) -> Result<(), Fail> {
     takes(&rt, &MOST)
 }
 
-const TOO_MANY: [usize; 65] = [1; 65];
+static TOO_MANY: [usize; 65] = [1; 65];
 
 #[test]
 fn more_than_64_sources_are_refused(rt: HostRuntime) -> Result<(), Fail> {
-    let terms = plain(rt.alloc()).ok_or("out of memory")?;
-    let plan = plan(1, 1, 16).ok_or("a plan out of range")?;
-    let sources = sources_of_ab(rt.alloc(), &terms, &TOO_MANY)?;
+    let plan = plan(1, 1, 16)?;
+    let sources = sources_of_ab(rt.alloc(), &TOO_MANY)?;
     match run(&rt, rt.alloc(), sources, plan, &NoGate) {
         Ok(_) => panic!(rt; "65 sources were taken"),
         Err(fault) => assert_eq!(rt; fault, RunFault::TooManySources),
@@ -106,7 +111,10 @@ fn more_than_64_sources_are_refused(rt: HostRuntime) -> Result<(), Fail> {
 
 /// Numbers of threads that set lines, and the entries of these threads: a hexadecimal digit each,
 /// the last one for number 0.
-const THREADS: [(usize, u64); 4] = [(1, 0x1), (2, 0x11), (3, 0x111), (16, 0x1_1111)];
+static THREADS: [(usize, u64); 4] = [(1, 0x1), (2, 0x11), (3, 0x111), (16, 0x1_1111)];
+
+/// How many lines each of five sources has.
+static FIVE: [usize; 5] = [1, 2, 3, 4, 5];
 
 /// Five sources are set by so many threads. Each thread enters the gate once.
 fn sets_five<R: Threads + Wait + Clock + Abort + AllocGlobal + Sync>(
@@ -114,25 +122,21 @@ fn sets_five<R: Threads + Wait + Clock + Abort + AllocGlobal + Sync>(
     (threads, entered): (usize, u64),
     (capacity, block): (usize, usize),
 ) -> Result<(), Fail> {
-    let case = format!(in rt.alloc(); "threads {threads} capacity {capacity} block {block}")?;
-    let terms = plain(rt.alloc()).ok_or("out of memory")?;
-    let plan = plan(capacity, block, threads).ok_or("a plan out of range")?;
-    let sources = sources_of_ab(rt.alloc(), &terms, &[1, 2, 3, 4, 5])?;
+    let plan = plan(capacity, block, threads)?;
+    let sources = sources_of_ab(rt.alloc(), &FIVE)?;
     let gate = Entries::new();
     let report = run(rt, rt.alloc(), sources, plan, &gate)?;
-    let text = text_of(rt.alloc(), &report)?;
-    let wanted = text_of_ab(rt.alloc(), &[1, 2, 3, 4, 5])?;
-    assert_eq!(rt; text, wanted, "{case}");
-    assert!(rt; report.is_finished(), "{case}");
+    let case = format!(in rt.alloc(); "threads {threads} capacity {capacity} block {block}")?;
+    says_ab(rt, &case, &report, &FIVE)?;
     gate.are(rt, &case, (0x1_1111, entered, 0x1));
     Ok(())
 }
 
 #[test]
 fn threads_and_rings_change_no_report(rt: HostRuntime) -> Result<(), Fail> {
-    for threads in THREADS {
+    for threads in &THREADS {
         for sizes in [(1, 1), (1, 8), (16, 1), (16, 8)] {
-            sets_five(&rt, threads, sizes)?;
+            sets_five(&rt, *threads, sizes)?;
         }
     }
     Ok(())
@@ -142,13 +146,11 @@ fn threads_and_rings_change_no_report(rt: HostRuntime) -> Result<(), Fail> {
 fn with_own_terms(alloc: Global) -> Option<Vec<(ListSource, Arc<Terms>)>> {
     let mut sources = Vec::with_capacity(alloc, 3).ok()?;
     let terms = terms_of(alloc, &LIGATURE, LIMIT)?;
-    sources.push((source_of(alloc, &["ab"])?, terms)).ok()?;
+    push(&mut sources, source_of(alloc, &["ab"])?, &terms)?;
     let terms = terms_of(alloc, &PLAIN, 4)?;
-    sources
-        .push((source_of(alloc, &["ab abc", "ab"])?, terms))
-        .ok()?;
+    push(&mut sources, source_of(alloc, &["ab abc", "ab"])?, &terms)?;
     let terms = terms_of(alloc, &ENDLESS, 100)?;
-    sources.push((source_of(alloc, &["aa", "a"])?, terms)).ok()?;
+    push(&mut sources, source_of(alloc, &["aa", "a"])?, &terms)?;
     Some(sources)
 }
 
@@ -163,13 +165,19 @@ const WITH_OWN_TERMS: &str = "\
 3 end complete 2
 ";
 
+/// Threads, lines of a block, and the case.
+static OWN_TERMS: [(usize, usize, &str); 3] = [
+    (1, 1, "threads 1 block 1"),
+    (2, 8, "threads 2 block 8"),
+    (3, 1, "threads 3 block 1"),
+];
+
 #[test]
 fn each_source_has_its_own_terms(rt: HostRuntime) -> Result<(), Fail> {
-    for (threads, block) in [(1, 1), (2, 8), (3, 1)] {
-        let case = format!(in rt.alloc(); "threads {threads} block {block}")?;
+    for (threads, block, case) in &OWN_TERMS {
+        let plan = plan(1, *block, *threads)?;
         let sources = with_own_terms(rt.alloc()).ok_or("out of memory")?;
-        let plan = plan(1, block, threads).ok_or("a plan out of range")?;
-        reports(&rt, &case, sources, plan, (WITH_OWN_TERMS, true))?;
+        reports(&rt, case, sources, plan, (WITH_OWN_TERMS, true))?;
     }
     Ok(())
 }

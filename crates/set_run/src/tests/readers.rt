@@ -4,7 +4,6 @@ use crate::{LineSource, ReaderSource};
 use line_lane::SourceFault;
 use set_line::lines;
 use std::process::Abort;
-use std::sync::atomic::Ordering;
 use std::test::Fail;
 
 /// More reads than any text takes here.
@@ -37,7 +36,7 @@ fn fails<R: Abort, S: LineSource>(rt: &R, case: &str, source: &mut S, wanted: So
 }
 
 /// Texts and their lines.
-const TEXTS: [(&str, &[&str]); 8] = [
+static TEXTS: [(&str, &[&str]); 8] = [
     ("ab\n\nc", &["ab", "", "c"]),
     ("ab\n", &["ab"]),
     ("", &[]),
@@ -48,17 +47,28 @@ const TEXTS: [(&str, &[&str]); 8] = [
     ("a \r\nbcabc\nabca\n", &["a \r", "bcabc", "abca"]),
 ];
 
+/// A text is cut into these lines where a read gives so many bytes.
+fn is_cut_by<R: Abort + AllocGlobal>(
+    rt: &R,
+    text: &str,
+    step: usize,
+    wanted: &[&str],
+) -> Result<(), Fail> {
+    let asked = Asked::new();
+    let case = format!(in rt.alloc(); "{text:?} step {step}")?;
+    let reader = Trickle::new(text.as_bytes(), step, ALL, &asked);
+    let mut source = ReaderSource::new(rt.alloc(), reader);
+    for line in wanted {
+        gives(rt, &case, &mut source, line.as_bytes());
+    }
+    is_at_its_end(rt, &case, &mut source);
+    Ok(())
+}
+
 /// A text is cut into these lines, however many bytes a read gives.
 fn is_cut<R: Abort + AllocGlobal>(rt: &R, text: &str, wanted: &[&str]) -> Result<(), Fail> {
-    let asked = Asked::new();
     for step in [1, 2, 3, 4096] {
-        let case = format!(in rt.alloc(); "{text:?} step {step}")?;
-        let reader = Trickle::new(text.as_bytes(), step, ALL, &asked);
-        let mut source = ReaderSource::new(rt.alloc(), reader);
-        for line in wanted {
-            gives(rt, &case, &mut source, line.as_bytes());
-        }
-        is_at_its_end(rt, &case, &mut source);
+        is_cut_by(rt, text, step, wanted)?;
     }
     assert_eq!(rt;
         lines(rt.alloc(), text.as_bytes())?.len(),
@@ -70,7 +80,7 @@ fn is_cut<R: Abort + AllocGlobal>(rt: &R, text: &str, wanted: &[&str]) -> Result
 
 #[test]
 fn a_text_is_cut_in_the_same_way_whatever_a_read_gives(rt: HostRuntime) -> Result<(), Fail> {
-    for (text, wanted) in TEXTS {
+    for (text, wanted) in &TEXTS {
         is_cut(&rt, text, wanted)?;
     }
     Ok(())
@@ -86,100 +96,135 @@ fn long_text<R: AllocGlobal>(rt: &R) -> Result<Vec<u8>, Fail> {
     Ok(text)
 }
 
+/// A reader that gives so many bytes a read has the 300 lines of a text.
+fn has_lines<R: Abort + AllocGlobal>(rt: &R, text: &[u8], step: usize) -> Result<(), Fail> {
+    let asked = Asked::new();
+    let case = format!(in rt.alloc(); "step {step}")?;
+    let wanted = lines(rt.alloc(), text)?;
+    assert_eq!(rt; wanted.len(), 300);
+    let reader = Trickle::new(text, step, ALL, &asked);
+    let mut source = ReaderSource::new(rt.alloc(), reader);
+    for line in &wanted {
+        gives(rt, &case, &mut source, line.bytes());
+    }
+    is_at_its_end(rt, &case, &mut source);
+    Ok(())
+}
+
 #[test]
 fn a_reader_has_the_lines_that_its_bytes_have(rt: HostRuntime) -> Result<(), Fail> {
     let text = long_text(&rt)?;
-    let asked = Asked::new();
     for step in [1, 7, 4095, 4096] {
-        let case = format!(in rt.alloc(); "step {step}")?;
-        let reader = Trickle::new(&text, step, ALL, &asked);
-        let mut source = ReaderSource::new(rt.alloc(), reader);
-        let wanted = lines(rt.alloc(), &text)?;
-        assert_eq!(rt; wanted.len(), 300);
-        for line in &wanted {
-            gives(&rt, &case, &mut source, line.bytes());
-        }
-        is_at_its_end(&rt, &case, &mut source);
+        has_lines(&rt, &text, step)?;
     }
     Ok(())
 }
 
 /// How many reads were made behind each line of `ab`, `c`, `b` and at the end, by the bytes of a read.
-const READS: [(usize, [u32; 4]); 4] = [
+static READS: [(usize, [u32; 4]); 4] = [
     (1, [3, 5, 7, 7]),
     (2, [2, 3, 4, 4]),
     (3, [1, 2, 3, 3]),
     (4096, [1, 1, 2, 2]),
 ];
 
+/// So many reads were made, each for 4,096 bytes.
+fn was_read<R: Abort>(rt: &R, asked: &Asked, reads: u32, step: usize) {
+    assert_eq!(rt; asked.counts(), (reads, 0), "step {step}");
+}
+
+/// So many reads are made behind each line and at the end, where a read gives so many bytes.
+fn is_read_by<R: Abort + AllocGlobal>(rt: &R, step: usize, wanted: &[u32; 4]) -> Result<(), Fail> {
+    let asked = Asked::new();
+    let reader = Trickle::new(b"ab\nc\nb", step, ALL, &asked);
+    let mut source = ReaderSource::new(rt.alloc(), reader);
+    was_read(rt, &asked, 0, step);
+    for reads in wanted {
+        let _line = source.next_line()?;
+        was_read(rt, &asked, *reads, step);
+    }
+    is_at_its_end(rt, "behind the end", &mut source);
+    was_read(rt, &asked, wanted[3], step);
+    Ok(())
+}
+
 /// Each read asks for 4,096 bytes. None is made while a whole line is in hand, and none behind the end.
 #[test]
 fn a_reader_is_read_when_its_next_line_needs_it(rt: HostRuntime) -> Result<(), Fail> {
-    for (step, wanted) in READS {
-        let asked = Asked::new();
-        let reader = Trickle::new(b"ab\nc\nb", step, ALL, &asked);
-        let mut source = ReaderSource::new(rt.alloc(), reader);
-        assert_eq!(rt; asked.counts(), (0, 0), "step {step}");
-        for reads in wanted {
-            let _line = source.next_line()?;
-            assert_eq!(rt; asked.counts(), (reads, 0), "step {step}");
-        }
-        is_at_its_end(&rt, "behind the end", &mut source);
-        assert_eq!(rt;
-            asked.reads.load(Ordering::SeqCst),
-            wanted[3],
-            "step {step}"
-        );
+    for (step, wanted) in &READS {
+        is_read_by(&rt, *step, wanted)?;
     }
     Ok(())
 }
 
 /// How many bytes, whether a line feed follows, and whether they are a line.
-const LONG: [(usize, bool, bool); 4] = [
+static LONG: [(usize, bool, bool); 4] = [
     (1_048_575, true, true),
     (1_048_575, false, true),
     (1_048_576, true, false),
     (1_048_576, false, false),
 ];
 
+/// So many bytes, a read each, and a line feed where one follows, are a line or not.
+fn is_long<R: Abort + AllocGlobal>(
+    rt: &R,
+    count: usize,
+    fed: bool,
+    line: bool,
+) -> Result<(), Fail> {
+    let case = format!(in rt.alloc(); "{count} bytes")?;
+    let wanted = vec![in rt.alloc(); b'a'; count]?;
+    let mut text = vec![in rt.alloc(); b'a'; count]?;
+    if fed {
+        text.push(b'\n')?;
+    }
+    let asked = Asked::new();
+    let mut source = ReaderSource::new(rt.alloc(), Trickle::new(&text, 1, ALL, &asked));
+    if line {
+        gives(rt, &case, &mut source, &wanted);
+        is_at_its_end(rt, &case, &mut source);
+    } else {
+        fails(rt, &case, &mut source, SourceFault::ReadBound);
+    }
+    assert_eq!(rt; asked.counts().1, 0, "{case}");
+    Ok(())
+}
+
 #[test]
 fn a_line_is_read_by_1048576_reads(rt: HostRuntime) -> Result<(), Fail> {
-    for (count, fed, line) in LONG {
-        let case = format!(in rt.alloc(); "{count} bytes")?;
-        let mut text = vec![in rt.alloc(); b'a'; count]?;
-        let wanted = vec![in rt.alloc(); b'a'; count]?;
-        if fed {
-            text.push(b'\n')?;
-        }
-        let asked = Asked::new();
-        let mut source = ReaderSource::new(rt.alloc(), Trickle::new(&text, 1, ALL, &asked));
-        if line {
-            gives(&rt, &case, &mut source, &wanted);
-            is_at_its_end(&rt, &case, &mut source);
-        } else {
-            fails(&rt, &case, &mut source, SourceFault::ReadBound);
-        }
-        assert_eq!(rt; asked.counts().1, 0, "{case}");
+    for (count, fed, line) in &LONG {
+        is_long(&rt, *count, *fed, *line)?;
     }
     Ok(())
 }
 
 /// How many lines come before the read of each number fails, from the first on. After that no read
 /// fails: all three come.
-const BEFORE: [usize; 7] = [0, 0, 0, 1, 1, 2, 2];
+static BEFORE: [usize; 7] = [0, 0, 0, 1, 1, 2, 2];
+
+static AB_C_B: [&str; 3] = ["ab", "c", "b"];
+
+/// Where the reads behind so many fail, so many lines come first.
+fn fails_behind<R: Abort + AllocGlobal>(
+    rt: &R,
+    good_reads: usize,
+    before: usize,
+) -> Result<(), Fail> {
+    let case = format!(in rt.alloc(); "{good_reads} good reads")?;
+    let asked = Asked::new();
+    let reader = Trickle::new(b"ab\nc\nb", 1, good_reads, &asked);
+    let mut source = ReaderSource::new(rt.alloc(), reader);
+    for line in AB_C_B.iter().take(before) {
+        gives(rt, &case, &mut source, line.as_bytes());
+    }
+    fails(rt, &case, &mut source, SourceFault::Read);
+    Ok(())
+}
 
 #[test]
 fn a_read_that_fails_is_no_end(rt: HostRuntime) -> Result<(), Fail> {
-    let lines = ["ab", "c", "b"];
     for (good_reads, before) in BEFORE.iter().enumerate() {
-        let case = format!(in rt.alloc(); "{good_reads} good reads")?;
-        let asked = Asked::new();
-        let reader = Trickle::new(b"ab\nc\nb", 1, good_reads, &asked);
-        let mut source = ReaderSource::new(rt.alloc(), reader);
-        for line in lines.iter().take(*before) {
-            gives(&rt, &case, &mut source, line.as_bytes());
-        }
-        fails(&rt, &case, &mut source, SourceFault::Read);
+        fails_behind(&rt, good_reads, *before)?;
     }
     Ok(())
 }

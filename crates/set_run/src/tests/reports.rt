@@ -1,5 +1,5 @@
 //! Reports as text.
-use super::samples::source_of;
+use super::samples::{plain, source_of};
 use crate::{LaneReport, LineSource, ListSource, NoGate, Plan, Report, run};
 use line_lane::{LaneEnd, SourceFault};
 use set_line::{Terms, Version, record};
@@ -55,28 +55,54 @@ pub fn reports<R: Threads + Wait + Clock + Abort + AllocGlobal + Sync, S: LineSo
     case: &str,
     sources: Vec<(S, Arc<Terms>)>,
     plan: Plan,
-    (wanted, finished): (&str, bool),
+    wanted: (&str, bool),
 ) -> Result<(), Fail> {
     let report = run(rt, rt.alloc(), sources, plan, &NoGate)?;
-    let text = text_of(rt.alloc(), &report)?;
+    says(rt, case, &report, wanted)
+}
+
+/// A report has this text. It is finished where all ends are complete.
+fn says<R: Abort + AllocGlobal, S>(
+    rt: &R,
+    case: &str,
+    report: &Report<S>,
+    (wanted, finished): (&str, bool),
+) -> Result<(), Fail> {
+    let text = text_of(rt.alloc(), report)?;
     assert_eq!(rt; text.as_str(), wanted, "{case}");
     assert_eq!(rt; report.is_finished(), finished, "{case}");
     Ok(())
 }
 
-/// Sources of lines `ab`, so many each.
+/// The report is finished, and is that of lines `ab` in the plain font, so many of each source.
+pub fn says_ab<R: Abort + AllocGlobal, S>(
+    rt: &R,
+    case: &str,
+    report: &Report<S>,
+    counts: &[usize],
+) -> Result<(), Fail> {
+    let wanted = text_of_ab(rt.alloc(), counts)?;
+    says(rt, case, report, (&wanted, true))
+}
+
+/// Sources of lines `ab` in the plain font, so many each.
 pub fn sources_of_ab(
     alloc: Global,
-    terms: &Arc<Terms>,
     counts: &[usize],
 ) -> Result<Vec<(ListSource, Arc<Terms>)>, Fail> {
+    let terms = plain(alloc).ok_or("out of memory")?;
     let mut sources = Vec::new(alloc);
     for count in counts {
-        let texts = vec![in alloc; "ab"; *count]?;
-        let source = source_of(alloc, &texts).ok_or("out of memory")?;
+        let source = source_of_ab(alloc, *count)?;
         sources.push((source, terms.clone()?))?;
     }
     Ok(sources)
+}
+
+/// A source of so many lines `ab`.
+fn source_of_ab(alloc: Global, count: usize) -> Result<ListSource, Fail> {
+    let texts = vec![in alloc; "ab"; count]?;
+    Ok(source_of(alloc, &texts).ok_or("out of memory")?)
 }
 
 /// The report of lines `ab` in the plain font, so many of each source.
@@ -85,13 +111,19 @@ pub fn text_of_ab(alloc: Global, counts: &[usize]) -> Result<String, Fail> {
     let mut source = 0u64;
     for count in counts {
         source = source.wrapping_add(1);
-        let mut place = 0u64;
-        for _ in 0..*count {
-            place = place.wrapping_add(1);
-            let record = format!(in alloc; "{source}:{place} set 491520 c97=327680 c98=163840\n")?;
-            text.push_str(&record)?;
-        }
-        text.push_str(&format!(in alloc; "{source} end complete {place}\n")?)?;
+        push_ab(alloc, source, *count, &mut text)?;
     }
     Ok(text)
+}
+
+/// Appends the report of a source of so many lines `ab`.
+fn push_ab(alloc: Global, source: u64, count: usize, text: &mut String) -> Result<(), Fail> {
+    let mut place = 0u64;
+    for _ in 0..count {
+        place = place.wrapping_add(1);
+        let record = format!(in alloc; "{source}:{place} set 491520 c97=327680 c98=163840\n")?;
+        text.push_str(&record)?;
+    }
+    let end = format!(in alloc; "{source} end complete {place}\n")?;
+    Ok(text.push_str(&end)?)
 }

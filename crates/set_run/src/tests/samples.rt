@@ -119,9 +119,12 @@ pub fn source_of(alloc: Global, texts: &[&str]) -> Option<ListSource> {
     Some(ListSource::new(lines))
 }
 
-/// A plan with rings for so many messages of so many lines, and so many threads that set them; `None`
-/// where these are out of range.
-pub fn plan(capacity: usize, block: usize, workers: usize) -> Option<Plan> {
+/// A plan with rings for so many messages of so many lines, and so many threads that set them.
+pub fn plan(capacity: usize, block: usize, workers: usize) -> Result<Plan, &'static str> {
+    plan_of(capacity, block, workers).ok_or("a plan out of range")
+}
+
+fn plan_of(capacity: usize, block: usize, workers: usize) -> Option<Plan> {
     Some(Plan {
         capacity: Capacity::new(capacity)?,
         block: Block::new(block)?,

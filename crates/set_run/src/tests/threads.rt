@@ -1,6 +1,6 @@
 //! The threads of a run really run beside one another, and each line goes through its lane's rings.
 use super::meeting::{Guest, Held, Meeting};
-use super::reports::{text_of, text_of_ab};
+use super::reports::says_ab;
 use super::samples::{plain, plan};
 use crate::run;
 use set_line::Terms;
@@ -34,15 +34,12 @@ fn meets<R: Threads + Wait + Clock + Abort + AllocGlobal + Sync>(
     lines: usize,
     (capacity, block): (usize, usize),
 ) -> Result<(), Fail> {
-    let case = format!(in rt.alloc(); "{held:?}")?;
+    let plan = plan(capacity, block, 2)?;
     let meeting = Meeting::new(held);
     let sources = guests(rt.alloc(), &meeting, lines).ok_or("out of memory")?;
-    let plan = plan(capacity, block, 2).ok_or("a plan out of range")?;
     let report = run(rt, rt.alloc(), sources, plan, &meeting)?;
-    let text = text_of(rt.alloc(), &report)?;
-    let wanted = text_of_ab(rt.alloc(), &[lines, lines])?;
-    assert_eq!(rt; text, wanted, "{case}");
-    assert!(rt; report.is_finished(), "{case}");
+    let case = format!(in rt.alloc(); "{held:?}")?;
+    says_ab(rt, &case, &report, &[lines, lines])?;
     meeting.went_well(rt, &case, (lines as u64).wrapping_add(1));
     Ok(())
 }

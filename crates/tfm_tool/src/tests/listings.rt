@@ -18,26 +18,39 @@ pub fn letters(
     for count in [lf, 2, 97, 99, 4, 1, 1, 1, nl, nk, 0, 2] {
         bytes.extend_from_slice(&count.to_be_bytes())?;
     }
-    bytes.extend_from_slice(&[0, 0, 0, 0])?; // check sum
-    bytes.extend_from_slice(&[0, 0xA0, 0, 0])?; // 10 points
+    push_words(&mut bytes, &HEADER)?;
     push_words(&mut bytes, &infos)?;
-    push_words(
-        &mut bytes,
-        &[
-            [0, 0, 0, 0], // width 0
-            [0, 0x08, 0, 0], // width 1: half the size
-            [0, 0x04, 0, 0], // width 2: a quarter
-            [0, 0x0C, 0, 0], // width 3: three quarters
-            [0, 0, 0, 0], // height 0
-            [0, 0, 0, 0], // depth 0
-            [0, 0, 0, 0], // italic 0
-        ],
-    )?;
+    push_words(&mut bytes, &SIZES)?;
     push_words(&mut bytes, program)?;
     push_words(&mut bytes, kerns)?;
-    bytes.extend_from_slice(&[0, 0, 0, 0])?; // slant
-    bytes.extend_from_slice(&[0, 5, 0x55, 0x55])?; // space: a third
+    push_words(&mut bytes, &PARAMETERS)?;
     Ok(bytes)
+}
+
+static HEADER: [[u8; 4]; 2] = [
+    [0, 0, 0, 0], // check sum
+    [0, 0xA0, 0, 0], // 10 points
+];
+
+static SIZES: [[u8; 4]; 7] = [
+    [0, 0, 0, 0], // width 0
+    [0, 0x08, 0, 0], // width 1: half the size
+    [0, 0x04, 0, 0], // width 2: a quarter
+    [0, 0x0C, 0, 0], // width 3: three quarters
+    [0, 0, 0, 0], // height 0
+    [0, 0, 0, 0], // depth 0
+    [0, 0, 0, 0], // italic 0
+];
+
+static PARAMETERS: [[u8; 4]; 2] = [
+    [0, 0, 0, 0], // slant
+    [0, 5, 0x55, 0x55], // space: a third
+];
+
+/// The characters a, b and c without programs.
+pub fn plain(alloc: Global) -> Result<Vec<u8>, AllocError> {
+    let infos = [[1, 0, 0, 0], [2, 0, 0, 0], [3, 0, 0, 0]];
+    letters(alloc, [20, 0, 0], infos, &[], &[])
 }
 
 fn push_words(bytes: &mut Vec<u8>, words: &[[u8; 4]]) -> Result<(), AllocError> {
@@ -81,7 +94,9 @@ fn header(
 }
 
 fn listing(alloc: Global, bytes: &[u8]) -> Result<Vec<u8>, Fail> {
-    let font = Font::read(alloc, bytes, None).map_err(|_| "the font is refused")?;
+    let font = Font::read(alloc, bytes, None)
+        .ok()
+        .ok_or("the font is refused")?;
     let mut out = Vec::new(alloc);
     match list_text(alloc, &font, &mut out) {
         Ok(()) => Ok(out),
@@ -89,67 +104,80 @@ fn listing(alloc: Global, bytes: &[u8]) -> Result<Vec<u8>, Fail> {
     }
 }
 
+/// The listing of a font is this one.
+fn lists<R: Abort + AllocGlobal>(rt: &R, bytes: &[u8], want: &[u8]) -> Result<(), Fail> {
+    let text = listing(rt.alloc(), bytes)?;
+    assert_eq!(rt; text.as_slice(), want);
+    Ok(())
+}
+
+static LIGATURE: &[u8] = b"checksum 0\n\
+    design 655360\n\
+    size 655360\n\
+    right none\n\
+    left none\n\
+    char 97 width 327680 height 0 depth 0 italic 0 tag lig 0\n\
+    char 98 width 163840 height 0 depth 0 italic 0 tag none\n\
+    char 99 width 491520 height 0 depth 0 italic 0 tag lig 2\n\
+    step 0 skip 0 next 98 LIG 99\n\
+    step 1 skip 128 next 99 KRN 0 -40960\n\
+    step 2 skip 128 next 98 KRN 1 20480\n\
+    kern 0 -40960\n\
+    kern 1 20480\n\
+    param 1 0\n\
+    param 2 218453\n";
+
 #[test]
 fn a_font_with_a_ligature_is_listed(rt: HostRuntime) -> Result<(), Fail> {
     let bytes = ligature(rt.alloc(), 0)?;
-    let text = listing(rt.alloc(), bytes.as_slice())?;
-    let want = b"checksum 0\n\
-        design 655360\n\
-        size 655360\n\
-        right none\n\
-        left none\n\
-        char 97 width 327680 height 0 depth 0 italic 0 tag lig 0\n\
-        char 98 width 163840 height 0 depth 0 italic 0 tag none\n\
-        char 99 width 491520 height 0 depth 0 italic 0 tag lig 2\n\
-        step 0 skip 0 next 98 LIG 99\n\
-        step 1 skip 128 next 99 KRN 0 -40960\n\
-        step 2 skip 128 next 98 KRN 1 20480\n\
-        kern 0 -40960\n\
-        kern 1 20480\n\
-        param 1 0\n\
-        param 2 218453\n";
-    assert_eq!(rt; text.as_slice(), want.as_slice());
-    Ok(())
+    lists(&rt, &bytes, LIGATURE)
 }
+
+static LONG_HEADER: &[u8] = b"checksum 0\n\
+    design 327680\n\
+    size 327680\n\
+    coding TEX TEXT\n\
+    family CMR\n\
+    sevenbit no\n\
+    face 234\n\
+    right none\n\
+    left none\n";
 
 #[test]
 fn a_long_header_is_listed(rt: HostRuntime) -> Result<(), Fail> {
     let bytes = header(rt.alloc(), b"\x08TEX TEXT", b"\x03CMR", [0, 0, 0, 0xEA])?;
-    let text = listing(rt.alloc(), bytes.as_slice())?;
-    let want = b"checksum 0\n\
-        design 327680\n\
-        size 327680\n\
-        coding TEX TEXT\n\
-        family CMR\n\
-        sevenbit no\n\
-        face 234\n\
-        right none\n\
-        left none\n";
-    assert_eq!(rt; text.as_slice(), want.as_slice());
-    Ok(())
+    lists(&rt, &bytes, LONG_HEADER)
 }
+
+static UNPRINTABLE: &[u8] = b"checksum 0\n\
+    design 327680\n\
+    size 327680\n\
+    coding  a\\x5c\\x7f\\xe9~\\x1f\n\
+    family \n\
+    sevenbit yes\n\
+    face 9\n\
+    right none\n\
+    left none\n";
 
 #[test]
 fn unprintable_bytes_and_backslashes_are_escaped(rt: HostRuntime) -> Result<(), Fail> {
-    let bytes = header(
-        rt.alloc(),
-        b"\x07 a\\\x7F\xE9~\x1F",
-        b"\x00",
-        [0x80, 0, 0, 9],
-    )?;
-    let text = listing(rt.alloc(), bytes.as_slice())?;
-    let want = b"checksum 0\n\
-        design 327680\n\
-        size 327680\n\
-        coding  a\\x5c\\x7f\\xe9~\\x1f\n\
-        family \n\
-        sevenbit yes\n\
-        face 9\n\
-        right none\n\
-        left none\n";
-    assert_eq!(rt; text.as_slice(), want.as_slice());
-    Ok(())
+    let coding = b"\x07 a\\\x7F\xE9~\x1F";
+    let bytes = header(rt.alloc(), coding, b"\x00", [0x80, 0, 0, 9])?;
+    lists(&rt, &bytes, UNPRINTABLE)
 }
+
+static BOUNDARIES: &[u8] = b"checksum 0\n\
+    design 655360\n\
+    size 655360\n\
+    right 124\n\
+    left 0\n\
+    char 97 width 327680 height 0 depth 0 italic 0 tag list 98\n\
+    char 98 width 163840 height 0 depth 0 italic 0 tag ext 7\n\
+    step 0 skip 255 next 124 goto 1\n\
+    step 1 skip 255 next 0 goto 0\n\
+    kern 0 20480\n\
+    param 1 0\n\
+    param 2 218453\n";
 
 #[test]
 fn boundaries_and_tags_are_listed(rt: HostRuntime) -> Result<(), Fail> {
@@ -160,46 +188,38 @@ fn boundaries_and_tags_are_listed(rt: HostRuntime) -> Result<(), Fail> {
         &[[255, 124, 0, 1], [255, 0, 0, 0]],
         &[[0, 0, 0x80, 0]],
     )?;
-    let text = listing(rt.alloc(), bytes.as_slice())?;
-    let want = b"checksum 0\n\
-        design 655360\n\
-        size 655360\n\
-        right 124\n\
-        left 0\n\
-        char 97 width 327680 height 0 depth 0 italic 0 tag list 98\n\
-        char 98 width 163840 height 0 depth 0 italic 0 tag ext 7\n\
-        step 0 skip 255 next 124 goto 1\n\
-        step 1 skip 255 next 0 goto 0\n\
-        kern 0 20480\n\
-        param 1 0\n\
-        param 2 218453\n";
-    assert_eq!(rt; text.as_slice(), want.as_slice());
-    Ok(())
+    lists(&rt, &bytes, BOUNDARIES)
+}
+
+/// Operations, and the line of the first step.
+static OPERATIONS: [(u8, &str); 13] = [
+    (0, "\nstep 0 skip 0 next 98 LIG 99\n"),
+    (1, "\nstep 0 skip 0 next 98 LIG/ 99\n"),
+    (2, "\nstep 0 skip 0 next 98 /LIG 99\n"),
+    (3, "\nstep 0 skip 0 next 98 /LIG/ 99\n"),
+    (4, "\nstep 0 skip 0 next 98 LIG 99\n"),
+    (5, "\nstep 0 skip 0 next 98 LIG/> 99\n"),
+    (6, "\nstep 0 skip 0 next 98 /LIG> 99\n"),
+    (7, "\nstep 0 skip 0 next 98 /LIG/> 99\n"),
+    (8, "\nstep 0 skip 0 next 98 LIG 99\n"),
+    (10, "\nstep 0 skip 0 next 98 LIG 99\n"),
+    (11, "\nstep 0 skip 0 next 98 /LIG/>> 99\n"),
+    (12, "\nstep 0 skip 0 next 98 LIG 99\n"),
+    (127, "\nstep 0 skip 0 next 98 LIG 99\n"),
+];
+
+/// The listing of the font in which a and b are replaced by this operation.
+fn text_with(alloc: Global, op: u8) -> Result<String, Fail> {
+    let bytes = ligature(alloc, op)?;
+    let text = listing(alloc, &bytes)?;
+    Ok(String::from_utf8(text).ok().ok_or("no text")?)
 }
 
 #[test]
 fn each_operation_has_its_name(rt: HostRuntime) -> Result<(), Fail> {
-    let names = [
-        (0, "LIG"),
-        (1, "LIG/"),
-        (2, "/LIG"),
-        (3, "/LIG/"),
-        (4, "LIG"),
-        (5, "LIG/>"),
-        (6, "/LIG>"),
-        (7, "/LIG/>"),
-        (8, "LIG"),
-        (10, "LIG"),
-        (11, "/LIG/>>"),
-        (12, "LIG"),
-        (127, "LIG"),
-    ];
-    for (op, name) in names {
-        let bytes = ligature(rt.alloc(), op)?;
-        let text = listing(rt.alloc(), bytes.as_slice())?;
-        let text = String::from_utf8(text).map_err(|_| "no text")?;
-        let line = format!(in rt.alloc(); "\nstep 0 skip 0 next 98 {name} 99\n")?;
-        assert!(rt; text.contains(line.as_str()), "operation {op}");
+    for (op, line) in &OPERATIONS {
+        let text = text_with(rt.alloc(), *op)?;
+        assert!(rt; text.contains(*line), "operation {op}");
     }
     Ok(())
 }
@@ -228,7 +248,9 @@ impl Write for Failing {
 #[test]
 fn a_listing_whose_write_fails_is_told(rt: HostRuntime) -> Result<(), Fail> {
     let bytes = ligature(rt.alloc(), 0)?;
-    let font = Font::read(rt.alloc(), bytes.as_slice(), None).map_err(|_| "the font is refused")?;
+    let font = Font::read(rt.alloc(), &bytes, None)
+        .ok()
+        .ok_or("the font is refused")?;
     for room in [0, 1, 11, 300] {
         let mut out = Failing { room };
         let result = list_text(rt.alloc(), &font, &mut out);
@@ -252,39 +274,41 @@ const B: [u8; 4] = [2, 0, 0, 0];
 
 const STEP: [u8; 4] = [0, 98, 0, 99];
 
+/// b's char_info word, an instruction, and what is told of the font.
+static FAULTY: [([u8; 4], [u8; 4], &str); 10] = [
+    ([4, 0, 0, 0], STEP, "10 character 98, table width"),
+    ([0, 16, 0, 0], STEP, "10 character 98, table height"),
+    ([0, 1, 0, 0], STEP, "10 character 98, table depth"),
+    ([0, 0, 4, 0], STEP, "10 character 98, table italic"),
+    ([2, 0, 1, 3], STEP, "11 character 98, program start"),
+    (B, [129, 98, 0, 3], "14 instruction 0, restart"),
+    (B, [0, 100, 0, 99], "14 instruction 0, next"),
+    (B, [0, 98, 0, 100], "14 instruction 0, ligature"),
+    (B, [0, 98, 128, 2], "14 instruction 0, kern"),
+    (B, [2, 98, 0, 99], "14 instruction 0, skip"),
+];
+
+/// A byte that is 1, and what is told of the font.
+static FAULTY_BYTES: [(usize, &str); 5] = [
+    (44, "12 table width, first entry"),
+    (48, "13 table width, entry 1"),
+    (60, "12 table height, first entry"),
+    (84, "13 table kern, entry 0"),
+    (96, "13 table param, entry 2"),
+];
+
 #[test]
 fn fault_lines_of_tables(rt: HostRuntime) -> Result<(), Fail> {
-    for (info, step, line) in [
-        ([4, 0, 0, 0], STEP, "10 character 98, table width"),
-        ([0, 16, 0, 0], STEP, "10 character 98, table height"),
-        ([0, 1, 0, 0], STEP, "10 character 98, table depth"),
-        ([0, 0, 4, 0], STEP, "10 character 98, table italic"),
-        ([2, 0, 1, 3], STEP, "11 character 98, program start"),
-        (B, [129, 98, 0, 3], "14 instruction 0, restart"),
-        (B, [0, 100, 0, 99], "14 instruction 0, next"),
-        (B, [0, 98, 0, 100], "14 instruction 0, ligature"),
-        (B, [0, 98, 128, 2], "14 instruction 0, kern"),
-        (B, [2, 98, 0, 99], "14 instruction 0, skip"),
-    ] {
-        let font = with_fault(rt.alloc(), info, step)?;
-        let done = run(&rt, &["list", "-"], font.as_slice());
-        let want = format!(in rt.alloc(); "tfmset: font refused: {line}\n")?;
-        assert!(rt; done.is(3, b"", want.as_bytes()), "{line}");
+    for (info, step, line) in &FAULTY {
+        let font = with_fault(rt.alloc(), *info, *step)?;
+        let done = run(&rt, &["list", "-"], &font);
+        assert!(rt; done.refused_font(line), "{line}");
     }
-    for (place, line) in [
-        (44, "12 table width, first entry"),
-        (48, "13 table width, entry 1"),
-        (60, "12 table height, first entry"),
-        (84, "13 table kern, entry 0"),
-        (96, "13 table param, entry 2"),
-    ] {
+    for (place, line) in &FAULTY_BYTES {
         let mut font = with_fault(rt.alloc(), B, STEP)?;
-        for byte in font.iter_mut().skip(place).take(1) {
-            *byte = 1;
-        }
-        let done = run(&rt, &["list", "-"], font.as_slice());
-        let want = format!(in rt.alloc(); "tfmset: font refused: {line}\n")?;
-        assert!(rt; done.is(3, b"", want.as_bytes()), "{line}");
+        put(&mut font, *place, &[1]);
+        let done = run(&rt, &["list", "-"], &font);
+        assert!(rt; done.refused_font(line), "{line}");
     }
     Ok(())
 }

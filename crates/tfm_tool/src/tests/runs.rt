@@ -1,47 +1,39 @@
 //! Runs of several files by `set` and `each`: texts, statuses and fault lines.
-use super::listings::letters;
-use super::settings::{PLAIN, file_name};
+use super::listings::{letters, plain};
+use super::settings::file_name;
 use super::*;
 use std::test::Fail;
 use std::{fs, process};
 
-/// The fonts and files of a case: their names, all of this process's own.
+/// The words of a case that stand for its fonts and files.
+static NAMED: [&str; 5] = ["T", "L", "F1", "F2", "F3"];
+
+/// The names of the fonts and files of a case, all of this process's own.
 #[derive(Drop)]
 struct Names {
-    plain: String,
-    ligature: String,
-    first: String,
-    second: String,
-    third: String,
+    all: Vec<String>,
 }
 
 impl Names {
     /// The name that stands for this word of a case; any other word stands for itself.
     fn of<'a>(&'a self, word: &'a str) -> &'a str {
-        match word {
-            "T" => self.plain.as_str(),
-            "L" => self.ligature.as_str(),
-            "F1" => self.first.as_str(),
-            "F2" => self.second.as_str(),
-            "F3" => self.third.as_str(),
-            _ => word,
+        for (named, name) in NAMED.iter().zip(&self.all) {
+            if *named == word {
+                return name.as_str();
+            }
         }
+        word
     }
 }
 
 /// The names, with a part that no other test has.
 fn own_names<R: Env + AllocGlobal>(rt: &R, part: &str, id: u32) -> Result<Names, Fail> {
-    let name = |kind: &str| -> Result<String, Fail> {
-        let whole = format!(in rt.alloc(); "{part}-{kind}")?;
-        file_name(rt, whole.as_str(), id)
-    };
-    Ok(Names {
-        plain: name("plain")?,
-        ligature: name("ligature")?,
-        first: name("first")?,
-        second: name("second")?,
-        third: name("third")?,
-    })
+    let mut all = Vec::new(rt.alloc());
+    for named in &NAMED {
+        let whole = format!(in rt.alloc(); "{part}-{named}")?;
+        all.push(file_name(rt, &whole, id)?)?;
+    }
+    Ok(Names { all })
 }
 
 /// The font in which a and b become c, and c has kerns with its neighbours.
@@ -57,20 +49,20 @@ fn ligature<R: AllocGlobal>(rt: &R) -> Result<Vec<u8>, AllocError> {
 
 /// Writes the fonts and the files.
 fn write_all<R: Files + AllocGlobal>(rt: &R, names: &Names, texts: [&[u8]; 3]) -> Result<(), Fail> {
-    let plain = letters(rt.alloc(), [20, 0, 0], PLAIN, &[], &[])?;
+    let plain = plain(rt.alloc())?;
     let ligature = ligature(rt)?;
-    fs::write(rt, names.plain.as_str(), plain.as_slice())?;
-    fs::write(rt, names.ligature.as_str(), ligature.as_slice())?;
+    fs::write(rt, names.of("T"), plain.as_slice())?;
+    fs::write(rt, names.of("L"), ligature.as_slice())?;
     let [first, second, third] = texts;
-    fs::write(rt, names.first.as_str(), first)?;
-    fs::write(rt, names.second.as_str(), second)?;
-    fs::write(rt, names.third.as_str(), third)?;
+    fs::write(rt, names.of("F1"), first)?;
+    fs::write(rt, names.of("F2"), second)?;
+    fs::write(rt, names.of("F3"), third)?;
     Ok(())
 }
 
 fn remove_all<R: Files + AllocGlobal>(rt: &R, names: &Names) -> Result<(), Fail> {
-    for name in ["T", "L", "F1", "F2", "F3"] {
-        fs::remove_file(rt, names.of(name))?;
+    for name in &names.all {
+        fs::remove_file(rt, name.as_str())?;
     }
     Ok(())
 }
@@ -254,21 +246,28 @@ where
     run(rt, words, b"").is(2, b"", b"tfmset: more than 64 files\n")
 }
 
+/// A run of 64 files, each of one line.
+fn sets_64<R: Abort + Files + Env + Threads + Wait + Clock + Sync + AllocGlobal>(
+    rt: &R,
+    names: &Names,
+) -> Result<(), Fail>
+where
+    R::File: Send,
+{
+    let before = ["set", "--workers", "16", names.of("T")];
+    let most = repeated(rt, &before, &[names.of("F2")], 64)?;
+    let done = run(rt, &most, b"");
+    let text = String::from_utf8(done.out)?;
+    assert!(rt; done.status == 0 && text.lines().count() == 128);
+    assert!(rt; text.as_str().ends_with("64 end complete 1\n"));
+    Ok(())
+}
+
 #[test]
 fn sixty_four_files_and_no_more(rt: HostRuntime) -> Result<(), Fail> {
     let names = own_names(&rt, "many", process::id(rt.process()))?;
     write_all(&rt, &names, [b"", b"abc", b""])?;
-    let font = names.of("T");
-    let most = repeated(
-        &rt,
-        &["set", "--workers", "16", font],
-        &[names.of("F2")],
-        64,
-    )?;
-    let done = run(&rt, &most, b"");
-    let text = String::from_utf8(done.out)?;
-    assert!(rt; done.status == 0 && text.lines().count() == 128);
-    assert!(rt; text.as_str().ends_with("64 end complete 1\n"));
+    sets_64(&rt, &names)?;
     let more = repeated(&rt, &["set", "no/such/font"], &["no"], 65)?;
     assert!(rt; is_refused(&rt, &more), "65 files");
     let more = repeated(&rt, &["each"], &["no", "x", "no"], 65)?;

@@ -1,14 +1,25 @@
+use super::settings::file_name;
 use super::*;
 use std::io::{ErrorKind, Read, Write};
 use std::test::Fail;
-use std::{env, fs, io, process};
+use std::{fs, io, process};
 
 /// Gives its bytes a few at a time, and fails once its good reads are used up.
 #[derive(Drop)]
 pub struct Trickle<'a> {
-    pub bytes: &'a [u8],
-    pub step: usize,
-    pub good_reads: usize,
+    bytes: &'a [u8],
+    step: usize,
+    good_reads: usize,
+}
+
+impl<'a> Trickle<'a> {
+    pub fn new(bytes: &'a [u8], step: usize, good_reads: usize) -> Trickle<'a> {
+        Trickle {
+            bytes,
+            step,
+            good_reads,
+        }
+    }
 }
 
 impl Read for Trickle<'_> {
@@ -65,15 +76,15 @@ impl Write for Frail {
     }
 }
 
+static UNREAD: [&str; 3] = ["no/such/font.tfm", "", "."];
+
 #[test]
 fn fonts_that_are_not_read(rt: HostRuntime) -> Result<(), Fail> {
-    for font in ["no/such/font.tfm", "", "."] {
+    for font in &UNREAD {
         let done = run(&rt, &["counts", font], &NO_CHARACTERS);
         assert!(rt; done.is(4, b"", b"tfmset: font not read\n"), "{font:?}");
     }
-    let id = process::id(rt.process());
-    let folder = env::temp_dir(&rt)?;
-    let name = format!(in rt.alloc(); "{}/tfmset-{id}.tfm", folder.as_path().display())?;
+    let name = file_name(&rt, "font", process::id(rt.process()))?;
     fs::write(&rt, name.as_str(), NO_CHARACTERS.as_slice())?;
     let done = run(&rt, &["counts", name.as_str()], b"");
     fs::remove_file(&rt, name.as_str())?;
@@ -101,30 +112,13 @@ fn a_read_that_fails_is_never_the_end(rt: HostRuntime) -> Result<(), Fail> {
         // 48 bytes, and then the end.
         let reads = 48usize.div_ceil(step) + 1;
         for good_reads in 0..reads {
-            let bytes = NO_CHARACTERS.as_slice();
-            let done = run_on(
-                &rt,
-                Trickle {
-                    bytes,
-                    step,
-                    good_reads,
-                },
-            );
-            let case = "fails after";
+            let done = run_on(&rt, Trickle::new(&NO_CHARACTERS, step, good_reads));
             assert!(rt;
                 done.is(4, b"", b"tfmset: font not read\n"),
-                "{case} {good_reads}"
+                "fails after {good_reads}"
             );
         }
-        let bytes = NO_CHARACTERS.as_slice();
-        let done = run_on(
-            &rt,
-            Trickle {
-                bytes,
-                step,
-                good_reads: reads,
-            },
-        );
+        let done = run_on(&rt, Trickle::new(&NO_CHARACTERS, step, reads));
         assert!(rt; done.is(0, TEXT.as_bytes(), b""), "{step} bytes a read");
     }
     Ok(())
@@ -134,29 +128,13 @@ fn a_read_that_fails_is_never_the_end(rt: HostRuntime) -> Result<(), Fail> {
 fn a_font_is_read_whole_by_1048576_reads(rt: HostRuntime) -> Result<(), Fail> {
     let mut font = Vec::from_slice(rt.alloc(), &NO_CHARACTERS)?;
     font.resize(1_048_575, 0)?;
-    let bytes = font.as_slice();
-    let done = run_on(
-        &rt,
-        Trickle {
-            bytes,
-            step: 1,
-            good_reads: usize::MAX,
-        },
-    );
+    let done = run_on(&rt, Trickle::new(&font, 1, usize::MAX));
     assert!(rt;
         done.is(0, TEXT.as_bytes(), b""),
         "the last read is the end"
     );
     font.push(0)?;
-    let bytes = font.as_slice();
-    let done = run_on(
-        &rt,
-        Trickle {
-            bytes,
-            step: 1,
-            good_reads: usize::MAX,
-        },
-    );
+    let done = run_on(&rt, Trickle::new(&font, 1, usize::MAX));
     assert!(rt;
         done.is(4, b"", b"tfmset: font not read\n"),
         "one read more"
@@ -179,22 +157,35 @@ where
     (status, err)
 }
 
+static FAILED: &[u8] = b"tfmset: output failed\n";
+
+/// The counts are refused behind so many writes, which took so many bytes.
+fn fails_after<R: Abort + Files + Env + Threads + Wait + Clock + Sync + AllocGlobal>(
+    rt: &R,
+    good_writes: usize,
+    taken: usize,
+)
+where
+    R::File: Send,
+{
+    let mut out = Frail::new(rt.alloc(), 10, good_writes, true);
+    let (status, err) = run_to(rt, &["counts", "-"], &mut out);
+    assert!(rt;
+        status == 5 && err.as_slice() == FAILED,
+        "fails after {good_writes}"
+    );
+    assert!(rt; out.text.len() == taken, "after {good_writes}");
+    assert!(rt;
+        TEXT.as_bytes().starts_with(out.text.as_slice()),
+        "after {good_writes}"
+    );
+}
+
 #[test]
 fn a_write_that_fails_is_told(rt: HostRuntime) -> Result<(), Fail> {
-    let failed = b"tfmset: output failed\n".as_slice();
     // 75 bytes, ten at a time
     for good_writes in 0..8 {
-        let mut out = Frail::new(rt.alloc(), 10, good_writes, true);
-        let (status, err) = run_to(&rt, &["counts", "-"], &mut out);
-        assert!(rt;
-            status == 5 && err.as_slice() == failed,
-            "fails after {good_writes}"
-        );
-        assert!(rt; out.text.len() == 10 * good_writes, "after {good_writes}");
-        assert!(rt;
-            TEXT.as_bytes().starts_with(out.text.as_slice()),
-            "after {good_writes}"
-        );
+        fails_after(&rt, good_writes, 10 * good_writes);
     }
     let mut out = Frail::new(rt.alloc(), 10, 8, true);
     let (status, err) = run_to(&rt, &["counts", "-"], &mut out);
@@ -203,20 +194,22 @@ fn a_write_that_fails_is_told(rt: HostRuntime) -> Result<(), Fail> {
     Ok(())
 }
 
+/// Words that print a text.
+static PRINTING: [&[&str]; 4] = [
+    &["counts", "-"],
+    &["--help"],
+    &["--version"],
+    &["help", "counts"],
+];
+
 #[test]
 fn a_device_that_is_full_is_told(rt: HostRuntime) -> Result<(), Fail> {
-    let failed = b"tfmset: output failed\n".as_slice();
-    for words in [
-        ["counts", "-"].as_slice(),
-        &["--help"],
-        &["--version"],
-        &["help", "counts"],
-    ] {
+    for words in &PRINTING {
         for (good_writes, flushes) in [(0, true), (usize::MAX, false)] {
             let mut out = Frail::new(rt.alloc(), 4096, good_writes, flushes);
             let (status, err) = run_to(&rt, words, &mut out);
             assert!(rt;
-                status == 5 && err.as_slice() == failed,
+                status == 5 && err.as_slice() == FAILED,
                 "{words:?}, {good_writes}"
             );
         }
@@ -224,22 +217,22 @@ fn a_device_that_is_full_is_told(rt: HostRuntime) -> Result<(), Fail> {
     Ok(())
 }
 
+/// Words that are refused, and the status.
+static REFUSED: [(&[&str], u8); 4] = [
+    (&[], 2),
+    (&["list"], 2),
+    (&["counts", "-"], 3),
+    (&["counts", "no/such/font.tfm"], 4),
+];
+
 #[test]
 fn a_refusal_keeps_its_status_where_nothing_can_be_said(rt: HostRuntime) -> Result<(), Fail> {
-    for (words, status) in [
-        ([].as_slice(), 2),
-        (&["list"], 2),
-        (&["counts", "-"], 3),
-        (&["counts", "no/such/font.tfm"], 4),
-    ] {
+    for (words, wanted) in &REFUSED {
         let mut input = b"".as_slice();
         let mut out = Frail::new(rt.alloc(), 4096, 0, false);
         let mut err = Frail::new(rt.alloc(), 4096, 0, false);
-        assert_eq!(rt;
-            tool(&rt, words, &mut input, &mut out, &mut err),
-            status,
-            "{words:?}"
-        );
+        let status = tool(&rt, words, &mut input, &mut out, &mut err);
+        assert_eq!(rt; status, *wanted, "{words:?}");
     }
     Ok(())
 }

@@ -1,6 +1,5 @@
 //! `set_text` itself: sources that fail, writers that fail, and refused memory.
-use super::listings::letters;
-use super::settings::PLAIN;
+use super::listings::plain;
 use super::streams::{Frail, Trickle};
 use super::*;
 use crate::{Summary, ToolFault, set_text};
@@ -21,15 +20,7 @@ fn small_plan() -> Option<Plan> {
 
 /// A source of these bytes, one a read, which fails behind so many reads.
 fn source<'a>(alloc: Global, bytes: &'a [u8], good_reads: usize) -> ReaderSource<Trickle<'a>> {
-    let step = 1;
-    ReaderSource::new(
-        alloc,
-        Trickle {
-            bytes,
-            step,
-            good_reads,
-        },
-    )
+    ReaderSource::new(alloc, Trickle::new(bytes, 1, good_reads))
 }
 
 /// Two sources: one of `ab` and `c`, which fails behind so many reads, and one of `a`.
@@ -86,7 +77,7 @@ static CASES: [(usize, Version, &str, bool); 3] = [
 
 #[test]
 fn a_source_that_fails_has_its_first_lines(rt: HostRuntime) -> Result<(), Fail> {
-    let font = letters(rt.alloc(), [20, 0, 0], PLAIN, &[], &[])?;
+    let font = plain(rt.alloc())?;
     for (good_reads, version, text, read_failed) in &CASES {
         let mut out = Vec::new(rt.alloc());
         let summary = set_two(&rt, &font, *good_reads, *version, &mut out)?;
@@ -99,7 +90,7 @@ fn a_source_that_fails_has_its_first_lines(rt: HostRuntime) -> Result<(), Fail> 
 
 #[test]
 fn a_text_whose_write_fails(rt: HostRuntime) -> Result<(), Fail> {
-    let font = letters(rt.alloc(), [20, 0, 0], PLAIN, &[], &[])?;
+    let font = plain(rt.alloc())?;
     // 163 bytes, twenty at a time
     for good_writes in 0..9 {
         let mut out = Frail::new(rt.alloc(), 20, good_writes, true);
@@ -119,7 +110,7 @@ fn a_text_whose_write_fails(rt: HostRuntime) -> Result<(), Fail> {
 /// then the font or the run is refused for want of memory or of a thread, or a lane is given up.
 #[test]
 fn a_refused_request_of_a_text(rt: HostRuntime) -> Result<(), Fail> {
-    let Ok(font) = letters(rt.alloc(), [20, 0, 0], PLAIN, &[], &[]) else {
+    let Ok(font) = plain(rt.alloc()) else {
         return Ok(println!(rt; "refused before the text")?);
     };
     let mut out = Vec::new(rt.alloc());
