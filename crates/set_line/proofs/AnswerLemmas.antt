@@ -1,12 +1,11 @@
 -- The outcome of a line, from what was found on the way.
-use Rattle.std.proofs.Common.{◌≡◌, ℕ, ◌+◌, ◌*◌, ◌<◌, ◌≤◌, Bool, true, false, cond, ℤ, List, [], length, Option, Some, None, arith, rules, refl, ap, sym, subst, ◌∙◌}
+use Rattle.std.proofs.Common.{◌≡◌, ℕ, ◌+◌, ◌*◌, ◌≤◌, Bool, true, false, ℤ, List, [], length, Some, None, arith, rules, refl, ap, sym, ◌∙◌}
 use Rattle.std.specs.Prelude.{nat_lt, if◌then◌else◌}
 use Rattle.std.specs.Option.{option_map_or}
 use Rattle.std.proofs.lemmas.Bool.{ltb-false}
 use Rattle.lig_kern.specs.declared.item.Item.{Item}
 use Rattle.set_line.specs.declared.outcome.LineRefusal.{LineRefusal}
 use Rattle.set_line.specs.declared.outcome.LineRefusal.TheVariants.{TooLong, Steps}
-use Rattle.set_line.specs.declared.outcome.Outcome.{Outcome}
 use Rattle.set_line.specs.declared.outcome.Outcome.TheVariants.{Set, Refused}
 use Rattle.set_line.specs.Terms.{TermsValue}
 use Rattle.set_line.specs.Pieces.{portions_of}

@@ -1,6 +1,6 @@
 -- Portions, set one behind the other.
-use Rattle.std.proofs.Common.{◌≡◌, ℕ, suc, zero, ◌+◌, ◌-◌, ◌*◌, ◌<◌, ◌≤◌, Bool, true, false, cond, List, [], ◌∷◌, ◌++◌, length, map, take, drop, Option, Some, None, IfSome, arith, rules, refl, ap, sym, subst, ◌∙◌, append_assoc, append-nil, length-append, length-drop}
-use Rattle.std.specs.Prelude.{not, filter, nat_le, slice_index, sum_by, flat_map, Result, IfOk, if◌then◌else◌}
+use Rattle.std.proofs.Common.{◌≡◌, ℕ, suc, zero, ◌+◌, ◌-◌, ◌*◌, ◌<◌, ◌≤◌, Bool, true, false, List, [], ◌∷◌, ◌++◌, length, map, take, drop, Option, Some, None, arith, refl, ap, sym, subst, ◌∙◌, append_assoc, append-nil, length-append, length-drop}
+use Rattle.std.specs.Prelude.{not, filter, nat_le, slice_index, Result, IfOk, if◌then◌else◌}
 use Rattle.std.specs.declared.alloc.AllocError.{AllocError}
 use Rattle.std.specs.Option.{option_and_then, option_map}
 use Rattle.std.specs.List.{slice_split, position_or_len}
@@ -11,12 +11,11 @@ use Rattle.std.proofs.lemmas.List.Sums.{fails_before_first, sum_by-cons}
 use Rattle.std.proofs.lemmas.Bool.{leb-true, leb-false, le-leb}
 use Rattle.tfm_tables.specs.Font.{FontValue}
 use Rattle.lig_kern.specs.declared.item.Item.{Item}
-use Rattle.lig_kern.specs.declared.item.Item.TheVariants.{Space as SpaceItem, Skipped as SkippedItem}
-use Rattle.lig_kern.specs.Result.{Setting, IsAppendedResult, IsResultOf, HasNoResultWithin, result_after, result_of}
+use Rattle.lig_kern.specs.Result.{Setting, IsAppendedResult, IsResultOf, HasNoResultWithin, result_of}
 use Rattle.lig_kern.specs.Laws.{FindsResult}
 use Rattle.set_line.specs.declared.policy.Policy.{Policy}
 use Rattle.set_line.specs.declared.policy.Policy.TheVariants.{Skip}
-use Rattle.set_line.specs.Pieces.{Portion, run, space, skipped, is_space, is_missing, run_of, parts_with, portions_of, portions_of_piece, portions_of_pieces, pieces_of}
+use Rattle.set_line.specs.Pieces.{Portion, space, skipped, is_space, is_missing, run_of, portions_of, portions_of_piece, portions_of_pieces, pieces_of}
 use Rattle.set_line.specs.Answer.{setting_of, within_limit, all_of, together, setting_of_portions}
 use Rattle.set_line.specs.Onward.{setting, added, onward, Reaches}
 

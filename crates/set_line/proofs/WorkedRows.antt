@@ -1,5 +1,5 @@
 -- Worked examples, computed on the definitions alone: lines, what they come to, and their records.
-use Rattle.std.proofs.Common.{◌≡◌, ℕ, ℤ, pos, negsuc, Bool, true, false, List, [], ◌∷◌, ◌++◌, refl}
+use Rattle.std.proofs.Common.{◌≡◌, ℕ, pos, negsuc, List, [], ◌∷◌, ◌++◌, refl}
 use Rattle.std.specs.Prelude.{codes}
 use Rattle.std.specs.Fmt.{digits}
 use Rattle.tfm_words.specs.Counts.{counts_of}
@@ -8,7 +8,6 @@ use Rattle.tfm_tables.specs.Character.{is_coded, char_info_of, exists}
 use Rattle.tfm_tables.specs.Measure.{measure_of, kern_at, parameter_of}
 use Rattle.tfm_tables.specs.Acceptance.{kern_index_of}
 use Rattle.tfm_tables.specs.Program.{step_at, program_of, right_code_of, left_start_of, begin_at, start_of, chain_from, address_of, address_between}
-use Rattle.tfm_tables.specs.Font.{FontValue}
 use Rattle.lig_kern.specs.declared.item.Item.{Item}
 use Rattle.lig_kern.specs.declared.item.Item.TheVariants.{Char, Kern, Space, Skipped}
 use Rattle.lig_kern.specs.Matching.{match_of, operation_of, action_of, action_between}
@@ -16,8 +15,7 @@ use Rattle.lig_kern.specs.Rewriting.{opening, right_end, step_from, after_steps,
 use Rattle.lig_kern.specs.Result.{result_after, result_of}
 use Rattle.set_line.specs.declared.policy.Policy.{Policy}
 use Rattle.set_line.specs.declared.policy.Policy.TheVariants.{Refuse, Skip}
-use Rattle.set_line.specs.declared.outcome.LineRefusal.TheVariants.{TooLong, Missing, Steps}
-use Rattle.set_line.specs.declared.outcome.Outcome.{Outcome}
+use Rattle.set_line.specs.declared.outcome.LineRefusal.TheVariants.{Missing, Steps}
 use Rattle.set_line.specs.declared.outcome.Outcome.TheVariants.{Set, Refused}
 use Rattle.set_line.specs.declared.version.Version.TheVariants.{One, Two}
 use Rattle.set_line.specs.Terms.{TermsValue}

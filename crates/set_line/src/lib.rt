@@ -25,6 +25,7 @@ mod out_of_memory;
 mod outcome;
 mod policy;
 mod portions;
+mod ready;
 mod record_text;
 mod setting;
 mod terms;

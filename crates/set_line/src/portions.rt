@@ -67,7 +67,8 @@ fn space_or_end(bytes: &[u8]) -> usize
 /// The part before the first missing character, that character, and what stands behind it; `None`
 /// where no character is missing.
 fn cut_part<'a>(font: &Font, piece: &'a [u8]) -> Option<(&'a [u8], u8, &'a [u8])>
-    ensures shorter { IfSome result (λ cut. length cut.0.now + length cut.2.now + 1 ≡ length piece.now) }
+    ensures shorter { IfSome result (λ cut.
+        length cut.0.now + length cut.2.now + 1 ≡ length piece.now) }
     ensures portions { MatchOption result
         (portions_of_piece SkipPolicy font.now piece.now ≡ run_of piece.now true)
         (λ cut. portions_of_piece SkipPolicy font.now piece.now ≡ run_of cut.0.now false ++ skipped cut.1 ∷ portions_of_piece SkipPolicy font.now cut.2.now) }
@@ -81,7 +82,8 @@ fn cut_part<'a>(font: &Font, piece: &'a [u8]) -> Option<(&'a [u8], u8, &'a [u8])
 
 /// The piece before the first space, and what stands behind that; `None` where there is no space.
 fn cut_piece<'a>(line: &'a [u8]) -> Option<(&'a [u8], &'a [u8])>
-    ensures shorter { IfSome result (λ cut. length cut.0.now + length cut.1.now + 1 ≡ length line.now) }
+    ensures shorter { IfSome result (λ cut.
+        length cut.0.now + length cut.1.now + 1 ≡ length line.now) }
     ensures portions { (policy : PolicyValue) (font : FontValue) → MatchOption result
         (portions_of policy font line.now ≡ portions_of_piece policy font line.now)
         (λ cut. portions_of policy font line.now ≡ portions_of_piece policy font cut.0.now ++ space ∷ portions_of policy font cut.1.now) }
@@ -105,8 +107,11 @@ fn set_run(
 ) -> Result<Option<u32>, AllocError>
     requires { used ≤ limit }
     ensures within { IfOk result (λ steps. IfSome steps (λ n. n ≤ limit)) }
-    ensures few { IfOk result (λ steps. IfSome steps (AreFew used items.old.items run.now items.new.items)) }
-    ensures reached { IfOk result (λ steps. Reaches (onward font.now limit (setting used items.old.items) (run_of run.now right)) steps items.new.items) }
+    ensures few { IfOk result (λ steps.
+        IfSome steps (AreFew used items.old.items run.now items.new.items)) }
+    ensures reached { IfOk result (λ steps.
+        Reaches (onward font.now limit (setting used items.old.items)
+        (run_of run.now right)) steps items.new.items) }
 {
     if run.is_empty() {
         return Ok(Some(used));
@@ -130,8 +135,11 @@ fn set_parts(
 ) -> Result<Option<u32>, AllocError>
     requires { used ≤ limit }
     ensures within { IfOk result (λ steps. IfSome steps (λ n. n ≤ limit)) }
-    ensures few { IfOk result (λ steps. IfSome steps (AreFew used items.old.items piece.now items.new.items)) }
-    ensures reached { IfOk result (λ steps. Reaches (onward font.now limit (setting used items.old.items) (portions_of_piece SkipPolicy font.now piece.now)) steps items.new.items) }
+    ensures few { IfOk result (λ steps.
+        IfSome steps (AreFew used items.old.items piece.now items.new.items)) }
+    ensures reached { IfOk result (λ steps.
+        Reaches (onward font.now limit (setting used items.old.items)
+        (portions_of_piece SkipPolicy font.now piece.now)) steps items.new.items) }
 {
     let mut rest = piece;
     let mut so_far = used;
@@ -156,8 +164,11 @@ fn set_piece(
 ) -> Result<Option<u32>, AllocError>
     requires { used ≤ terms.now.limit }
     ensures within { IfOk result (λ steps. IfSome steps (λ n. n ≤ terms.now.limit)) }
-    ensures few { IfOk result (λ steps. IfSome steps (AreFew used items.old.items piece.now items.new.items)) }
-    ensures reached { IfOk result (λ steps. Reaches (onward terms.now.font terms.now.limit (setting used items.old.items) (portions_of_piece terms.now.policy terms.now.font piece.now)) steps items.new.items) }
+    ensures few { IfOk result (λ steps.
+        IfSome steps (AreFew used items.old.items piece.now items.new.items)) }
+    ensures reached { IfOk result (λ steps.
+        Reaches (onward terms.now.font terms.now.limit (setting used items.old.items)
+        (portions_of_piece terms.now.policy terms.now.font piece.now)) steps items.new.items) }
 {
     let limit = terms.limit().get();
     match terms.policy() {
@@ -169,7 +180,9 @@ fn set_piece(
 /// Appends a space as wide as the font's.
 #[tactic(auto, using(crate::proofs::OnwardLemmas::signed))]
 fn push_space(terms: &Terms, items: &mut Vec<Item>) -> Result<(), AllocError>
-    ensures { OnOk result (items.new.items ≡ items.old.items ++ SpaceItem (parameter_of terms.now.font.words terms.now.font.size 2) ∷ []) }
+    ensures { OnOk result (items.new.items
+        ≡ items.old.items ++ SpaceItem
+        (parameter_of terms.now.font.words terms.now.font.size 2) ∷ []) }
 {
     items.push(Item::Space(terms.font().space()))?;
     Ok(())
@@ -183,8 +196,11 @@ pub(crate) fn set_portions(
     items: &mut Vec<Item>,
 ) -> Result<Option<u32>, AllocError>
     ensures within { IfOk result (λ steps. IfSome steps (λ n. n ≤ terms.now.limit)) }
-    ensures few { IfOk result (λ steps. IfSome steps (AreFew 0 items.old.items line.now items.new.items)) }
-    ensures reached { IfOk result (λ steps. Reaches (onward terms.now.font terms.now.limit (setting 0 items.old.items) (portions_of terms.now.policy terms.now.font line.now)) steps items.new.items) }
+    ensures few { IfOk result (λ steps.
+        IfSome steps (AreFew 0 items.old.items line.now items.new.items)) }
+    ensures reached { IfOk result (λ steps.
+        Reaches (onward terms.now.font terms.now.limit (setting 0 items.old.items)
+        (portions_of terms.now.policy terms.now.font line.now)) steps items.new.items) }
 {
     let mut rest = line;
     let mut so_far = 0;

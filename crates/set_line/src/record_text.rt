@@ -2,7 +2,8 @@
 ghost use Rattle.std.specs.Prelude.{◌≡◌, ◌≤◌, ◌++◌, ◌∷◌, OnOk, OnErr, codes, decimal, length, flat_map};
 ghost use Rattle.set_line.specs.Record.{StaysInFront, item_text, outcome_text, record_text, refusal_text, steps_text};
 
-use crate::writing::{ITEM_BYTES, write_items};
+use crate::ready::ReadyTexts;
+use crate::writing::{BYTES_BEFORE, ITEM_BYTES, write_items};
 use crate::{Answer, LineRefusal, OutOfMemory, Outcome, Version};
 use itoa::{Buffer, Integer};
 use lig_kern::Item;
@@ -24,28 +25,28 @@ fn push_number<I: Integer>(text: &mut Vec<u8>, before: &[u8], number: I) -> Resu
 
 /// Appends some items: their texts are put together first, and copied once.
 #[tactic(auto, using(crate::proofs::RecordLemmas::fronts))]
-fn push_some(text: &mut Vec<u8>, items: &[Item]) -> Result<(), AllocError>
+fn push_some(text: &mut Vec<u8>, items: &[Item], ready: &ReadyTexts) -> Result<(), AllocError>
     requires { length items.now ≤ 32 }
     ensures front { StaysInFront text.old.items text.new.items }
     ensures pushed { OnOk result (text.new.items ≡ text.old.items ++ flat_map item_text items.now) }
 {
-    let mut room = [0; ITEMS_AT_ONCE * ITEM_BYTES];
-    let start = write_items(&mut room, items);
+    let mut room = [0; ITEMS_AT_ONCE * ITEM_BYTES + BYTES_BEFORE];
+    let start = write_items(&mut room, items, ready);
     text.extend_from_slice(&room[start..])
 }
 
 #[tactic(auto, using(crate::proofs::RecordLemmas::fronts))]
-fn push_items(text: &mut Vec<u8>, items: &[Item]) -> Result<(), AllocError>
+fn push_items(text: &mut Vec<u8>, items: &[Item], ready: &ReadyTexts) -> Result<(), AllocError>
     ensures front { StaysInFront text.old.items text.new.items }
     ensures pushed { OnOk result (text.new.items ≡ text.old.items ++ flat_map item_text items.now) }
 {
     let mut rest = items;
     while rest.len() > ITEMS_AT_ONCE {
         let (some, more) = rest.split_at(ITEMS_AT_ONCE);
-        push_some(text, some)?;
+        push_some(text, some, ready)?;
         rest = more;
     }
-    push_some(text, rest)
+    push_some(text, rest, ready)
 }
 
 #[tactic(auto, using(crate::proofs::RecordLemmas::fronts), unfolding(crate::specs::Record::refusal_text))]
@@ -75,9 +76,15 @@ fn push_steps(text: &mut Vec<u8>, version: Version, steps: u32) -> Result<(), Al
 }
 
 #[tactic(auto, using(crate::proofs::RecordLemmas::fronts), unfolding(crate::specs::Record::outcome_text))]
-fn push_outcome(text: &mut Vec<u8>, outcome: &Outcome, version: Version) -> Result<(), AllocError>
+fn push_outcome(
+    text: &mut Vec<u8>,
+    outcome: &Outcome,
+    version: Version,
+    ready: &ReadyTexts,
+) -> Result<(), AllocError>
     ensures front { StaysInFront text.old.items text.new.items }
-    ensures pushed { OnOk result (text.new.items ≡ text.old.items ++ outcome_text version outcome.now) }
+    ensures pushed { OnOk result (text.new.items
+        ≡ text.old.items ++ outcome_text version outcome.now) }
 {
     match outcome {
         Outcome::Set {
@@ -87,7 +94,7 @@ fn push_outcome(text: &mut Vec<u8>, outcome: &Outcome, version: Version) -> Resu
         } => {
             push_number(text, b" set ", *width)?;
             push_steps(text, version, *steps)?;
-            push_items(text, items.as_slice())
+            push_items(text, items.as_slice(), ready)
         }
         Outcome::Refused(refusal) => {
             text.extend_from_slice(b" refused ")?;
@@ -105,11 +112,12 @@ fn push_record(
     text: &mut Vec<u8>,
 ) -> Result<(), AllocError>
     ensures front { StaysInFront text.old.items text.new.items }
-    ensures pushed { OnOk result (text.new.items ≡ text.old.items ++ record_text source place answer.now.outcome version) }
+    ensures pushed { OnOk result (text.new.items
+        ≡ text.old.items ++ record_text source place answer.now.outcome version) }
 {
     push_number(text, b"", source)?;
     push_number(text, b":", place)?;
-    push_outcome(text, answer.outcome(), version)?;
+    push_outcome(text, answer.outcome(), version, answer.terms().ready())?;
     text.extend_from_slice(b"\n")
 }
 

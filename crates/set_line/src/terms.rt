@@ -1,6 +1,7 @@
 ghost use Rattle.std.specs.Prelude.{◌≡◌};
 ghost use Rattle.set_line.specs.Terms.{TermsValue};
 
+use crate::ready::ReadyTexts;
 use crate::{Limit, Policy};
 use std::marker::Model;
 use tfm_tables::Font;
@@ -11,6 +12,8 @@ pub struct Terms {
     font: Font,
     limit: Limit,
     policy: Policy,
+    /// Texts for records, as a font's characters need them again and again.
+    ready: ReadyTexts,
 }
 
 impl Model for Terms {
@@ -26,10 +29,12 @@ impl Terms {
     pub fn new(font: Font, limit: Limit, policy: Policy) -> Self
         ensures { result ≡ record { font = font; limit = limit; policy = policy } }
     {
+        let ready = ReadyTexts::new(&font);
         Terms {
             font,
             limit,
             policy,
+            ready,
         }
     }
 
@@ -52,5 +57,10 @@ impl Terms {
         ensures { result ≡ self.now.policy }
     {
         self.policy
+    }
+
+    /// The texts of the font's characters.
+    pub(crate) fn ready(&self) -> &ReadyTexts {
+        &self.ready
     }
 }

@@ -4,11 +4,15 @@ ghost use Rattle.std.specs.Prelude.{◌≡◌, ◌+◌, ◌*◌, ◌≤◌, ◌�
 ghost use Rattle.std.specs.Fmt.{signed_decimal};
 ghost use Rattle.set_line.specs.Record.{item_text};
 
+use crate::ready::ReadyTexts;
 use itoa::write_digits;
 use lig_kern::Item;
 
 /// The text of an item has at most so many bytes.
 pub(crate) const ITEM_BYTES: usize = 17;
+
+/// A ready text is copied with so many bytes before it, at most, when it is as long as any.
+pub(crate) const BYTES_BEFORE: usize = 7;
 
 /// Writes a byte before `end`.
 fn write_byte(text: &mut [u8], end: usize, byte: u8) -> usize
@@ -54,9 +58,9 @@ fn write_amount(text: &mut [u8], end: usize, amount: i32) -> usize
     write_byte(text, start, b'-')
 }
 
-/// Writes the text of an item before `end`: where it begins.
+/// Makes the text of an item before `end`: where it begins.
 #[tactic(auto, using(crate::proofs::WritingLemmas::items), unfolding(crate::specs::Record::item_text))]
-fn write_item(text: &mut [u8], end: usize, item: Item) -> usize
+pub(crate) fn write_made(text: &mut [u8], end: usize, item: Item) -> usize
     requires { (17 ≤ end) × (end ≤ length text.old) }
     ensures place { (result ≤ end) × (end ≤ result + 17) }
     ensures written { drop result text.new ≡ item_text item ++ drop end text.old }
@@ -83,10 +87,24 @@ fn write_item(text: &mut [u8], end: usize, item: Item) -> usize
     }
 }
 
+/// Writes the text of an item before `end`, which is copied where it is ready: where it begins.
+fn write_item(text: &mut [u8], end: usize, item: Item, ready: &ReadyTexts) -> usize
+    requires { (24 ≤ end) × (end ≤ length text.old) }
+    ensures place { (result ≤ end) × (end ≤ result + 17) }
+    ensures written { drop result text.new ≡ item_text item ++ drop end text.old }
+{
+    let made = ready.of(item);
+    if made.is_of(item) {
+        made.write(text, end)
+    } else {
+        write_made(text, end, item)
+    }
+}
+
 /// Writes the texts of items at the end of `text`: where they begin.
 #[tactic(auto, using(crate::proofs::WritingLemmas::items))]
-pub(crate) fn write_items(text: &mut [u8], items: &[Item]) -> usize
-    requires { length items.now * 17 ≤ length text.old }
+pub(crate) fn write_items(text: &mut [u8], items: &[Item], ready: &ReadyTexts) -> usize
+    requires { length items.now * 17 + 7 ≤ length text.old }
     ensures place { result ≤ length text.old }
     ensures written { drop result text.new ≡ flat_map item_text items.now }
 {
@@ -94,7 +112,7 @@ pub(crate) fn write_items(text: &mut [u8], items: &[Item]) -> usize
     let mut left = items.len();
     while left > 0 {
         left -= 1;
-        at = write_item(text, at, items[left]);
+        at = write_item(text, at, items[left], ready);
     }
     at
 }

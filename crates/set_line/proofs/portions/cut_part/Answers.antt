@@ -1,4 +1,3 @@
-use Rattle.std.proofs.Common.{arith, sym, ◌∙◌}
 use Rattle.set_line.proofs.OnwardLemmas.{cut_at_part, last_part, no_cut}
 use Rattle.set_line.proofs.portions.cut_part.Goals as goal
 

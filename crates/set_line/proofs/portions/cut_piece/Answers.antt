@@ -1,4 +1,3 @@
-use Rattle.std.proofs.Common.{arith, sym, ◌∙◌}
 use Rattle.set_line.proofs.OnwardLemmas.{cut_at_piece, last_piece, no_cut}
 use Rattle.set_line.proofs.portions.cut_piece.Goals as goal
 

@@ -1,4 +1,4 @@
-use Rattle.std.proofs.Common.{arith, refl, ◌∙◌, ap, length, length-append}
+use Rattle.std.proofs.Common.{refl, ◌∙◌}
 use Rattle.lig_kern.specs.declared.item.Item.TheVariants.{Skipped}
 use Rattle.set_line.specs.declared.policy.Policy.TheVariants.{Skip}
 use Rattle.set_line.specs.Pieces.{portions_of_piece, run_of, skipped}

@@ -1,4 +1,4 @@
-use Rattle.std.proofs.Common.{arith, refl, ◌∙◌, ap, length, length-append}
+use Rattle.std.proofs.Common.{arith, refl, ◌∙◌}
 use Rattle.lig_kern.specs.declared.item.Item.TheVariants.{Space}
 use Rattle.tfm_tables.specs.Measure.{parameter_of}
 use Rattle.set_line.specs.Pieces.{portions_of, portions_of_piece, space}

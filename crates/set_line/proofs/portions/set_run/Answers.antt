@@ -1,4 +1,4 @@
-use Rattle.std.proofs.Common.{arith, rules}
+use Rattle.std.proofs.Common.{arith}
 use Rattle.set_line.proofs.OnwardLemmas.{run_empty, run_few, run_set, run_refused}
 use Rattle.set_line.proofs.portions.set_run.Goals as goal
 

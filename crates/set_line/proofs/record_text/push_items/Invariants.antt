@@ -1,5 +1,5 @@
 -- what is in the text and what is left give the whole
-use Rattle.std.proofs.Common.{◌≡◌, ℕ, ◌++◌, length, flat_map}
+use Rattle.std.proofs.Common.{◌≡◌, ◌++◌, length, flat_map}
 use Rattle.set_line.specs.Record.{StaysInFront, item_text}
 use Rattle.set_line.proofs.record_text.push_items.Given as goal
 

@@ -1,12 +1,12 @@
 -- the items from `left` on are written, and there is room for those before
-use Rattle.std.proofs.Common.{◌≡◌, ℕ, ◌*◌, ◌≤◌, length, drop, flat_map}
+use Rattle.std.proofs.Common.{◌≡◌, ◌+◌, ◌*◌, ◌≤◌, length, drop, flat_map}
 use Rattle.set_line.specs.Record.{item_text}
 use Rattle.set_line.proofs.writing.write_items.Given as goal
 
 abbrev pub invariant-loop-left : goal.invariant-loop-left
 invariant-loop-left l = record {
   left : l.left ≤ length l.items;
-  room : l.left * 17 ≤ l.at;
+  room : l.left * 17 + 7 ≤ l.at;
   within : l.at ≤ length l.text;
   written : drop l.at l.text ≡ flat_map item_text (drop l.left l.items);
 }
