@@ -1,5 +1,5 @@
 -- Setters that are given to hands, and taken back.
-use Rattle.std.proofs.Common.{rules, arith, ◌≡◌, ℕ, zero, suc, ◌<◌, List, [], ◌∷◌, ◌++◌, length, get_or, Option, Some, None, refl, ap, sym, ◌∙◌}
+use Rattle.std.proofs.Common.{rules, arith, ◌≡◌, ℕ, zero, suc, ◌<◌, List, [], ◌∷◌, ◌++◌, length, get_or, Option, Some, None, ap, sym, ◌∙◌}
 use Rattle.std.specs.Prelude.{set, MatchOption}
 use Rattle.line_lane.specs.declared.ends.Setter.{Setter}
 use Rattle.set_run.specs.Hands.{IsWith}

@@ -1,19 +1,19 @@
 -- A level of a run: its lane begins, the levels below come back, and its lane ends.
-use Rattle.std.proofs.Common.{rules, arith, ◌≡◌, ℕ, ◌<◌, ◌%◌, List, [], ◌∷◌, ◌++◌, length, get_or, Option, Some, None, refl, ap, sym, subst, ◌∙◌}
+use Rattle.std.proofs.Common.{rules, ◌≡◌, ℕ, ◌%◌, List, [], ◌∷◌, ◌++◌, length, get_or, Option, sym, subst, ◌∙◌}
 use Rattle.std.specs.Prelude.{set, IfOk, Result, Ok, Err}
 use Rattle.std.specs.List.{AllZip}
 use Rattle.std.specs.Arc.{arc_value}
 use Rattle.std.specs.declared.sync.Arc.{Arc}
 use Rattle.std.specs.declared.alloc.Global.{Global}
 use Rattle.set_line.specs.Terms.{TermsValue}
-use Rattle.line_lane.specs.Ends.{IsLane, SameFeeder, SameSetter, SameTaker}
+use Rattle.line_lane.specs.Ends.{SameFeeder, SameSetter}
 use Rattle.line_lane.specs.declared.ends.Setter.{Setter}
 use Rattle.line_lane.specs.declared.fault.SourceFault.{SourceFault}
 use Rattle.set_run.specs.Hands.{IsWith}
 use Rattle.set_run.specs.Collecting.{SameCollected}
 use Rattle.set_run.specs.Given.{HandsBack}
 use Rattle.set_run.specs.Reports.{IsReported, AreReported}
-use Rattle.set_run.specs.Lanes.{IsFresh, IsFinished, Begins, CanEnd, Ends}
+use Rattle.set_run.specs.Lanes.{Begins, CanEnd, Ends}
 use Rattle.set_run.specs.declared.feeding.Feeding.{Feeding}
 use Rattle.set_run.specs.declared.collected.Collected.{Collected}
 use Rattle.set_run.specs.declared.report.LaneReport.{LaneReport}

@@ -1,5 +1,5 @@
 -- Ends of the same lane.
-use Rattle.std.proofs.Common.{rules, arith, ◌≡◌, refl, ◌∙◌}
+use Rattle.std.proofs.Common.{rules}
 use Rattle.line_lane.specs.Ends.{IsLane, SameFeeder, SameSetter, SameTaker}
 use Rattle.line_lane.specs.declared.ends.Feeder.{Feeder}
 use Rattle.line_lane.specs.declared.ends.Setter.{Setter}

@@ -1,5 +1,5 @@
 -- Lists that are related place by place.
-use Rattle.std.proofs.Common.{arith, ◌≡◌, ℕ, zero, suc, ◌<◌, List, [], ◌∷◌, ◌++◌, length, get_or, subst, sym, ap, refl}
+use Rattle.std.proofs.Common.{arith, ◌≡◌, ℕ, zero, suc, ◌<◌, List, [], ◌∷◌, ◌++◌, length, get_or, subst, ap, refl}
 use Rattle.std.specs.Prelude.{set}
 use Rattle.std.specs.List.{AllZip}
 

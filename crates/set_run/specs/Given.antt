@@ -2,7 +2,6 @@
 -- This project's own.
 use Rattle.std.specs.Prelude.{◌≡◌, ℕ, List, [], ◌++◌, length, take, Option, Some, None, ⊤}
 use Rattle.line_lane.specs.Ends.{fed, feeder_end, SameFeeder}
-use Rattle.line_lane.specs.declared.ends.Feeder.{Feeder}
 use Rattle.line_lane.specs.declared.ending.SourceEnd.{SourceEnd}
 use Rattle.line_lane.specs.declared.ending.SourceEnd.TheVariants.{Complete, Failed}
 use Rattle.line_lane.specs.declared.fault.SourceFault.{SourceFault}

@@ -1,8 +1,9 @@
 use std::thread;
 use std::time::{Clock, Duration};
 
-/// How many looks in vain only yield.
-const YIELDS: u32 = 20;
+/// How many looks in vain only yield: half a millisecond where no other thread wants the processor. A
+/// thread that sleeps wakes up later than it asked for, and by then small rings have run empty.
+const YIELDS: u32 = 2000;
 
 /// How long a thread sleeps from then on, in microseconds.
 const PAUSE: u64 = 30;
