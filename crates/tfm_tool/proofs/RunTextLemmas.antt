@@ -1,7 +1,9 @@
 -- What is written and what waits, block by block.
-use Rattle.std.proofs.Common.{◌≡◌, ℕ, suc, zero, ◌+◌, ◌<◌, List, [], ◌∷◌, ◌++◌, length, take, get_or, Option, Some, None, arith, rules, refl, ap, sym, subst, ◌∙◌, append_assoc, append-nil}
+use Rattle.std.proofs.Common.{◌≡◌, ℕ, suc, ◌+◌, ◌-◌, ◌<◌, ◌≤◌, List, [], ◌∷◌, ◌++◌, length, take, drop, get_or, flat_map, Option, Some, None, arith, refl, ap, sym, subst, ◌∙◌, append_assoc, append-nil}
 use Rattle.std.specs.Io.KnownBytes.{Appends, append_known}
-use Rattle.std.proofs.lemmas.List.{take_more, length-take-le}
+use Rattle.std.proofs.lemmas.List.{take_more, length-take-le, take-append-drop, take_all}
+use Rattle.std.proofs.Math.Seq.{take-add}
+use Rattle.std.proofs.lemmas.Grind.{flat_map-append}
 use Rattle.set_line.specs.declared.version.Version.{Version}
 use Rattle.set_line.specs.Answer.{AnswerValue}
 use Rattle.set_line.specs.Record.{record_text}
@@ -62,25 +64,86 @@ head_first w w' w'' begun b' b'' head rest is first second emptied =
     (goes_then_nothing w w' w'' [] b' b'' (head ++ rest)
     (goes_then w w w' [] begun b' head rest (goes_into_block w [] begun head is) first) second)
 
--- the records of one answer more
-records_of_two : (source place : ℕ) (version : Version) (xs : List AnswerValue) (x : AnswerValue)
-    → records_from source place version (xs ++ x ∷ []) ≡ records_from source place version xs ++ record_text source (place + length xs) x.outcome version
-records_of_two source place version [] x =
+-- the records of answers are those of the first and then those of the others
+pub records_append : (source place : ℕ) (version : Version) (xs ys : List AnswerValue)
+    → records_from source place version (xs ++ ys) ≡ records_from source place version xs ++ records_from source (place + length xs) version ys
+records_append source place version [] ys =
     let same : place + 0 ≡ place = omega arith in
-    rw same (append-nil (record_text source place x.outcome version))
-records_of_two source place version (y ∷ ys) x =
-    let same : place + 1 + length ys ≡ place + suc (length ys) = omega arith in
-    ap (λ more. record_text source place y.outcome version ++ more) (records_of_two source (place + 1) version ys x)
-    ∙ sym (append_assoc (record_text source place y.outcome version) (records_from source (place + 1) version ys) _)
-    ∙ ap (λ n. (record_text source place y.outcome version ++ records_from source (place + 1) version ys) ++ record_text source n x.outcome version) same
+    ap (λ n. records_from source n version ys) (sym same)
+records_append source place version (x ∷ xs) ys =
+    let same : place + 1 + length xs ≡ place + suc (length xs) = omega arith in
+    ap (λ more. record_text source place x.outcome version ++ more) (records_append source (place + 1) version xs ys)
+    ∙ sym (append_assoc (record_text source place x.outcome version) (records_from source (place + 1) version xs) _)
+    ∙ ap (λ n. (record_text source place x.outcome version ++ records_from source (place + 1) version xs) ++ records_from source n version ys) same
 
-pub records_more : (source i place : ℕ) (version : Version) (answers : List AnswerValue) (d : AnswerValue) → i < length answers → place ≡ i + 1
-    → records_from source 1 version (take (i + 1) answers)
-    ≡ records_from source 1 version (take i answers) ++ record_text source place (get_or answers i d).outcome version
-records_more source i place version answers d within at =
-    let long : 1 + length (take i answers) ≡ place = omega (arith, length-take-le i answers (omega arith), at) in
-    ap (records_from source 1 version) (take_more answers i d within)
-    ∙ records_of_two source 1 version (take i answers) (get_or answers i d)
-    ∙ ap (λ n. records_from source 1 version (take i answers) ++ record_text source n (get_or answers i d).outcome version) long
+-- the records of a part, and those of the rest
+pub records_parted : (source place n behind : ℕ) (version : Version) (answers : List AnswerValue) → n ≤ length answers → behind ≡ place + n
+    → records_from source place version (take n answers) ++ records_from source behind version (drop n answers)
+    ≡ records_from source place version answers
+records_parted source place n behind version answers within is =
+    let long : place + length (take n answers) ≡ behind = omega (arith, length-take-le n answers within, is) in
+    ap (λ m. records_from source place version (take n answers) ++ records_from source m version (drop n answers)) (sym long)
+    ∙ sym (records_append source place version (take n answers) (drop n answers))
+    ∙ ap (records_from source place version) (take-append-drop n answers)
+
+-- the records of one answer more
+pub records_more : (source first i place : ℕ) (version : Version) (answers : List AnswerValue) (d : AnswerValue) → i < length answers → place ≡ first + i
+    → records_from source first version (take (i + 1) answers)
+    ≡ records_from source first version (take i answers) ++ record_text source place (get_or answers i d).outcome version
+records_more source first i place version answers d within at =
+    let long : first + length (take i answers) ≡ place = omega (arith, length-take-le i answers (omega arith), at) in
+    ap (records_from source first version) (take_more answers i d within)
+    ∙ records_append source first version (take i answers) (get_or answers i d ∷ [])
+    ∙ ap (λ n. records_from source first version (take i answers) ++ records_from source n version (get_or answers i d ∷ [])) long
+    ∙ ap (λ more. records_from source first version (take i answers) ++ more) (append-nil _)
+
+-- the record of one answer more is appended
+pub record_appended : (source first i place : ℕ) (version : Version) (answers : List AnswerValue) (answer : AnswerValue) (before text text' : List ℕ)
+    → i < length answers → place ≡ first + i → answer ≡ get_or answers i answer
+    → text ≡ before ++ records_from source first version (take i answers) → text' ≡ text ++ record_text source place answer.outcome version
+    → text' ≡ before ++ records_from source first version (take (i + 1) answers)
+record_appended source first i place version answers answer before text text' within at is so_far more =
+    let record_of : AnswerValue → List ℕ = λ a. record_text source place a.outcome version in
+    more ∙ ap (λ t. t ++ record_of answer) so_far
+    ∙ append_assoc before _ _
+    ∙ ap (λ t. before ++ (records_from source first version (take i answers) ++ t)) (ap record_of is)
+    ∙ ap (λ t. before ++ t) (sym (records_more source first i place version answers answer within at))
+
+-- parts that are the records of the first answers, and parts that are those of the others
+pub parts_joined : {X : Type 0} (f : X → List ℕ) (source place n behind : ℕ) (version : Version) (answers first rest : List AnswerValue) (xs ys zs : List X)
+    → n ≤ length answers → behind ≡ place + length first → first ≡ take n answers → rest ≡ drop n answers → zs ≡ xs ++ ys
+    → flat_map f xs ≡ records_from source place version first → flat_map f ys ≡ records_from source behind version rest
+    → flat_map f zs ≡ records_from source place version answers
+parts_joined f source place n behind version answers first rest xs ys zs within at is_first is_rest all front back =
+    let long : length first ≡ n = ap length is_first ∙ length-take-le n answers within in
+    ap (flat_map f) all ∙ flat_map-append f xs ys
+    ∙ ap (λ t. t ++ flat_map f ys) (front ∙ ap (records_from source place version) is_first)
+    ∙ ap (λ t. records_from source place version (take n answers) ++ t) (back ∙ ap (records_from source behind version) is_rest)
+    ∙ records_parted source place n behind version answers within (at ∙ ap (λ m. place + m) long)
+
+-- the records of some answers more were written
+pub goes_on : (w w' w'' : Option (List ℕ)) (b b' b'' : List ℕ) (source done count behind : ℕ) (version : Version) (answers : List AnswerValue)
+    → done ≤ length answers → behind ≡ done + 1
+    → Goes w b w' b' (records_from source 1 version (take done answers))
+    → Goes w' b' w'' b'' (records_from source behind version (take count (drop done answers)))
+    → Goes w b w'' b'' (records_from source 1 version (take (done + count) answers))
+goes_on w w' w'' b b' b'' source done count behind version answers within at first second =
+    let long : 1 + length (take done answers) ≡ behind = omega (arith, length-take-le done answers within, at) in
+    let all : records_from source 1 version (take (done + count) answers)
+    ≡ records_from source 1 version (take done answers) ++ records_from source behind version (take count (drop done answers)) =
+    ap (records_from source 1 version) (take-add done count answers)
+    ∙ records_append source 1 version (take done answers) (take count (drop done answers))
+    ∙ ap (λ n. records_from source 1 version (take done answers) ++ records_from source n version (take count (drop done answers))) long in
+    rw all (goes_then w w' w'' b b' b'' _ _ first second)
+
+-- the records of all answers were written
+pub goes_to_end : (w w' w'' : Option (List ℕ)) (b b' b'' : List ℕ) (source done behind : ℕ) (version : Version) (answers : List AnswerValue)
+    → done ≤ length answers → behind ≡ done + 1
+    → Goes w b w' b' (records_from source 1 version (take done answers))
+    → Goes w' b' w'' b'' (records_from source behind version (take (length answers - done) (drop done answers)))
+    → Goes w b w'' b'' (records_from source 1 version answers)
+goes_to_end w w' w'' b b' b'' source done behind version answers within at first second =
+    subst (λ all. Goes w b w'' b'' (records_from source 1 version all)) (take_all (done + (length answers - done)) answers (omega arith))
+    (goes_on w w' w'' b b' b'' source done (length answers - done) behind version answers within at first second)
 
 pub ruleset goes = (goes_nowhere, goes_into_block, goes_out)

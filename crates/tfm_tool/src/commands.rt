@@ -9,7 +9,8 @@ const ABOUT: &str = "Reads TeX font metric (TFM) files and sets lines with them"
 const AFTER_HELP: &str = "Examples:
   tfmset counts cmr10.tfm   the counts and the design size of a font
   tfmset list cmr10.tfm     all that a font holds
-  tfmset set cmr10.tfm text the lines of a file, set with a font
+  tfmset set cmr10.tfm text
+                            the lines of a file, set with a font
   tfmset each cmr10.tfm 1048576 text cmtt10.tfm 1048576 code
                             a font and a limit for each file
 
@@ -47,7 +48,8 @@ Reads FONT and the lines of each FILE, 1 to 64 of them, all at once. Prints
 for each file, in order, a record for each line and then a line on its end. A
 record has the width of its line, and its characters, kerns and spaces, in
 scaled points, or why the line was refused. Bytes are codes of the font,
-not Unicode; byte 32 is a space. The text is written when all is done.
+not Unicode; byte 32 is a space, and a carriage return is a code as any
+other. A line has up to 65535 bytes. The text is written when all is done.
 
 Exit status: 0 done; 1 done, and some line was refused; 2 the command line is
 refused, or there are more than 64 files; 3 the font is refused; 4 a file was
@@ -59,19 +61,21 @@ const EACH_ABOUT: &str = "Sets the lines of files, each with a font and a limit 
 const EACH_AFTER_HELP: &str = "Example:
   tfmset each cmr10.tfm 1048576 text cmtt10.tfm 1048576 code
 
-The words come in threes: FONT, LIMIT, FILE. FONT is a TFM file, LIMIT the
-steps that a line may take, 1 to 16777216, and FILE a file with lines; 1 to
-64 threes. Prints what `tfmset set` prints of its files. Bytes are codes of
-the font, not Unicode; byte 32 is a space. The text is written when all is
-done.
+The words come in threes: FONT, LIMIT, FILE. FONT is a TFM file (here - is
+a file of that name, and not standard input), LIMIT the steps that a line
+may take, 1 to 16777216, and FILE a file with lines; 1 to 64 threes. A size
+is that of all fonts. Prints what `tfmset set` prints of its files. Bytes
+are codes of the font, not Unicode; byte 32 is a space, and a carriage
+return is a code as any other. A line has up to 65535 bytes. The text is
+written when all is done.
 
 Exit status: 0 done; 1 done, and some line was refused; 2 the command line is
-refused; 3 a font is refused; 4 a font or a file was not read; 5 memory, a
-thread or the output was refused.";
+refused, or there are more than 64 threes; 3 a font is refused; 4 a font or a
+file was not read; 5 memory, a thread or the output was refused.";
 
 const WORKERS_HELP: &str = "Threads that set lines, 1 to 16";
 
-const CAPACITY_HELP: &str = "Messages on the way, 1 to 65536";
+const CAPACITY_HELP: &str = "Places for messages on each way, 1 to 65536";
 
 const BLOCK_HELP: &str = "Lines in a message, 1 to 8";
 

@@ -15,6 +15,7 @@ mod failure;
 mod fault;
 mod files;
 mod listing;
+mod parts;
 mod program;
 mod report_text;
 mod rows;

@@ -6,6 +6,7 @@ ghost use Rattle.tfm_tool.specs.Status.{is_text_fault};
 ghost use Rattle.tfm_tool.specs.RunText.{Goes, is_refused, lane_text};
 ghost use Rattle.tfm_tool.specs.ReportText.{is_unread, is_wanting, lanes_text, refused_in, run_text, summary_of_run, why_of};
 
+use crate::parts::threads_for_text;
 use crate::run_text::{push_head, write_block, write_lane};
 use crate::{Summary, ToolFault};
 use line_lane::{LaneEnd, SourceFault};
@@ -13,6 +14,7 @@ use set_line::{Answer, Outcome, Version};
 use set_run::{LaneReport, Report};
 use std::alloc::Global;
 use std::io::Write;
+use std::thread::Threads;
 
 /// The word for the end of a lane.
 #[tactic(auto, unfolding(crate::specs::ReportText::why_of))]
@@ -30,7 +32,9 @@ fn why(end: LaneEnd) -> &'static [u8]
 
 /// Puts the records and the end line of a lane into the block, and writes each block that is long
 /// enough.
-fn write_report_of<W: Write, S>(
+fn write_report_of<R: Threads + Sync, W: Write, S>(
+    rt: &R,
+    threads: usize,
     number: u64,
     lane: &LaneReport<S>,
     version: Version,
@@ -38,44 +42,61 @@ fn write_report_of<W: Write, S>(
     out: &mut W,
 ) -> Result<(), ToolFault>
     ensures fault { IfErr result (λ fault. is_text_fault fault ≡ true) }
-    ensures goes { OnOk result (Goes (W.contents out.old) block.old.items (W.contents out.new) block.new.items
+    ensures goes { OnOk result (Goes (W.contents out.old) block.old.items
+        (W.contents out.new) block.new.items
         (lane_text number version lane.now.answers (why_of lane.now.end))) }
 {
     let answers = lane.answers.as_slice();
-    write_lane(number, answers, why(lane.end), version, block, out)
+    let why = why(lane.end);
+    write_lane(rt, threads, number, answers, why, version, block, out)
 }
 
 /// Puts the records and the end lines of all lanes into the block, and writes each block that is long
 /// enough.
-fn write_lanes<W: Write, S>(
+fn write_lanes<R: Threads + Sync, W: Write, S>(
+    rt: &R,
+    threads: usize,
     lanes: &[LaneReport<S>],
     version: Version,
     block: &mut Vec<u8>,
     out: &mut W,
 ) -> Result<(), ToolFault>
     ensures fault { IfErr result (λ fault. is_text_fault fault ≡ true) }
-    ensures goes { OnOk result (Goes (W.contents out.old) block.old.items (W.contents out.new) block.new.items
+    ensures goes { OnOk result (Goes (W.contents out.old) block.old.items
+        (W.contents out.new) block.new.items
         (lanes_text 1 version lanes.now)) }
 {
     for number in 0..lanes.len() {
-        write_report_of(number as u64 + 1, &lanes[number], version, block, out)?;
+        write_report_of(
+            rt,
+            threads,
+            number as u64 + 1,
+            &lanes[number],
+            version,
+            block,
+            out,
+        )?;
     }
     Ok(())
 }
 
-/// Writes the text of a run.
-pub(crate) fn write_report<W: Write, S>(
+/// Writes the text of a run. Where it is long, as many threads make it as there are processors, up to
+/// a few; this one alone writes.
+pub(crate) fn write_report<R: Threads + Sync, W: Write, S>(
+    rt: &R,
     alloc: Global,
     report: &Report<S>,
     version: Version,
     out: &mut W,
 ) -> Result<(), ToolFault>
     ensures fault { IfErr result (λ fault. is_text_fault fault ≡ true) }
-    ensures text { OnOk result (Appends (W.contents out.old) (W.contents out.new) (run_text version report.now)) }
+    ensures text { OnOk result (Appends (W.contents out.old) (W.contents out.new)
+        (run_text version report.now)) }
 {
     let mut block = Vec::new(alloc);
     push_head(&mut block, version).map_err(|_| ToolFault::OutOfMemory)?;
-    write_lanes(report.lanes(), version, &mut block, out)?;
+    let threads = threads_for_text(rt);
+    write_lanes(rt, threads, report.lanes(), version, &mut block, out)?;
     write_block(&mut block, out)?;
     Ok(())
 }

@@ -51,7 +51,7 @@ where
         Ok(report) => report,
         Err(fault) => return Err(ToolFault::Run(fault)),
     };
-    write_report(alloc, &report, version, out)?;
+    write_report(rt, alloc, &report, version, out)?;
     Ok(summary_of(&report))
 }
 

@@ -9,6 +9,7 @@ use std::time::Clock;
 
 mod counts_of_fonts;
 mod listings;
+mod parts;
 mod runs;
 mod settings;
 mod streams;

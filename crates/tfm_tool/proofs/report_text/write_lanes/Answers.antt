@@ -1,4 +1,4 @@
-use Rattle.std.proofs.Common.{ℕ, List, ◌+◌, arith, subst}
+use Rattle.std.proofs.Common.{◌+◌, arith, subst}
 use Rattle.set_run.specs.declared.report.LaneReport.{LaneReport}
 use Rattle.tfm_tool.specs.RunText.{Goes, lane_text}
 use Rattle.tfm_tool.specs.ReportText.{why_of}

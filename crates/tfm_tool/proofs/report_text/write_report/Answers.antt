@@ -1,8 +1,8 @@
-use Rattle.std.proofs.Common.{[], ◌++◌, arith, subst}
+use Rattle.std.proofs.Common.{◌++◌, arith, subst}
 use Rattle.std.specs.Io.KnownBytes.{Appends}
 use Rattle.tfm_tool.specs.RunText.{head_text}
 use Rattle.tfm_tool.specs.ReportText.{lanes_text}
-use Rattle.tfm_tool.proofs.RunTextLemmas.{goes_all, goes_into_block, goes_then, goes_then_nothing, head_first}
+use Rattle.tfm_tool.proofs.RunTextLemmas.{goes_all, head_first}
 use Rattle.tfm_tool.proofs.report_text.write_report.Goals as goal
 
 pub returns-clause-text : goal.returns-clause-text
