@@ -74,7 +74,7 @@ fn put_records(
     Ok(())
 }
 
-/// Makes the last part, of one or none, anew: the records of these answers.
+/// Makes the only part anew: the records of these answers.
 fn made_alone(
     parts: Vec<Vec<u8>>,
     source: u64,
@@ -90,7 +90,7 @@ fn made_alone(
 {
     let mut parts = parts;
     let Some(mut text) = parts.pop() else {
-        return Err(OutOfMemory);
+        unreachable!()
     };
     text.clear();
     put_records(source, place, answers, version, &mut text)?;
