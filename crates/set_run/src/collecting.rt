@@ -6,7 +6,7 @@ ghost use Rattle.set_run.specs.Collecting.{SameCollected};
 
 use crate::came::Came;
 use crate::collected::Collected;
-use crate::patience::Patience;
+use crate::patience::{Patience, Waiting};
 use crate::{Gate, Stage};
 use line_lane::{Taker, Took};
 use set_line::{Answer, OutOfMemory};
@@ -97,13 +97,14 @@ fn go_round(lanes: &mut Vec<Collected>) -> Result<Came, OutOfMemory>
 pub(crate) fn collect<R: Wait + Clock, G: Gate>(
     rt: &R,
     gate: &G,
+    waiting: Waiting,
     lanes: Vec<Collected>,
 ) -> Result<Vec<Collected>, OutOfMemory>
     ensures { IfOk result (λ collected. AllZip SameCollected lanes.items collected.items) }
 {
     gate.enter(Stage::Collector, 0);
     let mut lanes = lanes;
-    let mut patience = Patience::new();
+    let mut patience = Patience::new(waiting);
     for _ in rt.forever() {
         match go_round(&mut lanes)? {
             Came::Done => return Ok(lanes),

@@ -5,7 +5,7 @@ ghost use Rattle.line_lane.specs.Messages.{first_end};
 ghost use Rattle.set_run.specs.Given.{AreFed, HandsBack};
 
 use crate::feeding::Feeding;
-use crate::patience::Patience;
+use crate::patience::{Patience, Waiting};
 use crate::{Gate, LineSource, Stage};
 use line_lane::{Feeder, OfferFault, SourceEnd};
 use set_line::Line;
@@ -24,13 +24,19 @@ impl<S: LineSource> Promise<Feeding<S>> for FedFrom<S> {
 }
 
 /// Feeds a line, as soon as there is room for it; false where the run is stopped.
-fn offer<R: Wait + Clock>(rt: &R, stop: &AtomicBool, feeder: &mut Feeder, line: Line) -> bool
+fn offer<R: Wait + Clock>(
+    rt: &R,
+    stop: &AtomicBool,
+    waiting: Waiting,
+    feeder: &mut Feeder,
+    line: Line,
+) -> bool
     ensures lane { SameFeeder feeder.old feeder.new }
     ensures end { feeder_end feeder.new ≡ feeder_end feeder.old }
     ensures fed { fed feeder.new ≡ (if result then fed feeder.old ++ line ∷ [] else fed feeder.old) }
 {
     let mut line = line;
-    let mut patience = Patience::new();
+    let mut patience = Patience::new(waiting);
     for _ in rt.forever() {
         match feeder.offer(line) {
             Ok(()) => return true,
@@ -46,12 +52,18 @@ fn offer<R: Wait + Clock>(rt: &R, stop: &AtomicBool, feeder: &mut Feeder, line: 
 }
 
 /// Closes the feeder, as soon as there is room for its end; false where the run is stopped.
-fn close<R: Wait + Clock>(rt: &R, stop: &AtomicBool, feeder: &mut Feeder, end: SourceEnd) -> bool
+fn close<R: Wait + Clock>(
+    rt: &R,
+    stop: &AtomicBool,
+    waiting: Waiting,
+    feeder: &mut Feeder,
+    end: SourceEnd,
+) -> bool
     ensures lane { SameFeeder feeder.old feeder.new }
     ensures fed { fed feeder.new ≡ fed feeder.old }
     ensures end { feeder_end feeder.new ≡ (if result then first_end (feeder_end feeder.old) (Some end) else feeder_end feeder.old) }
 {
-    let mut patience = Patience::new();
+    let mut patience = Patience::new(waiting);
     for _ in rt.forever() {
         if feeder.close(end) {
             return true;
@@ -69,6 +81,7 @@ fn close<R: Wait + Clock>(rt: &R, stop: &AtomicBool, feeder: &mut Feeder, end: S
 fn feed_lines<R: Wait + Clock, S: LineSource>(
     rt: &R,
     stop: &AtomicBool,
+    waiting: Waiting,
     source: &mut S,
     feeder: &mut Feeder,
 ) -> Option<SourceEnd>
@@ -83,7 +96,7 @@ fn feed_lines<R: Wait + Clock, S: LineSource>(
         }
         match source.next_line() {
             Ok(Some(line)) => {
-                if !offer(rt, stop, feeder, line) {
+                if !offer(rt, stop, waiting, feeder, line) {
                     return None;
                 }
             }
@@ -101,6 +114,7 @@ pub(crate) fn feed<R: Wait + Clock, S: LineSource, G: Gate>(
     gate: &G,
     stop: &AtomicBool,
     number: usize,
+    waiting: Waiting,
     feeding: Feeding<S>,
 ) -> Feeding<S>
     ensures { HandsBack S.to_come S.failed feeding result }
@@ -110,8 +124,8 @@ pub(crate) fn feed<R: Wait + Clock, S: LineSource, G: Gate>(
         mut source,
         mut feeder,
     } = feeding;
-    if let Some(end) = feed_lines(rt, stop, &mut source, &mut feeder) {
-        let _ = close(rt, stop, &mut feeder, end);
+    if let Some(end) = feed_lines(rt, stop, waiting, &mut source, &mut feeder) {
+        let _ = close(rt, stop, waiting, &mut feeder, end);
     }
     Feeding { source, feeder }
 }

@@ -14,6 +14,7 @@ use crate::feeding::Feeding;
 use crate::feeding_lines::{FedFrom, feed};
 use crate::hand::{Hand, give, take_back};
 use crate::lane::{finish_lane, open_lane};
+use crate::patience::Waiting;
 use crate::serving::{ServedFrom, serve};
 use crate::want::Want;
 use crate::{Gate, LaneReport, LineSource, Plan};
@@ -39,6 +40,7 @@ pub(crate) fn serve_and_collect<'s, E, R: Threads + Wait + Clock + Sync, G: Gate
     rt: &'s R,
     gate: &'s G,
     stop: &'s AtomicBool,
+    waiting: Waiting,
     hands: Vec<Hand>,
     lanes: Vec<Collected>,
 ) -> Result<(Vec<Hand>, Vec<Collected>), Want>
@@ -47,17 +49,20 @@ pub(crate) fn serve_and_collect<'s, E, R: Threads + Wait + Clock + Sync, G: Gate
 {
     let mut hands = hands;
     let Some(hand) = hands.pop() else {
-        return match collect(rt, gate, lanes) {
+        return match collect(rt, gate, waiting, lanes) {
             Ok(lanes) => Ok((hands, lanes)),
             Err(OutOfMemory) => Err(stopped(stop, Want::Memory)),
         };
     };
     let number = hands.len();
     let promise = ServedFrom(Snapshot::of(&hand));
-    let Ok(child) = scope.spawn_with(promise, move || serve(rt, gate, stop, number, hand)) else {
+    let Ok(child) = scope.spawn_with(
+        promise,
+        move || serve(rt, gate, stop, number, waiting, hand),
+    ) else {
         return Err(stopped(stop, Want::Thread));
     };
-    let below = serve_and_collect(scope, rt, gate, stop, hands, lanes);
+    let below = serve_and_collect(scope, rt, gate, stop, waiting, hands, lanes);
     let hand = child.join(rt);
     let (mut hands, lanes) = below?;
     match hands.push(hand) {
@@ -140,9 +145,10 @@ pub(crate) fn feed_and_serve<
     ensures hands { IfOk result (λ back. AllZip (AllZip SameSetter) hands.items back.1.items) }
     ensures lanes { IfOk result (λ back. AllZip SameCollected lanes.items back.2.items) }
 {
+    let waiting = Waiting::of(plan);
     let mut sources = sources;
     let Some(source) = sources.pop() else {
-        let (hands, lanes) = serve_and_collect(scope, rt, gate, stop, hands, lanes)?;
+        let (hands, lanes) = serve_and_collect(scope, rt, gate, stop, waiting, hands, lanes)?;
         return Ok((Vec::new(alloc), hands, lanes));
     };
     let number = sources.len();
@@ -150,7 +156,10 @@ pub(crate) fn feed_and_serve<
         return Err(stopped(stop, Want::Memory));
     };
     let promise = FedFrom(Snapshot::of(&feeding));
-    let Ok(child) = scope.spawn_with(promise, move || feed(rt, gate, stop, number, feeding)) else {
+    let Ok(child) = scope.spawn_with(
+        promise,
+        move || feed(rt, gate, stop, number, waiting, feeding),
+    ) else {
         return Err(stopped(stop, Want::Thread));
     };
     let below = feed_and_serve(scope, rt, gate, stop, alloc, plan, sources, hands, lanes);

@@ -76,6 +76,13 @@ impl<S> Report<S> {
         self.lanes.as_slice()
     }
 
+    /// What became of each source, to be kept: each source comes back with it.
+    pub fn into_lanes(self) -> Vec<LaneReport<S>>
+        ensures { result.items ≡ self }
+    {
+        self.lanes
+    }
+
     /// Whether every lane is complete.
     pub fn is_finished(&self) -> bool
         ensures { IsTrue result ↔ All (λ lane. lane.end ≡ Complete) self.now }

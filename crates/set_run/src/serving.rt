@@ -4,7 +4,7 @@ ghost use Rattle.line_lane.specs.Ends.{SameSetter};
 
 use crate::came::Came;
 use crate::hand::Hand;
-use crate::patience::Patience;
+use crate::patience::{Patience, Waiting};
 use crate::{Gate, Stage};
 use std::snapshot::Snapshot;
 use std::sync::Wait;
@@ -26,13 +26,14 @@ pub(crate) fn serve<R: Wait + Clock, G: Gate>(
     gate: &G,
     stop: &AtomicBool,
     number: usize,
+    waiting: Waiting,
     hand: Hand,
 ) -> Hand
     ensures { AllZip SameSetter hand result }
 {
     gate.enter(Stage::Setter, number);
     let mut hand = hand;
-    let mut patience = Patience::new();
+    let mut patience = Patience::new(waiting);
     for _ in rt.forever() {
         match hand.go_round(stop) {
             Came::Done => return hand,

@@ -1,10 +1,12 @@
 -- The texts of lanes, one after the other.
-use Rattle.std.proofs.Common.{◌≡◌, ℕ, suc, ◌+◌, ◌<◌, List, [], ◌∷◌, ◌++◌, length, take, get_or, arith, ap, sym, ◌∙◌, append_assoc, append-nil}
+use Rattle.std.proofs.Common.{◌≡◌, ℕ, zero, suc, ◌+◌, ◌<◌, List, [], ◌∷◌, ◌++◌, length, take, get_or, arith, refl, ap, sym, ◌∙◌, append_assoc, append-nil}
 use Rattle.std.proofs.lemmas.List.{take_more, length-take-le}
+use Rattle.std.specs.List.{AllZip}
 use Rattle.set_line.specs.declared.version.Version.{Version}
 use Rattle.set_run.specs.declared.report.LaneReport.{LaneReport}
-use Rattle.tfm_tool.specs.RunText.{lane_text}
-use Rattle.tfm_tool.specs.ReportText.{lanes_text, why_of}
+use Rattle.set_line.specs.Answer.{AnswerValue}
+use Rattle.tfm_tool.specs.RunText.{lane_text, records_of}
+use Rattle.tfm_tool.specs.ReportText.{IsLikeLane, answers_at, lanes_text, why_of}
 
 module _ {S : Type 0} where
   -- the text of one lane more
@@ -26,3 +28,38 @@ module _ {S : Type 0} where
       ap (lanes_text 1 version) (take_more lanes i d within)
       ∙ lanes_of_two 1 version (take i lanes) (get_or lanes i d)
       ∙ ap (λ n. lanes_text 1 version (take i lanes) ++ lane_text n version (get_or lanes i d).answers (why_of (get_or lanes i d).end)) long
+
+  -- the answers of a lane
+  pub answers_there : (lanes : List (LaneReport S)) (i : ℕ) (d : LaneReport S) → i < length lanes → answers_at lanes i ≡ (get_or lanes i d).answers
+  answers_there [] i d within = absurd (omega (arith, within))
+  answers_there (lane ∷ lanes) zero d within = refl
+  answers_there (lane ∷ lanes) (suc i) d within = answers_there lanes i d (omega (arith, within))
+
+  -- the records of a lane's parts
+  pub records_there : (records : ℕ → ℕ → ℕ → List ℕ) (version : Version) (lanes : List (LaneReport S)) (i : ℕ) (lane : LaneReport S) (answers : List AnswerValue)
+      → i < length lanes → lane ≡ get_or lanes i lane → answers ≡ lane.answers
+      → ((j from count : ℕ) → records j from count ≡ records_of version (answers_at lanes j) j from count)
+      → (from count : ℕ) → records i from count ≡ records_of version answers i from count
+  records_there records version lanes i lane answers within is are all from count =
+      all i from count ∙ ap (λ xs. records_of version xs i from count)
+      (answers_there lanes i lane within ∙ ap (λ l. l.answers) (sym is) ∙ sym are)
+
+module _ {S T : Type 0} where
+  -- one lane more with the same answers and the same end
+  pub alike_more : (lanes : List (LaneReport S)) (others : List (LaneReport T)) (lane : LaneReport S) (other : LaneReport T)
+      → AllZip IsLikeLane lanes others → IsLikeLane lane other → AllZip IsLikeLane (lanes ++ lane ∷ []) (others ++ other ∷ [])
+  alike_more [] [] lane other all one = (one, tt)
+  alike_more [] (o ∷ others) lane other all one = elim all [ ]
+  alike_more (l ∷ lanes) [] lane other all one = elim all [ ]
+  alike_more (l ∷ lanes) (o ∷ others) lane other all one = (all.0, alike_more lanes others lane other all.1 one)
+
+  -- such lanes have the same text
+  pub texts_alike : (number : ℕ) (version : Version) (lanes : List (LaneReport S)) (others : List (LaneReport T))
+      → AllZip IsLikeLane lanes others → lanes_text number version others ≡ lanes_text number version lanes
+  texts_alike number version [] [] all = refl
+  texts_alike number version [] (o ∷ others) all = elim all [ ]
+  texts_alike number version (l ∷ lanes) [] all = elim all [ ]
+  texts_alike number version (l ∷ lanes) (o ∷ others) all =
+      ap (λ answers. lane_text number version answers (why_of o.end) ++ lanes_text (number + 1) version others) all.0.0
+      ∙ ap (λ end. lane_text number version l.answers (why_of end) ++ lanes_text (number + 1) version others) all.0.1
+      ∙ ap (λ more. lane_text number version l.answers (why_of l.end) ++ more) (texts_alike (number + 1) version lanes others all.1)

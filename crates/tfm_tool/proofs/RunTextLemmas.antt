@@ -1,9 +1,8 @@
 -- What is written and what waits, block by block.
-use Rattle.std.proofs.Common.{◌≡◌, ℕ, suc, ◌+◌, ◌-◌, ◌<◌, ◌≤◌, List, [], ◌∷◌, ◌++◌, length, take, drop, get_or, flat_map, Option, Some, None, arith, refl, ap, sym, subst, ◌∙◌, append_assoc, append-nil}
+use Rattle.std.proofs.Common.{◌≡◌, ℕ, suc, ◌+◌, ◌-◌, ◌<◌, ◌≤◌, List, [], ◌∷◌, ◌++◌, length, take, drop, get_or, Option, Some, None, arith, refl, ap, sym, subst, ◌∙◌, append_assoc, append-nil}
 use Rattle.std.specs.Io.KnownBytes.{Appends, append_known}
-use Rattle.std.proofs.lemmas.List.{take_more, length-take-le, take-append-drop, take_all}
+use Rattle.std.proofs.lemmas.List.{take_more, length-take-le}
 use Rattle.std.proofs.Math.Seq.{take-add}
-use Rattle.std.proofs.lemmas.Grind.{flat_map-append}
 use Rattle.set_line.specs.declared.version.Version.{Version}
 use Rattle.set_line.specs.Answer.{AnswerValue}
 use Rattle.set_line.specs.Record.{record_text}
@@ -76,16 +75,6 @@ records_append source place version (x ∷ xs) ys =
     ∙ sym (append_assoc (record_text source place x.outcome version) (records_from source (place + 1) version xs) _)
     ∙ ap (λ n. (record_text source place x.outcome version ++ records_from source (place + 1) version xs) ++ records_from source n version ys) same
 
--- the records of a part, and those of the rest
-pub records_parted : (source place n behind : ℕ) (version : Version) (answers : List AnswerValue) → n ≤ length answers → behind ≡ place + n
-    → records_from source place version (take n answers) ++ records_from source behind version (drop n answers)
-    ≡ records_from source place version answers
-records_parted source place n behind version answers within is =
-    let long : place + length (take n answers) ≡ behind = omega (arith, length-take-le n answers within, is) in
-    ap (λ m. records_from source place version (take n answers) ++ records_from source m version (drop n answers)) (sym long)
-    ∙ sym (records_append source place version (take n answers) (drop n answers))
-    ∙ ap (records_from source place version) (take-append-drop n answers)
-
 -- the records of one answer more
 pub records_more : (source first i place : ℕ) (version : Version) (answers : List AnswerValue) (d : AnswerValue) → i < length answers → place ≡ first + i
     → records_from source first version (take (i + 1) answers)
@@ -109,18 +98,6 @@ record_appended source first i place version answers answer before text text' wi
     ∙ ap (λ t. before ++ (records_from source first version (take i answers) ++ t)) (ap record_of is)
     ∙ ap (λ t. before ++ t) (sym (records_more source first i place version answers answer within at))
 
--- parts that are the records of the first answers, and parts that are those of the others
-pub parts_joined : {X : Type 0} (f : X → List ℕ) (source place n behind : ℕ) (version : Version) (answers first rest : List AnswerValue) (xs ys zs : List X)
-    → n ≤ length answers → behind ≡ place + length first → first ≡ take n answers → rest ≡ drop n answers → zs ≡ xs ++ ys
-    → flat_map f xs ≡ records_from source place version first → flat_map f ys ≡ records_from source behind version rest
-    → flat_map f zs ≡ records_from source place version answers
-parts_joined f source place n behind version answers first rest xs ys zs within at is_first is_rest all front back =
-    let long : length first ≡ n = ap length is_first ∙ length-take-le n answers within in
-    ap (flat_map f) all ∙ flat_map-append f xs ys
-    ∙ ap (λ t. t ++ flat_map f ys) (front ∙ ap (records_from source place version) is_first)
-    ∙ ap (λ t. records_from source place version (take n answers) ++ t) (back ∙ ap (records_from source behind version) is_rest)
-    ∙ records_parted source place n behind version answers within (at ∙ ap (λ m. place + m) long)
-
 -- the records of some answers more were written
 pub goes_on : (w w' w'' : Option (List ℕ)) (b b' b'' : List ℕ) (source done count behind : ℕ) (version : Version) (answers : List AnswerValue)
     → done ≤ length answers → behind ≡ done + 1
@@ -136,14 +113,15 @@ goes_on w w' w'' b b' b'' source done count behind version answers within at fir
     ∙ ap (λ n. records_from source 1 version (take done answers) ++ records_from source n version (take count (drop done answers))) long in
     rw all (goes_then w w' w'' b b' b'' _ _ first second)
 
--- the records of all answers were written
-pub goes_to_end : (w w' w'' : Option (List ℕ)) (b b' b'' : List ℕ) (source done behind : ℕ) (version : Version) (answers : List AnswerValue)
-    → done ≤ length answers → behind ≡ done + 1
+-- the records of the answers up to another one were written
+pub goes_up : (w w' w'' : Option (List ℕ)) (b b' b'' : List ℕ) (source done now : ℕ) (version : Version) (answers : List AnswerValue)
+    → done ≤ length answers → done < now
     → Goes w b w' b' (records_from source 1 version (take done answers))
-    → Goes w' b' w'' b'' (records_from source behind version (take (length answers - done) (drop done answers)))
-    → Goes w b w'' b'' (records_from source 1 version answers)
-goes_to_end w w' w'' b b' b'' source done behind version answers within at first second =
-    subst (λ all. Goes w b w'' b'' (records_from source 1 version all)) (take_all (done + (length answers - done)) answers (omega arith))
-    (goes_on w w' w'' b b' b'' source done (length answers - done) behind version answers within at first second)
+    → Goes w' b' w'' b'' (records_from source (done + 1) version (take (now - done) (drop done answers)))
+    → Goes w b w'' b'' (records_from source 1 version (take now answers))
+goes_up w w' w'' b b' b'' source done now version answers within before first second =
+    let up : done + (now - done) ≡ now = omega (arith, before) in
+    subst (λ n. Goes w b w'' b'' (records_from source 1 version (take n answers))) up
+    (goes_on w w' w'' b b' b'' source done (now - done) (done + 1) version answers within refl first second)
 
 pub ruleset goes = (goes_nowhere, goes_into_block, goes_out)

@@ -1,6 +1,6 @@
 -- The text of a run: the records of a source's answers, its end line, and what the text begins with.
 -- This project's own.
-use Rattle.std.specs.Prelude.{ℕ, ◌+◌, List, [], ◌∷◌, ◌++◌, length, codes, decimal, Bool, true, false, Option}
+use Rattle.std.specs.Prelude.{ℕ, ◌+◌, List, [], ◌∷◌, ◌++◌, take, drop, length, codes, decimal, Bool, true, false, Option}
 use Rattle.std.specs.Io.KnownBytes.{Appends, append_known}
 use Rattle.set_line.specs.declared.version.Version.{Version}
 use Rattle.set_line.specs.declared.version.Version.TheVariants.{One, Two}
@@ -14,6 +14,10 @@ abbrev pub records_from : ℕ → ℕ → Version → List AnswerValue → List 
 records_from source place version [] = []
 records_from source place version (answer ∷ answers) =
     record_text source place answer.outcome version ++ records_from source (place + 1) version answers
+
+-- the records of so many answers of a lane, behind the first ones
+abbrev pub records_of : Version → List AnswerValue → ℕ → ℕ → ℕ → List ℕ
+records_of version answers lane from count = records_from (lane + 1) (from + 1) version (take count (drop from answers))
 
 -- the end line: the source, why it ended, and how many answers it has
 unfoldable pub end_text : ℕ → List ℕ → ℕ → List ℕ

@@ -14,6 +14,7 @@ mod counts;
 mod failure;
 mod fault;
 mod files;
+mod freeing;
 mod listing;
 mod parts;
 mod program;

@@ -1,22 +1,49 @@
-//! The records of many answers, made by several threads.
-ghost use Rattle.std.specs.Prelude.{◌≡◌, ℕ, ◌+◌, ◌<◌, ◌≤◌, ◌^◌, ◌++◌, length, flat_map, vec_len, IfOk, OnOk, IfSome};
+//! Records of many answers, made part by part in threads of their own.
+ghost use Rattle.std.specs.Prelude.{◌≡◌, ℕ, List, ◌+◌, ◌<◌, ◌≤◌, ◌^◌, ◌++◌, [], drop, length, take, IfOk, IfSome};
 ghost use Rattle.std.specs.Thread.{IsSync};
-ghost use Rattle.tfm_tool.specs.RunText.{records_from};
+ghost use Rattle.tfm_tool.specs.RunText.{records_from, records_of};
+ghost use Rattle.tfm_tool.specs.ReportText.{answers_at};
 
+use rtrb::{Consumer, Producer, PushError, RingBuffer};
 use set_line::{Answer, OutOfMemory, Outcome, Version, record};
-use std::alloc::Global;
+use set_run::LaneReport;
+use std::alloc::{AllocError, Global};
+use std::marker::{Brand, PhantomData, Send};
+use std::sync::Wait;
+use std::sync::atomic::{AtomicBool, Ordering};
+use std::thread;
 use std::thread::{Threads, available_parallelism, join};
+use std::time::{Clock, Duration};
 
-/// How many threads make records at once, at most.
+/// How many threads make records at once, at most, the one that writes among them.
 const MOST_THREADS: usize = 8;
 
-/// A thread is worth starting for so many items: their records have some 350 KB.
-const ITEMS_OF_PART: usize = 32_768;
+/// About how many items a part is to have: their records have some 90 KB.
+const ITEMS_OF_PART: usize = 8192;
+
+/// So many answers tell how many items an answer has.
+const SAMPLE: usize = 64;
+
+/// A part ends once it has so many bytes, whatever its answers are.
+const LONG: usize = 131_072;
+
+/// How many looks in vain only yield.
+const YIELDS: u32 = 2000;
+
+/// How long a thread sleeps from then on, in microseconds.
+const PAUSE: u64 = 100;
 
 /// How many threads are to make records: as many as there are processors for this program, up to a
-/// few, and one where nobody can tell.
-pub(crate) fn threads_for_text<R: Threads>(rt: &R) -> usize {
-    available_parallelism(rt).map_or(1, |count| count.get().min(MOST_THREADS))
+/// few, where a lane is long enough for them; else one, and where nobody can tell.
+pub(crate) fn threads_for_text<R: Threads>(rt: &R, lanes: &[LaneReport<()>]) -> usize {
+    let threads = available_parallelism(rt).map_or(1, |count| count.get().min(MOST_THREADS));
+    for lane in lanes {
+        let answers = lane.answers.as_slice();
+        if answers.len() / answers_of_part(answers) > threads {
+            return threads;
+        }
+    }
+    1
 }
 
 /// About how many items the record of an answer has; one that has none counts, too.
@@ -27,124 +54,265 @@ fn weight(answer: &Answer) -> usize {
     }
 }
 
-/// How many answers, from the first on, are enough for so many threads; `None` where all are too few.
-pub(crate) fn enough(answers: &[Answer], threads: usize) -> Option<usize>
-    ensures { IfSome result (λ count. (0 < count) × (count ≤ length answers.now)) }
+/// How many answers a part is to have, by what the first ones have.
+pub(crate) fn answers_of_part(answers: &[Answer]) -> usize
+    ensures { 0 < result }
 {
-    let wanted = threads.saturating_mul(ITEMS_OF_PART);
+    let sample = answers.len().min(SAMPLE);
     let mut items: usize = 0;
-    for i in 0..answers.len() {
+    for i in 0..sample {
         items = items.saturating_add(weight(&answers[i]));
-        if items >= wanted {
-            return Some(i + 1);
+    }
+    match (sample * ITEMS_OF_PART).checked_div(items) {
+        Some(count) => count.max(1),
+        None => 1,
+    }
+}
+
+/// Lanes whose records are made part by part.
+pub(crate) trait Parted: Send {
+    /// The records of so many answers of a lane, behind the first ones.
+    ghost records: { ℕ → ℕ → ℕ → List ℕ };
+}
+
+impl Parted for Brand {
+    ghost records = { λ lane from count. [] };
+}
+
+/// The records of some answers of a lane.
+#[derive(Drop)]
+pub(crate) struct Part<K: Parted> {
+    /// How many lanes stand before theirs.
+    pub lane: usize,
+    /// How many answers stand before them.
+    pub from: usize,
+    /// How many they are.
+    pub count: usize,
+    pub text: Vec<u8>,
+    of: PhantomData<K>,
+    ghost right: { text.items ≡ K.records lane from count },
+}
+
+/// Appends the records of answers of a source, of which the first has this place: of so many, at
+/// most, and up to where the text is long. Of how many they are.
+fn put_some(
+    source: u64,
+    place: u64,
+    answers: &[Answer],
+    most: usize,
+    version: Version,
+    text: &mut Vec<u8>,
+) -> Result<usize, OutOfMemory>
+    requires { place + length answers.now < 2 ^ 64 }
+    ensures { IfOk result (λ count. text.new.items
+        ≡ text.old.items ++ records_from source place version (take count answers.now)) }
+{
+    let most = most.min(answers.len());
+    for i in 0..most {
+        if text.len() >= LONG {
+            return Ok(i);
+        }
+        record(source, place + i as u64, &answers[i], version, text)?;
+    }
+    Ok(most)
+}
+
+/// Makes a part.
+fn make<K: Parted>(
+    alloc: Global,
+    lane: usize,
+    answers: &[Answer],
+    version: Version,
+    from: usize,
+    most: usize,
+) -> Result<Part<K>, OutOfMemory>
+    requires room { lane + 1 < 2 ^ 64 }
+    requires within { from ≤ length answers.now }
+    requires records { (from count : ℕ) → K.records lane from count ≡ records_of version answers.now lane from count }
+{
+    let mut text = Vec::new(alloc);
+    let rest = &answers[from..];
+    let count = put_some(
+        lane as u64 + 1,
+        from as u64 + 1,
+        rest,
+        most,
+        version,
+        &mut text,
+    )?;
+    Ok(Part {
+        lane,
+        from,
+        count,
+        text,
+        of: PhantomData,
+    })
+}
+
+/// Sends a part, as soon as there is a place for it; false where nobody writes.
+fn send<R: Wait + Clock, K: Parted>(
+    rt: &R,
+    writing: &AtomicBool,
+    ring: &mut Producer<Part<K>>,
+    part: Part<K>,
+) -> bool {
+    let mut part = part;
+    let mut looks: u32 = 0;
+    for _ in rt.forever() {
+        match ring.push(part) {
+            Ok(()) => return true,
+            Err(PushError::Full(back)) => part = back,
+        }
+        if looks < YIELDS {
+            looks += 1;
+            thread::yield_now();
+        } else if writing.load(Ordering::SeqCst) {
+            thread::sleep(rt, Duration::from_micros(PAUSE));
+        } else {
+            return false;
+        }
+    }
+    unreachable!()
+}
+
+/// Makes a thread's parts of a lane, and sends them: every so many shares, from one of the first on.
+/// False where nothing more is to be sent.
+fn make_lane<R: Wait + Clock, K: Parted>(
+    rt: &R,
+    writing: &AtomicBool,
+    alloc: Global,
+    lane: usize,
+    answers: &[Answer],
+    version: Version,
+    first: usize,
+    threads: usize,
+    ring: &mut Producer<Part<K>>,
+) -> bool
+    requires room { lane + 1 < 2 ^ 64 }
+    requires records { (from count : ℕ) → K.records lane from count ≡ records_of version answers.now lane from count }
+{
+    let share = answers_of_part(answers);
+    let step = share.saturating_mul(threads).max(1);
+    let mut from = share.saturating_mul(first);
+    while from < answers.len() {
+        let Ok(part) = make(alloc, lane, answers, version, from, share) else {
+            return false;
+        };
+        if !send(rt, writing, ring, part) {
+            return false;
+        }
+        from = from.saturating_add(step);
+    }
+    true
+}
+
+/// Makes a thread's parts of all lanes.
+fn make_each<R: Wait + Clock, K: Parted>(
+    rt: &R,
+    writing: &AtomicBool,
+    alloc: Global,
+    lanes: &[LaneReport<()>],
+    version: Version,
+    first: usize,
+    threads: usize,
+    ring: Producer<Part<K>>,
+)
+    requires { (lane from count : ℕ) → K.records lane from count
+        ≡ records_of version (answers_at lanes.now lane) lane from count }
+{
+    let mut ring = ring;
+    for lane in 0..lanes.len() {
+        let answers = lanes[lane].answers.as_slice();
+        if !make_lane(
+            rt, writing, alloc, lane, answers, version, first, threads, &mut ring,
+        ) {
+            return;
+        }
+    }
+}
+
+/// A thread for each ring, which makes its parts.
+pub(crate) fn make_all<R: Threads + Wait + Clock + Sync, K: Parted>(
+    rt: &R,
+    writing: &AtomicBool,
+    alloc: Global,
+    lanes: &[LaneReport<()>],
+    version: Version,
+    threads: usize,
+    rings: Vec<Producer<Part<K>>>,
+)
+    requires { (lane from count : ℕ) → K.records lane from count
+        ≡ records_of version (answers_at lanes.now lane) lane from count }
+{
+    let mut rings = rings;
+    let Some(ring) = rings.pop() else {
+        return;
+    };
+    let first = rings.len() + 1;
+    join(
+        rt,
+        move ||
+            requires { IsSync R.row × ((lane from count : ℕ) → K.records lane from count
+                ≡ records_of version (answers_at lanes.now lane) lane from count) }
+        { make_all(rt, writing, alloc, lanes, version, threads, rings) },
+        move ||
+            requires { IsSync R.row × ((lane from count : ℕ) → K.records lane from count
+                ≡ records_of version (answers_at lanes.now lane) lane from count) }
+        { make_each(rt, writing, alloc, lanes, version, first, threads, ring) },
+    );
+}
+
+/// The part of a lane that begins behind so many answers, where it comes soon. What was made for
+/// nothing is dropped.
+fn come<K: Parted>(ring: &mut Consumer<Part<K>>, lane: usize, from: usize) -> Option<Part<K>>
+    ensures { IfSome result (λ part. (part.lane ≡ lane) × (part.from ≡ from)) }
+{
+    for look in 0..YIELDS {
+        match ring.pop() {
+            Ok(part) if part.lane == lane && part.from == from => return Some(part),
+            Ok(_) => (),
+            Err(_) if ring.is_abandoned() => return None,
+            Err(_) => thread::yield_now(),
         }
     }
     None
 }
 
-/// As many empty parts as there are threads.
-pub(crate) fn empty_parts(alloc: Global, threads: usize) -> Result<Vec<Vec<u8>>, OutOfMemory>
-    ensures { IfOk result (λ parts. vec_len parts ≡ threads) }
+/// The part of a lane that begins behind so many answers, where it comes: a ring has every so many
+/// shares whole.
+pub(crate) fn next_part<K: Parted>(
+    rings: &mut Vec<Consumer<Part<K>>>,
+    lane: usize,
+    share: usize,
+    done: usize,
+) -> Option<Part<K>>
+    requires { 0 < share }
+    ensures { IfSome result (λ part. (part.lane ≡ lane) × (part.from ≡ done)) }
 {
-    let mut parts = Vec::new(alloc);
-    for made in 0..threads {
-        match parts.push(Vec::new(alloc)) {
-            Ok(()) => (),
-            Err(_) => return Err(OutOfMemory),
-        }
+    if done % share > 0 {
+        return None;
     }
-    Ok(parts)
+    let turn = done / share % (rings.len() + 1);
+    if turn == 0 {
+        return None;
+    }
+    come(&mut rings[turn - 1], lane, done)
 }
 
-/// Appends the records of answers of a source, of which the first has this place.
-fn put_records(
-    source: u64,
-    place: u64,
-    answers: &[Answer],
-    version: Version,
-    text: &mut Vec<u8>,
-) -> Result<(), OutOfMemory>
-    requires { place + length answers.now < 2 ^ 64 }
-    ensures { OnOk result (text.new.items
-        ≡ text.old.items ++ records_from source place version answers.now) }
-{
-    for i in 0..answers.len() {
-        record(source, place + i as u64, &answers[i], version, text)?;
-    }
-    Ok(())
-}
+/// How many parts a ring has places for.
+const PLACES: usize = 2;
 
-/// Makes the only part anew: the records of these answers.
-fn made_alone(
-    parts: Vec<Vec<u8>>,
-    source: u64,
-    place: u64,
-    answers: &[Answer],
-    version: Version,
-) -> Result<Vec<Vec<u8>>, OutOfMemory>
-    requires one { vec_len parts ≡ 1 }
-    requires room { place + length answers.now < 2 ^ 64 }
-    ensures len { IfOk result (λ made. vec_len made ≡ 1) }
-    ensures text { IfOk result (λ made.
-        flat_map (λ part. part.items) made.items ≡ records_from source place version answers.now) }
-{
-    let mut parts = parts;
-    let Some(mut text) = parts.pop() else {
-        unreachable!()
-    };
-    text.clear();
-    put_records(source, place, answers, version, &mut text)?;
-    match parts.push(text) {
-        Ok(()) => Ok(parts),
-        Err(_) => Err(OutOfMemory),
+/// So many rings.
+pub(crate) fn open_rings<K: Parted>(
+    alloc: Global,
+    count: usize,
+) -> Result<(Vec<Producer<Part<K>>>, Vec<Consumer<Part<K>>>), AllocError> {
+    let mut ins = Vec::new(alloc);
+    let mut outs = Vec::new(alloc);
+    for opened in 0..count {
+        let (ring_in, ring_out) = RingBuffer::new(alloc, PLACES)?;
+        ins.push(ring_in)?;
+        outs.push(ring_out)?;
     }
-}
-
-/// Makes all parts anew, each in a thread of its own where one can be made: together they are the
-/// records of these answers of a source, of which the first has this place.
-pub(crate) fn made<R: Threads + Sync>(
-    rt: &R,
-    parts: Vec<Vec<u8>>,
-    source: u64,
-    place: u64,
-    answers: &[Answer],
-    version: Version,
-) -> Result<Vec<Vec<u8>>, OutOfMemory>
-    requires some { 0 < vec_len parts }
-    requires room { place + length answers.now < 2 ^ 64 }
-    ensures len { IfOk result (λ made. vec_len made ≡ vec_len parts) }
-    ensures text { IfOk result (λ made.
-        flat_map (λ part. part.items) made.items ≡ records_from source place version answers.now) }
-{
-    let count = parts.len();
-    if count < 2 {
-        return made_alone(parts, source, place, answers, version);
-    }
-    let mut parts = parts;
-    let low = count / 2;
-    let share = (answers.len() / count).saturating_mul(low);
-    let (first, rest) = answers.split_at(share.min(answers.len()));
-    let behind = place + first.len() as u64;
-    let Ok(more) = parts.split_off(low) else {
-        return Err(OutOfMemory);
-    };
-    let (front, back) = join(
-        rt,
-        move || -> Result<Vec<Vec<u8>>, OutOfMemory>
-            requires { IsSync R.row × (0 < vec_len parts) × (place + length first.now < 2 ^ 64) }
-            ensures { IfOk result (λ made. (vec_len made ≡ vec_len parts)
-                × (flat_map (λ part. part.items) made.items ≡ records_from source place version first.entry.now)) }
-        { made(rt, parts, source, place, first, version) },
-        move || -> Result<Vec<Vec<u8>>, OutOfMemory>
-            requires { IsSync R.row × (0 < vec_len more) × (behind + length rest.now < 2 ^ 64) }
-            ensures { IfOk result (λ made. (vec_len made ≡ vec_len more)
-                × (flat_map (λ part. part.items) made.items ≡ records_from source behind version rest.entry.now)) }
-        { made(rt, more, source, behind, rest, version) },
-    );
-    let mut all = front?;
-    let mut back = back?;
-    match all.append(&mut back) {
-        Ok(()) => Ok(all),
-        Err(_) => Err(OutOfMemory),
-    }
+    Ok((ins, outs))
 }

@@ -1,20 +1,28 @@
 //! The text of a run's report, and its summary.
-ghost use Rattle.std.specs.Prelude.{true, ◌≡◌, ◌++◌, ◌^◌, ◌-◌, count_by, min, sum_by, IfErr, OnOk};
-ghost use Rattle.std.specs.List.{list_any};
+ghost use Rattle.std.specs.Prelude.{true, ◌≡◌, ℕ, ◌+◌, ◌<◌, ◌++◌, ◌^◌, ◌-◌, count_by, min, sum_by, IfErr, IfOk, OnOk};
+ghost use Rattle.std.specs.List.{AllZip, list_any};
+ghost use Rattle.std.specs.Thread.{IsSync};
 ghost use Rattle.std.specs.Io.KnownBytes.{Appends};
 ghost use Rattle.tfm_tool.specs.Status.{is_text_fault};
-ghost use Rattle.tfm_tool.specs.RunText.{Goes, is_refused, lane_text};
-ghost use Rattle.tfm_tool.specs.ReportText.{is_unread, is_wanting, lanes_text, refused_in, run_text, summary_of_run, why_of};
+ghost use Rattle.tfm_tool.specs.RunText.{Goes, is_refused, lane_text, records_of};
+ghost use Rattle.tfm_tool.specs.ReportText.{IsLikeLane, answers_at, is_unread, is_wanting, lanes_text, refused_in, run_text, summary_of_run, why_of};
 
-use crate::parts::threads_for_text;
+use crate::freeing::free;
+use crate::parts::{Part, Parted, make_all, open_rings, threads_for_text};
 use crate::run_text::{push_head, write_block, write_lane};
 use crate::{Summary, ToolFault};
 use line_lane::{LaneEnd, SourceFault};
-use set_line::{Answer, Outcome, Version};
+use rtrb::Consumer;
+use set_line::{Answer, OutOfMemory, Outcome, Version};
 use set_run::{LaneReport, Report};
 use std::alloc::Global;
 use std::io::Write;
-use std::thread::Threads;
+use std::marker::Brand;
+use std::mem;
+use std::sync::Wait;
+use std::sync::atomic::{AtomicBool, Ordering};
+use std::thread::{Threads, join_mut};
+use std::time::Clock;
 
 /// The word for the end of a lane.
 #[tactic(auto, unfolding(crate::specs::ReportText::why_of))]
@@ -32,72 +40,162 @@ fn why(end: LaneEnd) -> &'static [u8]
 
 /// Puts the records and the end line of a lane into the block, and writes each block that is long
 /// enough.
-fn write_report_of<R: Threads + Sync, W: Write, S>(
-    rt: &R,
-    threads: usize,
-    number: u64,
-    lane: &LaneReport<S>,
+fn write_report_of<W: Write, K: Parted>(
+    rings: &mut Vec<Consumer<Part<K>>>,
+    number: usize,
+    lane: &LaneReport<()>,
     version: Version,
     block: &mut Vec<u8>,
     out: &mut W,
 ) -> Result<(), ToolFault>
+    requires room { number + 1 < 2 ^ 64 }
+    requires records { (from count : ℕ) → K.records number from count
+        ≡ records_of version lane.now.answers number from count }
     ensures fault { IfErr result (λ fault. is_text_fault fault ≡ true) }
     ensures goes { OnOk result (Goes (W.contents out.old) block.old.items
         (W.contents out.new) block.new.items
-        (lane_text number version lane.now.answers (why_of lane.now.end))) }
+        (lane_text (number + 1) version lane.now.answers (why_of lane.now.end))) }
 {
     let answers = lane.answers.as_slice();
     let why = why(lane.end);
-    write_lane(rt, threads, number, answers, why, version, block, out)
+    write_lane(rings, number, answers, why, version, block, out)
 }
 
 /// Puts the records and the end lines of all lanes into the block, and writes each block that is long
-/// enough.
-fn write_lanes<R: Threads + Sync, W: Write, S>(
-    rt: &R,
-    threads: usize,
-    lanes: &[LaneReport<S>],
+/// enough. Parts come through the rings, where there are any.
+fn write_lanes<W: Write, K: Parted>(
+    rings: &mut Vec<Consumer<Part<K>>>,
+    lanes: &[LaneReport<()>],
     version: Version,
     block: &mut Vec<u8>,
     out: &mut W,
 ) -> Result<(), ToolFault>
+    requires { (lane from count : ℕ) → K.records lane from count
+        ≡ records_of version (answers_at lanes.now lane) lane from count }
     ensures fault { IfErr result (λ fault. is_text_fault fault ≡ true) }
     ensures goes { OnOk result (Goes (W.contents out.old) block.old.items
         (W.contents out.new) block.new.items
         (lanes_text 1 version lanes.now)) }
 {
     for number in 0..lanes.len() {
-        write_report_of(
-            rt,
-            threads,
-            number as u64 + 1,
-            &lanes[number],
-            version,
-            block,
-            out,
-        )?;
+        write_report_of(rings, number, &lanes[number], version, block, out)?;
     }
     Ok(())
 }
 
-/// Writes the text of a run. Where it is long, as many threads make it as there are processors, up to
-/// a few; this one alone writes.
-pub(crate) fn write_report<R: Threads + Sync, W: Write, S>(
+/// The same, with so many threads that make records, this one among them.
+fn write_together<R: Threads + Wait + Clock + Sync, W: Write, K: Parted>(
     rt: &R,
     alloc: Global,
-    report: &Report<S>,
+    threads: usize,
+    lanes: &[LaneReport<()>],
+    version: Version,
+    block: &mut Vec<u8>,
+    out: &mut W,
+) -> Result<(), ToolFault>
+    requires { (lane from count : ℕ) → K.records lane from count
+        ≡ records_of version (answers_at lanes.now lane) lane from count }
+    ensures fault { IfErr result (λ fault. is_text_fault fault ≡ true) }
+    ensures goes { OnOk result (Goes (W.contents out.old) block.old.items
+        (W.contents out.new) block.new.items
+        (lanes_text 1 version lanes.now)) }
+{
+    let (mut ins, mut outs) = match open_rings::<K>(alloc, threads.saturating_sub(1)) {
+        Ok(rings) => rings,
+        Err(_) => return Err(ToolFault::OutOfMemory),
+    };
+    let flag = AtomicBool::new(false);
+    let writing = &flag;
+    let mut makes = move ||
+        requires { IsSync R.row × ((lane from count : ℕ) → K.records lane from count
+            ≡ records_of version (answers_at lanes.now lane) lane from count) }
+    {
+        let rings = mem::replace(&mut ins, Vec::new(alloc));
+        make_all(rt, writing, alloc, lanes, version, threads, rings)
+    };
+    let mut writes = || -> Result<(), ToolFault>
+        requires { (lane from count : ℕ) → K.records lane from count
+            ≡ records_of version (answers_at lanes.now lane) lane from count }
+        ensures fault { IfErr result (λ fault. is_text_fault fault ≡ true) }
+        ensures goes { OnOk result (Goes (W.contents out.entry.now) block.entry.now.items
+            (W.contents out.exit.now) block.exit.now.items
+            (lanes_text 1 version lanes.entry.now)) }
+    {
+        writing.store(true, Ordering::SeqCst);
+        let written = write_lanes(&mut outs, lanes, version, block, out);
+        writing.store(false, Ordering::SeqCst);
+        written
+    };
+    let (_, written) = join_mut(rt, &mut makes, &mut writes);
+    written
+}
+
+/// Writes the text of a run, whose records so many threads make, this one among them. It alone writes.
+pub(crate) fn write_run<R: Threads + Wait + Clock + Sync, W: Write>(
+    rt: &R,
+    alloc: Global,
+    threads: usize,
+    lanes: &[LaneReport<()>],
     version: Version,
     out: &mut W,
 ) -> Result<(), ToolFault>
     ensures fault { IfErr result (λ fault. is_text_fault fault ≡ true) }
     ensures text { OnOk result (Appends (W.contents out.old) (W.contents out.new)
-        (run_text version report.now)) }
+        (run_text version lanes.now)) }
 {
     let mut block = Vec::new(alloc);
     push_head(&mut block, version).map_err(|_| ToolFault::OutOfMemory)?;
-    let threads = threads_for_text(rt);
-    write_lanes(rt, threads, report.lanes(), version, &mut block, out)?;
+    write_together::<R, W, Brand>(rt, alloc, threads, lanes, version, &mut block, out)?;
     write_block(&mut block, out)?;
+    Ok(())
+}
+
+/// Lanes without their sources, for threads that only look at them.
+pub(crate) fn without_sources<S: Drop>(
+    alloc: Global,
+    lanes: Vec<LaneReport<S>>,
+) -> Result<Vec<LaneReport<()>>, OutOfMemory>
+    ensures { IfOk result (λ bare. AllZip IsLikeLane lanes.items bare.items) }
+{
+    let mut bare = Vec::new(alloc);
+    for lane in lanes {
+        let LaneReport {
+            source: _,
+            answers,
+            end,
+        } = lane;
+        let lane = LaneReport {
+            source: (),
+            answers,
+            end,
+        };
+        match bare.push(lane) {
+            Ok(()) => (),
+            Err(_) => return Err(OutOfMemory),
+        }
+    }
+    Ok(bare)
+}
+
+/// Writes the text of a run, and gives the memory of its report back. Where the text is long, as many
+/// threads make it as there are processors, up to a few.
+pub(crate) fn write_report<R: Threads + Wait + Clock + Sync, W: Write, S: Drop>(
+    rt: &R,
+    alloc: Global,
+    report: Report<S>,
+    version: Version,
+    out: &mut W,
+) -> Result<(), ToolFault>
+    ensures fault { IfErr result (λ fault. is_text_fault fault ≡ true) }
+    ensures text { OnOk result (Appends (W.contents out.old) (W.contents out.new)
+        (run_text version report)) }
+{
+    let Ok(lanes) = without_sources(alloc, report.into_lanes()) else {
+        return Err(ToolFault::OutOfMemory);
+    };
+    let threads = threads_for_text(rt, lanes.as_slice());
+    write_run(rt, alloc, threads, lanes.as_slice(), version, out)?;
+    free(rt, lanes);
     Ok(())
 }
 

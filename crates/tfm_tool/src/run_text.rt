@@ -1,16 +1,16 @@
 //! The text of a run, written in blocks.
-ghost use Rattle.std.specs.Prelude.{true, ◌≡◌, ◌+◌, ◌<◌, ◌≤◌, ◌^◌, ◌++◌, [], length, take, flat_map, vec_len, IfErr, IfOk, OnOk};
+ghost use Rattle.std.specs.Prelude.{true, ◌≡◌, ℕ, ◌+◌, ◌-◌, ◌<◌, ◌≤◌, ◌^◌, ◌++◌, [], drop, length, take, IfErr, IfOk, IfSome, OnOk};
 ghost use Rattle.set_line.specs.Record.{record_text};
 ghost use Rattle.tfm_tool.specs.Status.{is_text_fault};
-ghost use Rattle.tfm_tool.specs.RunText.{Goes, end_text, head_text, lane_text, records_from};
+ghost use Rattle.tfm_tool.specs.RunText.{Goes, end_text, head_text, lane_text, records_from, records_of};
 
 use crate::ToolFault;
 use crate::appending::push_number;
-use crate::parts::{empty_parts, enough, made};
+use crate::parts::{Part, Parted, answers_of_part, next_part};
+use rtrb::Consumer;
 use set_line::{Answer, Version, record};
 use std::alloc::AllocError;
 use std::io::Write;
-use std::thread::Threads;
 
 /// A block is written once it has so many bytes.
 const BLOCK: usize = 65_536;
@@ -89,83 +89,73 @@ fn write_records<W: Write>(
     Ok(())
 }
 
-/// Writes parts, one after the other.
-#[tactic(auto, using(crate::proofs::RunTextLemmas::goes))]
-fn write_parts<W: Write>(parts: &[Vec<u8>], out: &mut W) -> Result<(), ToolFault>
-    ensures fault { IfErr result (λ fault. is_text_fault fault ≡ true) }
-    ensures goes { OnOk result (Goes (W.contents out.old) [] (W.contents out.new) []
-        (flat_map (λ part. part.items) parts.now)) }
-{
-    for i in 0..parts.len() {
-        out.write_all(parts[i].as_slice())
-            .map_err(|_| ToolFault::Write)?;
-    }
-    Ok(())
-}
-
-/// Writes the block, and behind it the records of many answers, which several threads make.
-fn write_some<R: Threads + Sync, W: Write>(
-    rt: &R,
-    parts: Vec<Vec<u8>>,
-    source: u64,
-    first: u64,
+/// Writes the records of answers of a lane behind the first ones: those of a part that came for them,
+/// or else those of a share, made here. How many answers have their records written then.
+fn write_next<W: Write, K: Parted>(
+    lane: usize,
     answers: &[Answer],
     version: Version,
-    block: &mut Vec<u8>,
-    out: &mut W,
-) -> Result<Vec<Vec<u8>>, ToolFault>
-    requires some { 0 < vec_len parts }
-    requires room { first + length answers.now < 2 ^ 64 }
-    ensures fault { IfErr result (λ fault. is_text_fault fault ≡ true) }
-    ensures len { IfOk result (λ made. vec_len made ≡ vec_len parts) }
-    ensures goes { OnOk result (Goes (W.contents out.old) block.old.items
-        (W.contents out.new) block.new.items (records_from source first version answers.now)) }
-{
-    write_block(block, out)?;
-    let parts = made(rt, parts, source, first, answers, version).map_err(
-        |_| ToolFault::OutOfMemory,
-    )?;
-    write_parts(parts.as_slice(), out)?;
-    Ok(parts)
-}
-
-/// Writes the records of a source's first answers, as long as there are enough for several threads:
-/// of how many answers.
-fn write_many<R: Threads + Sync, W: Write>(
-    rt: &R,
-    threads: usize,
-    source: u64,
-    answers: &[Answer],
-    version: Version,
+    done: usize,
+    share: usize,
+    came: Option<Part<K>>,
     block: &mut Vec<u8>,
     out: &mut W,
 ) -> Result<usize, ToolFault>
+    requires some { 0 < share }
+    requires room { lane + 1 < 2 ^ 64 }
+    requires within { done < length answers.now }
+    requires came { IfSome came (λ part. (part.lane ≡ lane) × (part.from ≡ done)) }
+    requires records { (from count : ℕ) → K.records lane from count ≡ records_of version answers.now lane from count }
     ensures fault { IfErr result (λ fault. is_text_fault fault ≡ true) }
-    ensures within { IfOk result (λ done. done ≤ length answers.now) }
-    ensures goes { IfOk result (λ done.
-        Goes (W.contents out.old) block.old.items (W.contents out.new) block.new.items
-        (records_from source 1 version (take done answers.now))) }
+    ensures more { IfOk result (λ now. (done < now) × (now ≤ length answers.now)) }
+    ensures goes { IfOk result (λ now. Goes (W.contents out.old) block.old.items (W.contents out.new) block.new.items
+        (records_from (lane + 1) (done + 1) version (take (now - done) (drop done answers.now)))) }
 {
-    if threads < 2 {
-        return Ok(0);
+    let rest = &answers[done..];
+    if let Some(part) = came {
+        if part.count > 0 && part.count <= rest.len() {
+            write_block(block, out)?;
+            out.write_all(part.text.as_slice())
+                .map_err(|_| ToolFault::Write)?;
+            return Ok(done + part.count);
+        }
     }
-    let mut parts = empty_parts(*block.allocator(), threads).map_err(|_| ToolFault::OutOfMemory)?;
+    let count = share.min(rest.len());
+    write_records(
+        lane as u64 + 1,
+        done as u64 + 1,
+        &rest[..count],
+        version,
+        block,
+        out,
+    )?;
+    Ok(done + count)
+}
+
+/// Writes the records of all answers of a lane: of every so many shares those of one are made here, and
+/// those of the others come through the rings.
+fn write_parts<W: Write, K: Parted>(
+    rings: &mut Vec<Consumer<Part<K>>>,
+    lane: usize,
+    answers: &[Answer],
+    version: Version,
+    block: &mut Vec<u8>,
+    out: &mut W,
+) -> Result<(), ToolFault>
+    requires room { lane + 1 < 2 ^ 64 }
+    requires records { (from count : ℕ) → K.records lane from count ≡ records_of version answers.now lane from count }
+    ensures fault { IfErr result (λ fault. is_text_fault fault ≡ true) }
+    ensures goes { OnOk result (Goes (W.contents out.old) block.old.items (W.contents out.new) block.new.items
+        (records_from (lane + 1) 1 version answers.now)) }
+{
+    let share = answers_of_part(answers);
     let mut done = 0;
-    while let Some(count) = enough(&answers[done..], threads) {
-        let some = &answers[done..done + count];
-        parts = write_some(
-            rt,
-            parts,
-            source,
-            done as u64 + 1,
-            some,
-            version,
-            block,
-            out,
-        )?;
-        done += count;
+    while done < answers.len() {
+        let came = next_part(rings, lane, share, done);
+        let left = share - done % share;
+        done = write_next(lane, answers, version, done, left, came, block, out)?;
     }
-    Ok(done)
+    Ok(())
 }
 
 pub(crate) fn push_head(text: &mut Vec<u8>, version: Version) -> Result<(), AllocError>
@@ -188,31 +178,26 @@ fn push_end(text: &mut Vec<u8>, source: u64, why: &[u8], count: u64) -> Result<(
     text.extend_from_slice(b"\n")
 }
 
-/// Puts the records and the end line of a source into the block, and writes each block that is long
+/// Puts the records and the end line of a lane into the block, and writes each block that is long
 /// enough.
-pub(crate) fn write_lane<R: Threads + Sync, W: Write>(
-    rt: &R,
-    threads: usize,
-    source: u64,
+pub(crate) fn write_lane<W: Write, K: Parted>(
+    rings: &mut Vec<Consumer<Part<K>>>,
+    lane: usize,
     answers: &[Answer],
     why: &[u8],
     version: Version,
     block: &mut Vec<u8>,
     out: &mut W,
 ) -> Result<(), ToolFault>
+    requires room { lane + 1 < 2 ^ 64 }
+    requires records { (from count : ℕ) → K.records lane from count ≡ records_of version answers.now lane from count }
     ensures fault { IfErr result (λ fault. is_text_fault fault ≡ true) }
     ensures goes { OnOk result (Goes (W.contents out.old) block.old.items
-        (W.contents out.new) block.new.items (lane_text source version answers.now why.now)) }
+        (W.contents out.new) block.new.items (lane_text (lane + 1) version answers.now why.now)) }
 {
-    let done = write_many(rt, threads, source, answers, version, block, out)?;
-    write_records(
-        source,
-        done as u64 + 1,
-        &answers[done..],
-        version,
-        block,
-        out,
+    write_parts(rings, lane, answers, version, block, out)?;
+    push_end(block, lane as u64 + 1, why, answers.len() as u64).map_err(
+        |_| ToolFault::OutOfMemory,
     )?;
-    push_end(block, source, why, answers.len() as u64).map_err(|_| ToolFault::OutOfMemory)?;
     Ok(())
 }

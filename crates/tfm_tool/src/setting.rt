@@ -51,8 +51,9 @@ where
         Ok(report) => report,
         Err(fault) => return Err(ToolFault::Run(fault)),
     };
-    write_report(rt, alloc, &report, version, out)?;
-    Ok(summary_of(&report))
+    let summary = summary_of(&report);
+    write_report(rt, alloc, report, version, out)?;
+    Ok(summary)
 }
 
 /// Terms that many sources share.

@@ -1,75 +1,80 @@
 //! Records made by several threads.
-ghost use Rattle.std.specs.Prelude.{◌<◌};
-
 use super::listings::plain;
 use super::*;
-use crate::parts::{empty_parts, made};
-use set_line::{Answer, Limit, Line, OutOfMemory, Policy, Terms, Version, set};
+use crate::report_text::{without_sources, write_run};
+use line_lane::{Block, Capacity};
+use set_line::{Limit, Line, Policy, Terms, Version};
+use set_run::{ListSource, NoGate, Plan, Workers, run};
 use std::sync::Arc;
 use std::test::Fail;
 use tfm_tables::Font;
 
-static LINES: [&str; 6] = ["a", "ab", "", "d", "c b", "aa"];
+/// Lines, and what their records have behind the numbers.
+static LINES: [(&str, &str); 6] = [
+    ("a", "set 327680 steps 1 c97=327680"),
+    ("ab", "set 491520 steps 2 c97=327680 c98=163840"),
+    ("", "set 0 steps 0"),
+    ("d", "refused missing 0 100"),
+    ("c b", "set 873813 steps 2 c99=491520 s218453 c98=163840"),
+    ("aa", "set 655360 steps 2 c97=327680 c97=327680"),
+];
 
-/// Their records, as those of source 3 from place 9 on.
-const RECORDS: &str = "3:9 set 327680 steps 1 c97=327680
-3:10 set 491520 steps 2 c97=327680 c98=163840
-3:11 set 0 steps 0
-3:12 refused missing 0 100
-3:13 set 873813 steps 2 c99=491520 s218453 c98=163840
-3:14 set 655360 steps 2 c97=327680 c97=327680
-";
+/// How many lines each source has: four parts of them, a few, none, and two parts.
+static COUNTS: [usize; 4] = [18_000, 5, 0, 8_000];
 
-/// The answer of a line.
-fn answer(alloc: Global, terms: &Arc<Terms>, line: &str) -> Result<Answer, OutOfMemory> {
-    let terms = Arc::try_clone(terms)?;
-    let Ok(bytes) = Vec::from_slice(alloc, line.as_bytes()) else {
-        return Err(OutOfMemory);
-    };
-    set(alloc, terms, Line::new(bytes)).map_err(|(_, fault)| fault)
+/// A source of so many lines.
+fn source(alloc: Global, count: usize) -> Result<ListSource, AllocError> {
+    let mut lines = Vec::new(alloc);
+    for i in 0..count {
+        lines.push(Line::new(Vec::from_slice(alloc, LINES[i % 6].0.as_bytes())?))?;
+    }
+    Ok(ListSource::new(lines))
 }
 
-/// The answers of all lines.
-fn answers(alloc: Global, terms: &Arc<Terms>) -> Result<Vec<Answer>, OutOfMemory> {
-    let mut answers = Vec::new(alloc);
-    for line in &LINES {
-        let answer = answer(alloc, terms, line)?;
-        if answers.push(answer).is_err() {
-            return Err(OutOfMemory);
+/// What is to be written.
+fn wanted(alloc: Global) -> Result<String, Fail> {
+    let mut text = format!(in alloc; "records 2\n")?;
+    for lane in 0..COUNTS.len() {
+        for i in 0..COUNTS[lane] {
+            let record = LINES[i % 6].1;
+            write!(text, "{}:{} {record}\n", lane + 1, i + 1)?;
         }
+        write!(text, "{} end complete {}\n", lane + 1, COUNTS[lane])?;
     }
-    Ok(answers)
-}
-
-/// The records made in so many parts, one after the other.
-fn made_in<R: Threads + Sync + AllocGlobal>(
-    rt: &R,
-    threads: usize,
-    answers: &[Answer],
-) -> Result<Vec<u8>, OutOfMemory>
-    requires { 0 < threads }
-{
-    let alloc = rt.alloc();
-    let mut all = Vec::new(alloc);
-    let parts = empty_parts(alloc, threads)?;
-    for part in made(rt, parts, 3, 9, answers, Version::Two)? {
-        if all.extend_from_slice(part.as_slice()).is_err() {
-            return Err(OutOfMemory);
-        }
-    }
-    Ok(all)
+    Ok(text)
 }
 
 #[test]
 fn parts_make_the_whole(rt: HostRuntime) -> Result<(), Fail> {
-    let bytes = plain(rt.alloc())?;
-    let font = Font::read(rt.alloc(), &bytes, None)?;
+    let alloc = rt.alloc();
+    let bytes = plain(alloc)?;
+    let font = Font::read(alloc, &bytes, None)?;
     let limit = Limit::new(100).expect(&rt, "a limit");
-    let terms = Arc::new(rt.alloc(), Terms::new(font, limit, Policy::Refuse))?;
-    let answers = answers(rt.alloc(), &terms)?;
-    for threads in 1..=8 {
-        let records = made_in(&rt, threads, &answers)?;
-        assert!(rt; records.as_slice() == RECORDS.as_bytes(), "{threads}");
+    let terms = Arc::new(alloc, Terms::new(font, limit, Policy::Refuse))?;
+    let mut sources = Vec::new(alloc);
+    for count in COUNTS {
+        sources.push((source(alloc, count)?, terms.clone()?))?;
+    }
+    let plan = Plan {
+        capacity: Capacity::new(64).expect(&rt, "a capacity"),
+        block: Block::new(8).expect(&rt, "a block"),
+        workers: Workers::new(2).expect(&rt, "workers"),
+    };
+    let report = run(&rt, alloc, sources, plan, &NoGate)?;
+    let lanes = without_sources(alloc, report.into_lanes())?;
+    let wanted = wanted(alloc)?;
+    for threads in [0, 1, 2, 3, 5, 8] {
+        let mut out = Vec::new(alloc);
+        let written = write_run(
+            &rt,
+            alloc,
+            threads,
+            lanes.as_slice(),
+            Version::Two,
+            &mut out,
+        );
+        assert!(&rt; matches!(written, Ok(())), "{threads}");
+        assert!(&rt; out.as_slice() == wanted.as_bytes(), "{threads}");
     }
     Ok(())
 }
