@@ -27,10 +27,11 @@ const SAMPLE: usize = 64;
 /// A part ends once it has so many bytes, whatever its answers are.
 const LONG: usize = 131_072;
 
-/// How many looks in vain only yield.
-const YIELDS: u32 = 2000;
+/// How many looks in vain only yield. As many in a row have to do for a part, or for the writer to
+/// begin: a yield takes less than a microsecond, but milliseconds where others want the processor.
+const LOOKS: u32 = 256;
 
-/// How long a thread sleeps from then on, in microseconds.
+/// How long a thread that makes parts sleeps from then on, in microseconds.
 const PAUSE: u64 = 100;
 
 /// How many threads are to make records: as many as there are processors for this program, up to a
@@ -149,24 +150,60 @@ fn make<K: Parted>(
     })
 }
 
-/// Sends a part, as soon as there is a place for it; false where nobody writes.
+/// How far the thread that writes has come.
+#[derive(Drop)]
+pub(crate) struct Writing {
+    begun: AtomicBool,
+    over: AtomicBool,
+}
+
+impl Writing {
+    pub fn new() -> Self {
+        Writing {
+            begun: AtomicBool::new(false),
+            over: AtomicBool::new(false),
+        }
+    }
+
+    pub fn begin(&self) {
+        self.begun.store(true, Ordering::SeqCst);
+    }
+
+    pub fn end(&self) {
+        self.over.store(true, Ordering::SeqCst);
+    }
+
+    fn has_begun(&self) -> bool {
+        self.begun.load(Ordering::SeqCst)
+    }
+
+    fn is_over(&self) -> bool {
+        self.over.load(Ordering::SeqCst)
+    }
+}
+
+/// Sends a part, as soon as there is a place for it; false where nobody takes it: the writer is done, or
+/// doesn't begin, as where this very thread is to write later.
 fn send<R: Wait + Clock, K: Parted>(
     rt: &R,
-    writing: &AtomicBool,
+    writing: &Writing,
     ring: &mut Producer<Part<K>>,
     part: Part<K>,
 ) -> bool {
     let mut part = part;
     let mut looks: u32 = 0;
     for _ in rt.forever() {
+        if writing.is_over() {
+            return false;
+        }
         match ring.push(part) {
             Ok(()) => return true,
             Err(PushError::Full(back)) => part = back,
         }
-        if looks < YIELDS {
+        if looks < LOOKS {
             looks += 1;
             thread::yield_now();
-        } else if writing.load(Ordering::SeqCst) {
+        } else if writing.has_begun() {
             thread::sleep(rt, Duration::from_micros(PAUSE));
         } else {
             return false;
@@ -179,7 +216,7 @@ fn send<R: Wait + Clock, K: Parted>(
 /// False where nothing more is to be sent.
 fn make_lane<R: Wait + Clock, K: Parted>(
     rt: &R,
-    writing: &AtomicBool,
+    writing: &Writing,
     alloc: Global,
     lane: usize,
     answers: &[Answer],
@@ -209,7 +246,7 @@ fn make_lane<R: Wait + Clock, K: Parted>(
 /// Makes a thread's parts of all lanes.
 fn make_each<R: Wait + Clock, K: Parted>(
     rt: &R,
-    writing: &AtomicBool,
+    writing: &Writing,
     alloc: Global,
     lanes: &[LaneReport<()>],
     version: Version,
@@ -234,7 +271,7 @@ fn make_each<R: Wait + Clock, K: Parted>(
 /// A thread for each ring, which makes its parts.
 pub(crate) fn make_all<R: Threads + Wait + Clock + Sync, K: Parted>(
     rt: &R,
-    writing: &AtomicBool,
+    writing: &Writing,
     alloc: Global,
     lanes: &[LaneReport<()>],
     version: Version,
@@ -262,26 +299,43 @@ pub(crate) fn make_all<R: Threads + Wait + Clock + Sync, K: Parted>(
     );
 }
 
-/// The part of a lane that begins behind so many answers, where it comes soon. What was made for
-/// nothing is dropped.
-fn come<K: Parted>(ring: &mut Consumer<Part<K>>, lane: usize, from: usize) -> Option<Part<K>>
-    ensures { IfSome result (λ part. (part.lane ≡ lane) × (part.from ≡ from)) }
-{
-    for look in 0..YIELDS {
-        match ring.pop() {
-            Ok(part) if part.lane == lane && part.from == from => return Some(part),
-            Ok(_) => (),
-            Err(_) if ring.is_abandoned() => return None,
-            Err(_) => thread::yield_now(),
+/// Where parts come out.
+#[derive(Drop)]
+pub(crate) struct Inbox<K: Parted> {
+    ring: Consumer<Part<K>>,
+    /// How many looks were in vain since a part came.
+    looks: u32,
+}
+
+impl<K: Parted> Inbox<K> {
+    /// The part of a lane that begins behind so many answers, where it comes soon. What was made for
+    /// nothing is dropped. Nothing is waited for twice: after looks enough in vain one look has to do,
+    /// until a part comes again.
+    fn come(&mut self, lane: usize, from: usize) -> Option<Part<K>>
+        ensures { IfSome result (λ part. (part.lane ≡ lane) × (part.from ≡ from)) }
+    {
+        for _ in 0..2 * LOOKS {
+            match self.ring.pop() {
+                Ok(part) if part.lane == lane && part.from == from => {
+                    self.looks = 0;
+                    return Some(part);
+                }
+                Ok(_) => self.looks = 0,
+                Err(_) if self.looks >= LOOKS || self.ring.is_abandoned() => return None,
+                Err(_) => {
+                    self.looks += 1;
+                    thread::yield_now();
+                }
+            }
         }
+        None
     }
-    None
 }
 
 /// The part of a lane that begins behind so many answers, where it comes: a ring has every so many
 /// shares whole.
 pub(crate) fn next_part<K: Parted>(
-    rings: &mut Vec<Consumer<Part<K>>>,
+    inboxes: &mut Vec<Inbox<K>>,
     lane: usize,
     share: usize,
     done: usize,
@@ -292,11 +346,11 @@ pub(crate) fn next_part<K: Parted>(
     if done % share > 0 {
         return None;
     }
-    let turn = done / share % (rings.len() + 1);
+    let turn = done / share % (inboxes.len() + 1);
     if turn == 0 {
         return None;
     }
-    come(&mut rings[turn - 1], lane, done)
+    inboxes[turn - 1].come(lane, done)
 }
 
 /// How many parts a ring has places for.
@@ -306,13 +360,16 @@ const PLACES: usize = 2;
 pub(crate) fn open_rings<K: Parted>(
     alloc: Global,
     count: usize,
-) -> Result<(Vec<Producer<Part<K>>>, Vec<Consumer<Part<K>>>), AllocError> {
+) -> Result<(Vec<Producer<Part<K>>>, Vec<Inbox<K>>), AllocError> {
     let mut ins = Vec::new(alloc);
     let mut outs = Vec::new(alloc);
     for opened in 0..count {
         let (ring_in, ring_out) = RingBuffer::new(alloc, PLACES)?;
         ins.push(ring_in)?;
-        outs.push(ring_out)?;
+        outs.push(Inbox {
+            ring: ring_out,
+            looks: 0,
+        })?;
     }
     Ok((ins, outs))
 }

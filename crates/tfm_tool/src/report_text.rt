@@ -8,11 +8,10 @@ ghost use Rattle.tfm_tool.specs.RunText.{Goes, is_refused, lane_text, records_of
 ghost use Rattle.tfm_tool.specs.ReportText.{IsLikeLane, answers_at, is_unread, is_wanting, lanes_text, refused_in, run_text, summary_of_run, why_of};
 
 use crate::freeing::free;
-use crate::parts::{Part, Parted, make_all, open_rings, threads_for_text};
+use crate::parts::{Inbox, Parted, Writing, make_all, open_rings, threads_for_text};
 use crate::run_text::{push_head, write_block, write_lane};
 use crate::{Summary, ToolFault};
 use line_lane::{LaneEnd, SourceFault};
-use rtrb::Consumer;
 use set_line::{Answer, OutOfMemory, Outcome, Version};
 use set_run::{LaneReport, Report};
 use std::alloc::Global;
@@ -20,7 +19,6 @@ use std::io::Write;
 use std::marker::Brand;
 use std::mem;
 use std::sync::Wait;
-use std::sync::atomic::{AtomicBool, Ordering};
 use std::thread::{Threads, join_mut};
 use std::time::Clock;
 
@@ -41,7 +39,7 @@ fn why(end: LaneEnd) -> &'static [u8]
 /// Puts the records and the end line of a lane into the block, and writes each block that is long
 /// enough.
 fn write_report_of<W: Write, K: Parted>(
-    rings: &mut Vec<Consumer<Part<K>>>,
+    inboxes: &mut Vec<Inbox<K>>,
     number: usize,
     lane: &LaneReport<()>,
     version: Version,
@@ -58,13 +56,13 @@ fn write_report_of<W: Write, K: Parted>(
 {
     let answers = lane.answers.as_slice();
     let why = why(lane.end);
-    write_lane(rings, number, answers, why, version, block, out)
+    write_lane(inboxes, number, answers, why, version, block, out)
 }
 
 /// Puts the records and the end lines of all lanes into the block, and writes each block that is long
 /// enough. Parts come through the rings, where there are any.
 fn write_lanes<W: Write, K: Parted>(
-    rings: &mut Vec<Consumer<Part<K>>>,
+    inboxes: &mut Vec<Inbox<K>>,
     lanes: &[LaneReport<()>],
     version: Version,
     block: &mut Vec<u8>,
@@ -78,7 +76,7 @@ fn write_lanes<W: Write, K: Parted>(
         (lanes_text 1 version lanes.now)) }
 {
     for number in 0..lanes.len() {
-        write_report_of(rings, number, &lanes[number], version, block, out)?;
+        write_report_of(inboxes, number, &lanes[number], version, block, out)?;
     }
     Ok(())
 }
@@ -104,7 +102,7 @@ fn write_together<R: Threads + Wait + Clock + Sync, W: Write, K: Parted>(
         Ok(rings) => rings,
         Err(_) => return Err(ToolFault::OutOfMemory),
     };
-    let flag = AtomicBool::new(false);
+    let flag = Writing::new();
     let writing = &flag;
     let mut makes = move ||
         requires { IsSync R.row × ((lane from count : ℕ) → K.records lane from count
@@ -121,9 +119,9 @@ fn write_together<R: Threads + Wait + Clock + Sync, W: Write, K: Parted>(
             (W.contents out.exit.now) block.exit.now.items
             (lanes_text 1 version lanes.entry.now)) }
     {
-        writing.store(true, Ordering::SeqCst);
+        writing.begin();
         let written = write_lanes(&mut outs, lanes, version, block, out);
-        writing.store(false, Ordering::SeqCst);
+        writing.end();
         written
     };
     let (_, written) = join_mut(rt, &mut makes, &mut writes);

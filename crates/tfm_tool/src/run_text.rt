@@ -6,8 +6,7 @@ ghost use Rattle.tfm_tool.specs.RunText.{Goes, end_text, head_text, lane_text, r
 
 use crate::ToolFault;
 use crate::appending::push_number;
-use crate::parts::{Part, Parted, answers_of_part, next_part};
-use rtrb::Consumer;
+use crate::parts::{Inbox, Part, Parted, answers_of_part, next_part};
 use set_line::{Answer, Version, record};
 use std::alloc::AllocError;
 use std::io::Write;
@@ -135,7 +134,7 @@ fn write_next<W: Write, K: Parted>(
 /// Writes the records of all answers of a lane: of every so many shares those of one are made here, and
 /// those of the others come through the rings.
 fn write_parts<W: Write, K: Parted>(
-    rings: &mut Vec<Consumer<Part<K>>>,
+    inboxes: &mut Vec<Inbox<K>>,
     lane: usize,
     answers: &[Answer],
     version: Version,
@@ -151,7 +150,7 @@ fn write_parts<W: Write, K: Parted>(
     let share = answers_of_part(answers);
     let mut done = 0;
     while done < answers.len() {
-        let came = next_part(rings, lane, share, done);
+        let came = next_part(inboxes, lane, share, done);
         let left = share - done % share;
         done = write_next(lane, answers, version, done, left, came, block, out)?;
     }
@@ -181,7 +180,7 @@ fn push_end(text: &mut Vec<u8>, source: u64, why: &[u8], count: u64) -> Result<(
 /// Puts the records and the end line of a lane into the block, and writes each block that is long
 /// enough.
 pub(crate) fn write_lane<W: Write, K: Parted>(
-    rings: &mut Vec<Consumer<Part<K>>>,
+    inboxes: &mut Vec<Inbox<K>>,
     lane: usize,
     answers: &[Answer],
     why: &[u8],
@@ -195,7 +194,7 @@ pub(crate) fn write_lane<W: Write, K: Parted>(
     ensures goes { OnOk result (Goes (W.contents out.old) block.old.items
         (W.contents out.new) block.new.items (lane_text (lane + 1) version answers.now why.now)) }
 {
-    write_parts(rings, lane, answers, version, block, out)?;
+    write_parts(inboxes, lane, answers, version, block, out)?;
     push_end(block, lane as u64 + 1, why, answers.len() as u64).map_err(
         |_| ToolFault::OutOfMemory,
     )?;
