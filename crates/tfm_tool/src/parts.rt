@@ -24,6 +24,9 @@ const ITEMS_OF_PART: usize = 8192;
 /// So many answers tell how many items an answer has.
 const SAMPLE: usize = 64;
 
+/// So many bytes are enough for most parts.
+const ROOM: usize = 98_304;
+
 /// A part ends once it has so many bytes, whatever its answers are.
 const LONG: usize = 131_072;
 
@@ -132,6 +135,7 @@ fn make<K: Parted>(
     requires records { (from count : ℕ) → K.records lane from count ≡ records_of version answers.now lane from count }
 {
     let mut text = Vec::new(alloc);
+    text.reserve(ROOM)?;
     let rest = &answers[from..];
     let count = put_some(
         lane as u64 + 1,
