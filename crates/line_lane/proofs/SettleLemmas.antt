@@ -11,10 +11,11 @@ use Rattle.line_lane.specs.Messages.{first_end}
 use Rattle.line_lane.specs.Rings.{IsFirstOf, items_sent, items_received, end_sent}
 use Rattle.line_lane.specs.Ends.{fed, open_lines, feeder_end, state_of, hands_of, taken, taker_end}
 use Rattle.line_lane.specs.Settled.{HaveMet, IsSettled, is_over}
-use Rattle.line_lane.specs.declared.ends.Feeder.{Feeder}
-use Rattle.line_lane.specs.declared.ends.Setter.{Setter}
-use Rattle.line_lane.specs.declared.ends.Taker.{Taker}
+use Rattle.line_lane.specs.declared.feeder.Feeder.{Feeder}
+use Rattle.line_lane.specs.declared.setter.Setter.{Setter}
+use Rattle.line_lane.specs.declared.taker.Taker.{Taker}
 use Rattle.line_lane.specs.Turns.{SetterState, IsOrderly, is_done, is_given_up, end_with}
+use Rattle.line_lane.specs.declared.ending.SourceEnd.{SourceEnd}
 use Rattle.line_lane.specs.declared.ending.LaneEnd.{LaneEnd}
 use Rattle.line_lane.specs.declared.ending.LaneEnd.TheVariants.{Complete, SourceFailed, GaveUp}
 
@@ -116,7 +117,7 @@ both-second false b e = absurd (grind (arith, e))
 
 pub pipeline_of : (f : Feeder) (s : Setter) (t : Taker) → HaveMet f s t → pipeline (state_of s).terms (fed f) (taken t)
 pipeline_of f s t met =
-    pipeline_holds (state_of s) (taken t) t.inlet.hand.items (items_received t.inlet) (items_sent f.outlet) (open_lines f) s.orderly t.all.0 met.3 met.0
+    pipeline_holds (state_of s) (taken t) t.receiver.hand.items (items_received t.receiver) (items_sent f.sender) (open_lines f) s.orderly t.all.0 met.first_answers met.first_lines
 
 -- the end that was taken is the one that was received
 ended-ending : (ended : Bool) (ending : Option LaneEnd) (end : LaneEnd) → (if ended then ending else None) ≡ Some end → ending ≡ Some end
@@ -132,18 +133,61 @@ settled_of f s t end met over ending =
     let ended : t.ended ≡ true = both-second (is_done (state_of s)) t.ended rest in
     let came : (hands_of t).ending ≡ Some end = ended-ending t.ended (hands_of t).ending end ending in
     let some : is_some (hands_of t).ending ≡ true = ap is_some came in
-    let sent : end_sent s.outlet ≡ Some end = sym (met.5 some) ∙ came in
-    let made : (state_of s).made ≡ Some end = ap (λ e. first_end e s.outlet.hand.ending) sent in
+    let sent : end_sent s.sender ≡ Some end = sym (met.ending some) ∙ came in
+    let made : (state_of s).made ≡ Some end = ap (λ e. first_end e s.sender.hand.ending) sent in
     let source : is_some (state_of s).source ≡ true = done-source (state_of s) done in
-    let held : t.inlet.hand.items ≡ [] = t.all.1 ended in
-    let whole : taken t ≡ (state_of s).given = sym (append-nil (taken t)) ∙ ap (λ h. taken t ++ h) (sym held) ∙ t.all.0 ∙ met.4 some in
-    let all : (state_of s).seen ≡ fed f = met.1 source ∙ sym (append-nil (items_sent f.outlet)) ∙ ap (λ l. items_sent f.outlet ++ l) (sym (f.closed closed)) in (
+    let held : t.receiver.hand.items ≡ [] = t.all.1 ended in
+    let whole : taken t ≡ (state_of s).given = sym (append-nil (taken t)) ∙ ap (λ h. taken t ++ h) (sym held) ∙ t.all.0 ∙ met.all_answers some in
+    let all : (state_of s).seen ≡ fed f = met.all_lines source ∙ sym (append-nil (items_sent f.sender)) ∙ ap (λ l. items_sent f.sender ++ l) (sym (f.closed closed)) in (
       over,
       ending,
       (λ up. given_up-end (state_of s).made end up made),
-      (λ going. ap (option_map lane_end_of) (sym (met.2 source)) ∙ sym (done-end (state_of s) done going s.orderly) ∙ made),
+      (λ going. ap (option_map lane_end_of) (sym (met.source source)) ∙ sym (done-end (state_of s) done going s.orderly) ∙ made),
       (λ going. whole ∙ done-given (state_of s) done going s.orderly ∙ ap (answers_of (state_of s).terms) all),
     )
+
+-- ---- an end that was given out
+
+-- an end other than that of a lane given up
+not_given_up : (made : Option LaneEnd) (end : LaneEnd) → made ≡ Some end → (end ≡ GaveUp → ⊥) → is_given_up made ≡ false
+not_given_up None end made other = refl
+not_given_up (Some Complete) end made other = refl
+not_given_up (Some (SourceFailed fault)) end made other = refl
+not_given_up (Some GaveUp) end made other = absurd (other (given_up-end (Some GaveUp) end refl made))
+
+-- it is made only behind that of the source
+end_with-source : (lines : List (List ℕ)) (source : Option SourceEnd) (end : LaneEnd) → end_with lines source ≡ Some end → is_some source ≡ true
+end_with-source [] (Some source) end e = refl
+end_with-source [] None end e = absurd (grind (arith, e))
+end_with-source (line ∷ lines) source end e = absurd (grind (arith, e))
+
+-- it was sent, so the message that had it isn't ready any more
+sent-unready : (ready : Bool) (sent : Option LaneEnd) (end : LaneEnd) → (ready ≡ true → sent ≡ None) → sent ≡ Some end → ready ≡ false
+sent-unready false sent end unsent e = refl
+sent-unready true sent end unsent e = let none = unsent refl in absurd (grind (arith, none, e))
+
+ended-true : (ended : Bool) (ending : Option LaneEnd) (end : LaneEnd) → (if ended then ending else None) ≡ Some end → ended ≡ true
+ended-true true ending end e = refl
+ended-true false ending end e = absurd (grind (arith, e))
+
+all_true : (a b c : Bool) → a ≡ true → b ≡ true → c ≡ true → a && (b && c) ≡ true
+all_true a b c e f g = rw (e, f, g) refl
+
+-- it comes only from a lane that is over
+pub settled_by_end : (f : Feeder) (s : Setter) (t : Taker) (end : LaneEnd) → HaveMet f s t → taker_end t ≡ Some end → (end ≡ GaveUp → ⊥)
+    → IsSettled f s t end
+settled_by_end f s t end met ending other =
+    let ended : t.ended ≡ true = ended-true t.ended (hands_of t).ending end ending in
+    let came : (hands_of t).ending ≡ Some end = ended-ending t.ended (hands_of t).ending end ending in
+    let sent : end_sent s.sender ≡ Some end = sym (met.ending (ap is_some came)) ∙ came in
+    let made : (state_of s).made ≡ Some end = ap (λ e. first_end e s.sender.hand.ending) sent in
+    let going : is_given_up (state_of s).made ≡ false = not_given_up (state_of s).made end made other in
+    let source : is_some (state_of s).source ≡ true = end_with-source (state_of s).lines (state_of s).source end (sym (s.orderly.2 going) ∙ made) in
+    let unready : s.ready ≡ false = sent-unready s.ready (end_sent s.sender) end s.in_hand.2 sent in
+    let done : is_done (state_of s) ≡ true =
+    all_true (is_some (state_of s).source) (is_some (state_of s).made) (not s.ready) source (ap is_some made) (ap not unready) in
+    let closed : is_some (feeder_end f) ≡ true = ap is_some (sym (met.source source)) ∙ source in
+    settled_of f s t end met (all_true (is_some (feeder_end f)) (is_done (state_of s)) t.ended closed done ended) ending
 
 pub over_same : (f g : Feeder) (s u : Setter) (t v : Taker) → feeder_end g ≡ feeder_end f → state_of u ≡ state_of s → hands_of v ≡ hands_of t
     → is_over g u v ≡ is_over f s t

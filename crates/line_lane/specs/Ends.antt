@@ -7,11 +7,11 @@ use Rattle.set_line.specs.Answer.{AnswerValue}
 use Rattle.line_lane.specs.Messages.{first_end, are_none}
 use Rattle.line_lane.specs.Turns.{SetterState}
 use Rattle.line_lane.specs.Takes.{TakerState}
-use Rattle.line_lane.specs.Rings.{items_sent, items_received, messages_sent, messages_received, end_sent, SameOutlet, SameInlet}
+use Rattle.line_lane.specs.Rings.{items_sent, items_received, messages_sent, messages_received, end_sent, SameSender, SameReceiver}
 use Rattle.line_lane.specs.Hands.{setter_state, taker_state}
-use Rattle.line_lane.specs.declared.ends.Feeder.{Feeder}
-use Rattle.line_lane.specs.declared.ends.Setter.{Setter}
-use Rattle.line_lane.specs.declared.ends.Taker.{Taker}
+use Rattle.line_lane.specs.declared.feeder.Feeder.{Feeder}
+use Rattle.line_lane.specs.declared.setter.Setter.{Setter}
+use Rattle.line_lane.specs.declared.taker.Taker.{Taker}
 use Rattle.line_lane.specs.declared.ending.SourceEnd.{SourceEnd}
 use Rattle.line_lane.specs.declared.ending.LaneEnd.{LaneEnd}
 use Rattle.line_lane.specs.declared.offer_fault.OfferFault.{OfferFault}
@@ -21,15 +21,15 @@ use Rattle.line_lane.specs.declared.offer_fault.OfferFault.TheVariants.{Closed, 
 
 -- the lines of the open block, which weren't sent yet
 abbrev pub open_lines : Feeder → List (List ℕ)
-open_lines f = f.outlet.hand.items
+open_lines f = f.sender.hand.items
 
 -- the lines that were fed: those sent, then those of the open block
 abbrev pub fed : Feeder → List (List ℕ)
-fed f = items_sent f.outlet ++ open_lines f
+fed f = items_sent f.sender ++ open_lines f
 
 -- the end that the feeder was closed with
 abbrev pub feeder_end : Feeder → Option SourceEnd
-feeder_end f = end_sent f.outlet
+feeder_end f = end_sent f.sender
 
 -- how many lines a full block has
 abbrev pub block_of : Feeder → ℕ
@@ -37,7 +37,7 @@ block_of f = f.block
 
 -- how many messages were sent
 abbrev pub pushes : Feeder → ℕ
-pushes f = messages_sent f.outlet
+pushes f = messages_sent f.sender
 
 -- the lines fed, the open block, the end and the messages sent are as before
 abbrev pub IsAsFed : Feeder → Feeder → Type 0
@@ -81,10 +81,10 @@ IsClosedWith f end g =
 -- ---- the setter and the taker
 
 abbrev pub state_of : Setter → SetterState
-state_of s = setter_state (arc_value s.terms) s.inlet s.outlet s.ready
+state_of s = setter_state (arc_value s.terms) s.receiver s.sender s.ready
 
 abbrev pub hands_of : Taker → TakerState
-hands_of t = taker_state t.inlet t.ended
+hands_of t = taker_state t.receiver t.ended
 
 -- the answers that were taken
 abbrev pub taken : Taker → List AnswerValue
@@ -92,11 +92,11 @@ taken t = (hands_of t).taken
 
 -- all the answers that were received, taken or still held
 abbrev pub received_answers : Taker → List AnswerValue
-received_answers t = items_received t.inlet
+received_answers t = items_received t.receiver
 
 -- how many messages were received
 abbrev pub pops : Taker → ℕ
-pops t = messages_received t.inlet
+pops t = messages_received t.receiver
 
 -- the end that was taken
 abbrev pub taker_end : Taker → Option LaneEnd
@@ -106,20 +106,20 @@ taker_end t = if t.ended then (hands_of t).ending else None
 
 -- the three ends of one lane
 abbrev pub IsLane : Feeder → Setter → Taker → Type 0
-IsLane f s t = IsPair f.outlet.producer s.inlet.consumer × IsPair s.outlet.producer t.inlet.consumer
+IsLane f s t = IsPair f.sender.producer s.receiver.consumer × IsPair s.sender.producer t.receiver.consumer
 
 -- the same end of the same lane; of a setter, with the same terms
 abbrev pub SameFeeder : Feeder → Feeder → Type 0
-SameFeeder f g = SameOutlet f.outlet g.outlet × (g.block ≡ f.block)
+SameFeeder f g = SameSender f.sender g.sender × (g.block ≡ f.block)
 
 abbrev pub SameSetter : Setter → Setter → Type 0
-SameSetter s t = SameInlet s.inlet t.inlet × SameOutlet s.outlet t.outlet × (arc_value t.terms ≡ arc_value s.terms)
+SameSetter s t = SameReceiver s.receiver t.receiver × SameSender s.sender t.sender × (arc_value t.terms ≡ arc_value s.terms)
 
 abbrev pub SameTaker : Taker → Taker → Type 0
-SameTaker s t = SameInlet s.inlet t.inlet
+SameTaker s t = SameReceiver s.receiver t.receiver
 
 -- each ring has places for so many messages
 abbrev pub HasPlaces : ℕ → Feeder → Setter → Taker → Type 0
 HasPlaces places f s t =
-    (producer_capacity f.outlet.producer ≡ places) × (consumer_capacity s.inlet.consumer ≡ places)
-    × (producer_capacity s.outlet.producer ≡ places) × (consumer_capacity t.inlet.consumer ≡ places)
+    (producer_capacity f.sender.producer ≡ places) × (consumer_capacity s.receiver.consumer ≡ places)
+    × (producer_capacity s.sender.producer ≡ places) × (consumer_capacity t.receiver.consumer ≡ places)

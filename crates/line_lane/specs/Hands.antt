@@ -7,55 +7,55 @@ use Rattle.line_lane.specs.Messages.{first_end}
 use Rattle.line_lane.specs.Turns.{SetterState}
 use Rattle.line_lane.specs.Takes.{TakerState}
 use Rattle.line_lane.specs.Rings.{messages_sent, messages_received, items_sent, end_sent, items_received, end_received, items_taken}
-use Rattle.line_lane.specs.declared.ring_ends.Outlet.{Outlet}
-use Rattle.line_lane.specs.declared.ring_ends.Inlet.{Inlet}
+use Rattle.line_lane.specs.declared.sender.Sender.{Sender}
+use Rattle.line_lane.specs.declared.receiver.Receiver.{Receiver}
 use Rattle.line_lane.specs.declared.ending.SourceEnd.{SourceEnd}
 use Rattle.line_lane.specs.declared.ending.LaneEnd.{LaneEnd}
 
 -- an end of the ring on which lines go, and one of the ring on which answers come
-abbrev pub LineOutlet : Type 0
-LineOutlet = Outlet (List ℕ) SourceEnd
+abbrev pub LineSender : Type 0
+LineSender = Sender (List ℕ) SourceEnd
 
-abbrev pub LineInlet : Type 0
-LineInlet = Inlet (List ℕ) SourceEnd
+abbrev pub LineReceiver : Type 0
+LineReceiver = Receiver (List ℕ) SourceEnd
 
-abbrev pub AnswerOutlet : Type 0
-AnswerOutlet = Outlet AnswerValue LaneEnd
+abbrev pub AnswerSender : Type 0
+AnswerSender = Sender AnswerValue LaneEnd
 
-abbrev pub AnswerInlet : Type 0
-AnswerInlet = Inlet AnswerValue LaneEnd
+abbrev pub AnswerReceiver : Type 0
+AnswerReceiver = Receiver AnswerValue LaneEnd
 
 -- a setter: the lines it has seen and given answers to, and what is in its hands
-abbrev pub setter_state : TermsValue → LineInlet → AnswerOutlet → Bool → SetterState
-setter_state terms inlet outlet ready = record {
+abbrev pub setter_state : TermsValue → LineReceiver → AnswerSender → Bool → SetterState
+setter_state terms receiver sender ready = record {
   terms = terms;
-  seen = items_received inlet;
-  source = end_received inlet;
-  lines = inlet.hand.items;
-  given = items_sent outlet;
-  answers = outlet.hand.items;
+  seen = items_received receiver;
+  source = end_received receiver;
+  lines = receiver.hand.items;
+  given = items_sent sender;
+  answers = sender.hand.items;
   ready = ready;
-  made = first_end (end_sent outlet) outlet.hand.ending;
-  popped = messages_received inlet;
-  pushed = messages_sent outlet;
+  made = first_end (end_sent sender) sender.hand.ending;
+  popped = messages_received receiver;
+  pushed = messages_sent sender;
 }
 
 -- the lines and the answers in hand fit into one message; an end is in hand only with a ready message, and was sent only
 -- with none
-abbrev pub IsInHand : LineInlet → AnswerOutlet → Bool → Type 0
-IsInHand inlet outlet ready =
-    (length inlet.hand.items + length outlet.hand.items ≤ 8)
-    × (ready ≡ false → outlet.hand.ending ≡ None)
-    × (ready ≡ true → end_sent outlet ≡ None)
+abbrev pub IsInHand : LineReceiver → AnswerSender → Bool → Type 0
+IsInHand receiver sender ready =
+    (length receiver.hand.items + length sender.hand.items ≤ 8)
+    × (ready ≡ false → sender.hand.ending ≡ None)
+    × (ready ≡ true → end_sent sender ≡ None)
 
 -- a taker: the answers it has given out, those it still holds, and the end
-abbrev pub taker_state : AnswerInlet → Bool → TakerState
-taker_state inlet ended =
-    record { taken = items_taken inlet; held = inlet.hand.items; ending = end_received inlet; ended = ended }
+abbrev pub taker_state : AnswerReceiver → Bool → TakerState
+taker_state receiver ended =
+    record { taken = items_taken receiver; held = receiver.hand.items; ending = end_received receiver; ended = ended }
 
 -- the answers taken and those held are all that were received; it has ended only with none held, behind an end
-abbrev pub IsAllReceived : AnswerInlet → Bool → Type 0
-IsAllReceived inlet ended =
-    (items_taken inlet ++ inlet.hand.items ≡ items_received inlet)
-    × (ended ≡ true → inlet.hand.items ≡ [])
-    × (ended ≡ true → is_some (end_received inlet) ≡ true)
+abbrev pub IsAllReceived : AnswerReceiver → Bool → Type 0
+IsAllReceived receiver ended =
+    (items_taken receiver ++ receiver.hand.items ≡ items_received receiver)
+    × (ended ≡ true → receiver.hand.items ≡ [])
+    × (ended ≡ true → is_some (end_received receiver) ≡ true)

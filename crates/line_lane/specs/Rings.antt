@@ -3,51 +3,51 @@
 use Rattle.std.specs.Prelude.{◌≡◌, ℕ, ◌-◌, List, length, take, Option}
 use Rattle.rtrb.specs.Ring.{sent, received, SameProducer, SameConsumer}
 use Rattle.line_lane.specs.Messages.{items_of, end_of}
-use Rattle.line_lane.specs.declared.ring_ends.Outlet.{Outlet}
-use Rattle.line_lane.specs.declared.ring_ends.Inlet.{Inlet}
+use Rattle.line_lane.specs.declared.sender.Sender.{Sender}
+use Rattle.line_lane.specs.declared.receiver.Receiver.{Receiver}
 
 module _ {T E : Type 0} where
   -- the items of the messages sent
-  abbrev pub items_sent : Outlet T E → List T
+  abbrev pub items_sent : Sender T E → List T
   items_sent o = items_of (sent o.producer)
 
   -- how many messages were sent
-  abbrev pub messages_sent : Outlet T E → ℕ
+  abbrev pub messages_sent : Sender T E → ℕ
   messages_sent o = length (sent o.producer)
 
   -- the end that was sent
-  abbrev pub end_sent : Outlet T E → Option E
+  abbrev pub end_sent : Sender T E → Option E
   end_sent o = end_of (sent o.producer)
 
   -- the items of the messages received
-  abbrev pub items_received : Inlet T E → List T
+  abbrev pub items_received : Receiver T E → List T
   items_received i = items_of (received i.consumer)
 
   -- how many messages were received
-  abbrev pub messages_received : Inlet T E → ℕ
+  abbrev pub messages_received : Receiver T E → ℕ
   messages_received i = length (received i.consumer)
 
   -- the end that was received
-  abbrev pub end_received : Inlet T E → Option E
+  abbrev pub end_received : Receiver T E → Option E
   end_received i = end_of (received i.consumer)
 
   -- the items received that aren't in hand any more
-  abbrev pub items_taken : Inlet T E → List T
+  abbrev pub items_taken : Receiver T E → List T
   items_taken i = take (length (items_received i) - length i.hand.items) (items_received i)
 
   -- an end of the same ring
-  abbrev pub SameOutlet : Outlet T E → Outlet T E → Type 0
-  SameOutlet a b = SameProducer a.producer b.producer
+  abbrev pub SameSender : Sender T E → Sender T E → Type 0
+  SameSender a b = SameProducer a.producer b.producer
 
-  abbrev pub SameInlet : Inlet T E → Inlet T E → Type 0
-  SameInlet a b = SameConsumer a.consumer b.consumer
+  abbrev pub SameReceiver : Receiver T E → Receiver T E → Type 0
+  SameReceiver a b = SameConsumer a.consumer b.consumer
 
   -- the same end of a ring, with nothing sent or received since
-  abbrev pub IsOutletAsBefore : Outlet T E → Outlet T E → Type 0
-  IsOutletAsBefore a b = SameOutlet a b × (sent b.producer ≡ sent a.producer) × (b.hand ≡ a.hand)
+  abbrev pub IsSenderAsBefore : Sender T E → Sender T E → Type 0
+  IsSenderAsBefore a b = SameSender a b × (sent b.producer ≡ sent a.producer) × (b.hand ≡ a.hand)
 
-  abbrev pub IsInletAsBefore : Inlet T E → Inlet T E → Type 0
-  IsInletAsBefore a b = SameInlet a b × (received b.consumer ≡ received a.consumer) × (b.hand ≡ a.hand)
+  abbrev pub IsReceiverAsBefore : Receiver T E → Receiver T E → Type 0
+  IsReceiverAsBefore a b = SameReceiver a b × (received b.consumer ≡ received a.consumer) × (b.hand ≡ a.hand)
 
 -- a list is the first part of another
 abbrev pub IsFirstOf : {T : Type 0} → List T → List T → Type 0

@@ -6,9 +6,9 @@ use Rattle.line_lane.specs.Lane.{answers_of, lane_end_of}
 use Rattle.line_lane.specs.Turns.{is_done, is_given_up}
 use Rattle.line_lane.specs.Rings.{IsFirstOf, items_sent, items_received, end_sent}
 use Rattle.line_lane.specs.Ends.{IsAsFed, SameFeeder, SameSetter, SameTaker, fed, feeder_end, state_of, hands_of, taken, taker_end}
-use Rattle.line_lane.specs.declared.ends.Feeder.{Feeder}
-use Rattle.line_lane.specs.declared.ends.Setter.{Setter}
-use Rattle.line_lane.specs.declared.ends.Taker.{Taker}
+use Rattle.line_lane.specs.declared.feeder.Feeder.{Feeder}
+use Rattle.line_lane.specs.declared.setter.Setter.{Setter}
+use Rattle.line_lane.specs.declared.taker.Taker.{Taker}
 use Rattle.line_lane.specs.declared.ending.LaneEnd.{LaneEnd}
 use Rattle.line_lane.specs.declared.ending.LaneEnd.TheVariants.{GaveUp}
 
@@ -27,16 +27,19 @@ IsSettled f s t end =
     × (is_given_up (state_of s).made ≡ false → taken t ≡ answers_of (state_of s).terms (fed f))
 
 -- the same ends, with nothing fed, set, sent or taken since
-abbrev pub AreAsBefore : Feeder → Setter → Taker → Feeder → Setter → Taker → Type 0
-AreAsBefore f s t g u v =
-    SameFeeder f g × IsAsFed f g × SameSetter s u × (state_of u ≡ state_of s) × SameTaker t v × (hands_of v ≡ hands_of t)
+pub record AreAsBefore (f : Feeder) (s : Setter) (t : Taker) (g : Feeder) (u : Setter) (v : Taker) : Type 0 where
+  pub feeder : SameFeeder f g
+  pub lines : IsAsFed f g
+  pub setter : SameSetter s u
+  pub state : state_of u ≡ state_of s
+  pub taker : SameTaker t v
+  pub hands : hands_of v ≡ hands_of t
 
 -- ends that have looked at each other: on each ring what was received is the first of what was sent, and all of it behind an end
-abbrev pub HaveMet : Feeder → Setter → Taker → Type 0
-HaveMet f s t =
-    (IsFirstOf (state_of s).seen (items_sent f.outlet))
-    × (is_some (state_of s).source ≡ true → (state_of s).seen ≡ items_sent f.outlet)
-    × (is_some (state_of s).source ≡ true → (state_of s).source ≡ feeder_end f)
-    × (IsFirstOf (items_received t.inlet) (state_of s).given)
-    × (is_some (hands_of t).ending ≡ true → items_received t.inlet ≡ (state_of s).given)
-    × (is_some (hands_of t).ending ≡ true → (hands_of t).ending ≡ end_sent s.outlet)
+pub record HaveMet (f : Feeder) (s : Setter) (t : Taker) : Type 0 where
+  pub first_lines : IsFirstOf (state_of s).seen (items_sent f.sender)
+  pub all_lines : is_some (state_of s).source ≡ true → (state_of s).seen ≡ items_sent f.sender
+  pub source : is_some (state_of s).source ≡ true → (state_of s).source ≡ feeder_end f
+  pub first_answers : IsFirstOf (items_received t.receiver) (state_of s).given
+  pub all_answers : is_some (hands_of t).ending ≡ true → items_received t.receiver ≡ (state_of s).given
+  pub ending : is_some (hands_of t).ending ≡ true → (hands_of t).ending ≡ end_sent s.sender

@@ -1,16 +1,30 @@
 //! Lines go in.
-ghost use Rattle.std.specs.Prelude.{◌≡◌, ◌<◌, [], None, true, is_some, length, IsTrue, IsFalse, OnOk, IfErr};
-ghost use Rattle.line_lane.specs.Ends.{IsAsFed, IsClosedWith, IsFed, IsFlushed, IsRefused, SameFeeder, block_of, fed, feeder_end, open_lines};
+ghost use Rattle.std.specs.Prelude.{◌≡◌, ◌<◌, [], true, None, length, is_some};
+ghost use Rattle.std.proofs.Props.{props};
+ghost use Rattle.line_lane.specs.Rings.{end_sent};
 
-use crate::ends::Feeder;
-use crate::{OfferFault, SourceEnd};
+use crate::sender::Sender;
+use crate::{Block, OfferFault, SourceEnd};
 use set_line::Line;
 
+/// The end where lines go in.
+#[derive(Drop)]
+pub struct Feeder {
+    pub(crate) sender: Sender<Line, SourceEnd>,
+    pub(crate) block: Block,
+    ghost short: { length sender.hand.items < block },
+    ghost plain: { sender.hand.ending ≡ None } by { Prim.hlevel props },
+    ghost closed: { is_some (end_sent sender) ≡ true → sender.hand.items ≡ [] } by { Prim.hlevel props },
+}
+
 impl Feeder {
+    ghost use Rattle.std.specs.Prelude.{IsTrue, IsFalse, OnOk, IfErr};
+    ghost use Rattle.line_lane.specs.Ends.{IsAsFed, IsClosedWith, IsFed, IsFlushed, IsRefused, SameFeeder, block_of, fed, feeder_end, open_lines};
+
     pub(crate) fn is_closed(&self) -> bool
         ensures { result ≡ is_some (feeder_end self.now) }
     {
-        self.outlet.ended.is_some()
+        self.sender.ended.is_some()
     }
 
     /// Feeds a line. It joins the open block, which is sent once it is full.
@@ -25,15 +39,15 @@ impl Feeder {
         if self.is_closed() {
             return Err(OfferFault::Closed(line));
         }
-        if self.outlet.hand.len() + 1 < self.block.get() {
-            self.outlet.hand.push(line);
+        if self.sender.hand.len() + 1 < self.block.get() {
+            self.sender.hand.push(line);
             return Ok(());
         }
-        if !self.outlet.has_room() {
+        if !self.sender.has_room() {
             return Err(OfferFault::NoRoom(line));
         }
-        self.outlet.hand.push(line);
-        self.outlet.send();
+        self.sender.hand.push(line);
+        self.sender.send();
         Ok(())
     }
 
@@ -47,13 +61,13 @@ impl Feeder {
         ensures refused { IsFalse result → IsAsFed self.old self.new
             × (open_lines self.old ≡ [] → ⊥) }
     {
-        if self.outlet.hand.len() == 0 {
+        if self.sender.hand.len() == 0 {
             return true;
         }
-        if !self.outlet.has_room() {
+        if !self.sender.has_room() {
             return false;
         }
-        self.outlet.send();
+        self.sender.send();
         true
     }
 
@@ -72,11 +86,11 @@ impl Feeder {
             // The first end stands.
             return true;
         }
-        if !self.outlet.has_room() {
+        if !self.sender.has_room() {
             return false;
         }
-        self.outlet.hand.finish(end);
-        self.outlet.send();
+        self.sender.hand.finish(end);
+        self.sender.send();
         true
     }
 }

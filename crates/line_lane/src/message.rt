@@ -57,7 +57,8 @@ impl<T: Drop, E: Copy> Message<T, E> {
     /// Appends an item.
     pub fn push(&mut self, item: T)
         requires { length self.old.items < 8 }
-        ensures { self.new ≡ record { items = self.old.items ++ item ∷ []; ending = self.old.ending } }
+        ensures { self.new
+            ≡ record { items = self.old.items ++ item ∷ []; ending = self.old.ending } }
     {
         self.items.push_reserved(Some(item));
     }
@@ -77,7 +78,8 @@ impl<T: Drop, E: Copy> Message<T, E> {
     pub fn take_first(&mut self) -> Option<T>
         ensures { MatchOption result
             ((self.old.items ≡ []) × (self.new ≡ self.old))
-            (λ item. self.old ≡ record { items = item ∷ self.new.items; ending = self.new.ending }) }
+            (λ item. self.old
+            ≡ record { items = item ∷ self.new.items; ending = self.new.ending }) }
     {
         if self.items.is_empty() {
             return None;

@@ -5,9 +5,9 @@ ghost use Rattle.line_lane.specs.Turns.{fresh};
 ghost use Rattle.line_lane.specs.Takes.{empty_handed};
 ghost use Rattle.line_lane.specs.Ends.{HasPlaces, IsLane, block_of, fed, feeder_end, hands_of, open_lines, state_of};
 
-use crate::ends::{Feeder, Setter, Taker};
-use crate::ring_ends::{Inlet, Outlet};
-use crate::{Block, Capacity};
+use crate::receiver::Receiver;
+use crate::sender::Sender;
+use crate::{Block, Capacity, Feeder, Setter, Taker};
 use rtrb::RingBuffer;
 use set_line::{OutOfMemory, Terms};
 use std::alloc::Global;
@@ -31,17 +31,17 @@ pub fn open(
     let (lines_in, lines_out) = RingBuffer::new(alloc, capacity.get())?;
     let (answers_in, answers_out) = RingBuffer::new(alloc, capacity.get())?;
     let feeder = Feeder {
-        outlet: Outlet::new(alloc, lines_in),
+        sender: Sender::new(alloc, lines_in),
         block,
     };
     let setter = Setter {
         terms,
-        inlet: Inlet::new(alloc, lines_out),
-        outlet: Outlet::new(alloc, answers_in),
+        receiver: Receiver::new(alloc, lines_out),
+        sender: Sender::new(alloc, answers_in),
         ready: false,
     };
     let taker = Taker {
-        inlet: Inlet::new(alloc, answers_out),
+        receiver: Receiver::new(alloc, answers_out),
         ended: false,
     };
     Ok((feeder, setter, taker))

@@ -1,15 +1,29 @@
 //! Lines are set.
-ghost use Rattle.std.specs.Prelude.{◌≡◌, [], true, false, is_some, OnErr, IfOk};
+ghost use Rattle.std.specs.Prelude.{◌≡◌, [], true};
+ghost use Rattle.std.specs.Arc.{arc_value};
+ghost use Rattle.std.proofs.Props.{props};
 ghost use Rattle.line_lane.specs.Messages.{are_none, first_end};
 ghost use Rattle.line_lane.specs.Lane.{lane_end_of};
-ghost use Rattle.line_lane.specs.Turns.{IsOrderly, Turns, end_with, given_up, is_done, is_given_up};
-ghost use Rattle.line_lane.specs.Ends.{SameSetter, state_of};
+ghost use Rattle.line_lane.specs.Turns.{IsOrderly, end_with};
+ghost use Rattle.line_lane.specs.Hands.{IsInHand, setter_state};
 
-use crate::ends::Setter;
 use crate::message::Message;
+use crate::receiver::Receiver;
+use crate::sender::Sender;
 use crate::{LaneEnd, SourceEnd, Turn};
-use set_line::{Answer, Line, OutOfMemory, set};
+use set_line::{Answer, Line, OutOfMemory, Terms, set};
 use std::sync::Arc;
+
+/// The end that sets lines.
+#[derive(Drop)]
+pub struct Setter {
+    pub(crate) terms: Arc<Terms>,
+    pub(crate) receiver: Receiver<Line, SourceEnd>,
+    pub(crate) sender: Sender<Answer, LaneEnd>,
+    pub(crate) ready: bool,
+    ghost in_hand: { IsInHand receiver sender ready } by { Prim.hlevel props },
+    ghost orderly: { IsOrderly (setter_state (arc_value terms) receiver sender ready) } by { Prim.hlevel props },
+}
 
 /// The end of a lane whose source ended so.
 fn lane_end(end: SourceEnd) -> LaneEnd
@@ -25,7 +39,8 @@ fn lane_end(end: SourceEnd) -> LaneEnd
 fn finish(lines: &Message<Line, SourceEnd>, answers: &mut Message<Answer, LaneEnd>) -> bool
     ensures ready { result ≡ are_none lines.now.items }
     ensures items { answers.new.items ≡ answers.old.items }
-    ensures ending { answers.new.ending ≡ first_end (end_with lines.now.items lines.now.ending) answers.old.ending }
+    ensures ending { answers.new.ending
+        ≡ first_end (end_with lines.now.items lines.now.ending) answers.old.ending }
 {
     if lines.len() > 0 {
         return false;
@@ -37,25 +52,29 @@ fn finish(lines: &Message<Line, SourceEnd>, answers: &mut Message<Answer, LaneEn
 }
 
 impl Setter {
+    ghost use Rattle.std.specs.Prelude.{false, is_some, OnErr, IfOk};
+    ghost use Rattle.line_lane.specs.Turns.{Turns, given_up, is_done, is_given_up};
+    ghost use Rattle.line_lane.specs.Ends.{SameSetter, state_of};
+
     /// Whether an end was made.
     fn has_made_end(&self) -> bool
         ensures { result ≡ is_some (state_of self.now).made }
     {
-        self.outlet.ended.is_some() || self.outlet.hand.ending().is_some()
+        self.sender.ended.is_some() || self.sender.hand.ending().is_some()
     }
 
     /// Whether the lane was given up.
     fn has_given_up(&self) -> bool
         ensures { result ≡ is_given_up (state_of self.now).made }
     {
-        let made = self.outlet.ended.or(self.outlet.hand.ending());
+        let made = self.sender.ended.or(self.sender.hand.ending());
         matches!(made, Some(LaneEnd::GaveUp))
     }
 
     pub(crate) fn is_done(&self) -> bool
         ensures { result ≡ is_done (state_of self.now) }
     {
-        self.inlet.hand.ending().is_some() && self.has_made_end() && !self.ready
+        self.receiver.hand.ending().is_some() && self.has_made_end() && !self.ready
     }
 
     /// Sends the ready message, where room for it is seen.
@@ -64,10 +83,10 @@ impl Setter {
         ensures lane { SameSetter self.old self.new }
         ensures turn { Turns (state_of self.old) result (state_of self.new) }
     {
-        if !self.outlet.has_room() {
+        if !self.sender.has_room() {
             return Turn::Blocked;
         }
-        self.outlet.send();
+        self.sender.send();
         self.ready = false;
         Turn::Moved
     }
@@ -81,18 +100,18 @@ impl Setter {
         ensures refused { OnErr result (state_of self.new ≡ state_of self.old) }
     {
         let terms = Arc::try_clone(&self.terms)?;
-        let Some(line) = self.inlet.hand.take_first() else {
+        let Some(line) = self.receiver.hand.take_first() else {
             unreachable!()
         };
-        match set(self.outlet.alloc, terms, line) {
+        match set(self.sender.alloc, terms, line) {
             Ok(answer) => {
-                self.outlet.hand.push(answer);
-                let (inlet, outlet) = (&self.inlet, &mut self.outlet);
-                self.ready = finish(&inlet.hand, &mut outlet.hand);
+                self.sender.hand.push(answer);
+                let (receiver, sender) = (&self.receiver, &mut self.sender);
+                self.ready = finish(&receiver.hand, &mut sender.hand);
                 Ok(Turn::Moved)
             }
             Err((line, fault)) => {
-                self.inlet.hand.put_back(line);
+                self.receiver.hand.put_back(line);
                 Err(fault)
             }
         }
@@ -107,14 +126,14 @@ impl Setter {
         ensures turn { Turns (state_of self.old) result (state_of self.new) }
     {
         let given_up = self.has_given_up();
-        if !self.inlet.receive() {
+        if !self.receiver.receive() {
             return Turn::Idle;
         }
         if given_up {
-            self.inlet.hand.clear();
+            self.receiver.hand.clear();
         } else {
-            let (inlet, outlet) = (&self.inlet, &mut self.outlet);
-            self.ready = finish(&inlet.hand, &mut outlet.hand);
+            let (receiver, sender) = (&self.receiver, &mut self.sender);
+            self.ready = finish(&receiver.hand, &mut sender.hand);
         }
         Turn::Moved
     }
@@ -140,7 +159,7 @@ impl Setter {
         if self.ready {
             return Ok(self.send());
         }
-        if self.inlet.hand.len() > 0 {
+        if self.receiver.hand.len() > 0 {
             return self.set_first();
         }
         Ok(self.receive())
@@ -157,8 +176,8 @@ impl Setter {
         if self.has_made_end() {
             return;
         }
-        self.inlet.hand.clear();
-        self.outlet.hand.finish(LaneEnd::GaveUp);
+        self.receiver.hand.clear();
+        self.sender.hand.finish(LaneEnd::GaveUp);
         self.ready = true;
     }
 }

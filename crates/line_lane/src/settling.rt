@@ -3,10 +3,11 @@ ghost use Rattle.std.specs.Prelude.{◌≡◌, true, false, Some, IfOk, IfErr, M
 ghost use Rattle.line_lane.specs.Lane.{pipeline};
 ghost use Rattle.line_lane.specs.Ends.{IsLane, fed, state_of, taken, taker_end};
 ghost use Rattle.line_lane.specs.Settled.{AreAsBefore, HaveMet, IsSettled, is_over};
+ghost use Rattle.line_lane.specs.declared.ending.LaneEnd.{LaneEnd as End};
+ghost use Rattle.line_lane.specs.declared.ending.LaneEnd.TheVariants.{GaveUp};
 
-use crate::LaneEnd;
-use crate::ends::{Feeder, Setter, Taker};
 use crate::meeting::meet;
+use crate::{Feeder, LaneEnd, Setter, Taker};
 
 /// A lane that isn't over: its three ends.
 #[derive(Drop)]
@@ -23,10 +24,11 @@ pub struct Open {
 fn end_of_lane(feeder: &Feeder, setter: &Setter, taker: &Taker) -> Option<LaneEnd>
     ensures { MatchOption result
         (is_over feeder.now setter.now taker.now ≡ false)
-        (λ end. (is_over feeder.now setter.now taker.now ≡ true) × (taker_end taker.now ≡ Some end)) }
+        (λ end. (is_over feeder.now setter.now taker.now ≡ true)
+        × (taker_end taker.now ≡ Some end)) }
 {
     if feeder.is_closed() && setter.is_done() && taker.ended {
-        taker.inlet.hand.ending()
+        taker.receiver.hand.ending()
     } else {
         None
     }
@@ -38,18 +40,21 @@ fn look(feeder: &mut Feeder, setter: &mut Setter, taker: &mut Taker)
     ensures before { AreAsBefore feeder.old setter.old taker.old feeder.new setter.new taker.new }
     ensures met { HaveMet feeder.old setter.old taker.old }
 {
-    meet(&mut feeder.outlet, &mut setter.inlet);
-    meet(&mut setter.outlet, &mut taker.inlet);
+    meet(&mut feeder.sender, &mut setter.receiver);
+    meet(&mut setter.sender, &mut taker.receiver);
 }
 
 /// Settles a lane, whose three ends come from one `open`. A lane is over where the feeder is closed,
 /// the setter is done, and the taker gave out the end, which is answered; else the ends come back as
 /// they were. In any case the answers taken are those of the first of the lines fed; of a lane that is
-/// over and wasn't given up they are the answers of all.
+/// over and wasn't given up they are the answers of all. An end that the taker gave out, other than
+/// that of a lane given up, comes only from a lane that is over.
 pub fn settle(feeder: Feeder, setter: Setter, taker: Taker) -> Result<LaneEnd, Open>
     requires { IsLane feeder setter taker }
     ensures pipeline { pipeline (state_of setter).terms (fed feeder) (taken taker) }
     ensures settled { IfOk result (λ end. IsSettled feeder setter taker end) }
+    ensures ended { (end : End) → taker_end taker ≡ Some end → (end ≡ GaveUp → ⊥)
+        → IsSettled feeder setter taker end }
     ensures unsettled { IfErr result (λ back. (is_over feeder setter taker ≡ false)
         × AreAsBefore feeder setter taker back.feeder back.setter back.taker
         × IsLane back.feeder back.setter back.taker) }

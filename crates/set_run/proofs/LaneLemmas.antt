@@ -1,25 +1,34 @@
--- What a lane's report says of its source.
+-- What a lane that has ended says of its source.
 use Rattle.std.proofs.Common.{rules, arith, ◌≡◌, ℕ, ◌≤◌, List, length, take, Option, Some, None, Bool, true, false, refl, ap, sym, subst, ◌∙◌}
-use Rattle.std.proofs.lemmas.List.{length-map, length-take, take-take}
-use Rattle.std.specs.Prelude.{min}
+use Rattle.std.proofs.lemmas.List.{length-map, length-take, take-take, take-map}
+use Rattle.std.specs.Prelude.{min, is_some}
+use Rattle.std.specs.Arc.{arc_value}
+use Rattle.std.specs.declared.sync.Arc.{Arc}
+use Rattle.std.specs.declared.alloc.Global.{Global}
 use Rattle.std.specs.Option.{option_map}
 use Rattle.set_line.specs.Terms.{TermsValue}
 use Rattle.set_line.specs.Answer.{AnswerValue, answer_of}
 use Rattle.line_lane.specs.Lane.{answers_of, lane_end_of, pipeline}
 use Rattle.line_lane.specs.Turns.{is_given_up}
-use Rattle.line_lane.specs.Ends.{fed, feeder_end, state_of, SameSetter}
-use Rattle.line_lane.specs.declared.ends.Setter.{Setter}
+use Rattle.line_lane.specs.Ends.{fed, feeder_end, state_of, taken, SameSetter}
+use Rattle.line_lane.specs.Settled.{IsSettled}
+use Rattle.line_lane.specs.Rings.{IsFirstOf}
+use Rattle.line_lane.specs.declared.feeder.Feeder.{Feeder}
+use Rattle.line_lane.specs.declared.setter.Setter.{Setter}
+use Rattle.line_lane.specs.declared.taker.Taker.{Taker}
 use Rattle.line_lane.specs.declared.fault.SourceFault.{SourceFault}
 use Rattle.line_lane.specs.declared.ending.SourceEnd.{SourceEnd}
 use Rattle.line_lane.specs.declared.ending.SourceEnd.TheVariants.{Complete as SourceComplete, Failed}
 use Rattle.line_lane.specs.declared.ending.LaneEnd.{LaneEnd}
 use Rattle.line_lane.specs.declared.ending.LaneEnd.TheVariants.{Complete, SourceFailed, GaveUp}
 use Rattle.set_run.specs.Given.{AreFirst, AreAll, EndsWith, AreFed, HandsBack}
-use Rattle.set_run.specs.Reports.{AnswersFirst, AnswersAll, IsLaneOf, IsReported}
+use Rattle.set_run.specs.Reports.{AreFirstAnswers, AreAllAnswers, IsClosed}
 use Rattle.set_run.specs.Lanes.{IsFresh, IsFinished}
-use Rattle.set_run.specs.declared.feeding.Feeding.{Feeding}
-use Rattle.set_run.specs.declared.collected.Collected.{Collected}
-use Rattle.set_run.specs.declared.report.LaneReport.{LaneReport}
+use Rattle.set_run.specs.Events.{LaneEvent, answers_among, lane_events}
+use Rattle.set_run.specs.Collecting.{IsToldFirst}
+use Rattle.set_run.specs.declared.source_thread.Feeding.{Feeding}
+use Rattle.set_run.specs.declared.lane_taker.LaneTaker.{LaneTaker}
+use Rattle.set_run.specs.declared.run_end.ClosedLane.{ClosedLane}
 
 -- the first part of a first part
 first_of_first : {T : Type 0} (given lines : List T) (n : ℕ) → given ≡ take (length given) lines → n ≤ length given → take n given ≡ take n lines
@@ -30,7 +39,7 @@ few n m e = omega (arith, e)
 
 -- answers of the first of the lines that were given are those of the first that were to come
 answers_first : (terms : TermsValue) (answers : List AnswerValue) (given : List (List ℕ)) (before : Option (List (List ℕ)))
-    → AreFirst given before → pipeline terms given answers → AnswersFirst terms answers before
+    → AreFirst given before → pipeline terms given answers → AreFirstAnswers terms answers before
 answers_first terms answers given (Some lines) first line =
     let n = length answers in
     let long : n ≡ min n (length given) = ap length line ∙ length-map (take n given) (answer_of terms) ∙ length-take n given in
@@ -39,14 +48,14 @@ answers_first terms answers given None first line = (take (length answers) given
 
 -- the answers of all lines that were given
 answers_all : (terms : TermsValue) (answers : List AnswerValue) (given : List (List ℕ)) (before after : Option (List (List ℕ)))
-    → AreAll given before after → answers ≡ answers_of terms given → AnswersAll terms answers before after
+    → AreAll given before after → answers ≡ answers_of terms given → AreAllAnswers terms answers before after
 answers_all terms answers given (Some lines) after all are = (are ∙ ap (answers_of terms) all.0, all.1)
 answers_all terms answers given None after all are = (given, are)
 
 -- a lane that wasn't given up ends as its source does
 complete_lane : (terms : TermsValue) (answers : List AnswerValue) (given : List (List ℕ)) (source : Option SourceEnd) (end : LaneEnd)
     (before after : Option (List (List ℕ))) (fails : Option SourceFault) → option_map lane_end_of source ≡ Some end
-    → EndsWith source given before after fails → answers ≡ answers_of terms given → end ≡ Complete → (fails ≡ None) × AnswersAll terms answers before after
+    → EndsWith source given before after fails → answers ≡ answers_of terms given → end ≡ Complete → (fails ≡ None) × AreAllAnswers terms answers before after
 complete_lane terms answers given None end before after fails is ends are whole = absurd (search rules)
 complete_lane terms answers given (Some SourceComplete) end before after fails is ends are whole =
     (ends.0, answers_all terms answers given before after ends.1 are)
@@ -59,32 +68,59 @@ failed_lane given None end before after fails fault is ends failed = absurd (sea
 failed_lane given (Some SourceComplete) end before after fails fault is ends failed = absurd (search rules)
 failed_lane given (Some (Failed other)) end before after fails fault is ends failed = ends ∙ search rules
 
--- a lane's report, from what its thread handed back and what settling it said
-lane_of : (terms : TermsValue) (answers : List AnswerValue) (given : List (List ℕ)) (source : Option SourceEnd) (end : LaneEnd) (up : Bool)
-    (before after : Option (List (List ℕ))) (fails : Option SourceFault) → AreFed source given before after fails → pipeline terms given answers
-    → (up ≡ true → end ≡ GaveUp) → (up ≡ false → option_map lane_end_of source ≡ Some end) → (up ≡ false → answers ≡ answers_of terms given)
-    → IsLaneOf terms before answers end after fails
-lane_of terms answers given source end true before after fails fed line gave_up ended all = (
-  answers_first terms answers given before fed.0 line,
-  (λ whole. absurd (let no = sym whole ∙ gave_up refl in search rules)),
-  (λ fault failed. absurd (let no = sym failed ∙ gave_up refl in search rules)),
-)
-lane_of terms answers given source end false before after fails fed line gave_up ended all = (
-  answers_first terms answers given before fed.0 line,
-  complete_lane terms answers given source end before after fails (ended refl) fed.1 (all refl),
-  (λ fault. failed_lane given source end before after fails fault (ended refl) fed.1),
-)
+-- a lane that is over with an end that isn't that of one given up
+going_end : (f : Feeder) (s : Setter) (t : Taker) (end : LaneEnd) → IsSettled f s t end → (end ≡ GaveUp → ⊥)
+    → (option_map lane_end_of (feeder_end f) ≡ Some end) × (taken t ≡ answers_of (state_of s).terms (fed f))
+going_end f s t end settled going = by (is_given_up (state_of s).made) settled.2 settled.3 settled.4
+  where
+    by : (up : Bool) → (up ≡ true → end ≡ GaveUp) → (up ≡ false → option_map lane_end_of (feeder_end f) ≡ Some end)
+        → (up ≡ false → taken t ≡ answers_of (state_of s).terms (fed f))
+        → (option_map lane_end_of (feeder_end f) ≡ Some end) × (taken t ≡ answers_of (state_of s).terms (fed f))
+    by true gave_up ended all = absurd (going (gave_up refl))
+    by false gave_up ended all = (ended refl, all refl)
+
+-- the first of the answers of the first lines
+pipeline_first : (terms : TermsValue) (fed : List (List ℕ)) (answers all : List AnswerValue) → IsFirstOf answers all → pipeline terms fed all
+    → pipeline terms fed answers
+pipeline_first terms fed answers all first line =
+    let n = length answers in let m = length all in
+    let fits : n ≤ m = omega (arith, length-take n all, ap length first) in
+    first ∙ ap (take n) line ∙ take-map (answer_of terms) n (take m fed) ∙ ap (answers_of terms) (take-take n m fed fits)
 
 module _ {S : Type 0} where
-  -- the report of a source
-  pub reported : (to_come : S → Option (List (List ℕ))) (failed : S → Option SourceFault) (terms : TermsValue) (start back : Feeding S)
-      (s t : Setter) (collected : Collected) (report : LaneReport S) → IsFresh terms start.feeder s collected → SameSetter s t
-      → HandsBack to_come failed start back → IsFinished back t report → IsReported to_come failed terms start.source report
-  reported to_come failed terms start back s t collected report fresh same hands finished =
+  -- a lane that has ended
+  pub closed_of : (to_come : S → Option (List (List ℕ))) (failed : S → Option SourceFault) (source : S × Arc TermsValue Global)
+      (start back : Feeding S) (s t : Setter) (first last : LaneTaker) (lane : ClosedLane S) (told : List LaneEvent)
+      → start.source ≡ source.0 → IsFresh (arc_value source.1) start.feeder s first → SameSetter s t → HandsBack to_come failed start back
+      → IsFinished back t last lane → IsToldFirst told last
+      → (told ≡ lane_events (answers_among told) lane.end) × IsClosed to_come failed (arc_value source.1) source.0 (answers_among told) lane
+  closed_of to_come failed source start back s t first last lane told from fresh same handed finished came =
+      let terms = arc_value source.1 in let answers = answers_among told in let given = fed back.feeder in
       let own : (state_of t).terms ≡ terms = grind (rules, fresh, same) in
-      let given = fed back.feeder in let e = feeder_end back.feeder in
-      let of_back : IsLaneOf terms (to_come start.source) report.answers report.end (to_come back.source) (failed back.source) =
-      lane_of terms report.answers given e report.end (is_given_up (state_of t).made) (to_come start.source) (to_come back.source) (failed back.source)
-      (hands.1 fresh.1 fresh.2) (subst (λ x. pipeline x given report.answers) own finished.1) finished.2 finished.3
-      (subst (λ x. is_given_up (state_of t).made ≡ false → report.answers ≡ answers_of x given) own finished.4)
-      in subst (λ x. IsLaneOf terms (to_come start.source) report.answers report.end (to_come x) (failed x)) (sym finished.0) of_back
+      let was : AreFed (feeder_end back.feeder) given (to_come source.0) (to_come lane.source) (failed lane.source) =
+      subst (λ x. AreFed (feeder_end back.feeder) given (to_come source.0) (to_come x) (failed x)) (sym finished.0)
+      (subst (λ x. AreFed (feeder_end back.feeder) given (to_come x) (to_come back.source) (failed back.source)) from (handed.1 fresh.1 fresh.2))
+      in let line : pipeline terms given answers =
+      pipeline_first terms given answers (taken last.taker) came.1 (subst (λ x. pipeline x given (taken last.taker)) own finished.2)
+      in let over : (end : LaneEnd) → lane.end ≡ Some end → (end ≡ GaveUp → ⊥)
+      → (option_map lane_end_of (feeder_end back.feeder) ≡ Some end) × (answers ≡ answers_of terms given) =
+      λ end is going.
+      let here : last.end ≡ Some end = sym finished.1 ∙ is in
+      let all = came.2 (ap is_some here) in
+      let settled = finished.3 end (sym all.1 ∙ here) going in
+      let facts = going_end back.feeder t last.taker end settled going in
+      (facts.0, all.0 ∙ facts.1 ∙ ap (λ x. answers_of x given) own)
+      in (
+        came.0 ∙ ap (lane_events answers) (sym finished.1),
+        (
+          answers_first terms answers given (to_come source.0) was.0 line,
+          (λ is.
+              let facts = over Complete is (λ no. absurd (search rules)) in
+              complete_lane terms answers given (feeder_end back.feeder) Complete (to_come source.0) (to_come lane.source) (failed lane.source) facts.0
+              was.1 facts.1 refl),
+          (λ fault is.
+              let facts = over (SourceFailed fault) is (λ no. absurd (search rules)) in
+              failed_lane given (feeder_end back.feeder) (SourceFailed fault) (to_come source.0) (to_come lane.source) (failed lane.source) fault facts.0
+              was.1 refl),
+        ),
+      )

@@ -1,7 +1,9 @@
 pub mod ReadingLemmas
 pub mod Zips
 pub mod SameEnds
-pub mod HandLemmas
+pub mod WorkerLemmas
+pub mod EventLemmas
+pub mod TakerLemmas
 pub mod LaneLemmas
-pub mod LevelLemmas
+pub mod SpawningLemmas
 pub mod FinishedLemmas

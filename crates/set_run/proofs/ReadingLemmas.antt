@@ -11,12 +11,12 @@ use Rattle.std.proofs.lemmas.List.Elements.{All-append}
 use Rattle.std.proofs.lemmas.List.Quantifiers.{position-Some}
 use Rattle.std.proofs.lemmas.List.Sums.{fails_before_first}
 use Rattle.set_line.specs.Lines.{lines_of, HasNoFeed, IsCutAtFeed}
-use Rattle.set_run.specs.declared.reader_state.ReaderState.{ReaderState}
-use Rattle.set_run.specs.declared.reader_state.ReaderState.TheVariants.{Open, AtEnd, Failed}
+use Rattle.set_run.specs.declared.reader_source.state.ReaderState.{ReaderState}
+use Rattle.set_run.specs.declared.reader_source.state.ReaderState.TheVariants.{Open, AtEnd, Failed}
 use Rattle.set_run.specs.Sources.{GivesNext, Reads}
 use Rattle.set_run.specs.Reading.{MovesLine, fault_of, lines_to_come}
 
--- ---- the bytes in hand
+-- ---- the bytes in the buffer
 
 -- where no line feed is found, there is none
 pub none_found : (bytes : List ℕ) → position (λ byte. byte == 10) bytes ≡ None → HasNoFeed bytes
@@ -50,13 +50,13 @@ found bytes at here = (none, split)
 
 -- ---- moved to a line
 
--- what is in hand is a part of the buffer
+-- what is left in the buffer is a part of it
 in_hand : (items buffer view : List ℕ) (start end : ℕ) → drop start (take end items) ≡ view → buffer ≡ items
     → take (end - start) (drop start buffer) ≡ view
 in_hand items buffer view start end same read =
     ap (λ xs. take (end - start) (drop start xs)) read ∙ between_is items start end ∙ same
 
--- the bytes up to the line feed were moved behind the line, and the rest is in hand
+-- the bytes up to the line feed were moved behind the line, and the rest stays in the buffer
 pub moves_to_feed : (items buffer view line longer : List ℕ) (start end at : ℕ) → drop start (take end items) ≡ view
     → buffer ≡ items → position (λ byte. byte == 10) (take (end - start) (drop start buffer)) ≡ Some at
     → longer ≡ line ++ take at (take (end - start) (drop start buffer))

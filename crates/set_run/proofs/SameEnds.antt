@@ -1,11 +1,11 @@
 -- Ends of the same lane.
 use Rattle.std.proofs.Common.{rules}
 use Rattle.line_lane.specs.Ends.{IsLane, SameFeeder, SameSetter, SameTaker}
-use Rattle.line_lane.specs.declared.ends.Feeder.{Feeder}
-use Rattle.line_lane.specs.declared.ends.Setter.{Setter}
-use Rattle.line_lane.specs.declared.ends.Taker.{Taker}
-use Rattle.set_run.specs.Collecting.{SameCollected}
-use Rattle.set_run.specs.declared.collected.Collected.{Collected}
+use Rattle.line_lane.specs.declared.feeder.Feeder.{Feeder}
+use Rattle.line_lane.specs.declared.setter.Setter.{Setter}
+use Rattle.line_lane.specs.declared.taker.Taker.{Taker}
+use Rattle.set_run.specs.Collecting.{SameLane}
+use Rattle.set_run.specs.declared.lane_taker.LaneTaker.{LaneTaker}
 
 pub setter_refl : (s : Setter) → SameSetter s s
 setter_refl s = grind rules
@@ -26,8 +26,8 @@ feeder_trans s t u a b = grind (rules, a, b)
 pub still_lane : (f g : Feeder) (s u : Setter) (t v : Taker) → IsLane f s t → SameFeeder f g → SameSetter s u → SameTaker t v → IsLane g u v
 still_lane f g s u t v lane a b c = grind (rules, lane, a, b, c)
 
-pub collected_refl : (a : Collected) → SameCollected a a
-collected_refl a = taker_refl a.taker
+pub lane_refl : (a : LaneTaker) → SameLane a a
+lane_refl a = taker_refl a.taker
 
-pub collected_trans : (a b c : Collected) → SameCollected a b → SameCollected b c → SameCollected a c
-collected_trans a b c x y = taker_trans a.taker b.taker c.taker x y
+pub lane_trans : (a b c : LaneTaker) → SameLane a b → SameLane b c → SameLane a c
+lane_trans a b c x y = taker_trans a.taker b.taker c.taker x y

@@ -5,7 +5,7 @@ use Rattle.line_lane.specs.Ends.{fed, feeder_end, SameFeeder}
 use Rattle.line_lane.specs.declared.ending.SourceEnd.{SourceEnd}
 use Rattle.line_lane.specs.declared.ending.SourceEnd.TheVariants.{Complete, Failed}
 use Rattle.line_lane.specs.declared.fault.SourceFault.{SourceFault}
-use Rattle.set_run.specs.declared.feeding.Feeding.{Feeding}
+use Rattle.set_run.specs.declared.source_thread.Feeding.{Feeding}
 
 -- these lines were given, and the rest of those to come remain; of a source that doesn't tell its lines nothing is said
 abbrev pub Gave : Option (List (List ℕ)) → List (List ℕ) → Option (List (List ℕ)) → Type 0

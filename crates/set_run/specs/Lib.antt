@@ -1,7 +1,9 @@
 pub mod Sources
+pub mod Events
 pub mod Reading
 pub mod Given
-pub mod Hands
+pub mod Workers
 pub mod Collecting
 pub mod Reports
 pub mod Lanes
+pub mod Gathering

@@ -5,10 +5,10 @@ use Rattle.std.specs.Option.{option_map}
 use Rattle.std.specs.Io.KnownBytes.{Consumes}
 use Rattle.line_lane.specs.declared.fault.SourceFault.{SourceFault}
 use Rattle.set_line.specs.Lines.{lines_of, HasNoFeed}
-use Rattle.set_run.specs.declared.piece.Piece.{Piece}
-use Rattle.set_run.specs.declared.piece.Piece.TheVariants.{Ended, Last}
-use Rattle.set_run.specs.declared.reader_state.ReaderState.{ReaderState}
-use Rattle.set_run.specs.declared.reader_state.ReaderState.TheVariants.{Open, AtEnd, Failed}
+use Rattle.set_run.specs.declared.reader_source.raw_line.RawLine.{RawLine}
+use Rattle.set_run.specs.declared.reader_source.raw_line.RawLine.TheVariants.{Ended, Last}
+use Rattle.set_run.specs.declared.reader_source.state.ReaderState.{ReaderState}
+use Rattle.set_run.specs.declared.reader_source.state.ReaderState.TheVariants.{Open, AtEnd, Failed}
 
 -- the lines still to come: those of the bytes still to come, where these are told; behind the end none; behind a fault nothing is
 -- told
@@ -23,13 +23,13 @@ fault_of Open = None
 fault_of AtEnd = None
 fault_of (Failed fault) = Some fault
 
--- bytes in hand were moved behind a line: where there is a line feed, those up to it, and it is dropped; else all. Bytes and line
+-- bytes of the buffer were moved behind a line: where there is a line feed, those up to it, and it is dropped; else all. Bytes and line
 -- before, whether there was a line feed, line and bytes behind
 abbrev pub MovesLine : List ℕ → List ℕ → Bool → List ℕ → List ℕ → Type 0
 MovesLine bytes line true longer rest = (part : List ℕ) × HasNoFeed part × (bytes ≡ part ++ 10 ∷ rest) × (longer ≡ line ++ part)
 MovesLine bytes line false longer rest = HasNoFeed bytes × (rest ≡ []) × (longer ≡ line ++ bytes)
 
--- a piece was taken off the bytes to come, where these are told: one that a line feed ended, or all of them
-abbrev pub TakesPiece : Option (List ℕ) → Piece → Option (List ℕ) → Type 0
-TakesPiece before (Ended line) after = HasNoFeed line.items × Consumes before after (line.items ++ 10 ∷ [])
-TakesPiece before (Last line) after = HasNoFeed line.items × IfSome before (λ bytes. bytes ≡ line.items)
+-- a raw line was taken off the bytes to come, where these are told: one that a line feed ended, or all of them
+abbrev pub TakesRawLine : Option (List ℕ) → RawLine → Option (List ℕ) → Type 0
+TakesRawLine before (Ended line) after = HasNoFeed line.items × Consumes before after (line.items ++ 10 ∷ [])
+TakesRawLine before (Last line) after = HasNoFeed line.items × IfSome before (λ bytes. bytes ≡ line.items)

@@ -1,6 +1,6 @@
 -- What a run reports of a source.
 -- This project's own.
-use Rattle.std.specs.Prelude.{◌≡◌, ℕ, List, [], length, take, Option, Some, None, IfSome}
+use Rattle.std.specs.Prelude.{◌≡◌, ◌≤◌, ℕ, ◌+◌, List, [], ◌∷◌, length, take, All, Option, Some, None, IsSome, IfSome}
 use Rattle.std.specs.List.{AllZip}
 use Rattle.std.specs.Arc.{arc_value}
 use Rattle.std.specs.declared.sync.Arc.{Arc}
@@ -11,35 +11,53 @@ use Rattle.line_lane.specs.Lane.{answers_of}
 use Rattle.line_lane.specs.declared.fault.SourceFault.{SourceFault}
 use Rattle.line_lane.specs.declared.ending.LaneEnd.{LaneEnd}
 use Rattle.line_lane.specs.declared.ending.LaneEnd.TheVariants.{Complete, SourceFailed}
+use Rattle.set_run.specs.Events.{Event, answers_in, lane_events, of_lane}
 use Rattle.set_run.specs.declared.report.LaneReport.{LaneReport}
+use Rattle.set_run.specs.declared.run_end.ClosedLane.{ClosedLane}
+use Rattle.set_run.specs.declared.run_end.RunEnd.{RunEnd}
 
 -- the answers of the first of the lines that were to come; of a source that doesn't tell its lines, of some list of lines
-abbrev pub AnswersFirst : TermsValue → List AnswerValue → Option (List (List ℕ)) → Type 0
-AnswersFirst terms answers (Some lines) = answers ≡ answers_of terms (take (length answers) lines)
-AnswersFirst terms answers None = (lines : List (List ℕ)) × (answers ≡ answers_of terms lines)
+abbrev pub AreFirstAnswers : TermsValue → List AnswerValue → Option (List (List ℕ)) → Type 0
+AreFirstAnswers terms answers (Some lines) = answers ≡ answers_of terms (take (length answers) lines)
+AreFirstAnswers terms answers None = (lines : List (List ℕ)) × (answers ≡ answers_of terms lines)
 
 -- the answers of all lines that were to come, and none is to come any more; of a source that doesn't tell its lines, the
 -- answers of some list of lines
-abbrev pub AnswersAll : TermsValue → List AnswerValue → Option (List (List ℕ)) → Option (List (List ℕ)) → Type 0
-AnswersAll terms answers (Some lines) after = (answers ≡ answers_of terms lines) × (after ≡ Some [])
-AnswersAll terms answers None after = (lines : List (List ℕ)) × (answers ≡ answers_of terms lines)
+abbrev pub AreAllAnswers : TermsValue → List AnswerValue → Option (List (List ℕ)) → Option (List (List ℕ)) → Type 0
+AreAllAnswers terms answers (Some lines) after = (answers ≡ answers_of terms lines) × (after ≡ Some [])
+AreAllAnswers terms answers None after = (lines : List (List ℕ)) × (answers ≡ answers_of terms lines)
 
--- what holds of a lane's answers and its end: terms; the lines to come at the call; answers and end; and of the source as it
--- was handed back, the lines to come and its fault. A complete lane has all answers, and its source hasn't failed; any other
--- has the first ones; and that of a source that failed has its fault
-abbrev pub IsLaneOf :
-    TermsValue → Option (List (List ℕ)) → List AnswerValue → LaneEnd → Option (List (List ℕ)) → Option SourceFault → Type 0
-IsLaneOf terms before answers end after fails =
-    AnswersFirst terms answers before
-    × (end ≡ Complete → (fails ≡ None) × AnswersAll terms answers before after)
-    × ((fault : SourceFault) → end ≡ SourceFailed fault → fails ≡ Some fault)
+-- a lane as it was seen from outside: its terms; the lines that its source told at the call; its answers, and its end where it
+-- has one; and of the source as it was handed back, the lines that it tells and its fault
+pub record LaneSeen : Type 0 where
+  pub terms : TermsValue
+  pub before : Option (List (List ℕ))
+  pub answers : List AnswerValue
+  pub end : Option LaneEnd
+  pub after : Option (List (List ℕ))
+  pub fails : Option SourceFault
+
+-- what holds of a lane: it has the answers of the first of its source's lines; one that is complete has all of them, and its
+-- source hasn't failed; and the source of one that ended with its fault has that fault
+abbrev pub IsTrueToSource : LaneSeen → Type 0
+IsTrueToSource lane =
+    AreFirstAnswers lane.terms lane.answers lane.before
+    × (lane.end ≡ Some Complete → (lane.fails ≡ None) × AreAllAnswers lane.terms lane.answers lane.before lane.after)
+    × ((fault : SourceFault) → lane.end ≡ Some (SourceFailed fault) → lane.fails ≡ Some fault)
 
 module _ {S : Type 0} where
   -- the same, of a source, its terms, and the report of its lane
   abbrev pub IsReported :
       (S → Option (List (List ℕ))) → (S → Option SourceFault) → TermsValue → S → LaneReport S → Type 0
   IsReported to_come failed terms source report =
-      IsLaneOf terms (to_come source) report.answers report.end (to_come report.source) (failed report.source)
+      IsTrueToSource (record {
+        terms = terms;
+        before = to_come source;
+        answers = report.answers;
+        end = Some report.end;
+        after = to_come report.source;
+        fails = failed report.source;
+      })
 
   -- the reports of sources with their terms, place by place
   abbrev pub AreReported :
@@ -51,3 +69,53 @@ module _ {S : Type 0} where
   abbrev pub AreAnswered : (S → Option (List (List ℕ))) → List (S × Arc TermsValue Global) → List (LaneReport S) → Type 0
   AreAnswered to_come sources reports =
       AllZip (λ source report. IfSome (to_come source.0) (λ lines. report.answers ≡ answers_of (arc_value source.1) lines)) sources reports
+
+  -- a lane with these answers whose source was handed back
+  abbrev pub IsClosed :
+      (S → Option (List (List ℕ))) → (S → Option SourceFault) → TermsValue → S → List AnswerValue → ClosedLane S → Type 0
+  IsClosed to_come failed terms source answers lane =
+      IsTrueToSource (record {
+        terms = terms;
+        before = to_come source;
+        answers = answers;
+        end = lane.end;
+        after = to_come lane.source;
+        fails = failed lane.source;
+      })
+
+  -- the lanes of sources, of which the first has this number: what came of each of them are its answers and then its end, where it
+  -- has one
+  abbrev pub AreClosed :
+      (S → Option (List (List ℕ))) → (S → Option SourceFault) → List Event → ℕ → List (S × Arc TermsValue Global) → List (ClosedLane S) → Type 0
+  AreClosed to_come failed events number [] [] = Unit {0}
+  AreClosed to_come failed events number [] (lane ∷ lanes) = ⊥
+  AreClosed to_come failed events number (source ∷ sources) [] = ⊥
+  AreClosed to_come failed events number (source ∷ sources) (lane ∷ lanes) =
+      (of_lane number events ≡ lane_events (answers_in number events) lane.end)
+      × IsClosed to_come failed (arc_value source.1) source.0 (answers_in number events) lane
+      × AreClosed to_come failed events (number + 1) sources lanes
+
+-- nothing came of a lane that there isn't
+abbrev pub HasNoOthers : List Event → ℕ → Type 0
+HasNoOthers events lanes = (lane : ℕ) → lanes ≤ lane → of_lane lane events ≡ []
+
+module _ {S C : Type 0} where
+  -- what a collector was given in a run over these sources, where it had been given nothing: the events of their lanes and no others
+  abbrev pub IsCollected :
+      (S → Option (List (List ℕ))) → (S → Option SourceFault) → (C → List Event → Type 0) → List (S × Arc TermsValue Global) → RunEnd S → C → C → Type 0
+  IsCollected to_come failed given sources run before after =
+      given before []
+      → (events : List Event) × given after events × AreClosed to_come failed events 0 sources run.lanes.items × HasNoOthers events (length sources)
+
+module _ {S : Type 0} where
+  -- where nothing was refused, each lane has ended
+  abbrev pub IsWhole : RunEnd S → Type 0
+  IsWhole run = run.refusal ≡ None → All (λ lane. IsSome lane.end) run.lanes.items
+
+module _ {S : Type 0} where
+  -- the reports of lanes that have ended, each with the answers in its place
+  abbrev pub AreReportsOf : List (ClosedLane S) → List (List AnswerValue) → List (LaneReport S) → Type 0
+  AreReportsOf [] [] [] = Unit {0}
+  AreReportsOf (lane ∷ lanes) (answers ∷ lists) (report ∷ reports) =
+      (report.source ≡ lane.source) × (report.answers ≡ answers) × (lane.end ≡ Some report.end) × AreReportsOf lanes lists reports
+  AreReportsOf _ _ _ = ⊥

@@ -1,38 +1,41 @@
 //! Many sources of lines, each set by a lane of its own, in threads.
 #![tactic(auto)]
 
+pub use collector::{Collector, Refusal};
 pub use gate::{Gate, NoGate, Stage};
 pub use list_source::ListSource;
 pub use plan::Plan;
 pub use reader_source::ReaderSource;
 pub use report::{Answers, LaneReport, Report};
+pub use run_end::{ClosedLane, RunEnd};
 pub use run_fault::RunFault;
 pub use running::run;
+pub use running_into::{MOST_SOURCES, run_into};
 pub use source::LineSource;
 pub use workers::Workers;
 
+mod answer_lists;
+mod backoff;
 mod came;
-mod chunk;
-mod collected;
-mod collecting;
-mod feeding;
-mod feeding_lines;
+mod collector;
+mod collector_thread;
 mod gate;
-mod hand;
 mod lane;
-mod levels;
+mod lane_taker;
 mod list_source;
-mod patience;
-mod piece;
 mod plan;
 mod reader_source;
-mod reader_state;
 mod report;
+mod run_end;
 mod run_fault;
 mod running;
-mod serving;
+mod running_into;
+mod shortage;
 mod source;
+mod source_thread;
+mod spawning;
 #[cfg(test)]
 mod tests;
-mod want;
+mod worker;
+mod worker_thread;
 mod workers;

@@ -4,20 +4,24 @@ ghost use Rattle.set_line.specs.Lines.{lines_of};
 ghost use Rattle.set_run.specs.Sources.{Reads};
 ghost use Rattle.set_run.specs.Reading.{fault_of, lines_to_come};
 
+use self::buffer::Buffer;
+use self::raw_line::{RawLine, next_raw_line};
+use self::state::ReaderState;
 use crate::LineSource;
-use crate::chunk::Chunk;
-use crate::piece::{Piece, next_piece};
-use crate::reader_state::ReaderState;
 use line_lane::SourceFault;
 use set_line::{Line, cut_at_feeds};
 use std::alloc::Global;
 use std::io::Read;
 
+mod buffer;
+mod raw_line;
+mod state;
+
 /// A source that gives the lines of the bytes that a reader gives.
 #[derive(Drop)]
 pub struct ReaderSource<R> {
     reader: R,
-    chunk: Chunk,
+    buffer: Buffer,
     state: ReaderState,
     alloc: Global,
 }
@@ -31,7 +35,7 @@ impl<R: Read> ReaderSource<R> {
     {
         ReaderSource {
             reader,
-            chunk: Chunk::new(alloc),
+            buffer: Buffer::new(alloc),
             state: ReaderState::Open,
             alloc,
         }
@@ -40,15 +44,15 @@ impl<R: Read> ReaderSource<R> {
     /// The next line of a reader that neither came to its end nor failed.
     fn read_line(&mut self) -> Result<Option<Line>, SourceFault>
         requires { self.old.state ≡ ReaderState.Open }
-        ensures { let before = prepend_known self.old.chunk (R.remaining self.old.reader) in
-            let after = prepend_known self.new.chunk (R.remaining self.new.reader) in
+        ensures { let before = prepend_known self.old.buffer (R.remaining self.old.reader) in
+            let after = prepend_known self.new.buffer (R.remaining self.new.reader) in
             Reads (lines_to_come self.old.state before) (fault_of self.old.state) result
             (lines_to_come self.new.state after) (fault_of self.new.state) }
     {
         cut_at_feeds();
-        match next_piece(self.alloc, &mut self.reader, &mut self.chunk) {
-            Ok(Piece::Ended(line)) => Ok(Some(Line::new(line))),
-            Ok(Piece::Last(line)) => {
+        match next_raw_line(self.alloc, &mut self.reader, &mut self.buffer) {
+            Ok(RawLine::Ended(line)) => Ok(Some(Line::new(line))),
+            Ok(RawLine::Last(line)) => {
                 self.state = ReaderState::AtEnd;
                 Ok(if line.is_empty() {
                     None
@@ -69,7 +73,7 @@ impl<R: Read> LineSource for ReaderSource<R> {
     ghost use Rattle.set_run.specs.Reading.{fault_of, lines_to_come};
 
     ghost to_come = { λ source.
-        lines_to_come source.state (prepend_known source.chunk (R.remaining source.reader)) };
+        lines_to_come source.state (prepend_known source.buffer (R.remaining source.reader)) };
 
     ghost failed = { λ source. fault_of source.state };
 

@@ -1,9 +1,10 @@
 //! What a run answers.
-ghost use Rattle.std.specs.Prelude.{◌≡◌, ◌↔◌, All, IsTrue};
+ghost use Rattle.std.specs.Prelude.{◌≡◌, ◌↔◌, ◌++◌, ◌∷◌, [], All, IsTrue, is_ok, if◌then◌else◌};
 ghost use Rattle.line_lane.specs.declared.ending.LaneEnd.TheVariants.{Complete};
 
 use line_lane::LaneEnd;
 use set_line::Answer;
+use std::alloc::AllocError;
 use std::marker::Model;
 
 /// The answers of a lane, in order.
@@ -26,6 +27,14 @@ impl Answers {
         ensures { result ≡ list.items }
     {
         Answers { list }
+    }
+
+    /// One answer more.
+    pub(crate) fn push(&mut self, answer: Answer) -> Result<(), AllocError>
+        ensures { self.new ≡ (if is_ok result then self.old ++ answer ∷ [] else self.old) }
+    {
+        self.list.push(answer)?;
+        Ok(())
     }
 
     /// The answers.

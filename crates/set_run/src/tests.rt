@@ -1,3 +1,4 @@
+mod collectors;
 mod entries;
 mod failing;
 mod many_lines;

@@ -1,6 +1,12 @@
 pub mod CountsTextLemmas
 pub mod ListingLemmas
-pub mod RunTextLemmas
-pub mod ReportTextLemmas
 pub mod SettingLemmas
 pub mod StatusLemmas
+pub mod RunTextLemmas
+pub mod LaneTextLemmas
+pub mod ReportTextLemmas
+pub mod StreamLemmas
+pub mod StreamEvents
+pub mod StreamSteps
+pub mod StreamReports
+pub mod StreamedSettingLemmas

@@ -12,7 +12,7 @@ use Rattle.tfm_words.specs.declared.design.DesignFault.{DesignFault}
 use Rattle.tfm_tables.specs.declared.fault.FontFault.{FontFault}
 use Rattle.tfm_tables.specs.declared.fault.FontFault.TheVariants.{Counts, Design}
 
--- each count behind its name, in the file's order
+-- each count after its name, in the file's order
 unfoldable pub count_rows : Numbers → List (List ℕ × ℕ)
 count_rows c =
     (codes "lf", c.lf)
@@ -30,34 +30,34 @@ count_rows c =
     ∷ []
 
 -- the line of a row: the name, a space, the number in decimal and a line feed
-abbrev pub row_text : List ℕ × ℕ → List ℕ
-row_text row = row.0 ++ codes " " ++ decimal row.1 ++ codes "\n"
+abbrev pub count_row_text : List ℕ × ℕ → List ℕ
+count_row_text row = row.0 ++ codes " " ++ decimal row.1 ++ codes "\n"
 
 -- the lines of rows, one after the other
-abbrev pub rows_text : List (List ℕ × ℕ) → List ℕ
-rows_text rows = flat_map row_text rows
+abbrev pub count_rows_text : List (List ℕ × ℕ) → List ℕ
+count_rows_text rows = flat_map count_row_text rows
 
 -- the rows of counts and a design size
-abbrev pub font_rows : Numbers → ℕ → List (List ℕ × ℕ)
-font_rows c points = count_rows c ++ (codes "design", points) ∷ []
+abbrev pub head_rows : Numbers → ℕ → List (List ℕ × ℕ)
+head_rows c points = count_rows c ++ (codes "design", points) ∷ []
 
 -- the text of the counts of a font, whose counts and whose design size are accepted
 abbrev pub counts_text_of : List ℕ → List ℕ
-counts_text_of bytes = rows_text (font_rows (counts_of bytes) (result_unwrap_or (design_size_of bytes) 0))
+counts_text_of bytes = count_rows_text (head_rows (counts_of bytes) (result_unwrap_or (design_size_of bytes) 0))
 
--- the row that a name behind a reference and a number show
-abbrev pub row_of : Bor (List ℕ) × ℕ → List ℕ × ℕ
-row_of shown = (shown.0.now, shown.1)
+-- the row of a name, of which only a reference is there, and a number
+abbrev pub count_row_of : Bor (List ℕ) × ℕ → List ℕ × ℕ
+count_row_of shown = (shown.0.now, shown.1)
 
 -- a refused design size as a font's fault
 abbrev pub design_fault : Result ℕ DesignFault → Option FontFault
 design_fault (Ok _) = None
 design_fault (Err fault) = Some (Design fault)
 
--- the same of refused counts, behind which the design size isn't looked at
+-- the same of refused counts, after which the design size isn't looked at
 abbrev pub counts_fault : Option CountFault → Option FontFault → Option FontFault
-counts_fault (Some fault) behind = Some (Counts fault)
-counts_fault None behind = behind
+counts_fault (Some fault) after = Some (Counts fault)
+counts_fault None after = after
 
 -- the first fault of a font's counts and its design size, before its tables
 abbrev pub head_fault_of : List ℕ → Option FontFault

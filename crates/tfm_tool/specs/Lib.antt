@@ -2,6 +2,10 @@ pub mod CountsText
 pub mod Listing
 pub mod ListingWords
 pub mod RunText
+pub mod LaneText
 pub mod ReportText
+pub mod Refusals
 pub mod Setting
 pub mod Status
+pub mod Streaming
+pub mod StreamState

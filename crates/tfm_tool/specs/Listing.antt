@@ -1,4 +1,4 @@
--- The listing of a font: its lines, each a name and the words behind it.
+-- The listing of a font: its lines, each a name and the words after it.
 -- This project's own text; the words of tags and instructions are defined in ListingWords.
 use Rattle.std.specs.Prelude.{ℕ, ℤ, Bool, List, [], ◌∷◌, ◌++◌, map, filter, flat_map, codes, decimal, Option, Some, None}
 use Rattle.std.specs.Fmt.{signed_decimal}
@@ -16,30 +16,30 @@ use Rattle.tfm_tables.specs.Program.{program_of, right_code_of, start_of, step_a
 use Rattle.tfm_tables.specs.Font.{FontValue}
 use Rattle.tfm_tool.specs.ListingWords.{char_words, escaped_text, number_or_none, step_words, yes_or_no}
 
--- a line is a name and the words behind it
+-- a line is a name and the words after it
 abbrev pub Row : Type 0
 Row = List ℕ × List (List ℕ)
 
--- words behind a name, each with a space before it
+-- words after a name, each with a space before it
 abbrev pub spaced : List (List ℕ) → List ℕ
 spaced words = flat_map (λ word. 32 ∷ word) words
 
 -- the text of a line, which a line feed ends
-unfoldable pub row_text : Row → List ℕ
-row_text row = row.0 ++ spaced row.1 ++ codes "\n"
+unfoldable pub listing_row_text : Row → List ℕ
+listing_row_text row = row.0 ++ spaced row.1 ++ codes "\n"
 
 -- the lines, one after the other
-abbrev pub rows_text : List Row → List ℕ
-rows_text rows = flat_map row_text rows
+abbrev pub listing_rows_text : List Row → List ℕ
+listing_rows_text rows = flat_map listing_row_text rows
 
 -- a line with one word
-abbrev pub row_of : List ℕ → List ℕ → Row
-row_of name word = (name, word ∷ [])
+abbrev pub listing_row_of : List ℕ → List ℕ → Row
+listing_row_of name word = (name, word ∷ [])
 
--- the same where the word is there; else no line
+-- the same if the word is there; else no line
 abbrev pub row_where : List ℕ → Option (List ℕ) → List Row
 row_where name None = []
-row_where name (Some word) = row_of name word ∷ []
+row_where name (Some word) = listing_row_of name word ∷ []
 
 -- a text of the header, if it is there
 unfoldable pub text_where : List ℕ → Option (List ℕ) → List Row
@@ -56,9 +56,9 @@ number_where name number = row_where name (option_map decimal number)
 -- the check sum, the design size and the size that the font is read at
 unfoldable pub size_rows : FontValue → List Row
 size_rows font =
-    row_of (codes "checksum") (decimal (check_sum_of font.words))
-    ∷ row_of (codes "design") (decimal (result_unwrap_or (design_size_of font.words) 0))
-    ∷ row_of (codes "size") (decimal font.size)
+    listing_row_of (codes "checksum") (decimal (check_sum_of font.words))
+    ∷ listing_row_of (codes "design") (decimal (result_unwrap_or (design_size_of font.words) 0))
+    ∷ listing_row_of (codes "size") (decimal font.size)
     ∷ []
 
 -- what only a longer header tells
@@ -72,8 +72,8 @@ header_rows font =
 -- the code of the right boundary character, and where the left boundary's program begins
 unfoldable pub boundary_rows : FontValue → List Row
 boundary_rows font =
-    row_of (codes "right") (number_or_none (right_code_of (program_of font.words)))
-    ∷ row_of (codes "left") (number_or_none (start_of font.words Boundary))
+    listing_row_of (codes "right") (number_or_none (right_code_of (program_of font.words)))
+    ∷ listing_row_of (codes "left") (number_or_none (start_of font.words Boundary))
     ∷ []
 
 -- a character that exists
@@ -121,8 +121,8 @@ unfoldable pub param_rows : FontValue → List Row
 param_rows font = map (param_row font) (range_with_len 1 (entries_of font.words Param))
 
 -- the lines of a font's listing
-abbrev pub font_rows : FontValue → List Row
-font_rows font =
+abbrev pub listing_rows : FontValue → List Row
+listing_rows font =
     size_rows font
     ++ header_rows font
     ++ boundary_rows font
@@ -133,4 +133,4 @@ font_rows font =
 
 -- the listing of a font
 unfoldable pub listing_of : FontValue → List ℕ
-listing_of font = rows_text (font_rows font)
+listing_of font = listing_rows_text (listing_rows font)

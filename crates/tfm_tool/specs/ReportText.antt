@@ -1,23 +1,14 @@
 -- The text of a run's report, and its summary.
 -- This project's own.
-use Rattle.std.specs.Prelude.{ℕ, zero, suc, ◌+◌, Bool, true, false, List, [], ◌∷◌, ◌++◌, codes, ◌≡◌, count_by, sum_by, min, ◌-◌, ◌^◌}
+use Rattle.std.specs.Prelude.{ℕ, ◌+◌, Bool, true, false, List, [], ◌∷◌, ◌++◌, count_by, sum_by, min, ◌-◌, ◌^◌}
 use Rattle.std.specs.List.{list_any}
 use Rattle.set_line.specs.declared.version.Version.{Version}
 use Rattle.line_lane.specs.declared.fault.SourceFault.TheVariants.{Read, OutOfMemory, ReadBound}
 use Rattle.line_lane.specs.declared.ending.LaneEnd.{LaneEnd}
 use Rattle.line_lane.specs.declared.ending.LaneEnd.TheVariants.{Complete, SourceFailed, GaveUp}
-use Rattle.set_line.specs.Answer.{AnswerValue}
 use Rattle.set_run.specs.declared.report.LaneReport.{LaneReport}
-use Rattle.tfm_tool.specs.RunText.{head_text, lane_text, is_refused}
+use Rattle.tfm_tool.specs.RunText.{head_text, lane_text, is_refused, why_of}
 use Rattle.tfm_tool.specs.declared.summary.Summary.{Summary}
-
--- the word for the end of a lane
-unfoldable pub why_of : LaneEnd → List ℕ
-why_of Complete = codes "complete"
-why_of (SourceFailed Read) = codes "read"
-why_of (SourceFailed OutOfMemory) = codes "memory"
-why_of (SourceFailed ReadBound) = codes "bound"
-why_of GaveUp = codes "gave-up"
 
 -- whether a lane's source failed at a read, or made too many for one line
 abbrev pub is_unread : LaneEnd → Bool
@@ -36,12 +27,6 @@ is_wanting (SourceFailed ReadBound) = false
 is_wanting Complete = false
 
 module _ {S : Type 0} where
-  -- the answers of a lane, where so many lanes stand before it
-  abbrev pub answers_at : List (LaneReport S) → ℕ → List AnswerValue
-  answers_at [] i = []
-  answers_at (lane ∷ lanes) zero = lane.answers
-  answers_at (lane ∷ lanes) (suc i) = answers_at lanes i
-
   -- the texts of lanes, of which the first has this number
   abbrev pub lanes_text : ℕ → Version → List (LaneReport S) → List ℕ
   lanes_text number version [] = []
@@ -63,8 +48,3 @@ module _ {S : Type 0} where
     read_failed = list_any (λ lane. is_unread lane.end) lanes;
     memory = list_any (λ lane. is_wanting lane.end) lanes;
   }
-
-module _ {S T : Type 0} where
-  -- a lane with the same answers and the same end
-  abbrev pub IsLikeLane : LaneReport S → LaneReport T → Type 0
-  IsLikeLane lane like = (like.answers ≡ lane.answers) × (like.end ≡ lane.end)

@@ -1,12 +1,15 @@
 -- The text of a run: the records of a source's answers, its end line, and what the text begins with.
 -- This project's own.
-use Rattle.std.specs.Prelude.{ℕ, ◌+◌, List, [], ◌∷◌, ◌++◌, take, drop, length, codes, decimal, Bool, true, false, Option}
+use Rattle.std.specs.Prelude.{ℕ, ◌+◌, List, [], ◌∷◌, ◌++◌, length, codes, decimal, Bool, true, false, Option}
 use Rattle.std.specs.Io.KnownBytes.{Appends, append_known}
 use Rattle.set_line.specs.declared.version.Version.{Version}
 use Rattle.set_line.specs.declared.version.Version.TheVariants.{One, Two}
 use Rattle.set_line.specs.declared.outcome.Outcome.{Outcome}
 use Rattle.set_line.specs.declared.outcome.Outcome.TheVariants.{Set, Refused}
 use Rattle.set_line.specs.Answer.{AnswerValue}
+use Rattle.line_lane.specs.declared.fault.SourceFault.TheVariants.{Read, OutOfMemory, ReadBound}
+use Rattle.line_lane.specs.declared.ending.LaneEnd.{LaneEnd}
+use Rattle.line_lane.specs.declared.ending.LaneEnd.TheVariants.{Complete, SourceFailed, GaveUp}
 use Rattle.set_line.specs.Record.{record_text}
 
 -- the records of answers, of which the first has this place
@@ -15,9 +18,13 @@ records_from source place version [] = []
 records_from source place version (answer ∷ answers) =
     record_text source place answer.outcome version ++ records_from source (place + 1) version answers
 
--- the records of so many answers of a lane, behind the first ones
-abbrev pub records_of : Version → List AnswerValue → ℕ → ℕ → ℕ → List ℕ
-records_of version answers lane from count = records_from (lane + 1) (from + 1) version (take count (drop from answers))
+-- the word for the end of a lane
+unfoldable pub why_of : LaneEnd → List ℕ
+why_of Complete = codes "complete"
+why_of (SourceFailed Read) = codes "read"
+why_of (SourceFailed OutOfMemory) = codes "memory"
+why_of (SourceFailed ReadBound) = codes "bound"
+why_of GaveUp = codes "gave-up"
 
 -- the end line: the source, why it ended, and how many answers it has
 unfoldable pub end_text : ℕ → List ℕ → ℕ → List ℕ
@@ -38,10 +45,10 @@ Goes written block written' block' more =
     (before : Option (List ℕ)) (text : List ℕ) → Appends before (append_known written block) text → Appends before (append_known written' block') (text ++ more)
 
 -- whether an outcome is a refusal
-abbrev pub is_refusal : Outcome → Bool
-is_refusal (Set items width steps) = false
-is_refusal (Refused refusal) = true
+abbrev pub is_refused_outcome : Outcome → Bool
+is_refused_outcome (Set items width steps) = false
+is_refused_outcome (Refused refusal) = true
 
 -- whether a line was refused
 abbrev pub is_refused : AnswerValue → Bool
-is_refused answer = is_refusal answer.outcome
+is_refused answer = is_refused_outcome answer.outcome

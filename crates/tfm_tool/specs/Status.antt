@@ -1,8 +1,8 @@
 -- The status that the program ends with, by what went wrong.
 -- The table is this project's own; 2 for a command line that is refused is common use.
 use Rattle.std.specs.Prelude.{ℕ, ◌==◌, ◌||◌, Bool, true, false, if◌then◌else◌}
-use Rattle.tfm_tool.specs.declared.failure.Failure.{Failure}
-use Rattle.tfm_tool.specs.declared.failure.Failure.TheVariants.{Usage, NotInThrees, TooManyFiles, LimitRange, NotRead, FontNotRead, FontRefused, FileNotOpened, FileNotEnded, Tool}
+use Rattle.tfm_tool.specs.declared.exit.Failure.{Failure}
+use Rattle.tfm_tool.specs.declared.exit.Failure.TheVariants.{Usage, NotInThrees, TooManyFiles, LimitRange, FontAndText, NotRead, FontNotRead, FontRefused, FileNotOpened, FileNotEnded, Tool}
 use Rattle.tfm_tool.specs.declared.summary.Summary.{Summary}
 use Rattle.tfm_tool.specs.declared.fault.ToolFault.{ToolFault}
 use Rattle.tfm_tool.specs.declared.fault.ToolFault.TheVariants.{Font, Run, OutOfMemory, Write}
@@ -10,7 +10,7 @@ use Rattle.set_run.specs.declared.run_fault.RunFault.TheVariants.{TooManySources
 use Rattle.tfm_tool.specs.declared.files.ReadFault.{ReadFault}
 use Rattle.tfm_tool.specs.declared.files.ReadFault.TheVariants.{NotRead as Unread, OutOfMemory as NoRoom}
 
--- a text that was not written: the font is refused, or there are too many files, or else the memory, a thread or the output
+-- a text that was not written: the font is refused, or there are too many files, or else memory, a thread or the output
 abbrev pub text_status_of : ToolFault → ℕ
 text_status_of (Font _) = 3
 text_status_of (Run TooManySources) = 2
@@ -19,7 +19,7 @@ text_status_of (Run Thread) = 5
 text_status_of OutOfMemory = 5
 text_status_of Write = 5
 
--- whether a fault is one of writing a text: want of memory, or the output
+-- whether a fault is one of writing a text: out of memory, or the output
 abbrev pub is_text_fault : ToolFault → Bool
 is_text_fault (Font _) = false
 is_text_fault (Run _) = false
@@ -32,6 +32,7 @@ status_of (Usage _) = 2
 status_of NotInThrees = 2
 status_of TooManyFiles = 2
 status_of (LimitRange _) = 2
+status_of FontAndText = 2
 status_of (FontRefused _ _) = 3
 status_of NotRead = 4
 status_of (FontNotRead _) = 4
@@ -44,11 +45,11 @@ abbrev pub failure_of : ReadFault → Failure
 failure_of Unread = NotRead
 failure_of NoRoom = Tool OutOfMemory
 
--- whether a failure comes with nothing written: the command line or a font is refused
-abbrev pub is_refusal : Failure → Bool
-is_refusal failure = (status_of failure == 2) || (status_of failure == 3)
+-- whether a failure comes with nothing written before it: the command line or a font is refused
+abbrev pub is_before_output : Failure → Bool
+is_before_output failure = (status_of failure == 2) || (status_of failure == 3)
 
--- the status where a text was written: want of memory before a failed read, and that before refused lines
+-- the status after a text was written: refused memory comes before a failed read, and that before refused lines
 abbrev pub summary_status : Summary → ℕ
 summary_status summary =
     if summary.memory then 5 else (if summary.read_failed then 4 else (if summary.refused == 0 then 0 else 1))

@@ -11,6 +11,8 @@ const AFTER_HELP: &str = "Examples:
   tfmset list cmr10.tfm     all that a font holds
   tfmset set cmr10.tfm text
                             the lines of a file, set with a font
+  tail -f log | tfmset stream cmr10.tfm
+                            the lines of standard input, as they come
   tfmset each cmr10.tfm 1048576 text cmtt10.tfm 1048576 code
                             a font and a limit for each file
 
@@ -50,11 +52,34 @@ record has the width of its line, and its characters, kerns and spaces, in
 scaled points, or why the line was refused. Bytes are codes of the font,
 not Unicode; byte 32 is a space, and a carriage return is a code as any
 other. A line has up to 65535 bytes. The text is written when all is done.
+For records that come at once, or for much text, take `tfmset stream`.
 
 Exit status: 0 done; 1 done, and some line was refused; 2 the command line is
 refused, or there are more than 64 files; 3 the font is refused; 4 a file was
 not opened or not read to its end; 5 memory, a thread or the output was
 refused.";
+
+const STREAM_ABOUT: &str = "Sets lines as `set` does, and prints each record as it comes";
+
+const STREAM_AFTER_HELP: &str = "Examples:
+  tail -f log | tfmset stream cmr10.tfm
+  tfmset stream --workers 4 --block 8 cmr10.tfm first second third
+
+Reads FONT and the lines of each FILE, up to 64 of them, all at once; without
+a FILE the lines of standard input, and then FONT can't be - as well. Prints
+the records and end lines of `tfmset set`, but each as soon as its line is
+set: those of one file in their order, those of several between each other.
+
+Take `set` for a text that is there whole or, but for memory or the output
+refused on the way, not at all, with one file after the other. Take `stream`
+for records that come at once, and for text of any length: it holds a bounded
+part of it. With --block N up to N lines wait for each other. A program that
+closes the pipe ends it, with status 5.
+
+Exit status: 0 done; 1 done, and some line was refused; 2 the command line is
+refused, there are more than 64 files, or font and text are both on standard
+input; 3 the font is refused; 4 a file was not opened or not read to its end;
+5 memory, a thread or the output was refused.";
 
 const EACH_ABOUT: &str = "Sets the lines of files, each with a font and a limit of its own";
 
@@ -83,6 +108,8 @@ const WORDS_HELP: &str = "FONT LIMIT FILE, again and again";
 
 const FILE_HELP: &str = "The files with the lines";
 
+const STREAM_FILE_HELP: &str = "The files with the lines; none is standard input";
+
 const SIZE_HELP: &str = "Scaled points, 1 to 134217727; else the design size";
 
 const LIMIT_HELP: &str = "Steps a line may take, 1 to 16777216";
@@ -106,6 +133,7 @@ pub(crate) fn tfmset_command<'a>(alloc: Global) -> Result<Command<'a>, AllocErro
         .subcommand(counts_command(alloc)?)?
         .subcommand(list_command(alloc)?)?
         .subcommand(set_command(alloc)?)?
+        .subcommand(stream_command(alloc)?)?
         .subcommand(each_command(alloc)?)
 }
 
@@ -130,12 +158,23 @@ fn font_argument<'a>(alloc: Global) -> Arg<'a> {
 fn set_command<'a>(alloc: Global) -> Result<Command<'a>, AllocError> {
     let command = Command::new(alloc, "set")
         .about(SET_ABOUT)
-        .after_help(SET_AFTER_HELP)
+        .after_help(SET_AFTER_HELP);
+    setting_options(alloc, command)?.arg(many(alloc, "FILE", FILE_HELP).required(true))
+}
+
+fn stream_command<'a>(alloc: Global) -> Result<Command<'a>, AllocError> {
+    let command = Command::new(alloc, "stream")
+        .about(STREAM_ABOUT)
+        .after_help(STREAM_AFTER_HELP);
+    setting_options(alloc, command)?.arg(many(alloc, "FILE", STREAM_FILE_HELP))
+}
+
+/// The options of a run with one font, and the font.
+fn setting_options<'a>(alloc: Global, command: Command<'a>) -> Result<Command<'a>, AllocError> {
+    let command = command
         .arg(number_option(alloc, "size", SIZE_HELP, 134_217_727))?
         .arg(number_option(alloc, "limit", LIMIT_HELP, 16_777_216).default_value("1048576"))?;
-    run_options(alloc, command)?
-        .arg(font_argument(alloc))?
-        .arg(many(alloc, "FILE", FILE_HELP))
+    run_options(alloc, command)?.arg(font_argument(alloc))
 }
 
 fn each_command<'a>(alloc: Global) -> Result<Command<'a>, AllocError> {
@@ -143,7 +182,7 @@ fn each_command<'a>(alloc: Global) -> Result<Command<'a>, AllocError> {
         .about(EACH_ABOUT)
         .after_help(EACH_AFTER_HELP)
         .arg(number_option(alloc, "size", SIZE_HELP, 134_217_727))?;
-    run_options(alloc, command)?.arg(many(alloc, "WORD", WORDS_HELP))
+    run_options(alloc, command)?.arg(many(alloc, "WORD", WORDS_HELP).required(true))
 }
 
 /// The options that every run has.
@@ -161,12 +200,9 @@ fn run_options<'a>(alloc: Global, command: Command<'a>) -> Result<Command<'a>, A
         .arg(choice_option(alloc, ["record", "V", RECORD_HELP], &["1", "2"], "1"))
 }
 
-/// One word or more.
+/// As many words as there are.
 fn many<'a>(alloc: Global, name: &'a str, help: &'a str) -> Arg<'a> {
-    Arg::new(alloc, name)
-        .required(true)
-        .num_args(1..)
-        .help(help)
+    Arg::new(alloc, name).num_args(1..).help(help)
 }
 
 /// An option for a number from 1 on.

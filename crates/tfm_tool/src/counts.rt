@@ -1,7 +1,7 @@
 ghost use Rattle.std.specs.Prelude.{◌≡◌, ◌≢◌, ◌++◌, ◌∷◌, [], ◌↔◌, map, length, Some, Ok, Err, IfOk, IfErr, OnOk};
 ghost use Rattle.std.specs.Io.KnownBytes.{Appends};
 ghost use Rattle.tfm_tables.specs.declared.fault.FontFault.{FontFault};
-ghost use Rattle.tfm_tool.specs.CountsText.{count_rows, counts_text_of, font_rows, head_fault_of, row_of, row_text, rows_text};
+ghost use Rattle.tfm_tool.specs.CountsText.{count_rows, counts_text_of, head_rows, head_fault_of, count_row_of, count_row_text, count_rows_text};
 
 use crate::ToolFault;
 use itoa::Buffer;
@@ -33,7 +33,7 @@ pub fn counts_text<W: Write>(alloc: Global, bytes: &[u8], out: &mut W) -> Result
 
 /// The text of these counts and this design size.
 fn text_of(alloc: Global, counts: &Counts, design: Size) -> Result<Vec<u8>, AllocError>
-    ensures { IfOk result (λ text. text.items ≡ rows_text (font_rows counts.now design)) }
+    ensures { IfOk result (λ text. text.items ≡ count_rows_text (head_rows counts.now design)) }
 {
     let mut text = Vec::with_capacity(alloc, TEXT_ROOM)?;
     push_rows(&mut text, &rows_of(counts))?;
@@ -44,7 +44,7 @@ fn text_of(alloc: Global, counts: &Counts, design: Size) -> Result<Vec<u8>, Allo
 /// The names and the numbers of the twelve counts, in the file's order.
 #[tactic(auto, unfolding(crate::specs::CountsText::count_rows))]
 fn rows_of(counts: &Counts) -> [(&'static str, u16); 12]
-    ensures { map row_of result ≡ count_rows counts.now }
+    ensures { map count_row_of result ≡ count_rows counts.now }
 {
     [
         ("lf", counts.lf()),
@@ -65,7 +65,7 @@ fn rows_of(counts: &Counts) -> [(&'static str, u16); 12]
 /// Appends a line for each name and its number.
 #[tactic(auto, using(crate::proofs::CountsTextLemmas::row_more))]
 fn push_rows(text: &mut Vec<u8>, rows: &[(&str, u16)]) -> Result<(), AllocError>
-    ensures { OnOk result (text.new.items ≡ text.old.items ++ rows_text (map row_of rows.now)) }
+    ensures { OnOk result (text.new.items ≡ text.old.items ++ count_rows_text (map count_row_of rows.now)) }
 {
     for (name, number) in rows {
         push_row(text, name, u32::from(*number))?;
@@ -75,7 +75,7 @@ fn push_rows(text: &mut Vec<u8>, rows: &[(&str, u16)]) -> Result<(), AllocError>
 
 /// Appends a line: a name, a space and a number.
 fn push_row(text: &mut Vec<u8>, name: &str, number: u32) -> Result<(), AllocError>
-    ensures { OnOk result (text.new.items ≡ text.old.items ++ row_text (name.now, number)) }
+    ensures { OnOk result (text.new.items ≡ text.old.items ++ count_row_text (name.now, number)) }
 {
     let mut buffer = Buffer::new();
     text.extend_from_slice(name.as_bytes())?;

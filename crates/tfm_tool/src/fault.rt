@@ -1,4 +1,7 @@
-use set_run::RunFault;
+ghost use Rattle.std.specs.Prelude.{◌≡◌};
+ghost use Rattle.tfm_tool.specs.Refusals.{fault_of};
+
+use set_run::{Refusal, RunFault};
 use std::fmt;
 use tfm_tables::FontFault;
 use tfm_words::CountFault;
@@ -21,6 +24,17 @@ pub enum ToolFault {
     Write,
 }
 
+impl From<Refusal> for ToolFault {
+    ghost from_gives = { λ refusal fault. fault ≡ fault_of refusal };
+
+    fn from(refusal: Refusal) -> ToolFault {
+        match refusal {
+            Refusal::OutOfMemory => ToolFault::OutOfMemory,
+            Refusal::Output => ToolFault::Write,
+        }
+    }
+}
+
 /// What is said of a run that has no report.
 #[derive(Clone, Copy)]
 struct Told<'a>(&'a RunFault);
@@ -35,8 +49,8 @@ impl fmt::Display for Told<'_> {
     }
 }
 
-/// A fault behind its number among all that can be wrong with a font. A file that ends within its
-/// counts has number 1, and one that ends behind them number 8.
+/// A fault after its number among all that can be wrong with a font. A file that ends within its
+/// counts has number 1, and one that ends after them number 8.
 #[derive(Clone, Copy)]
 pub(crate) struct Numbered<'a>(pub &'a FontFault);
 

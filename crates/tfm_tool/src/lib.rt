@@ -1,4 +1,4 @@
-//! The texts that `tfmset` writes, and the whole program over its words, a reader and two writers.
+//! The texts that `tfmset` writes, and the whole program over its arguments, a reader and two writers.
 #![tactic(auto)]
 
 pub use counts::counts_text;
@@ -6,24 +6,32 @@ pub use fault::ToolFault;
 pub use listing::list_text;
 pub use program::{tool, words_refused};
 pub use setting::{set_each, set_text};
+pub use streamed_setting::stream_text;
+pub use streaming::stream_each;
 pub use summary::{Summary, status};
 
 mod appending;
+mod args;
+mod block;
 mod commands;
 mod counts;
-mod failure;
+mod exit;
 mod fault;
 mod files;
-mod freeing;
+mod jobs;
+mod lane_count;
+mod lane_text;
 mod listing;
-mod parts;
 mod program;
-mod report_text;
+mod record;
 mod rows;
+mod run_summary;
 mod run_text;
+mod runs;
 mod setting;
+mod stream;
+mod streamed_setting;
+mod streaming;
 mod summary;
 #[cfg(test)]
 mod tests;
-mod threes;
-mod words;

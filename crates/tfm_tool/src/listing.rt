@@ -3,7 +3,7 @@ ghost use Rattle.std.specs.Io.KnownBytes.{Appends};
 ghost use Rattle.tfm_words.specs.declared.table.Table.TheVariants.{Kern, LigKern};
 ghost use Rattle.tfm_tables.specs.Character.{exists};
 ghost use Rattle.tfm_tables.specs.Table.{entries_of};
-ghost use Rattle.tfm_tool.specs.Listing.{boundary_rows, char_row, char_rows, header_rows, kern_row, kern_rows, listing_of, param_row, param_rows, row_text, rows_text, size_rows, step_row, step_rows};
+ghost use Rattle.tfm_tool.specs.Listing.{boundary_rows, char_row, char_rows, header_rows, kern_row, kern_rows, listing_of, param_row, param_rows, listing_row_text, listing_rows_text, size_rows, step_row, step_rows};
 
 use crate::ToolFault;
 use crate::rows::{
@@ -43,7 +43,7 @@ fn text_of(alloc: Global, font: &Font) -> Result<Vec<u8>, AllocError>
 
 #[tactic(auto, unfolding(crate::specs::Listing::size_rows))]
 fn push_size_rows(text: &mut Vec<u8>, font: &Font) -> Result<(), AllocError>
-    ensures { OnOk result (text.new.items ≡ text.old.items ++ rows_text (size_rows font.now)) }
+    ensures { OnOk result (text.new.items ≡ text.old.items ++ listing_rows_text (size_rows font.now)) }
 {
     push_number_row(text, b"checksum", font.check_sum())?;
     push_number_row(text, b"design", font.design().get())?;
@@ -52,7 +52,7 @@ fn push_size_rows(text: &mut Vec<u8>, font: &Font) -> Result<(), AllocError>
 
 #[tactic(auto, unfolding(crate::specs::Listing::header_rows))]
 fn push_header_rows(text: &mut Vec<u8>, font: &Font) -> Result<(), AllocError>
-    ensures { OnOk result (text.new.items ≡ text.old.items ++ rows_text (header_rows font.now)) }
+    ensures { OnOk result (text.new.items ≡ text.old.items ++ listing_rows_text (header_rows font.now)) }
 {
     push_text_where(text, b"coding", font.coding())?;
     push_text_where(text, b"family", font.family())?;
@@ -62,7 +62,7 @@ fn push_header_rows(text: &mut Vec<u8>, font: &Font) -> Result<(), AllocError>
 
 #[tactic(auto, unfolding(crate::specs::Listing::boundary_rows))]
 fn push_boundary_rows(text: &mut Vec<u8>, font: &Font) -> Result<(), AllocError>
-    ensures { OnOk result (text.new.items ≡ text.old.items ++ rows_text (boundary_rows font.now)) }
+    ensures { OnOk result (text.new.items ≡ text.old.items ++ listing_rows_text (boundary_rows font.now)) }
 {
     push_number_or_none(text, b"right", font.right_boundary())?;
     push_number_or_none(text, b"left", font.start(LeftSide::Boundary))
@@ -71,7 +71,7 @@ fn push_boundary_rows(text: &mut Vec<u8>, font: &Font) -> Result<(), AllocError>
 #[tactic(auto, unfolding(crate::specs::Listing::char_row))]
 fn push_char_where(text: &mut Vec<u8>, font: &Font, code: u8) -> Result<(), AllocError>
     ensures { OnOk result (text.new.items ≡ text.old.items
-        ++ (if exists font.now.words code then row_text (char_row font.now code) else [])) }
+        ++ (if exists font.now.words code then listing_row_text (char_row font.now code) else [])) }
 {
     let Some(metrics) = font.metrics(code) else {
         return Ok(());
@@ -84,7 +84,7 @@ fn push_char_where(text: &mut Vec<u8>, font: &Font, code: u8) -> Result<(), Allo
 
 #[tactic(auto, using(crate::proofs::ListingLemmas::more), unfolding(crate::specs::Listing::char_rows))]
 fn push_char_rows(text: &mut Vec<u8>, font: &Font) -> Result<(), AllocError>
-    ensures { OnOk result (text.new.items ≡ text.old.items ++ rows_text (char_rows font.now)) }
+    ensures { OnOk result (text.new.items ≡ text.old.items ++ listing_rows_text (char_rows font.now)) }
 {
     for code in 0..256u16 {
         push_char_where(text, font, code as u8)?;
@@ -95,14 +95,14 @@ fn push_char_rows(text: &mut Vec<u8>, font: &Font) -> Result<(), AllocError>
 #[tactic(auto, unfolding(crate::specs::Listing::step_row))]
 fn push_step(text: &mut Vec<u8>, font: &Font, i: usize) -> Result<(), AllocError>
     requires { i < entries_of font.now.words LigKern }
-    ensures { OnOk result (text.new.items ≡ text.old.items ++ row_text (step_row font.now i)) }
+    ensures { OnOk result (text.new.items ≡ text.old.items ++ listing_row_text (step_row font.now i)) }
 {
     push_step_row(text, font, i, font.step(i))
 }
 
 #[tactic(auto, using(crate::proofs::ListingLemmas::more), unfolding(crate::specs::Listing::step_rows))]
 fn push_step_rows(text: &mut Vec<u8>, font: &Font) -> Result<(), AllocError>
-    ensures { OnOk result (text.new.items ≡ text.old.items ++ rows_text (step_rows font.now)) }
+    ensures { OnOk result (text.new.items ≡ text.old.items ++ listing_rows_text (step_rows font.now)) }
 {
     for i in 0..font.steps() {
         push_step(text, font, i)?;
@@ -113,14 +113,14 @@ fn push_step_rows(text: &mut Vec<u8>, font: &Font) -> Result<(), AllocError>
 #[tactic(auto, unfolding(crate::specs::Listing::kern_row))]
 fn push_kern(text: &mut Vec<u8>, font: &Font, k: usize) -> Result<(), AllocError>
     requires { k < entries_of font.now.words Kern }
-    ensures { OnOk result (text.new.items ≡ text.old.items ++ row_text (kern_row font.now k)) }
+    ensures { OnOk result (text.new.items ≡ text.old.items ++ listing_row_text (kern_row font.now k)) }
 {
     push_amount_row(text, b"kern", k, font.kern(k))
 }
 
 #[tactic(auto, using(crate::proofs::ListingLemmas::more), unfolding(crate::specs::Listing::kern_rows))]
 fn push_kern_rows(text: &mut Vec<u8>, font: &Font) -> Result<(), AllocError>
-    ensures { OnOk result (text.new.items ≡ text.old.items ++ rows_text (kern_rows font.now)) }
+    ensures { OnOk result (text.new.items ≡ text.old.items ++ listing_rows_text (kern_rows font.now)) }
 {
     for k in 0..font.kerns() {
         push_kern(text, font, k)?;
@@ -130,14 +130,14 @@ fn push_kern_rows(text: &mut Vec<u8>, font: &Font) -> Result<(), AllocError>
 
 #[tactic(auto, unfolding(crate::specs::Listing::param_row))]
 fn push_param(text: &mut Vec<u8>, font: &Font, number: usize) -> Result<(), AllocError>
-    ensures { OnOk result (text.new.items ≡ text.old.items ++ row_text (param_row font.now number)) }
+    ensures { OnOk result (text.new.items ≡ text.old.items ++ listing_row_text (param_row font.now number)) }
 {
     push_amount_row(text, b"param", number, font.param(number))
 }
 
 #[tactic(auto, using(crate::proofs::ListingLemmas::more), unfolding(crate::specs::Listing::param_rows))]
 fn push_param_rows(text: &mut Vec<u8>, font: &Font) -> Result<(), AllocError>
-    ensures { OnOk result (text.new.items ≡ text.old.items ++ rows_text (param_rows font.now)) }
+    ensures { OnOk result (text.new.items ≡ text.old.items ++ listing_rows_text (param_rows font.now)) }
 {
     for i in 0..font.params() {
         push_param(text, font, i + 1)?;

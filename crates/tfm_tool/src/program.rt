@@ -1,17 +1,16 @@
-ghost use Rattle.std.specs.Prelude.{◌≡◌, ◌≢◌, true, false, [], ◌∷◌, codes, Contains, Err, None, Some, IfErr, IfOk, IfSome, OnOk};
+ghost use Rattle.std.specs.Prelude.{◌≡◌, ◌≢◌, true, [], ◌∷◌, codes, Contains, Err, None, Some, IfErr, IfOk, IfSome, OnOk};
 ghost use Rattle.std.specs.Io.KnownBytes.{Appends, Keeps};
 ghost use Rattle.std.specs.IoError.{error_kind};
 ghost use Rattle.tfm_tool.specs.CountsText.{counts_text_of};
-ghost use Rattle.tfm_tool.specs.Status.{is_refusal, status_of};
+ghost use Rattle.tfm_tool.specs.Status.{is_before_output, status_of};
 
-use crate::failure::Failure;
+use crate::args::{Request, requested};
+use crate::exit::Failure;
 use crate::files::font_bytes;
+use crate::runs::{set_files, set_jobs, stream};
 use crate::setting::accepted;
-use crate::threes::{FILES, all_terms, open_each, open_files, threes};
-use crate::words::{Request, Setting, Threes, requested};
-use crate::{Summary, ToolFault, counts_text, list_text, set_each, set_text, status};
+use crate::{ToolFault, counts_text, list_text};
 use clap::error::ErrorKind as WordsKind;
-use set_run::NoGate;
 use std::convert::AsStr;
 use std::io;
 use std::io::{ErrorKind, Read, Write};
@@ -20,18 +19,19 @@ use std::sync::Wait;
 use std::thread::Threads;
 use std::time::Clock;
 
-/// The whole program: does what the words behind its name ask for, and returns the status that it
-/// ends with. The font `-` is read from `input`, and any other word is the name of a file.
+/// The whole program: does what the words after its name ask for, and returns the status that it
+/// ends with. The font `-` is read from `input`, as are the lines of `stream` if it names no file; any
+/// other word is the name of a file.
 ///
-/// What went wrong goes to `err`: one line, or the text of `clap` where the words are refused. The
-/// status is 0 after the whole text, help or the version, 1 where some line was refused, and 2 to 5 by
+/// What went wrong goes to `err`: one line, or the text of `clap` if the words are refused. The
+/// status is 0 after the whole text, help or the version, 1 if some line was refused, and 2 to 5 by
 /// what went wrong.
 pub fn tool<R, S, I, O, E>(rt: &R, words: &[S], input: &mut I, out: &mut O, err: &mut E) -> u8
 where
     R: Files + AllocGlobal + Threads + Wait + Clock + Sync,
     R::File: Send,
     S: AsStr,
-    I: Read,
+    I: Read + Send,
     O: Write,
     E: Write,
     ensures statuses { Contains (0 ∷ 1 ∷ 2 ∷ 3 ∷ 4 ∷ 5 ∷ []) result }
@@ -47,7 +47,7 @@ where
     }
 }
 
-/// What the program ends with where its words were not had: one is no text, or memory was refused.
+/// What the program ends with if its words could not be read: one is no text, or memory was refused.
 pub fn words_refused<E: Write>(error: &io::Error, err: &mut E) -> u8
     ensures memory { (error_kind error.now ≡ ErrorKind.OutOfMemory) → result ≡ 5 }
     ensures words { (error_kind error.now ≢ ErrorKind.OutOfMemory) → result ≡ 2 }
@@ -59,22 +59,23 @@ pub fn words_refused<E: Write>(error: &io::Error, err: &mut E) -> u8
     2
 }
 
-/// Does what the words ask for: the status where nothing went wrong.
+/// Does what the words ask for: the status if nothing went wrong.
 fn answer<R, S, I, O>(rt: &R, words: &[S], input: &mut I, out: &mut O) -> Result<u8, Failure>
 where
     R: Files + AllocGlobal + Threads + Wait + Clock + Sync,
     R::File: Send,
     S: AsStr,
-    I: Read,
+    I: Read + Send,
     O: Write,
     ensures status { IfOk result (λ status. Contains (0 ∷ 1 ∷ []) status) }
-    ensures untouched { IfErr result (λ failure. is_refusal failure ≡ true → out.new ≡ out.old) }
+    ensures untouched { IfErr result (λ failure. is_before_output failure ≡ true → out.new ≡ out.old) }
 {
     match requested(rt.alloc(), words) {
         Ok(Request::Counts { font }) => counts(rt, font, input, out)?,
         Ok(Request::List { font }) => list(rt, font, input, out)?,
-        Ok(Request::Set(setting)) => return set_files(rt, setting, input, out),
-        Ok(Request::Each(threes)) => return set_threes(rt, threes, out),
+        Ok(Request::Set(setting)) => return set_files(rt, &setting, input, out),
+        Ok(Request::Stream(setting)) => return stream(rt, &setting, input, out),
+        Ok(Request::Each(jobs)) => return set_jobs(rt, jobs, out),
         Err(error) => show(error, out)?,
     }
     Ok(0)
@@ -88,7 +89,7 @@ where
     O: Write,
     ensures text { OnOk result (font.now ≡ codes "-" → IfSome (I.remaining input.old)
         (λ all. Appends (O.contents out.old) (O.contents out.new) (counts_text_of all))) }
-    ensures untouched { IfErr result (λ failure. is_refusal failure ≡ true → out.new ≡ out.old) }
+    ensures untouched { IfErr result (λ failure. is_before_output failure ≡ true → out.new ≡ out.old) }
 {
     let bytes = font_bytes(rt, font, input)?;
     counts_text(rt.alloc(), bytes.as_slice(), out)?;
@@ -101,7 +102,7 @@ where
     R: Files + AllocGlobal,
     I: Read,
     O: Write,
-    ensures { IfErr result (λ failure. is_refusal failure ≡ true → out.new ≡ out.old) }
+    ensures { IfErr result (λ failure. is_before_output failure ≡ true → out.new ≡ out.old) }
 {
     let bytes = font_bytes(rt, font, input)?;
     let font = accepted(rt.alloc(), bytes.as_slice(), None)?;
@@ -109,88 +110,9 @@ where
     Ok(())
 }
 
-/// The lines of files, set with one font: the status that the records lead to. The font is looked at
-/// before any file is opened.
-fn set_files<R, I, O>(
-    rt: &R,
-    setting: Setting<'_>,
-    input: &mut I,
-    out: &mut O,
-) -> Result<u8, Failure>
-where
-    R: Files + AllocGlobal + Threads + Wait + Clock + Sync,
-    R::File: Send,
-    I: Read,
-    O: Write,
-    ensures status { IfOk result (λ status. Contains (0 ∷ 1 ∷ []) status) }
-    ensures untouched { IfErr result (λ failure. is_refusal failure ≡ true → out.new ≡ out.old) }
-{
-    if setting.files.len() > FILES {
-        return Err(Failure::TooManyFiles);
-    }
-    let bytes = font_bytes(rt, setting.font, input)?;
-    let layout = setting.layout;
-    accepted(rt.alloc(), bytes.as_slice(), layout.size)?;
-    let files = open_files(rt, setting.files.as_slice())?;
-    let summary = set_text(
-        rt,
-        rt.alloc(),
-        bytes.as_slice(),
-        layout.size,
-        setting.limit,
-        layout.policy,
-        files,
-        layout.plan,
-        layout.version,
-        &NoGate,
-        out,
-    )?;
-    finish(&summary, out)
-}
-
-/// The lines of files, each set with a font and a limit of its own: the status that the records lead
-/// to. All fonts are read before any file is opened.
-fn set_threes<R, O>(rt: &R, asked: Threes<'_>, out: &mut O) -> Result<u8, Failure>
-where
-    R: Files + AllocGlobal + Threads + Wait + Clock + Sync,
-    R::File: Send,
-    O: Write,
-    ensures status { IfOk result (λ status. Contains (0 ∷ 1 ∷ []) status) }
-    ensures untouched { IfErr result (λ failure. is_refusal failure ≡ true → out.new ≡ out.old) }
-{
-    let layout = asked.layout;
-    let threes = threes(rt.alloc(), asked.words.as_slice())?;
-    let terms = all_terms(rt, threes.as_slice(), &layout)?;
-    let files = open_each(rt, threes.as_slice(), terms)?;
-    let summary = set_each(
-        rt,
-        rt.alloc(),
-        files,
-        layout.plan,
-        layout.version,
-        &NoGate,
-        out,
-    )?;
-    finish(&summary, out)
-}
-
-/// The status behind a text that was written, once all of it is out; 4 and 5 are told as faults.
-fn finish<O: Write>(summary: &Summary, out: &mut O) -> Result<u8, Failure>
-    ensures status { IfOk result (λ status. Contains (0 ∷ 1 ∷ []) status) }
-    ensures told { IfErr result (λ failure. is_refusal failure ≡ false) }
-{
-    out.flush().map_err(|_| Failure::Tool(ToolFault::Write))?;
-    match status(summary) {
-        0 => Ok(0),
-        1 => Ok(1),
-        4 => Err(Failure::FileNotEnded),
-        _ => Err(Failure::Tool(ToolFault::OutOfMemory)),
-    }
-}
-
 /// Help and the version are an answer; any other error is why there is none.
 fn show<O: Write>(error: clap::Error, out: &mut O) -> Result<(), Failure>
-    ensures { IfErr result (λ failure. is_refusal failure ≡ true → out.new ≡ out.old) }
+    ensures { IfErr result (λ failure. is_before_output failure ≡ true → out.new ≡ out.old) }
 {
     match error.kind() {
         WordsKind::DisplayHelp | WordsKind::DisplayVersion => {

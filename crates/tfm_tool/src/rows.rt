@@ -3,7 +3,7 @@ ghost use Rattle.std.specs.Option.{option_map, option_map_or};
 ghost use Rattle.tfm_words.specs.declared.table.Table.TheVariants.{Kern};
 ghost use Rattle.tfm_tables.specs.Acceptance.{kern_index_of};
 ghost use Rattle.tfm_tables.specs.Table.{entries_of};
-ghost use Rattle.tfm_tool.specs.Listing.{amount_row, flag_where, number_where, row_of, row_text, rows_text, spaced, text_where};
+ghost use Rattle.tfm_tool.specs.Listing.{amount_row, flag_where, number_where, listing_row_of, listing_row_text, listing_rows_text, spaced, text_where};
 ghost use Rattle.tfm_tool.specs.ListingWords.{action_words, char_words, escaped_text, measure_words, operation_name, step_words, tag_words};
 
 use crate::appending::{push_escaped_text, push_number};
@@ -12,13 +12,13 @@ use std::alloc::AllocError;
 use tfm_tables::{Font, Metrics, Step, Tag};
 
 /// Appends a line with one number.
-#[tactic(auto, unfolding(crate::specs::Listing::row_text))]
+#[tactic(auto, unfolding(crate::specs::Listing::listing_row_text))]
 pub fn push_number_row<I: Integer>(
     text: &mut Vec<u8>,
     name: &[u8],
     number: I,
 ) -> Result<(), AllocError>
-    ensures { OnOk result (text.new.items ≡ text.old.items ++ row_text (row_of name.now (I.text number))) }
+    ensures { OnOk result (text.new.items ≡ text.old.items ++ listing_row_text (listing_row_of name.now (I.text number))) }
 {
     text.extend_from_slice(name)?;
     push_number(text, b" ", number)?;
@@ -26,9 +26,9 @@ pub fn push_number_row<I: Integer>(
 }
 
 /// Appends a line with one word.
-#[tactic(auto, unfolding(crate::specs::Listing::row_text))]
+#[tactic(auto, unfolding(crate::specs::Listing::listing_row_text))]
 pub fn push_word_row(text: &mut Vec<u8>, name: &[u8], word: &[u8]) -> Result<(), AllocError>
-    ensures { OnOk result (text.new.items ≡ text.old.items ++ row_text (row_of name.now word.now)) }
+    ensures { OnOk result (text.new.items ≡ text.old.items ++ listing_row_text (listing_row_of name.now word.now)) }
 {
     text.extend_from_slice(name)?;
     text.extend_from_slice(b" ")?;
@@ -43,7 +43,7 @@ pub fn push_number_or_none<I: Integer>(
     number: Option<I>,
 ) -> Result<(), AllocError>
     ensures { OnOk result (text.new.items ≡ text.old.items
-        ++ row_text (row_of name.now (option_map_or I.text number (codes "none")))) }
+        ++ listing_row_text (listing_row_of name.now (option_map_or I.text number (codes "none")))) }
 {
     match number {
         Some(number) => push_number_row(text, name, number),
@@ -51,9 +51,9 @@ pub fn push_number_or_none<I: Integer>(
     }
 }
 
-#[tactic(auto, unfolding(crate::specs::Listing::row_text))]
+#[tactic(auto, unfolding(crate::specs::Listing::listing_row_text))]
 fn push_text_row(text: &mut Vec<u8>, name: &[u8], bytes: &[u8]) -> Result<(), AllocError>
-    ensures { OnOk result (text.new.items ≡ text.old.items ++ row_text (row_of name.now (escaped_text bytes.now))) }
+    ensures { OnOk result (text.new.items ≡ text.old.items ++ listing_row_text (listing_row_of name.now (escaped_text bytes.now))) }
 {
     text.extend_from_slice(name)?;
     text.extend_from_slice(b" ")?;
@@ -69,7 +69,7 @@ pub fn push_text_where(
     bytes: Option<&[u8]>,
 ) -> Result<(), AllocError>
     ensures { OnOk result (text.new.items ≡ text.old.items
-        ++ rows_text (text_where name.now (option_map (λ shown. shown.now) bytes.entry))) }
+        ++ listing_rows_text (text_where name.now (option_map (λ shown. shown.now) bytes.entry))) }
 {
     match bytes {
         Some(bytes) => push_text_row(text, name, bytes),
@@ -85,7 +85,7 @@ pub fn push_flag_where(
     flag: Option<bool>,
 ) -> Result<(), AllocError>
     ensures { OnOk result (text.new.items ≡ text.old.items
-        ++ rows_text (flag_where name.now flag)) }
+        ++ listing_rows_text (flag_where name.now flag)) }
 {
     match flag {
         Some(true) => push_word_row(text, name, b"yes"),
@@ -102,7 +102,7 @@ pub fn push_number_where(
     number: Option<u8>,
 ) -> Result<(), AllocError>
     ensures { OnOk result (text.new.items ≡ text.old.items
-        ++ rows_text (number_where name.now number)) }
+        ++ listing_rows_text (number_where name.now number)) }
 {
     match number {
         Some(number) => push_number_row(text, name, number),
@@ -111,14 +111,14 @@ pub fn push_number_where(
 }
 
 /// Appends a line with a number and an amount.
-#[tactic(auto, using(crate::proofs::ListingLemmas::signed), unfolding(crate::specs::Listing::row_text))]
+#[tactic(auto, using(crate::proofs::ListingLemmas::signed), unfolding(crate::specs::Listing::listing_row_text))]
 pub fn push_amount_row(
     text: &mut Vec<u8>,
     name: &[u8],
     number: usize,
     amount: i32,
 ) -> Result<(), AllocError>
-    ensures { OnOk result (text.new.items ≡ text.old.items ++ row_text (amount_row name.now number amount)) }
+    ensures { OnOk result (text.new.items ≡ text.old.items ++ listing_row_text (amount_row name.now number amount)) }
 {
     text.extend_from_slice(name)?;
     push_number(text, b" ", number)?;
@@ -149,7 +149,7 @@ fn push_measures(text: &mut Vec<u8>, metrics: Metrics) -> Result<(), AllocError>
 }
 
 /// Appends the line of a character.
-#[tactic(auto, unfolding(crate::specs::Listing::row_text, crate::specs::ListingWords::char_words))]
+#[tactic(auto, unfolding(crate::specs::Listing::listing_row_text, crate::specs::ListingWords::char_words))]
 pub fn push_char_row(
     text: &mut Vec<u8>,
     code: u8,
@@ -157,7 +157,7 @@ pub fn push_char_row(
     tag: Tag,
 ) -> Result<(), AllocError>
     ensures { OnOk result (text.new.items ≡ text.old.items
-        ++ row_text (codes "char", char_words code metrics tag)) }
+        ++ listing_row_text (codes "char", char_words code metrics tag)) }
 {
     push_number(text, b"char ", code)?;
     push_measures(text, metrics)?;
@@ -208,7 +208,7 @@ fn push_action(text: &mut Vec<u8>, font: &Font, step: Step) -> Result<(), AllocE
 }
 
 /// Appends the line of an instruction.
-#[tactic(auto, unfolding(crate::specs::Listing::row_text, crate::specs::ListingWords::step_words))]
+#[tactic(auto, unfolding(crate::specs::Listing::listing_row_text, crate::specs::ListingWords::step_words))]
 pub fn push_step_row(
     text: &mut Vec<u8>,
     font: &Font,
@@ -217,7 +217,7 @@ pub fn push_step_row(
 ) -> Result<(), AllocError>
     requires { step.skip ≤ 128 → 128 ≤ step.op → kern_index_of step < entries_of font.now.words Kern }
     ensures { OnOk result (text.new.items ≡ text.old.items
-        ++ row_text (codes "step", step_words font.now i step)) }
+        ++ listing_row_text (codes "step", step_words font.now i step)) }
 {
     push_number(text, b"step ", i)?;
     push_number(text, b" skip ", step.skip)?;

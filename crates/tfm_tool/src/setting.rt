@@ -11,17 +11,60 @@ ghost use Rattle.tfm_tables.specs.Font.{FontValue, IsFontOf};
 ghost use Rattle.set_run.specs.Reports.{AreReported};
 ghost use Rattle.tfm_tool.specs.Setting.{AreReportedWith, HasTerms, IsWritten};
 
-use crate::report_text::{summary_of, write_report};
+use crate::run_summary::summary_of;
+use crate::run_text::{Kept, RunTexts};
 use crate::{Summary, ToolFault};
 use set_line::{Limit, Policy, Terms, Version};
-use set_run::{Gate, LineSource, Plan, run};
+use set_run::{Gate, LineSource, MOST_SOURCES, Plan, RunFault, run_into};
 use std::alloc::{AllocError, Global};
 use std::io::Write;
+use std::marker::Brand;
 use std::sync::{Arc, Wait};
 use std::thread::Threads;
 use std::time::Clock;
 use tfm_tables::{Font, FontFault};
 use tfm_words::Size;
+
+/// Sets the lines of all sources in one run, which keeps their texts, and writes these.
+fn set_and_write<R, S, G, W, K>(
+    rt: &R,
+    alloc: Global,
+    sources: Vec<(S, Arc<Terms>)>,
+    plan: Plan,
+    version: Version,
+    gate: &G,
+    out: &mut W,
+) -> Result<Summary, ToolFault>
+where
+    R: Threads + Wait + Clock + Sync,
+    S: LineSource + Send + Drop,
+    G: Gate + Sync,
+    W: Write,
+    K: Kept,
+    requires lanes { K.lanes ≡ vec_len sources }
+    requires version { K.version ≡ version }
+    ensures text { IfOk result (λ summary. (reports : List (Lane S))
+        × AreReported S.to_come S.failed sources.items reports
+        × IsWritten version reports (W.contents out.old) (W.contents out.new) summary) }
+    ensures run { (fault : Fault) → result ≡ Err (ToolFault.Run fault) → out.new ≡ out.old }
+    ensures font { (fault : Refusal) → result ≡ Err (ToolFault.Font fault) → ⊥ }
+{
+    let texts = match RunTexts::<K>::new(alloc, sources.len(), version) {
+        Ok(texts) => texts,
+        Err(_) => return Err(ToolFault::OutOfMemory),
+    };
+    let (texts, ran) = run_into(rt, alloc, sources, plan, gate, texts);
+    let run = match ran {
+        Ok(run) => run,
+        Err(fault) => return Err(ToolFault::Run(fault)),
+    };
+    if let Some(refusal) = run.refusal {
+        return Err(ToolFault::from(refusal));
+    }
+    let summary = summary_of(texts.lanes.as_slice(), run.lanes.as_slice());
+    texts.write(alloc, out)?;
+    Ok(summary)
+}
 
 /// Sets the lines of all sources, each with its terms, in one run, and writes the text of its report
 /// once the run has returned. `Run` says why there is no report, and nothing was written then; after
@@ -47,13 +90,10 @@ where
     ensures run { (fault : Fault) → result ≡ Err (ToolFault.Run fault) → out.new ≡ out.old }
     ensures font { (fault : Refusal) → result ≡ Err (ToolFault.Font fault) → ⊥ }
 {
-    let report = match run(rt, alloc, sources, plan, gate) {
-        Ok(report) => report,
-        Err(fault) => return Err(ToolFault::Run(fault)),
-    };
-    let summary = summary_of(&report);
-    write_report(rt, alloc, report, version, out)?;
-    Ok(summary)
+    if sources.len() > MOST_SOURCES {
+        return Err(ToolFault::Run(RunFault::TooManySources));
+    }
+    set_and_write::<R, S, G, W, Brand>(rt, alloc, sources, plan, version, gate, out)
 }
 
 /// Terms that many sources share.
@@ -71,6 +111,7 @@ pub(crate) fn accepted(alloc: Global, bytes: &[u8], size: Option<Size>) -> Resul
     ensures refused { (f : Refusal) → font_fault_of bytes.now ≡ Some f
         → (result ≡ Err (ToolFault.Font f)) ⊎ (result ≡ Err ToolFault.OutOfMemory) }
     ensures run { (fault : Fault) → result ≡ Err (ToolFault.Run fault) → ⊥ }
+    ensures write { result ≡ Err ToolFault.Write → ⊥ }
 {
     match Font::read(alloc, bytes, size) {
         Ok(font) => Ok(font),
@@ -80,7 +121,7 @@ pub(crate) fn accepted(alloc: Global, bytes: &[u8], size: Option<Size>) -> Resul
 }
 
 /// The sources, each with these terms.
-fn with_terms<S: Drop>(
+pub(crate) fn with_terms<S: Drop>(
     alloc: Global,
     sources: Vec<S>,
     terms: &Arc<Terms>,

@@ -8,12 +8,12 @@ pub struct Summary {
     pub refused: u64,
     /// Some source failed at a read, or made too many for one line.
     pub read_failed: bool,
-    /// Memory was wanted for some source.
+    /// Memory was refused to some source.
     pub memory: bool,
 }
 
-/// The status that the program ends with where a text was written: 5 for want of memory, else 4 for a
-/// source that wasn't read to its end, else 1 where a line was refused, else 0.
+/// The status that the program ends with after a text was written: 5 if memory was refused, else 4 if
+/// a source wasn't read to its end, else 1 if a line was refused, else 0.
 pub fn status(summary: &Summary) -> u8
     ensures { result ≡ summary_status summary.now }
 {

@@ -7,11 +7,14 @@ use std::sync::Wait;
 use std::thread::Threads;
 use std::time::Clock;
 
+mod asked;
 mod counts_of_fonts;
+mod kept_texts;
 mod listings;
-mod parts;
 mod runs;
 mod settings;
+mod streamed;
+mod streaming;
 mod streams;
 mod texts;
 mod words_given;

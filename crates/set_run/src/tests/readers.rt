@@ -148,7 +148,7 @@ fn is_read_by<R: Abort + AllocGlobal>(rt: &R, step: usize, wanted: &[u32; 4]) ->
     Ok(())
 }
 
-/// Each read asks for 4,096 bytes. None is made while a whole line is in hand, and none behind the end.
+/// Each read asks for 4,096 bytes. None is made while a whole line is in the buffer, and none after the end.
 #[test]
 fn a_reader_is_read_when_its_next_line_needs_it(rt: HostRuntime) -> Result<(), Fail> {
     for (step, wanted) in &READS {

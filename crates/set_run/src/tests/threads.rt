@@ -56,7 +56,7 @@ fn a_setter_that_is_held_holds_its_own_source(rt: HostRuntime) -> Result<(), Fai
     meets(&rt, Held::Setters, 5, (1, 1))
 }
 
-/// While the collector is held a lane has an answer on its second ring, one in its setter's hand and a
+/// While the collector is held a lane has an answer on its second ring, one in its setter's hands and a
 /// line on its first ring; the fourth line isn't accepted.
 #[test]
 fn a_collector_that_is_held_holds_all_sources(rt: HostRuntime) -> Result<(), Fail> {
@@ -64,7 +64,7 @@ fn a_collector_that_is_held_holds_all_sources(rt: HostRuntime) -> Result<(), Fai
 }
 
 /// While the collector is held, both rings are full of whole messages, one more is in the setter's
-/// hand, and the feeder's open block lacks the line that isn't accepted.
+/// hands, and the feeder's open block lacks the line that isn't accepted.
 #[test]
 fn rings_and_messages_are_as_large_as_the_plan_says(rt: HostRuntime) -> Result<(), Fail> {
     meets(&rt, Held::Collector(16), 40, (3, 2))?;

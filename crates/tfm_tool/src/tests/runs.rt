@@ -10,7 +10,7 @@ static NAMED: [&str; 5] = ["T", "L", "F1", "F2", "F3"];
 
 /// The names of the fonts and files of a case, all of this process's own.
 #[derive(Drop)]
-struct Names {
+pub struct Names {
     all: Vec<String>,
 }
 
@@ -24,10 +24,18 @@ impl Names {
         }
         word
     }
+
+    /// Removes the fonts and the files.
+    pub fn remove<R: Files + AllocGlobal>(&self, rt: &R) -> Result<(), Fail> {
+        for name in &self.all {
+            fs::remove_file(rt, name.as_str())?;
+        }
+        Ok(())
+    }
 }
 
 /// The names, with a part that no other test has.
-fn own_names<R: Env + AllocGlobal>(rt: &R, part: &str, id: u32) -> Result<Names, Fail> {
+pub fn own_names<R: Env + AllocGlobal>(rt: &R, part: &str, id: u32) -> Result<Names, Fail> {
     let mut all = Vec::new(rt.alloc());
     for named in &NAMED {
         let whole = format!(in rt.alloc(); "{part}-{named}")?;
@@ -48,7 +56,11 @@ fn ligature<R: AllocGlobal>(rt: &R) -> Result<Vec<u8>, AllocError> {
 }
 
 /// Writes the fonts and the files.
-fn write_all<R: Files + AllocGlobal>(rt: &R, names: &Names, texts: [&[u8]; 3]) -> Result<(), Fail> {
+pub fn write_all<R: Files + AllocGlobal>(
+    rt: &R,
+    names: &Names,
+    texts: [&[u8]; 3],
+) -> Result<(), Fail> {
     let plain = plain(rt.alloc())?;
     let ligature = ligature(rt)?;
     fs::write(rt, names.of("T"), plain.as_slice())?;
@@ -60,15 +72,8 @@ fn write_all<R: Files + AllocGlobal>(rt: &R, names: &Names, texts: [&[u8]; 3]) -
     Ok(())
 }
 
-fn remove_all<R: Files + AllocGlobal>(rt: &R, names: &Names) -> Result<(), Fail> {
-    for name in &names.all {
-        fs::remove_file(rt, name.as_str())?;
-    }
-    Ok(())
-}
-
 /// Words, the status, and what is printed on the two outputs.
-type Case = (&'static str, u8, &'static str, &'static str);
+pub type Case = (&'static str, u8, &'static str, &'static str);
 
 fn case_words<'a, R: AllocGlobal>(
     rt: &R,
@@ -82,7 +87,7 @@ fn case_words<'a, R: AllocGlobal>(
     Ok(all)
 }
 
-fn check<R: Abort + Files + Env + Threads + Wait + Clock + Sync + AllocGlobal>(
+pub fn check<R: Abort + Files + Env + Threads + Wait + Clock + Sync + AllocGlobal>(
     rt: &R,
     names: &Names,
     cases: &[Case],
@@ -152,7 +157,44 @@ fn files_are_set_in_one_run(rt: HostRuntime) -> Result<(), Fail> {
     let names = own_names(&rt, "set", process::id(rt.process()))?;
     write_all(&rt, &names, [b"", b"abc", b"ab\nad\n"])?;
     check(&rt, &names, &SETS)?;
-    remove_all(&rt, &names)
+    names.remove(&rt)
+}
+
+const BOTH: &str = "tfmset: font and text both on standard input\n";
+
+const SHORT: &str = "tfmset: font refused: 1 truncated, 24 bytes needed\n";
+
+/// What is wrong with a stream before its run. The first file is empty.
+static BEFORE_A_STREAM: [Case; 11] = [
+    ("stream -", 2, "", BOTH),
+    ("stream --record 2 --size 5 -", 2, "", BOTH),
+    ("stream no/such/font", 4, "", "tfmset: font not read\n"),
+    ("stream no/such/font F1", 4, "", "tfmset: font not read\n"),
+    ("stream .", 4, "", "tfmset: font not read\n"),
+    ("stream F1", 3, "", SHORT),
+    ("stream F1 no/such/file", 3, "", SHORT),
+    ("stream - F2", 3, "", SHORT),
+    (
+        "stream T F1 no/such/file",
+        4,
+        "",
+        "tfmset: file 2 not read\n",
+    ),
+    (
+        "stream T no/such/folder/-",
+        4,
+        "",
+        "tfmset: file 1 not read\n",
+    ),
+    ("stream T F2 -", 4, "", "tfmset: file 2 not read\n"),
+];
+
+#[test]
+fn a_stream_is_refused_in_the_order_of_work(rt: HostRuntime) -> Result<(), Fail> {
+    let names = own_names(&rt, "before", process::id(rt.process()))?;
+    write_all(&rt, &names, [b"", b"abc", b""])?;
+    check(&rt, &names, &BEFORE_A_STREAM)?;
+    names.remove(&rt)
 }
 
 const TWO_FONTS: &str = "1:1 set 491520 c99=491520\n1 end complete 1\n\
@@ -218,7 +260,7 @@ fn each_file_has_its_font_and_its_limit(rt: HostRuntime) -> Result<(), Fail> {
     let names = own_names(&rt, "each", process::id(rt.process()))?;
     write_all(&rt, &names, [b"ab", b"ab abc", &NO_CHARACTERS[..47]])?;
     check(&rt, &names, &EACHES)?;
-    remove_all(&rt, &names)
+    names.remove(&rt)
 }
 
 /// So many words, after some others.
@@ -270,7 +312,9 @@ fn sixty_four_files_and_no_more(rt: HostRuntime) -> Result<(), Fail> {
     sets_64(&rt, &names)?;
     let more = repeated(&rt, &["set", "no/such/font"], &["no"], 65)?;
     assert!(rt; is_refused(&rt, &more), "65 files");
+    let more = repeated(&rt, &["stream", "no/such/font"], &["no"], 65)?;
+    assert!(rt; is_refused(&rt, &more), "65 files of a stream");
     let more = repeated(&rt, &["each"], &["no", "x", "no"], 65)?;
     assert!(rt; is_refused(&rt, &more), "65 threes");
-    remove_all(&rt, &names)
+    names.remove(&rt)
 }

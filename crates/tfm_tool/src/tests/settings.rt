@@ -5,10 +5,10 @@ use std::test::Fail;
 use std::{env, fs, process};
 
 /// A text, the words before its file, the status and what is printed.
-type Case = (&'static [u8], &'static [&'static str], u8, &'static str);
+pub type Case = (&'static [u8], &'static [&'static str], u8, &'static str);
 
 /// Lines set with the font without programs.
-static PLAIN_CASES: [Case; 9] = [
+pub static PLAIN_CASES: [Case; 9] = [
     (
         b"ab abc\n",
         &["set", "--limit", "5", "-"],
@@ -61,7 +61,7 @@ static PLAIN_CASES: [Case; 9] = [
 ];
 
 /// Lines set with the font in which a between two a has no end.
-static ENDLESS_CASES: [Case; 2] = [
+pub static ENDLESS_CASES: [Case; 2] = [
     (
         b"aa\na\n",
         &["set", "--limit", "100", "-"],

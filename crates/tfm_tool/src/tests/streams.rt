@@ -157,7 +157,7 @@ where
     (status, err)
 }
 
-static FAILED: &[u8] = b"tfmset: output failed\n";
+pub static FAILED: &[u8] = b"tfmset: output failed\n";
 
 /// The counts are refused behind so many writes, which took so many bytes.
 fn fails_after<R: Abort + Files + Env + Threads + Wait + Clock + Sync + AllocGlobal>(

@@ -10,7 +10,7 @@ use std::io::Write;
 use std::test::Fail;
 
 /// The smallest rings, and two setters.
-fn small_plan() -> Option<Plan> {
+pub fn small_plan() -> Option<Plan> {
     Some(Plan {
         capacity: Capacity::new(1)?,
         block: Block::new(1)?,
@@ -18,12 +18,26 @@ fn small_plan() -> Option<Plan> {
     })
 }
 
-/// A source of these bytes, one a read, which fails behind so many reads.
+/// A source of these bytes, one a read, which fails after so many reads.
 fn source<'a>(alloc: Global, bytes: &'a [u8], good_reads: usize) -> ReaderSource<Trickle<'a>> {
     ReaderSource::new(alloc, Trickle::new(bytes, 1, good_reads))
 }
 
-/// Two sources: one of `ab` and `c`, which fails behind so many reads, and one of `a`.
+/// Two sources: one of `ab` and `c`, which fails after so many reads, and one of `a`.
+pub fn two_sources<'a>(
+    alloc: Global,
+    good_reads: usize,
+) -> Result<Vec<ReaderSource<Trickle<'a>>>, ToolFault> {
+    let mut sources = Vec::new(alloc);
+    for (bytes, good_reads) in [(b"ab\nc".as_slice(), good_reads), (b"a", 2)] {
+        if sources.push(source(alloc, bytes, good_reads)).is_err() {
+            return Err(ToolFault::OutOfMemory);
+        }
+    }
+    Ok(sources)
+}
+
+/// The text of these two.
 fn set_two<R, W>(
     rt: &R,
     font: &[u8],
@@ -36,12 +50,7 @@ where
     W: Write,
 {
     let alloc = rt.alloc();
-    let mut sources = Vec::new(alloc);
-    for (bytes, good_reads) in [(b"ab\nc".as_slice(), good_reads), (b"a", 2)] {
-        if sources.push(source(alloc, bytes, good_reads)).is_err() {
-            return Err(ToolFault::OutOfMemory);
-        }
-    }
+    let sources = two_sources(alloc, good_reads)?;
     let limit = Limit::new(100).expect(rt, "a limit");
     let plan = small_plan().expect(rt, "a plan");
     set_text(

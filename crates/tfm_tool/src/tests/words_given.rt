@@ -5,7 +5,7 @@ use std::io::ErrorKind;
 use std::test::Fail;
 
 /// Words that are refused, and a part of what is told of them.
-static REFUSED: [(&[&str], &str); 19] = [
+static REFUSED: [(&[&str], &str); 32] = [
     (&[], "Usage: tfmset <COMMAND>\n"),
     (&["measure"], "error: unrecognized subcommand 'measure'\n"),
     (
@@ -44,6 +44,46 @@ static REFUSED: [(&[&str], &str); 19] = [
     ),
     (
         &["set", "--record", "3", "-", "a"],
+        "error: invalid value '3' for '--record <V>'\n",
+    ),
+    (
+        &["stream"],
+        "  <FONT>\n\nUsage: tfmset stream <FONT> [FILE]...\n",
+    ),
+    (
+        &["stream", "--size", "0", "-"],
+        "error: invalid value '0' for '--size <N>': 0 is not in 1..=134217727\n",
+    ),
+    (
+        &["stream", "--size", "134217728", "-"],
+        "134217728 is not in 1..=134217727\n",
+    ),
+    (
+        &["stream", "--limit", "0", "-"],
+        "0 is not in 1..=16777216\n",
+    ),
+    (
+        &["stream", "--limit", "16777217", "-"],
+        "16777217 is not in 1..=16777216\n",
+    ),
+    (&["stream", "--workers", "0", "-"], "0 is not in 1..=16\n"),
+    (&["stream", "--workers", "17", "-"], "17 is not in 1..=16\n"),
+    (
+        &["stream", "--capacity", "0", "-"],
+        "0 is not in 1..=65536\n",
+    ),
+    (
+        &["stream", "--capacity", "65537", "-"],
+        "65537 is not in 1..=65536\n",
+    ),
+    (&["stream", "--block", "0", "-"], "0 is not in 1..=8\n"),
+    (&["stream", "--block", "9", "-"], "9 is not in 1..=8\n"),
+    (
+        &["stream", "--missing", "other", "-"],
+        "error: invalid value 'other' for '--missing <P>'\n",
+    ),
+    (
+        &["stream", "--record", "3", "-"],
         "error: invalid value '3' for '--record <V>'\n",
     ),
     (&["counts"], "  <FONT>\n\nUsage: tfmset counts <FONT>\n"),
@@ -97,7 +137,7 @@ fn words_that_are_refused(rt: HostRuntime) -> Result<(), Fail> {
 }
 
 /// Words that ask for help or the version, and a part of what is printed.
-static HELP: [(&[&str], &str); 21] = [
+static HELP: [(&[&str], &str); 29] = [
     (&["--help"], "  tfmset counts cmr10.tfm   "),
     (&["-h"], "Exit status:\n  0  "),
     (&["help"], "\n  2  "),
@@ -120,6 +160,20 @@ static HELP: [(&[&str], &str); 21] = [
     (&["each", "--help"], "[default: 16]"),
     (&["set", "--help"], "The text is written when all is done."),
     (&["each", "--help"], "FONT, LIMIT, FILE"),
+    (
+        &["stream", "--help"],
+        "Usage: tfmset stream [OPTIONS] <FONT> [FILE]...\n",
+    ),
+    (&["stream", "--help"], "[default: 1048576]"),
+    (&["stream", "--help"], "[default: 16]"),
+    (&["stream", "--help"], "Take `set` for a text"),
+    (
+        &["stream", "--help"],
+        "closes the pipe ends it, with status 5.",
+    ),
+    (&["help", "stream"], "none is standard input"),
+    (&["--help"], "  tail -f log | tfmset stream cmr10.tfm\n"),
+    (&["set", "--help"], "for much text, take `tfmset stream`"),
     (&["list", "--help"], "Usage: tfmset list <FONT>\n"),
     (&["help", "list"], "  tfmset list cmr10.tfm\n"),
     (&["help", "counts"], "standard input\n"),

@@ -6,6 +6,6 @@ pub returns-in-Ok-Ended : goal.returns-in-Ok-Ended
 returns-in-Ok-Ended g c =
     let taken = rw c.in-Ok-Ended.field-0-is at c.in-Ok-Ended.ensures in
     rw c.new.ensures
-    (gives_line c.args.self.now.state (prepend_known c.args.self.now.chunk (g.R.Read.remaining c.args.self.now.reader))
-    (prepend_known c.next_piece.new.chunk (g.R.Read.remaining c.next_piece.new.reader)) c.in-Ok-Ended.line.items
+    (gives_line c.args.self.now.state (prepend_known c.args.self.now.buffer (g.R.Read.remaining c.args.self.now.reader))
+    (prepend_known c.next_raw_line.new.buffer (g.R.Read.remaining c.next_raw_line.new.reader)) c.in-Ok-Ended.line.items
     c.cut_at_feeds.ensures.first c.requires taken.0 taken.1)

@@ -1,0 +1,44 @@
+use Rattle.std.proofs.Common.{refl, subst, sym, ap, ◌∙◌}
+use Rattle.line_lane.specs.Rings.{end_sent, items_received, end_received, messages_received}
+use Rattle.line_lane.specs.Turns.{IsOrderly}
+use Rattle.line_lane.specs.Ends.{state_of}
+use Rattle.line_lane.proofs.TurnLemmas.{message_in_hand, message_state, before_end-unmade, undone-before_end, orderly_receipt, receipt-message, receipt-dropping, moves_on, moves_receiving}
+use Rattle.line_lane.proofs.setter.Setter.receive.Goals as goal
+
+pub invariant_of-self-else-given_up-clause-in_hand : goal.invariant_of-self-else-given_up-clause-in_hand
+invariant_of-self-else-given_up-clause-in_hand c =
+    let old = c.args.self.now in
+    let source = undone-before_end (state_of old) c.requires.lines c.requires.ready c.requires.done old.orderly in
+    let going = sym c.has_given_up-given_up.ensures ∙ c.if-given_up.false in
+    message_in_hand c.receive.new.self.hand old.sender.hand c.finish-self.new.answers (end_sent old.sender) c.finish-self.result
+    (c.receive.ensures.few c.if-not-receive.false) (old.orderly.4 c.requires.ready c.requires.lines) c.finish-self.ensures.items
+    c.finish-self.ensures.ready c.finish-self.ensures.ending (before_end-unmade (state_of old) c.requires.lines source going old.orderly)
+
+pub invariant_of-self-else-given_up-clause-orderly : goal.invariant_of-self-else-given_up-clause-orderly
+invariant_of-self-else-given_up-clause-orderly c =
+    let old = c.args.self.now in
+    let m = c.receive.new.self.hand in
+    let source = undone-before_end (state_of old) c.requires.lines c.requires.ready c.requires.done old.orderly in
+    let going = sym c.has_given_up-given_up.ensures ∙ c.if-given_up.false in
+    subst IsOrderly
+    (sym (message_state (state_of old) m c.finish-self.new.answers (end_sent old.sender) old.sender.hand.ending c.finish-self.result
+    (items_received c.receive.new.self) (end_received c.receive.new.self) (messages_received c.receive.new.self)
+    c.requires.lines source going refl old.orderly c.finish-self.ensures.items c.finish-self.ensures.ready c.finish-self.ensures.ending
+    (c.receive.ensures.items c.if-not-receive.false) (c.receive.ensures.ended c.if-not-receive.false) (c.receive.ensures.count c.if-not-receive.false)
+    ∙ receipt-message (state_of old) m going))
+    (orderly_receipt (state_of old) m c.requires.lines c.requires.ready old.orderly)
+
+pub returns-then-given_up-clause-turn : goal.returns-then-given_up-clause-turn
+returns-then-given_up-clause-turn c =
+    let old = c.args.self.now in
+    let m = c.receive.new.self.hand in
+    let source = undone-before_end (state_of old) c.requires.lines c.requires.ready c.requires.done old.orderly in
+    let up = sym c.has_given_up-given_up.ensures ∙ c.if-given_up.true in (
+      c.requires.done,
+      moves_on (state_of old) _ c.requires.ready
+          (moves_receiving (state_of old) _ m c.requires.lines source (c.receive.ensures.few c.if-not-receive.false)
+          (receipt-dropping (state_of old) m (items_received c.receive.new.self) c.clear.new.self.items (end_received c.receive.new.self)
+          (messages_received c.receive.new.self) up (c.receive.ensures.items c.if-not-receive.false)
+          (c.receive.ensures.ended c.if-not-receive.false) (ap (λ x. x.items) c.clear.ensures) c.requires.lines
+          (c.receive.ensures.count c.if-not-receive.false))),
+    )

@@ -1,0 +1,62 @@
+//! The receiving end of a ring of messages.
+ghost use Rattle.std.specs.Prelude.{◌≡◌};
+ghost use Rattle.std.specs.Coded.{Coded-set, coded_option};
+ghost use Rattle.rtrb.specs.Ring.{received};
+ghost use Rattle.line_lane.specs.Messages.{end_of};
+
+use crate::message::Message;
+use rtrb::Consumer;
+use std::alloc::Global;
+
+/// The end that receives, with the message that was received last.
+#[derive(Drop)]
+pub(crate) struct Receiver<T, E> {
+    pub consumer: Consumer<Message<T, E>>,
+    pub hand: Message<T, E>,
+    ghost told: { hand.ending ≡ end_of (received consumer) } by { Coded-set (coded_option E.code) _ _ },
+}
+
+impl<T: Drop, E: Copy> Receiver<T, E> {
+    ghost use Rattle.std.specs.Prelude.{◌+◌, [], ◌∷◌, ◌++◌, ◌≤◌, None, length, IsTrue, IsFalse};
+    ghost use Rattle.line_lane.specs.Messages.{nothing};
+    ghost use Rattle.line_lane.specs.Rings.{SameReceiver, end_received, items_received, messages_received};
+
+    /// An end that has received nothing.
+    pub fn new(alloc: Global, consumer: Consumer<Message<T, E>>) -> Self
+        requires { received consumer ≡ [] }
+        ensures consumer { result.consumer ≡ consumer }
+        ensures hand { result.hand ≡ nothing }
+    {
+        Receiver {
+            consumer,
+            hand: Message::new(alloc),
+        }
+    }
+
+    /// Receives a message into the hand: false, and nothing changes, where none was seen.
+    pub fn receive(&mut self) -> bool
+        requires { end_received self.old ≡ None }
+        ensures same { SameReceiver self.old self.new }
+        ensures received { IsTrue result →
+            received self.new.consumer ≡ received self.old.consumer ++ self.new.hand ∷ [] }
+        ensures items { IsTrue result →
+            items_received self.new ≡ items_received self.old ++ self.new.hand.items }
+        ensures ended { IsTrue result → end_received self.new ≡ self.new.hand.ending }
+        ensures count { IsTrue result →
+            messages_received self.new ≡ messages_received self.old + 1 }
+        ensures few { IsTrue result → length self.new.hand.items ≤ 8 }
+        ensures nothing { IsFalse result →
+            (received self.new.consumer ≡ received self.old.consumer)
+            × (self.new.hand ≡ self.old.hand) }
+    {
+        match self.consumer.pop() {
+            Ok(message) => {
+                // Called for its clause: a message has at most eight items.
+                let _ = message.len();
+                self.hand = message;
+                true
+            }
+            Err(_) => false,
+        }
+    }
+}

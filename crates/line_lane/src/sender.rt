@@ -1,0 +1,69 @@
+//! The sending end of a ring of messages.
+ghost use Rattle.std.specs.Prelude.{◌≡◌, true};
+ghost use Rattle.std.specs.Coded.{Coded-set, coded_option};
+ghost use Rattle.rtrb.specs.Ring.{sent};
+ghost use Rattle.line_lane.specs.Messages.{end_of, ends_last};
+
+use crate::message::Message;
+use rtrb::Producer;
+use std::alloc::Global;
+use std::mem;
+
+/// The end that sends, with the message that is being made.
+#[derive(Drop)]
+pub(crate) struct Sender<T, E> {
+    pub producer: Producer<Message<T, E>>,
+    pub hand: Message<T, E>,
+    /// The end that was sent.
+    pub ended: Option<E>,
+    pub alloc: Global,
+    ghost last: { ends_last (sent producer) ≡ true },
+    ghost told: { ended ≡ end_of (sent producer) } by { Coded-set (coded_option E.code) _ _ },
+}
+
+impl<T: Drop, E: Copy> Sender<T, E> {
+    ghost use Rattle.std.specs.Prelude.{◌+◌, ◌<◌, [], ◌∷◌, ◌++◌, None, IsTrue};
+    ghost use Rattle.rtrb.specs.Ring.{known_free};
+    ghost use Rattle.line_lane.specs.Messages.{nothing};
+    ghost use Rattle.line_lane.specs.Rings.{SameSender, end_sent, items_sent, messages_sent};
+
+    /// An end that has sent nothing, with nothing in hand.
+    pub fn new(alloc: Global, producer: Producer<Message<T, E>>) -> Self
+        requires { sent producer ≡ [] }
+        ensures producer { result.producer ≡ producer }
+        ensures hand { result.hand ≡ nothing }
+    {
+        Sender {
+            producer,
+            hand: Message::new(alloc),
+            ended: None,
+            alloc,
+        }
+    }
+
+    /// Whether there is room for a message: false where none was seen.
+    pub fn has_room(&mut self) -> bool
+        ensures same { SameSender self.old self.new }
+        ensures sent { sent self.new.producer ≡ sent self.old.producer }
+        ensures hand { self.new.hand ≡ self.old.hand }
+        ensures room { IsTrue result → 0 < known_free self.new.producer }
+    {
+        !self.producer.is_full()
+    }
+
+    /// Sends the message in hand, and begins a new one.
+    pub fn send(&mut self)
+        requires room { 0 < known_free self.old.producer }
+        requires unended { end_sent self.old ≡ None }
+        ensures same { SameSender self.old self.new }
+        ensures sent { sent self.new.producer ≡ sent self.old.producer ++ self.old.hand ∷ [] }
+        ensures items { items_sent self.new ≡ items_sent self.old ++ self.old.hand.items }
+        ensures count { messages_sent self.new ≡ messages_sent self.old + 1 }
+        ensures ended { end_sent self.new ≡ self.old.hand.ending }
+        ensures hand { self.new.hand ≡ nothing }
+    {
+        let message = mem::replace(&mut self.hand, Message::new(self.alloc));
+        self.ended = message.ending();
+        self.producer.push_reserved(message);
+    }
+}

@@ -1,0 +1,6 @@
+-- so many workers were made
+use Rattle.std.specs.Prelude.{◌≡◌, vec_len}
+use Rattle.set_run.proofs.running_into.empty_workers.Given as goal
+
+abbrev pub invariant-loop-made : goal.invariant-loop-made
+invariant-loop-made l = vec_len l.workers ≡ l.made

@@ -1,0 +1,97 @@
+//! The thread that collects: it takes the answers of all lanes, and gives them to the collector.
+ghost use Rattle.std.specs.Prelude.{◌≡◌, ◌≤◌, ◌↔◌, All, IfErr, IfSome, IsSome, IsTrue, is_none, is_ok, vec_len};
+ghost use Rattle.std.specs.List.{AllZip};
+ghost use Rattle.set_run.specs.Collecting.{SameLane, TellsLanes};
+
+use crate::backoff::{Backoff, Waiting};
+use crate::lane_taker::LaneTaker;
+use crate::{Collector, Gate, Refusal, Stage};
+use std::sync::Wait;
+use std::time::Clock;
+
+/// Takes what is there of all lanes, one lane after the other. Whether anything came. The last lane has
+/// number 0.
+fn go_round<C: Collector>(lanes: &mut Vec<LaneTaker>, collector: &mut C) -> Result<bool, Refusal>
+    requires { vec_len lanes.old ≤ C.lanes collector.old }
+    ensures same { AllZip SameLane lanes.old.items lanes.new.items }
+    ensures lanes { C.lanes collector.new ≡ C.lanes collector.old }
+    ensures told { TellsLanes C.given lanes.old.items collector.old (is_ok result) lanes.new.items collector.new }
+    ensures refused { IfErr result (λ refusal. C.refused collector.new refusal) }
+{
+    let mut came = false;
+    for i in 0..lanes.len() {
+        let lane = lanes.len() - 1 - i;
+        came |= lanes[i].take_some(lane, collector)?;
+    }
+    Ok(came)
+}
+
+/// Whether the collector was given the end of each lane.
+fn have_ended(lanes: &[LaneTaker]) -> bool
+    ensures { IsTrue result ↔ All (λ lane. IsSome lane.end) lanes.now }
+{
+    lanes.iter().all(|lane| lane.end.is_some())
+}
+
+/// Takes the answers of all lanes up to their ends, unless the collector refuses something: then this is
+/// answered.
+fn collect_all<R: Wait + Clock, C: Collector>(
+    rt: &R,
+    waiting: Waiting,
+    lanes: &mut Vec<LaneTaker>,
+    collector: &mut C,
+) -> Result<(), Refusal>
+    requires { vec_len lanes.old ≤ C.lanes collector.old }
+    ensures same { AllZip SameLane lanes.old.items lanes.new.items }
+    ensures lanes { C.lanes collector.new ≡ C.lanes collector.old }
+    ensures told { TellsLanes C.given lanes.old.items collector.old (is_ok result) lanes.new.items collector.new }
+    ensures whole { IsTrue (is_ok result) → All (λ lane. IsSome lane.end) lanes.new.items }
+    ensures refused { IfErr result (λ refusal. C.refused collector.new refusal) }
+{
+    let mut backoff = Backoff::new(waiting);
+    for _ in rt.forever() {
+        if go_round(lanes, collector)? {
+            backoff.renew();
+        } else if have_ended(lanes.as_slice()) {
+            return Ok(());
+        } else {
+            collector.about_to_wait()?;
+            backoff.wait(rt);
+        }
+    }
+    unreachable!()
+}
+
+/// What was collected: takers and collector, and what it refused, if anything.
+#[derive(Drop)]
+pub(crate) struct Collected<C> {
+    pub lanes: Vec<LaneTaker>,
+    pub collector: C,
+    pub refusal: Option<Refusal>,
+}
+
+/// The work of the collecting thread: it enters the gate, and takes the answers of all lanes.
+pub(crate) fn collect<R: Wait + Clock, G: Gate, C: Collector>(
+    rt: &R,
+    gate: &G,
+    waiting: Waiting,
+    lanes: Vec<LaneTaker>,
+    collector: C,
+) -> Collected<C>
+    requires { vec_len lanes ≤ C.lanes collector }
+    ensures same { AllZip SameLane lanes.items result.lanes.items }
+    ensures lanes { C.lanes result.collector ≡ C.lanes collector }
+    ensures told { TellsLanes C.given lanes.items collector (is_none result.refusal) result.lanes.items result.collector }
+    ensures whole { IsTrue (is_none result.refusal) → All (λ lane. IsSome lane.end) result.lanes.items }
+    ensures refused { IfSome result.refusal (λ refusal. C.refused result.collector refusal) }
+{
+    gate.enter(Stage::Collector, 0);
+    let mut lanes = lanes;
+    let mut collector = collector;
+    let refusal = collect_all(rt, waiting, &mut lanes, &mut collector).err();
+    Collected {
+        lanes,
+        collector,
+        refusal,
+    }
+}

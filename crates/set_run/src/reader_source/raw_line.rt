@@ -1,0 +1,44 @@
+ghost use Rattle.std.specs.Prelude.{IfOk};
+ghost use Rattle.std.specs.Io.KnownBytes.{prepend_known};
+ghost use Rattle.set_run.specs.Reading.{TakesRawLine};
+
+use crate::reader_source::buffer::Buffer;
+use line_lane::SourceFault;
+use std::alloc::Global;
+use std::io::Read;
+
+/// The end of a line is looked for in at most this many reads.
+const MAX_READS: u32 = 1_048_576;
+
+/// The bytes up to a line feed, or to the end.
+#[derive(Drop)]
+pub(crate) enum RawLine {
+    /// A line feed stood behind these.
+    Ended(Vec<u8>),
+    /// The end stood behind these.
+    Last(Vec<u8>),
+}
+
+/// The next raw line, from the bytes in the buffer and those that are read.
+pub(crate) fn next_raw_line<R: Read>(
+    alloc: Global,
+    reader: &mut R,
+    buffer: &mut Buffer,
+) -> Result<RawLine, SourceFault>
+    ensures { IfOk result (λ raw_line. TakesRawLine (prepend_known buffer.old (R.remaining reader.old)) raw_line
+        (prepend_known buffer.new (R.remaining reader.new))) }
+{
+    let mut line = Vec::new(alloc);
+    if buffer.move_line(&mut line)? {
+        return Ok(RawLine::Ended(line));
+    }
+    for _ in 0..MAX_READS {
+        if buffer.refill(alloc, reader)? == 0 {
+            return Ok(RawLine::Last(line));
+        }
+        if buffer.move_line(&mut line)? {
+            return Ok(RawLine::Ended(line));
+        }
+    }
+    Err(SourceFault::ReadBound)
+}

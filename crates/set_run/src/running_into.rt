@@ -1,0 +1,153 @@
+//! A run over a collector.
+ghost use Rattle.std.specs.Prelude.{◌≡◌, ◌+◌, ◌<◌, ◌≤◌, ◌⊎◌, [], Some, Err, IfOk, IfErr, vec_capacity, vec_len};
+ghost use Rattle.set_run.specs.declared.collector.Refusal.{Refusal as Refused};
+ghost use Rattle.set_run.specs.declared.run_fault.RunFault.TheVariants.{TooManySources, OutOfMemory as NoMemory, Thread};
+ghost use Rattle.set_run.specs.Gathering.{Gathers};
+ghost use Rattle.set_run.specs.Reports.{IsCollected, IsWhole};
+
+use crate::collector_thread::Collected;
+use crate::lane_taker::LaneTaker;
+use crate::shortage::{Shortage, Unbegun};
+use crate::spawning::start_sources;
+use crate::worker::Worker;
+use crate::{ClosedLane, Collector, Gate, LineSource, Plan, RunEnd, RunFault};
+use set_line::Terms;
+use std::alloc::{AllocError, Global};
+use std::sync::atomic::AtomicBool;
+use std::sync::{Arc, Wait};
+use std::thread;
+use std::thread::{Scope, Threads};
+use std::time::Clock;
+
+/// How many sources a run takes at most.
+pub const MOST_SOURCES: usize = 64;
+
+/// As many workers without setters as there are to be threads that set lines.
+fn empty_workers(alloc: Global, threads: usize) -> Result<Vec<Worker>, AllocError>
+    ensures { IfOk result (λ workers. vec_len workers ≡ threads) }
+{
+    let mut workers = Vec::new(alloc);
+    for made in 0..threads {
+        workers.push(Worker::new(alloc))?;
+    }
+    Ok(workers)
+}
+
+/// The run, with its threads in one scope.
+fn run_threads<
+    R: Threads + Wait + Clock + Sync,
+    S: LineSource + Send + Drop,
+    G: Gate + Sync,
+    C: Collector + Drop,
+>(
+    rt: &R,
+    alloc: Global,
+    sources: Vec<(S, Arc<Terms>)>,
+    plan: &Plan,
+    gate: &G,
+    closed: Vec<ClosedLane<S>>,
+    workers: Vec<Worker>,
+    collector: C,
+) -> Result<(Vec<ClosedLane<S>>, Collected<C>), Unbegun<C>>
+    requires some { 0 < vec_len sources → 0 < vec_len workers }
+    requires places { vec_len sources ≤ C.lanes collector }
+    requires none { closed.items ≡ [] }
+    requires room { vec_len sources ≤ vec_capacity closed }
+    ensures gathered { IfOk result (λ back. Gathers S.to_come S.failed C.lanes C.given C.refused
+        sources.items [] collector back.0.items back.1) }
+    ensures unbegun { IfErr result (λ unbegun. unbegun.collector ≡ collector) }
+{
+    let stop = AtomicBool::new(false);
+    let stop = &stop;
+    let lanes: Vec<LaneTaker> = Vec::new(alloc);
+    thread::scope(
+        thread::scope_env(),
+        rt,
+        move |scope| -> Result<(Vec<ClosedLane<S>>, Collected<C>), Unbegun<C>>
+            requires some { 0 < vec_len sources → 0 < vec_len workers }
+            requires places { vec_len sources + vec_len lanes ≤ C.lanes collector }
+            requires none { closed.items ≡ [] }
+            requires room { vec_len sources ≤ vec_capacity closed }
+            ensures gathered { IfOk result (λ back. Gathers S.to_come S.failed C.lanes C.given C.refused
+                sources.items lanes.items collector back.0.items back.1) }
+            ensures unbegun { IfErr result (λ unbegun. unbegun.collector ≡ collector) }
+        {
+            let (closed, _, collected) = start_sources(
+                scope, rt, gate, stop, alloc, plan, sources, closed, workers, lanes, collector,
+            )?;
+            Ok((closed, collected))
+        },
+    )
+}
+
+/// Sets the lines of up to 64 sources, each with its terms, and gives the answers to a collector as they
+/// come: a lane and a thread for each source, as many threads that set lines as the plan says, at most,
+/// and this thread to collect. It may wait: for its threads, for a source and for the gate.
+///
+/// The collector comes back. Where the run ended, it was given the answers of the first lines of each
+/// source, in order, and behind them the lane's end, where that has one: the answers of all lines, where
+/// it is `Complete`. Where the collector refused something it isn't called any more, and the threads are
+/// stopped and joined; a source that is inside a read can't be stopped, so the run ends once none is.
+///
+/// A lane whose setter is refused memory is given up, and the others go on. Faults:
+/// `TooManySources`, which is looked for first; `OutOfMemory`, if memory was refused to this thread;
+/// `Thread`, if a thread was refused. After a fault all threads that were started have been joined, the
+/// sources are gone, and the collector wasn't called.
+pub fn run_into<
+    R: Threads + Wait + Clock + Sync,
+    S: LineSource + Send + Drop,
+    G: Gate + Sync,
+    C: Collector + Drop,
+>(
+    rt: &R,
+    alloc: Global,
+    sources: Vec<(S, Arc<Terms>)>,
+    plan: Plan,
+    gate: &G,
+    collector: C,
+) -> (C, Result<RunEnd<S>, RunFault>)
+    requires { vec_len sources ≤ C.lanes collector }
+    ensures collected { IfOk result.1 (λ run.
+        IsCollected S.to_come S.failed C.given sources.items run collector result.0) }
+    ensures whole { IfOk result.1 (λ run. IsWhole run) }
+    ensures refused { IfOk result.1 (λ run. (refusal : Refused)
+        → run.refusal ≡ Some refusal → C.refused result.0 refusal) }
+    ensures lanes { C.lanes result.0 ≡ C.lanes collector }
+    ensures fault { IfErr result.1 (λ fault. result.0 ≡ collector) }
+    ensures many { 64 < vec_len sources → result.1 ≡ Err TooManySources }
+    ensures few { vec_len sources ≤ 64
+        → IfErr result.1 (λ fault. (fault ≡ NoMemory) ⊎ (fault ≡ Thread)) }
+{
+    if sources.len() > MOST_SOURCES {
+        return (collector, Err(RunFault::TooManySources));
+    }
+    let threads = plan.workers.get().min(sources.len());
+    let Ok(workers) = empty_workers(alloc, threads) else {
+        return (collector, Err(RunFault::OutOfMemory));
+    };
+    let Ok(closed) = Vec::with_capacity(alloc, sources.len()) else {
+        return (collector, Err(RunFault::OutOfMemory));
+    };
+    match run_threads(rt, alloc, sources, &plan, gate, closed, workers, collector) {
+        Ok((lanes, collected)) => {
+            let Collected {
+                lanes: _,
+                collector,
+                refusal,
+            } = collected;
+            (collector, Ok(RunEnd { lanes, refusal }))
+        }
+        Err(
+            Unbegun {
+                collector,
+                shortage,
+            },
+        ) => (
+            collector,
+            Err(match shortage {
+                Shortage::Memory => RunFault::OutOfMemory,
+                Shortage::Thread => RunFault::Thread,
+            }),
+        ),
+    }
+}

@@ -1,0 +1,137 @@
+//! The thread of a source: it feeds the source's lines to its lane.
+ghost use Rattle.std.specs.Prelude.{◌≡◌, ◌++◌, ◌∷◌, [], None, Some, IsTrue, if◌then◌else◌};
+ghost use Rattle.line_lane.specs.Ends.{SameFeeder, fed, feeder_end};
+ghost use Rattle.line_lane.specs.Messages.{first_end};
+ghost use Rattle.set_run.specs.Given.{AreFed, HandsBack};
+
+use crate::backoff::{Backoff, Waiting};
+use crate::{Gate, LineSource, Stage};
+use line_lane::{Feeder, OfferFault, SourceEnd};
+use set_line::Line;
+use std::snapshot::Snapshot;
+use std::sync::Wait;
+use std::sync::atomic::{AtomicBool, Ordering};
+use std::thread::Promise;
+use std::time::Clock;
+
+/// A source with the feeder of its lane.
+#[derive(Drop)]
+pub(crate) struct Feeding<S> {
+    pub source: S,
+    pub feeder: Feeder,
+}
+
+/// What the thread of a source promises: source and feeder as they were when it began.
+#[derive(Drop)]
+pub(crate) struct FedFrom<S>(pub Snapshot<Feeding<S>>);
+
+impl<S: LineSource> Promise<Feeding<S>> for FedFrom<S> {
+    ghost kept_by = { λ p r. HandsBack S.to_come S.failed p.0.value r };
+}
+
+/// Feeds a line, as soon as there is room for it; false where the run is stopped.
+fn offer<R: Wait + Clock>(
+    rt: &R,
+    stop: &AtomicBool,
+    waiting: Waiting,
+    feeder: &mut Feeder,
+    line: Line,
+) -> bool
+    ensures lane { SameFeeder feeder.old feeder.new }
+    ensures end { feeder_end feeder.new ≡ feeder_end feeder.old }
+    ensures fed { fed feeder.new ≡ (if result then fed feeder.old ++ line ∷ [] else fed feeder.old) }
+{
+    let mut line = line;
+    let mut backoff = Backoff::new(waiting);
+    for _ in rt.forever() {
+        match feeder.offer(line) {
+            Ok(()) => return true,
+            Err(OfferFault::NoRoom(back)) => line = back,
+            Err(OfferFault::Closed(_)) => return false,
+        }
+        if stop.load(Ordering::SeqCst) {
+            return false;
+        }
+        backoff.wait(rt);
+    }
+    unreachable!()
+}
+
+/// Closes the feeder, as soon as there is room for its end; false where the run is stopped.
+fn close<R: Wait + Clock>(
+    rt: &R,
+    stop: &AtomicBool,
+    waiting: Waiting,
+    feeder: &mut Feeder,
+    end: SourceEnd,
+) -> bool
+    ensures lane { SameFeeder feeder.old feeder.new }
+    ensures fed { fed feeder.new ≡ fed feeder.old }
+    ensures end { feeder_end feeder.new ≡ (if result then first_end (feeder_end feeder.old) (Some end) else feeder_end feeder.old) }
+{
+    let mut backoff = Backoff::new(waiting);
+    for _ in rt.forever() {
+        if feeder.close(end) {
+            return true;
+        }
+        if stop.load(Ordering::SeqCst) {
+            return false;
+        }
+        backoff.wait(rt);
+    }
+    unreachable!()
+}
+
+/// Feeds a source's lines, each after the one before it was accepted. How they end; `None` where the
+/// run is stopped.
+fn feed_lines<R: Wait + Clock, S: LineSource>(
+    rt: &R,
+    stop: &AtomicBool,
+    waiting: Waiting,
+    source: &mut S,
+    feeder: &mut Feeder,
+) -> Option<SourceEnd>
+    ensures lane { SameFeeder feeder.old feeder.new }
+    ensures open { feeder_end feeder.new ≡ feeder_end feeder.old }
+    ensures fed { fed feeder.old ≡ [] →
+        AreFed result (fed feeder.new) (S.to_come source.old) (S.to_come source.new) (S.failed source.new) }
+{
+    for _ in rt.forever() {
+        if stop.load(Ordering::SeqCst) {
+            return None;
+        }
+        match source.next_line() {
+            Ok(Some(line)) => {
+                if !offer(rt, stop, waiting, feeder, line) {
+                    return None;
+                }
+            }
+            Ok(None) => return Some(SourceEnd::Complete),
+            Err(fault) => return Some(SourceEnd::Failed(fault)),
+        }
+    }
+    unreachable!()
+}
+
+/// The work of a source's thread: it enters the gate, feeds the source's lines, and closes the feeder
+/// with their end.
+pub(crate) fn feed<R: Wait + Clock, S: LineSource, G: Gate>(
+    rt: &R,
+    gate: &G,
+    stop: &AtomicBool,
+    number: usize,
+    waiting: Waiting,
+    feeding: Feeding<S>,
+) -> Feeding<S>
+    ensures { HandsBack S.to_come S.failed feeding result }
+{
+    gate.enter(Stage::Source, number);
+    let Feeding {
+        mut source,
+        mut feeder,
+    } = feeding;
+    if let Some(end) = feed_lines(rt, stop, waiting, &mut source, &mut feeder) {
+        let _ = close(rt, stop, waiting, &mut feeder, end);
+    }
+    Feeding { source, feeder }
+}

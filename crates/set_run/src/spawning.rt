@@ -1,0 +1,163 @@
+//! The threads of a run. Each level starts one, goes on to the level below, and joins it: so what a
+//! thread promises stands beside what it was given.
+ghost use Rattle.std.specs.Prelude.{◌≡◌, ◌+◌, ◌<◌, ◌≤◌, ◌++◌, ◌∷◌, [], vec_capacity, vec_len, IfErr, IfOk};
+ghost use Rattle.std.specs.List.{AllZip};
+ghost use Rattle.line_lane.specs.Ends.{SameSetter};
+ghost use Rattle.set_run.specs.Gathering.{Collects, Gathers};
+
+use crate::backoff::Waiting;
+use crate::collector_thread::{Collected, collect};
+use crate::lane::{begin, end};
+use crate::lane_taker::LaneTaker;
+use crate::shortage::{Shortage, Unbegun};
+use crate::source_thread::{FedFrom, feed};
+use crate::worker::Worker;
+use crate::worker_thread::{WorkedFrom, work};
+use crate::{ClosedLane, Collector, Gate, LineSource, Plan};
+use set_line::Terms;
+use std::alloc::Global;
+use std::snapshot::Snapshot;
+use std::sync::atomic::{AtomicBool, Ordering};
+use std::sync::{Arc, Wait};
+use std::thread::{Scope, Threads};
+use std::time::Clock;
+
+/// Stops the run's threads before anything was collected.
+fn stopped<C>(stop: &AtomicBool, collector: C, shortage: Shortage) -> Unbegun<C>
+    ensures { result.collector ≡ collector }
+{
+    stop.store(true, Ordering::SeqCst);
+    Unbegun {
+        collector,
+        shortage,
+    }
+}
+
+/// Appends a worker, for which there is room.
+fn put_back(workers: &mut Vec<Worker>, worker: Worker)
+    requires { vec_len workers.old < vec_capacity workers.old }
+    ensures items { workers.new.items ≡ workers.old.items ++ worker ∷ [] }
+    ensures room { vec_capacity workers.old ≤ vec_capacity workers.new }
+{
+    match workers.push(worker) {
+        Ok(()) => (),
+        Err(_) => unreachable!(),
+    }
+}
+
+/// A thread for each worker, from the last one on; then the answers are collected, and where the
+/// collector refused something the run is stopped. From then on nothing can be refused any more.
+pub(crate) fn start_workers<
+    's,
+    E,
+    R: Threads + Wait + Clock + Sync,
+    G: Gate + Sync,
+    C: Collector + Drop,
+>(
+    scope: &'s Scope<'s, E>,
+    rt: &'s R,
+    gate: &'s G,
+    stop: &'s AtomicBool,
+    waiting: Waiting,
+    workers: Vec<Worker>,
+    lanes: Vec<LaneTaker>,
+    collector: C,
+) -> Result<(Vec<Worker>, Collected<C>), Unbegun<C>>
+    requires { vec_len lanes ≤ C.lanes collector }
+    ensures workers { IfOk result (λ back. AllZip (AllZip SameSetter) workers.items back.0.items) }
+    ensures room { IfOk result (λ back. vec_capacity workers ≤ vec_capacity back.0) }
+    ensures collected { IfOk result (λ back. Collects C.lanes C.given C.refused lanes.items collector back.1) }
+    ensures unbegun { IfErr result (λ unbegun. unbegun.collector ≡ collector) }
+{
+    let mut workers = workers;
+    let Some(worker) = workers.pop() else {
+        let collected = collect(rt, gate, waiting, lanes, collector);
+        if collected.refusal.is_some() {
+            stop.store(true, Ordering::SeqCst);
+        }
+        return Ok((workers, collected));
+    };
+    if workers.reserve(1).is_err() {
+        return Err(stopped(stop, collector, Shortage::Memory));
+    }
+    let number = workers.len();
+    let promise = WorkedFrom(Snapshot::of(&worker));
+    let Ok(child) = scope.spawn_with(
+        promise,
+        move || work(rt, gate, stop, number, waiting, worker),
+    ) else {
+        return Err(stopped(stop, collector, Shortage::Thread));
+    };
+    let below = start_workers(scope, rt, gate, stop, waiting, workers, lanes, collector);
+    let worker = child.join(rt);
+    let (mut workers, collected) = below?;
+    put_back(&mut workers, worker);
+    Ok((workers, collected))
+}
+
+/// A thread for each source, from the last one on, with a lane each; then the threads of the workers,
+/// and the answers are collected. Once a source's thread is joined, its lane ends.
+pub(crate) fn start_sources<
+    's,
+    E,
+    R: Threads + Wait + Clock + Sync,
+    S: LineSource + Send + Drop + 's,
+    G: Gate + Sync,
+    C: Collector + Drop,
+>(
+    scope: &'s Scope<'s, E>,
+    rt: &'s R,
+    gate: &'s G,
+    stop: &'s AtomicBool,
+    alloc: Global,
+    plan: &Plan,
+    sources: Vec<(S, Arc<Terms>)>,
+    closed: Vec<ClosedLane<S>>,
+    workers: Vec<Worker>,
+    lanes: Vec<LaneTaker>,
+    collector: C,
+) -> Result<(Vec<ClosedLane<S>>, Vec<Worker>, Collected<C>), Unbegun<C>>
+    requires some { 0 < vec_len sources → 0 < vec_len workers }
+    requires places { vec_len sources + vec_len lanes ≤ C.lanes collector }
+    requires none { closed.items ≡ [] }
+    requires room { vec_len sources ≤ vec_capacity closed }
+    ensures workers { IfOk result (λ back. AllZip (AllZip SameSetter) workers.items back.1.items) }
+    ensures count { IfOk result (λ back. vec_len back.0 ≡ vec_len sources) }
+    ensures room { IfOk result (λ back. vec_capacity closed ≤ vec_capacity back.0) }
+    ensures gathered { IfOk result (λ back. Gathers S.to_come S.failed C.lanes C.given C.refused
+        sources.items lanes.items collector back.0.items back.2) }
+    ensures unbegun { IfErr result (λ unbegun. unbegun.collector ≡ collector) }
+{
+    let waiting = Waiting::of(plan);
+    let (mut sources, mut workers, mut lanes) = (sources, workers, lanes);
+    let Some(source) = sources.pop() else {
+        let (workers, collected) = start_workers(
+            scope, rt, gate, stop, waiting, workers, lanes, collector,
+        )?;
+        return Ok((closed, workers, collected));
+    };
+    let number = sources.len();
+    let Ok(feeding) = begin(alloc, plan, number, source, &mut workers, &mut lanes) else {
+        return Err(stopped(stop, collector, Shortage::Memory));
+    };
+    let promise = FedFrom(Snapshot::of(&feeding));
+    let Ok(child) = scope.spawn_with(
+        promise,
+        move || feed(rt, gate, stop, number, waiting, feeding),
+    ) else {
+        return Err(stopped(stop, collector, Shortage::Thread));
+    };
+    let below = start_sources(
+        scope, rt, gate, stop, alloc, plan, sources, closed, workers, lanes, collector,
+    );
+    let feeding = child.join(rt);
+    let (mut closed, mut workers, mut collected) = below?;
+    end(
+        number,
+        feeding,
+        &mut closed,
+        &mut workers,
+        &mut collected.lanes,
+    );
+    Ok((closed, workers, collected))
+}

@@ -1,0 +1,210 @@
+-- What is kept of lanes, event by event.
+use Rattle.std.proofs.Common.{◌≡◌, inl, inr, ℕ, zero, suc, ◌+◌, ◌<◌, Bool, true, false, if◌then◌else◌, ◌==◌, List, [], ◌∷◌, ◌++◌, length, get_or, count_by, arith, refl, ap, sym, ◌∙◌, append_assoc, append-nil}
+use Rattle.std.specs.Prelude.{Result, Ok, Err, OnOk, OnErr, is_ok}
+use Rattle.std.proofs.Math.ListN.{set}
+use Rattle.std.proofs.lemmas.Bool.{eq-eqb}
+use Rattle.std.proofs.lemmas.Bool.Decides.{eqb_tells}
+use Rattle.std.proofs.lemmas.List.{length-set, set-get_or}
+use Rattle.std.proofs.lemmas.List.Sums.{sum_by-append}
+use Rattle.std.proofs.Math.Bool.{cond}
+use Rattle.set_line.specs.declared.version.Version.{Version}
+use Rattle.set_line.specs.Answer.{AnswerValue}
+use Rattle.set_line.specs.Record.{record_text}
+use Rattle.line_lane.specs.declared.ending.LaneEnd.{LaneEnd}
+use Rattle.set_run.specs.declared.collector.Refusal.{Refusal}
+use Rattle.set_run.specs.Events.{Event, LaneEvent, Answered, Ended, Gets, answers_among, of_lane}
+use Rattle.tfm_tool.specs.RunText.{end_text, is_refused, why_of}
+use Rattle.tfm_tool.specs.LaneText.{AreKept, LaneTextValue, events_text, kept_of}
+
+-- ---- what came of a lane
+
+cond_append : (b : Bool) (x : LaneEvent) (xs ys : List LaneEvent) → (if b then x ∷ (xs ++ ys) else xs ++ ys) ≡ (if b then x ∷ xs else xs) ++ ys
+cond_append true x xs ys = refl
+cond_append false x xs ys = refl
+
+-- one event more of this lane
+of_lane_more : (lane n : ℕ) (events : List Event) (event : LaneEvent) → n ≡ lane → of_lane lane (events ++ (n, event) ∷ []) ≡ of_lane lane events ++ event ∷ []
+of_lane_more lane n [] event same = ap (λ b. if b then event ∷ [] else []) (eq-eqb n lane same)
+of_lane_more lane n (e ∷ events) event same =
+    ap (λ more. if e.0 == lane then e.1 ∷ more else more) (of_lane_more lane n events event same)
+    ∙ cond_append (e.0 == lane) e.1 (of_lane lane events) (event ∷ [])
+
+other_test : (lane n : ℕ) → (n ≡ lane → ⊥) → (n == lane) ≡ false
+other_test lane n other = elim (eqb_tells n lane) [ inl p ↦ absurd (other p.1) | inr p ↦ p.0 ]
+
+-- one event more of another lane
+of_lane_other : (lane n : ℕ) (events : List Event) (event : LaneEvent) → (n == lane) ≡ false → of_lane lane (events ++ (n, event) ∷ []) ≡ of_lane lane events
+of_lane_other lane n [] event other = ap (λ b. if b then event ∷ [] else []) other
+of_lane_other lane n (e ∷ events) event other =
+    ap (λ more. if e.0 == lane then e.1 ∷ more else more) (of_lane_other lane n events event other)
+
+among_answered : (events : List LaneEvent) (answer : AnswerValue) → answers_among (events ++ Answered answer ∷ []) ≡ answers_among events ++ answer ∷ []
+among_answered [] answer = refl
+among_answered (Answered a ∷ events) answer = ap (λ more. a ∷ more) (among_answered events answer)
+among_answered (Ended e ∷ events) answer = among_answered events answer
+
+among_ended : (events : List LaneEvent) (end : LaneEnd) → answers_among (events ++ Ended end ∷ []) ≡ answers_among events
+among_ended [] end = refl
+among_ended (Answered a ∷ events) end = ap (λ more. a ∷ more) (among_ended events end)
+among_ended (Ended e ∷ events) end = among_ended events end
+
+-- ---- the text of what came of a lane
+
+text_answered : (source : ℕ) (version : Version) (before count : ℕ) (events : List LaneEvent) (answer : AnswerValue)
+    → count ≡ before + length (answers_among events)
+    → events_text source version before (events ++ Answered answer ∷ [])
+    ≡ events_text source version before events ++ record_text source (count + 1) answer.outcome version
+text_answered source version before count [] answer is =
+    append-nil _ ∙ ap (λ n. record_text source (n + 1) answer.outcome version) (let same : before ≡ count = omega arith in same)
+text_answered source version before count (Answered a ∷ events) answer is =
+    ap (λ more. record_text source (before + 1) a.outcome version ++ more) (text_answered source version (before + 1) count events answer (omega arith))
+    ∙ sym (append_assoc (record_text source (before + 1) a.outcome version) _ _)
+text_answered source version before count (Ended e ∷ events) answer is =
+    ap (λ more. end_text source (why_of e) before ++ more) (text_answered source version before count events answer is)
+    ∙ sym (append_assoc (end_text source (why_of e) before) _ _)
+
+text_ended : (source : ℕ) (version : Version) (before count : ℕ) (events : List LaneEvent) (end : LaneEnd)
+    → count ≡ before + length (answers_among events)
+    → events_text source version before (events ++ Ended end ∷ [])
+    ≡ events_text source version before events ++ end_text source (why_of end) count
+text_ended source version before count [] end is =
+    append-nil _ ∙ ap (λ n. end_text source (why_of end) n) (let same : before ≡ count = omega arith in same)
+text_ended source version before count (Answered a ∷ events) end is =
+    ap (λ more. record_text source (before + 1) a.outcome version ++ more) (text_ended source version (before + 1) count events end (omega arith))
+    ∙ sym (append_assoc (record_text source (before + 1) a.outcome version) _ _)
+text_ended source version before count (Ended e ∷ events) end is =
+    ap (λ more. end_text source (why_of e) before ++ more) (text_ended source version before count events end is)
+    ∙ sym (append_assoc (end_text source (why_of e) before) _ _)
+
+-- ---- what is kept of a lane
+
+abbrev lane_of : List ℕ → ℕ → ℕ → LaneTextValue
+lane_of text answers refused = record { text = text; answers = answers; refused = refused }
+
+same_lane : (t t' : List ℕ) (a a' r r' : ℕ) → t ≡ t' → a ≡ a' → r ≡ r' → lane_of t a r ≡ lane_of t' a' r'
+same_lane t t' a a' r r' p q s = ap (λ x. lane_of x a r) p ∙ ap (λ x. lane_of t' x r) q ∙ ap (λ x. lane_of t' a' x) s
+
+abbrev pub with_answer : Version → ℕ → AnswerValue → LaneTextValue → LaneTextValue
+with_answer version source answer old = record {
+  text = old.text ++ record_text source (old.answers + 1) answer.outcome version;
+  answers = old.answers + 1;
+  refused = old.refused + count_by is_refused (answer ∷ []);
+}
+
+abbrev pub with_end : ℕ → LaneEnd → LaneTextValue → LaneTextValue
+with_end source end old = record { text = old.text ++ end_text source (why_of end) old.answers; answers = old.answers; refused = old.refused }
+
+pub length_more : {T : Type 0} (xs : List T) (x : T) → length (xs ++ x ∷ []) ≡ length xs + 1
+length_more [] x = refl
+length_more (y ∷ xs) x = omega (arith, length_more xs x)
+
+kept_answered : (version : Version) (source : ℕ) (events : List LaneEvent) (answer : AnswerValue) (old new : LaneTextValue)
+    → old ≡ kept_of version source events → new ≡ with_answer version source answer old → new ≡ kept_of version source (events ++ Answered answer ∷ [])
+kept_answered version source events answer old new was is =
+    is ∙ ap (with_answer version source answer) was
+    ∙ same_lane _ _ _ _ _ _
+    (sym (text_answered source version 0 (length (answers_among events)) events answer (omega arith)))
+    (sym (ap length (among_answered events answer) ∙ length_more (answers_among events) answer))
+    (sym (ap (count_by is_refused) (among_answered events answer) ∙ sum_by-append (λ a. cond (is_refused a) 1 0) (answers_among events) (answer ∷ [])))
+
+kept_ended : (version : Version) (source : ℕ) (events : List LaneEvent) (end : LaneEnd) (old new : LaneTextValue)
+    → old ≡ kept_of version source events → new ≡ with_end source end old → new ≡ kept_of version source (events ++ Ended end ∷ [])
+kept_ended version source events end old new was is =
+    is ∙ ap (with_end source end) was
+    ∙ same_lane _ _ _ _ _ _
+    (sym (text_ended source version 0 (length (answers_among events)) events end (omega arith)))
+    (sym (ap length (among_ended events end)))
+    (sym (ap (count_by is_refused) (among_ended events end)))
+
+-- ---- what is kept of all lanes
+
+kept_at : (version : Version) (events : List Event) (number i n : ℕ) (lanes : List LaneTextValue) (d : LaneTextValue)
+    → n ≡ number + i → i < length lanes → AreKept version events number lanes → get_or lanes i d ≡ kept_of version (n + 1) (of_lane n events)
+kept_at version events number i n [] d at within kept = absurd (omega (arith, within))
+kept_at version events number zero n (lane ∷ lanes) d at within kept =
+    let same : number ≡ n = omega arith in
+    kept.0 ∙ ap (λ m. kept_of version (m + 1) (of_lane m events)) same
+kept_at version events number (suc i) n (lane ∷ lanes) d at within kept =
+    kept_at version events (number + 1) i n lanes d (omega arith) (omega (arith, within)) kept.1
+
+-- what came of a lane before these
+kept_same : (version : Version) (events : List Event) (n : ℕ) (event : LaneEvent) (number : ℕ) (lanes : List LaneTextValue)
+    → n < number → AreKept version events number lanes → AreKept version (events ++ (n, event) ∷ []) number lanes
+kept_same version events n event number [] before kept = tt
+kept_same version events n event number (lane ∷ lanes) before kept = (
+  kept.0 ∙ ap (kept_of version (number + 1)) (sym (of_lane_other number n events event (other_test number n (λ (e : n ≡ number). omega arith)))),
+  kept_same version events n event (number + 1) lanes (omega arith) kept.1,
+)
+
+-- one event more
+kept_set : (version : Version) (events : List Event) (number i n : ℕ) (lanes : List LaneTextValue) (event : LaneEvent) (new : LaneTextValue)
+    → n ≡ number + i → i < length lanes → new ≡ kept_of version (n + 1) (of_lane n events ++ event ∷ [])
+    → AreKept version events number lanes → AreKept version (events ++ (n, event) ∷ []) number (set lanes i new)
+kept_set version events number i n [] event new at within is kept = absurd (omega (arith, within))
+kept_set version events number zero n (lane ∷ lanes) event new at within is kept =
+    let same : n ≡ number = omega arith in (
+      is ∙ ap (kept_of version (n + 1)) (sym (of_lane_more n n events event refl))
+          ∙ ap (λ m. kept_of version (m + 1) (of_lane m (events ++ (n, event) ∷ []))) same,
+      kept_same version events n event (number + 1) lanes (omega arith) kept.1,
+    )
+kept_set version events number (suc i) n (lane ∷ lanes) event new at within is kept = (
+  kept.0 ∙ ap (kept_of version (number + 1)) (sym (of_lane_other number n events event (other_test number n (λ (e : n ≡ number). omega arith)))),
+  kept_set version events (number + 1) i n lanes event new (omega arith) (omega (arith, within)) is kept.1,
+)
+
+kept_blank : (version : Version) (number : ℕ) (lanes : List LaneTextValue) (lane : LaneTextValue)
+    → AreKept version [] number lanes → lane ≡ lane_of [] 0 0 → AreKept version [] number (lanes ++ lane ∷ [])
+kept_blank version number [] lane kept is = (is, tt)
+kept_blank version number (l ∷ lanes) lane kept is = (kept.0, kept_blank version (number + 1) lanes lane kept.1 is)
+
+-- one lane more, of which nothing came yet
+pub kept_begun : (version : Version) (number : ℕ) (lanes more : List LaneTextValue) (lane : LaneTextValue)
+    → more ≡ lanes ++ lane ∷ [] → lane ≡ record { text = []; answers = 0; refused = 0 } → AreKept version [] number lanes → AreKept version [] number more
+kept_begun version number lanes more lane is blank kept = rw is (kept_blank version number lanes lane kept blank)
+
+-- ---- what a collector of texts was given
+
+module _ {C : Type 0} (version_of : C → Version) (lanes_of : C → List LaneTextValue) (version : Version) (count : ℕ) where
+  abbrev pub Given : C → List Event → Type 0
+  Given texts events = (version_of texts ≡ version) × (length (lanes_of texts) ≡ count) × AreKept version events 0 (lanes_of texts)
+
+  -- an answer was taken, or refused
+  pub gets_answer : (before after : C) (lane : ℕ) (answer : AnswerValue) (r : Result (Unit {0}) Refusal) (old new : LaneTextValue)
+      → lane < length (lanes_of before) → old ≡ get_or (lanes_of before) lane old → version_of after ≡ version_of before
+      → lanes_of after ≡ set (lanes_of before) lane new
+      → OnOk r (new ≡ with_answer (version_of before) (lane + 1) answer old) → OnErr r (new ≡ old)
+      → Gets Given before (lane, Answered answer) (is_ok r) after
+  gets_answer before after lane answer (Ok u) old new within at same becomes ok err = λ events given. (
+    same ∙ given.0,
+    ap length becomes ∙ length-set (lanes_of before) lane new ∙ given.1,
+    rw becomes (kept_set version events 0 lane lane (lanes_of before) (Answered answer) new (omega arith) within
+        (kept_answered version (lane + 1) (of_lane lane events) answer old new
+        (at ∙ kept_at version events 0 lane lane (lanes_of before) old (omega arith) within given.2)
+        (ok ∙ ap (λ v. with_answer v (lane + 1) answer old) given.0))
+        given.2),
+  )
+  gets_answer before after lane answer (Err e) old new within at same becomes ok err = λ events given. (
+    same ∙ given.0,
+    ap length becomes ∙ length-set (lanes_of before) lane new ∙ given.1,
+    rw (becomes ∙ ap (set (lanes_of before) lane) (err ∙ at) ∙ set-get_or (lanes_of before) lane old) given.2,
+  )
+
+  -- an end was taken, or refused
+  pub gets_end : (before after : C) (lane : ℕ) (end : LaneEnd) (r : Result (Unit {0}) Refusal) (old new : LaneTextValue)
+      → lane < length (lanes_of before) → old ≡ get_or (lanes_of before) lane old → version_of after ≡ version_of before
+      → lanes_of after ≡ set (lanes_of before) lane new
+      → OnOk r (new ≡ with_end (lane + 1) end old) → OnErr r (new ≡ old)
+      → Gets Given before (lane, Ended end) (is_ok r) after
+  gets_end before after lane end (Ok u) old new within at same becomes ok err = λ events given. (
+    same ∙ given.0,
+    ap length becomes ∙ length-set (lanes_of before) lane new ∙ given.1,
+    rw becomes (kept_set version events 0 lane lane (lanes_of before) (Ended end) new (omega arith) within
+        (kept_ended version (lane + 1) (of_lane lane events) end old new
+        (at ∙ kept_at version events 0 lane lane (lanes_of before) old (omega arith) within given.2) ok)
+        given.2),
+  )
+  gets_end before after lane end (Err e) old new within at same becomes ok err = λ events given. (
+    same ∙ given.0,
+    ap length becomes ∙ length-set (lanes_of before) lane new ∙ given.1,
+    rw (becomes ∙ ap (set (lanes_of before) lane) (err ∙ at) ∙ set-get_or (lanes_of before) lane old) given.2,
+  )

@@ -1,0 +1,48 @@
+-- Sources that share their terms, whose lines are written as they come.
+use Rattle.std.proofs.Common.{◌≡◌, ℕ, List, [], ◌∷◌, Option, refl, ap, ◌∙◌}
+use Rattle.std.specs.Prelude.{Result, Ok, Err, IfOk}
+use Rattle.std.specs.List.{AllZip}
+use Rattle.std.specs.Arc.{arc_value}
+use Rattle.std.specs.declared.sync.Arc.{Arc}
+use Rattle.std.specs.declared.alloc.Global.{Global}
+use Rattle.set_line.specs.Terms.{TermsValue}
+use Rattle.tfm_tables.specs.Font.{FontValue, IsFontOf}
+use Rattle.set_line.specs.declared.policy.Policy.{Policy}
+use Rattle.set_line.specs.declared.version.Version.{Version}
+use Rattle.line_lane.specs.declared.fault.SourceFault.{SourceFault}
+use Rattle.set_run.specs.Reports.{AreReported}
+use Rattle.set_run.specs.declared.report.LaneReport.{LaneReport}
+use Rattle.tfm_tool.specs.ReportText.{summary_of_run}
+use Rattle.tfm_tool.specs.Setting.{AreReportedWith, HasTerms}
+use Rattle.tfm_tool.specs.Streaming.{IsStreamed, SourceTold, told_by, told_with}
+use Rattle.tfm_tool.specs.declared.summary.Summary.{Summary}
+use Rattle.tfm_tool.specs.declared.fault.ToolFault.{ToolFault}
+use Rattle.tfm_tool.proofs.SettingLemmas.{reported_with}
+
+abbrev told : TermsValue → Option (List (List ℕ)) → List SourceTold → List SourceTold
+told terms lines others = (terms, lines) ∷ others
+
+module _ {S : Type 0} where
+  -- what is known of sources that share their terms
+  pub same_told : (to_come : S → Option (List (List ℕ))) (terms : TermsValue) (sources : List S) (pairs : List (S × Arc TermsValue Global))
+      → AllZip (HasTerms terms) sources pairs → told_by to_come pairs ≡ told_with to_come terms sources
+  same_told to_come terms [] [] have = refl
+  same_told to_come terms [] (p ∷ pairs) have = elim have [ ]
+  same_told to_come terms (s ∷ sources) [] have = elim have [ ]
+  same_told to_come terms (s ∷ sources) (p ∷ pairs) have =
+      ap (λ t. told t (to_come p.0) (told_by to_come pairs)) have.0.1
+      ∙ ap (λ source. told terms (to_come source) (told_by to_come pairs)) have.0.0
+      ∙ ap (told terms (to_come s)) (same_told to_come terms sources pairs have.1)
+
+  -- a run whose sources share their terms
+  pub all_streamed_with : (to_come : S → Option (List (List ℕ))) (failed : S → Option SourceFault) (bytes : List ℕ) (size : Option ℕ) (font : FontValue)
+      (limit : ℕ) (policy : Policy) (version : Version) (sources : List S) (pairs : List (S × Arc TermsValue Global))
+      (before after : Option (List ℕ)) (r : Result Summary ToolFault) → IsFontOf bytes size font
+      → AllZip (HasTerms (record { font = font; limit = limit; policy = policy })) sources pairs
+      → IfOk r (λ summary. (reports : List (LaneReport S)) × AreReported to_come failed pairs reports × IsStreamed version reports before after × (summary ≡ summary_of_run reports))
+      → IfOk r (λ summary. (f : FontValue) × (reports : List (LaneReport S)) × IsFontOf bytes size f
+      × AreReportedWith to_come failed (record { font = f; limit = limit; policy = policy }) sources reports
+      × IsStreamed version reports before after × (summary ≡ summary_of_run reports))
+  all_streamed_with to_come failed bytes size font limit policy version sources pairs before after (Ok summary) is have (reports, are, streamed, short) =
+      (font, reports, is, reported_with to_come failed (record { font = font; limit = limit; policy = policy }) sources pairs reports have are, streamed, short)
+  all_streamed_with to_come failed bytes size font limit policy version sources pairs before after (Err fault) is have all = all

@@ -1,0 +1,8 @@
+use Rattle.std.proofs.Common.{◌≡◌, ◌+◌, [], ◌∷◌, ◌++◌, length, arith, subst, sym, length-append}
+use Rattle.std.proofs.lemmas.Grind.{common_steps}
+use Rattle.tfm_tool.specs.StreamState.{AreCounts}
+use Rattle.tfm_tool.proofs.StreamEvents.{counts_more}
+use Rattle.tfm_tool.proofs.stream.no_answers.Goals as goal
+
+pub loop-preserved : goal.loop-preserved
+loop-preserved c = (grind (arith, common_steps), rw c.in_ok-push.ensures.items (counts_more 0 c.loop.counts.items c.new.result c.new.ensures.answers c.new.ensures.refused c.loop.invariant.1))

@@ -1,0 +1,35 @@
+-- What is kept of a lane while a run goes on: its text so far, and counts.
+-- This project's own.
+use Rattle.std.specs.Prelude.{◌≡◌, ℕ, ◌+◌, List, [], ◌∷◌, ◌++◌, count_by, length}
+use Rattle.set_line.specs.declared.version.Version.{Version}
+use Rattle.set_line.specs.Record.{record_text}
+use Rattle.set_run.specs.Events.{Event, LaneEvent, Answered, Ended, answers_among, of_lane}
+use Rattle.tfm_tool.specs.RunText.{end_text, is_refused, why_of}
+
+-- a lane's text, how many answers it has, and how many of these are refusals
+pub record LaneTextValue : Type 0 where
+  pub text : List ℕ
+  pub answers : ℕ
+  pub refused : ℕ
+
+-- the text of what came of a source behind so many answers: the records of answers, and the end line
+abbrev pub events_text : ℕ → Version → ℕ → List LaneEvent → List ℕ
+events_text source version answers [] = []
+events_text source version answers (Answered answer ∷ events) =
+    record_text source (answers + 1) answer.outcome version ++ events_text source version (answers + 1) events
+events_text source version answers (Ended end ∷ events) =
+    end_text source (why_of end) answers ++ events_text source version answers events
+
+-- what is kept of a source of which this came
+abbrev pub kept_of : Version → ℕ → List LaneEvent → LaneTextValue
+kept_of version source events = record {
+  text = events_text source version 0 events;
+  answers = length (answers_among events);
+  refused = count_by is_refused (answers_among events);
+}
+
+-- what is kept of lanes, of which the first has this number, is what came of them
+abbrev pub AreKept : Version → List Event → ℕ → List LaneTextValue → Type 0
+AreKept version events number [] = Unit {0}
+AreKept version events number (lane ∷ lanes) =
+    (lane ≡ kept_of version (number + 1) (of_lane number events)) × AreKept version events (number + 1) lanes

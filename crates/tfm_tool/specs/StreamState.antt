@@ -1,0 +1,82 @@
+-- Where a run stands whose lines are written as they come.
+-- This project's own.
+use Rattle.std.specs.Prelude.{◌≡◌, ℕ, ◌+◌, List, [], ◌∷◌, ◌++◌, length, count_by, sum_by, min, ◌-◌, ◌^◌, false, Option}
+use Rattle.std.specs.List.{list_any}
+use Rattle.std.specs.Option.{option_map_or}
+use Rattle.set_run.specs.declared.run_end.ClosedLane.{ClosedLane}
+use Rattle.tfm_tool.specs.ReportText.{is_unread, is_wanting}
+use Rattle.tfm_tool.specs.declared.summary.Summary.{Summary}
+use Rattle.std.specs.Io.KnownBytes.{Appends}
+use Rattle.set_line.specs.Answer.{AnswerValue}
+use Rattle.set_line.specs.Record.{record_text}
+use Rattle.set_line.specs.declared.version.Version.{Version}
+use Rattle.set_run.specs.Events.{Event, LaneEvent, Answered, Ended, answers_in, of_lane}
+use Rattle.tfm_tool.specs.RunText.{end_text, head_text, is_refused, why_of}
+use Rattle.tfm_tool.specs.Streaming.{SourceLine, merged_text, of_source}
+use Rattle.tfm_tool.specs.declared.lane_count.LaneCount.{LaneCount}
+use Rattle.tfm_tool.specs.declared.stream.Stream.{Stream}
+
+-- the line of what came of a source behind so many answers
+abbrev pub event_line : ℕ → Version → ℕ → LaneEvent → List ℕ
+event_line source version answers (Answered answer) = record_text source (answers + 1) answer.outcome version
+event_line source version answers (Ended end) = end_text source (why_of end) answers
+
+-- the lines of what came of a source behind so many answers
+abbrev pub event_lines : ℕ → Version → ℕ → List LaneEvent → List (List ℕ)
+event_lines source version answers [] = []
+event_lines source version answers (Answered answer ∷ events) =
+    event_line source version answers (Answered answer) ∷ event_lines source version (answers + 1) events
+event_lines source version answers (Ended end ∷ events) =
+    event_line source version answers (Ended end) ∷ event_lines source version answers events
+
+-- these are the lines of events: the source of a lane has a number that is greater by one
+abbrev pub AreLinesOf : Version → List Event → List SourceLine → Type 0
+AreLinesOf version events lines =
+    (of_source 0 lines ≡ [])
+    × ((lane : ℕ) → of_source (lane + 1) lines ≡ event_lines (lane + 1) version 0 (of_lane lane events))
+
+-- a lane has so many answers, and of these so many refusals
+abbrev pub IsCountOf : LaneCount → List AnswerValue → Type 0
+IsCountOf count answers = (count.answers ≡ length answers) × (count.refused ≡ count_by is_refused answers)
+
+-- the same of lanes, of which the first has this number
+abbrev pub AreCounts : List Event → ℕ → List LaneCount → Type 0
+AreCounts events number [] = Unit {0}
+AreCounts events number (count ∷ counts) = IsCountOf count (answers_in number events) × AreCounts events (number + 1) counts
+
+-- the first bytes of a block were written, and the others are left in it
+abbrev pub MovesOut : Option (List ℕ) → List ℕ → Option (List ℕ) → List ℕ → Type 0
+MovesOut before block after left = (written : List ℕ) × Appends before after written × (written ++ left ≡ block)
+
+-- what was written and what waits in the block, together, are what the version begins with and then the lines of these events
+abbrev pub AreOut : Version → List Event → Option (List ℕ) → Option (List ℕ) → List ℕ → Type 0
+AreOut version events before after block =
+    (lines : List SourceLine)
+    × AreLinesOf version events lines
+    × MovesOut before (head_text version ++ merged_text lines) after block
+
+-- how a stream began: what its writer held and the name of the reference to it, the version, and how many lanes there are
+pub record StreamStart : Type 0 where
+  pub before : Option (List ℕ)
+  pub name : ℕ
+  pub version : Version
+  pub lanes : ℕ
+
+module _ {W : Type 0} where
+  -- a stream that began so was given these events
+  abbrev pub IsStreamOf : (W → Option (List ℕ)) → StreamStart → Stream W → List Event → Type 0
+  IsStreamOf contents start stream events =
+      (stream.out.ghost_name ≡ start.name)
+      × (stream.version ≡ start.version)
+      × (length stream.counts.items ≡ start.lanes)
+      × AreCounts events 0 stream.counts.items
+      × AreOut start.version events start.before (contents stream.out.now) stream.block.items
+
+module _ {S : Type 0} where
+  -- what came of a run with these counts, whose lanes ended so
+  abbrev pub counts_summary : List LaneCount → List (ClosedLane S) → Summary
+  counts_summary counts lanes = record {
+    refused = min (2 ^ 64 - 1) (sum_by (λ count. count.refused) counts);
+    read_failed = list_any (λ lane. option_map_or is_unread lane.end false) lanes;
+    memory = list_any (λ lane. option_map_or is_wanting lane.end false) lanes;
+  }

@@ -1,0 +1,85 @@
+//! The jobs of `each`: a font, a limit and a file, again and again.
+
+use crate::ToolFault;
+use crate::args::Layout;
+use crate::exit::Failure;
+use crate::files::{ReadFault, font_file};
+use crate::setting::{accepted, shared};
+use set_line::{Limit, Terms};
+use set_run::MOST_SOURCES;
+use std::alloc::Global;
+use std::rt::Files;
+use std::sync::Arc;
+
+/// A font, a limit, and a file with lines.
+#[derive(Clone, Copy)]
+pub(crate) struct Job<'a> {
+    pub font: &'a str,
+    pub limit: Limit,
+    pub file: &'a str,
+}
+
+/// A limit: one to eight decimal digits, within its range.
+fn limit_of(word: &str) -> Option<Limit> {
+    if word.len() > 8 || !word.bytes().all(|byte| byte.is_ascii_digit()) {
+        return None;
+    }
+    Limit::new(word.parse().ok()?)
+}
+
+/// The jobs that these words ask for, whose limits are all looked at.
+pub(crate) fn jobs<'a>(alloc: Global, words: &[&'a str]) -> Result<Vec<Job<'a>>, Failure> {
+    if words.len() % 3 != 0 {
+        return Err(Failure::NotInThrees);
+    }
+    if words.len() / 3 > MOST_SOURCES {
+        return Err(Failure::TooManyFiles);
+    }
+    let mut jobs = Vec::new(alloc);
+    for words in words.chunks(3) {
+        let [font, limit, file] = *words else {
+            return Err(Failure::NotInThrees);
+        };
+        let Some(limit) = limit_of(limit) else {
+            return Err(Failure::LimitRange(jobs.len() + 1));
+        };
+        if jobs.push(Job { font, limit, file }).is_err() {
+            return Err(Failure::Tool(ToolFault::OutOfMemory));
+        }
+    }
+    Ok(jobs)
+}
+
+/// The terms that a job asks for.
+fn terms_of<R: Files + AllocGlobal>(
+    rt: &R,
+    number: usize,
+    job: &Job<'_>,
+    layout: &Layout,
+) -> Result<Arc<Terms>, Failure> {
+    let bytes = match font_file(rt, job.font) {
+        Ok(bytes) => bytes,
+        Err(ReadFault::NotRead) => return Err(Failure::FontNotRead(number)),
+        Err(ReadFault::OutOfMemory) => return Err(Failure::Tool(ToolFault::OutOfMemory)),
+    };
+    match accepted(rt.alloc(), bytes.as_slice(), layout.size) {
+        Ok(font) => Ok(shared(rt.alloc(), Terms::new(font, job.limit, layout.policy))?),
+        Err(ToolFault::Font(fault)) => Err(Failure::FontRefused { number, fault }),
+        Err(fault) => Err(Failure::Tool(fault)),
+    }
+}
+
+/// The terms of all jobs: each font is read before any file is opened.
+pub(crate) fn all_terms<R: Files + AllocGlobal>(
+    rt: &R,
+    jobs: &[Job<'_>],
+    layout: &Layout,
+) -> Result<Vec<Arc<Terms>>, Failure> {
+    let mut all = Vec::new(rt.alloc());
+    for (i, job) in jobs.iter().enumerate() {
+        let terms = terms_of(rt, i + 1, job, layout)?;
+        all.push(terms)
+            .map_err(|_| Failure::Tool(ToolFault::OutOfMemory))?;
+    }
+    Ok(all)
+}
