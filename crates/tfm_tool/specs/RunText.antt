@@ -1,7 +1,6 @@
 -- The text of a run: the records of a source's answers, its end line, and what the text begins with.
 -- This project's own.
-use Rattle.std.specs.Prelude.{ℕ, ◌+◌, List, [], ◌∷◌, ◌++◌, length, codes, decimal, Bool, true, false, Option}
-use Rattle.std.specs.Io.KnownBytes.{Appends, append_known}
+use Rattle.std.specs.Prelude.{ℕ, ◌+◌, List, [], ◌∷◌, ◌++◌, length, codes, decimal, Bool, true, false}
 use Rattle.set_line.specs.declared.version.Version.{Version}
 use Rattle.set_line.specs.declared.version.Version.TheVariants.{One, Two}
 use Rattle.set_line.specs.declared.outcome.Outcome.{Outcome}
@@ -38,11 +37,6 @@ head_text Two = codes "records 2\n"
 -- the records and the end line of a source
 abbrev pub lane_text : ℕ → Version → List AnswerValue → List ℕ → List ℕ
 lane_text source version answers why = records_from source 1 version answers ++ end_text source why (length answers)
-
--- what is written and what waits in a block, together: this much more than before
-abbrev pub Goes : Option (List ℕ) → List ℕ → Option (List ℕ) → List ℕ → List ℕ → Type 0
-Goes written block written' block' more =
-    (before : Option (List ℕ)) (text : List ℕ) → Appends before (append_known written block) text → Appends before (append_known written' block') (text ++ more)
 
 -- whether an outcome is a refusal
 abbrev pub is_refused_outcome : Outcome → Bool
