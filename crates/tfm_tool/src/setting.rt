@@ -51,15 +51,16 @@ where
 {
     let texts = match RunTexts::<K>::new(alloc, sources.len(), version) {
         Ok(texts) => texts,
-        Err(_) => return Err(ToolFault::OutOfMemory),
+        Err(_) => return Err(ToolFault::Run(RunFault::OutOfMemory)),
     };
     let (texts, ran) = run_into(rt, alloc, sources, plan, gate, texts);
     let run = match ran {
         Ok(run) => run,
         Err(fault) => return Err(ToolFault::Run(fault)),
     };
-    if let Some(refusal) = run.refusal {
-        return Err(ToolFault::from(refusal));
+    // The texts refuse nothing but memory, and nothing is written yet.
+    if let Some(_) = run.refusal {
+        return Err(ToolFault::Run(RunFault::OutOfMemory));
     }
     let summary = summary_of(texts.lanes.as_slice(), run.lanes.as_slice());
     texts.write(alloc, out)?;

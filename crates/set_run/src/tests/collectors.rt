@@ -23,6 +23,8 @@ const EVENTS: u32 = 8;
 struct Refuses {
     /// How many events are taken before one is refused.
     left: u32,
+    /// Whether the first wait is refused.
+    waits: bool,
     refusal: Refusal,
     answers: [usize; 3],
     ended: [bool; 3],
@@ -33,9 +35,10 @@ struct Refuses {
 }
 
 impl Refuses {
-    fn new(left: u32, refusal: Refusal) -> Self {
+    fn new(left: u32, waits: bool, refusal: Refusal) -> Self {
         Refuses {
             left,
+            waits,
             refusal,
             answers: [0; 3],
             ended: [false; 3],
@@ -86,7 +89,12 @@ impl Collector for Refuses {
 
     fn about_to_wait(&mut self) -> Result<(), Refusal> {
         self.wrong |= self.refused;
-        Ok(())
+        if self.waits {
+            Ok(())
+        } else {
+            self.refused = true;
+            Err(self.refusal)
+        }
     }
 }
 
@@ -102,10 +110,11 @@ fn agrees<R: Abort>(rt: &R, case: u32, got: &Refuses, i: usize, lane: &ClosedLan
     );
 }
 
-/// A run whose collector refuses after so many events.
+/// A run whose collector refuses after so many events, or at its first wait.
 fn stops<R: Threads + Wait + Clock + Abort + AllocGlobal + Sync>(
     rt: &R,
     taken: u32,
+    waits: bool,
     refusal: Refusal,
 ) -> Result<(), Fail> {
     let sources = sources_of_ab(rt.alloc(), &LINES)?;
@@ -119,7 +128,7 @@ fn stops<R: Threads + Wait + Clock + Abort + AllocGlobal + Sync>(
         sources,
         plan,
         &NoGate,
-        Refuses::new(taken, refusal),
+        Refuses::new(taken, waits, refusal),
     );
     let Ok(
         RunEnd {
@@ -131,7 +140,8 @@ fn stops<R: Threads + Wait + Clock + Abort + AllocGlobal + Sync>(
         return Err("no fault".into());
     };
     assert!(rt; !got.wrong, "{taken}");
-    let wanted = if taken < EVENTS { Some(refusal) } else { None };
+    assert!(rt; got.refused || taken >= EVENTS, "{taken}");
+    let wanted = if got.refused { Some(refusal) } else { None };
     assert_eq!(rt; told, wanted, "{taken}");
     assert_eq!(rt; lanes.len(), 3, "{taken}");
     for (i, lane) in lanes.as_slice().iter().enumerate() {
@@ -145,8 +155,16 @@ fn stops<R: Threads + Wait + Clock + Abort + AllocGlobal + Sync>(
 #[test]
 fn a_collector_that_refuses_stops_the_run(rt: HostRuntime) -> Result<(), Fail> {
     for taken in 0..EVENTS + 1 {
-        stops(&rt, taken, Refusal::OutOfMemory)?;
-        stops(&rt, taken, Refusal::Output)?;
+        stops(&rt, taken, true, Refusal::OutOfMemory)?;
+        stops(&rt, taken, true, Refusal::Output)?;
+    }
+    Ok(())
+}
+
+#[test]
+fn a_collector_that_refuses_to_wait_stops_the_run(rt: HostRuntime) -> Result<(), Fail> {
+    for _ in 0..20 {
+        stops(&rt, EVENTS, false, Refusal::Output)?;
     }
     Ok(())
 }
