@@ -25,7 +25,7 @@ IsToldFirst told t =
     × IsFirstOf (answers_among told) (taken t.taker)
     × (is_some t.end ≡ true → (answers_among told ≡ taken t.taker) × (t.end ≡ taker_end t.taker))
 
--- the one where nothing was refused, and the other where something was
+-- `IsTold` where nothing was refused, else `IsToldFirst`
 abbrev pub IsToldBy : Bool → List LaneEvent → LaneTaker → Type 0
 IsToldBy true told t = IsTold told t
 IsToldBy false told t = IsToldFirst told t

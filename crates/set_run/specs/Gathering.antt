@@ -25,7 +25,7 @@ module _ {C : Type 0} where
     pub refuses : IfSome back.refusal (λ refusal. refused back.collector refusal)
 
 module _ {S C : Type 0} where
-  -- the same, with the lanes of sources that have ended: nothing was taken of the others before
+  -- the same, with the lanes of sources that have ended, if nothing had been taken of any lane before
   pub record Gathers (to_come : S → Option (List (List ℕ))) (failed : S → Option SourceFault) (places : C → ℕ)
       (given : C → List Event → Type 0) (refused : C → Refusal → Type 0) (sources : List (S × Arc TermsValue Global)) (lanes : List LaneTaker) (before : C) (closed : List (ClosedLane S))
       (back : Collected C) : Type 0 where

@@ -108,7 +108,7 @@ module _ {S C : Type 0} where
       → (events : List Event) × given after events × AreClosed to_come failed events 0 sources run.lanes.items × HasNoOthers events (length sources)
 
 module _ {S : Type 0} where
-  -- where nothing was refused, each lane has ended
+  -- where no refusal is told, each lane has ended
   abbrev pub IsWhole : RunEnd S → Type 0
   IsWhole run = run.refusal ≡ None → All (λ lane. IsSome lane.end) run.lanes.items
 

@@ -25,6 +25,7 @@ pub(crate) trait Kept {
     ghost version: { Form };
 }
 
+/// A placeholder: the proof of the caller chooses both.
 impl Kept for Brand {
     ghost lanes = { 0 };
 

@@ -34,6 +34,7 @@ pub(crate) trait Beginning {
     ghost start: { StreamStart };
 }
 
+/// A placeholder: the proof of the caller chooses the start.
 impl Beginning for Brand {
     ghost use Rattle.std.specs.Prelude.{None};
     ghost use Rattle.set_line.specs.declared.version.Version.TheVariants.{One};
@@ -41,7 +42,7 @@ impl Beginning for Brand {
     ghost start = { record { before = None; name = 0; version = One; lanes = 0 } };
 }
 
-/// A stream that began so.
+/// A stream that began at the start that `K` stands for.
 #[derive(Drop)]
 struct Begun<'a, W, K> {
     stream: Stream<'a, W>,
