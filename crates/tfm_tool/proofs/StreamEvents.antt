@@ -1,5 +1,5 @@
 -- Lines and counts of what came, event by event.
-use Rattle.std.proofs.Common.{◌≡◌, ℕ, zero, suc, ◌+◌, ◌-◌, ◌<◌, ◌≤◌, Bool, true, false, if◌then◌else◌, ◌==◌, List, [], ◌∷◌, ◌++◌, length, get_or, Option, Some, None, arith, refl, ap, sym, subst, ◌∙◌, append_assoc, append-nil, count_by, inl, inr, length-append}
+use Rattle.std.proofs.Common.{◌≡◌, ℕ, zero, suc, ◌+◌, ◌<◌, Bool, true, false, if◌then◌else◌, ◌==◌, List, [], ◌∷◌, ◌++◌, length, get_or, Option, Some, None, arith, refl, ap, sym, subst, ◌∙◌, append_assoc, append-nil, count_by, inl, inr, length-append}
 use Rattle.std.proofs.Math.ListN.{set}
 use Rattle.std.proofs.Math.Bool.{cond}
 use Rattle.std.proofs.lemmas.Bool.{eq-eqb}
@@ -10,8 +10,8 @@ use Rattle.set_line.specs.Answer.{AnswerValue}
 use Rattle.set_line.specs.Record.{record_text}
 use Rattle.line_lane.specs.declared.ending.LaneEnd.{LaneEnd}
 use Rattle.set_run.specs.Events.{Event, LaneEvent, Answered, Ended, answers_among, answers_in, of_lane, lane_events}
-use Rattle.tfm_tool.specs.RunText.{end_text, head_text, is_refused, why_of}
-use Rattle.tfm_tool.specs.Streaming.{SourceLine, end_lines, lane_lines, merged_text, of_source, record_lines}
+use Rattle.tfm_tool.specs.RunText.{is_refused}
+use Rattle.tfm_tool.specs.Streaming.{SourceLine, end_lines, merged_text, of_source, record_lines}
 use Rattle.tfm_tool.specs.StreamState.{AreCounts, AreLinesOf, IsCountOf, event_line, event_lines}
 use Rattle.tfm_tool.specs.declared.lane_count.LaneCount.{LaneCount}
 

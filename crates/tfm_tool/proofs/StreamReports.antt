@@ -1,12 +1,12 @@
 -- The reports of a run whose lines were written as they came.
-use Rattle.std.proofs.Common.{◌≡◌, ℕ, zero, suc, ◌+◌, ◌-◌, ◌^◌, ◌<◌, ◌≤◌, Bool, true, false, cond, ◌==◌, ◌||◌, List, [], ◌∷◌, ◌++◌, length, map, count_by, min, sum_by, All, Option, Some, None, inl, inr, arith, refl, ap, sym, subst, ◌∙◌, append_assoc, append-nil}
+use Rattle.std.proofs.Common.{◌≡◌, ℕ, zero, suc, ◌+◌, ◌-◌, ◌^◌, ◌≤◌, Bool, true, false, cond, ◌==◌, ◌||◌, List, [], ◌∷◌, ◌++◌, length, count_by, min, sum_by, All, Option, Some, None, inl, inr, arith, refl, ap, sym, subst, ◌∙◌, append_assoc, append-nil}
 use Rattle.std.proofs.lemmas.List.{length-map}
 use Rattle.std.proofs.lemmas.List.Elements.{All-cons, All-head, All-nil, All-tail}
 use Rattle.std.proofs.lemmas.List.Sums.{sum_by-cons}
 use Rattle.std.proofs.lemmas.Bool.{eq-eqb}
 use Rattle.std.proofs.lemmas.Bool.Decides.{leb_tells}
 use Rattle.std.specs.Prelude.{IsSome, Result, Ok, Err, IfOk, OnOk}
-use Rattle.std.specs.List.{AllZip, concat, list_any}
+use Rattle.std.specs.List.{concat, list_any}
 use Rattle.std.specs.Option.{option_map_or}
 use Rattle.std.specs.Arc.{arc_value}
 use Rattle.std.specs.declared.sync.Arc.{Arc}
@@ -19,7 +19,7 @@ use Rattle.set_line.specs.Record.{record_text}
 use Rattle.line_lane.specs.declared.fault.SourceFault.{SourceFault}
 use Rattle.line_lane.specs.declared.ending.LaneEnd.{LaneEnd}
 use Rattle.line_lane.specs.declared.ending.LaneEnd.TheVariants.{Complete}
-use Rattle.set_run.specs.Events.{Event, LaneEvent, answers_among, answers_in, lane_events, of_lane}
+use Rattle.set_run.specs.Events.{Event, answers_in, lane_events, of_lane}
 use Rattle.set_run.specs.Reports.{AreClosed, AreReported, HasNoOthers, IsTrueToSource, IsWhole}
 use Rattle.set_run.specs.declared.report.LaneReport.{LaneReport}
 use Rattle.set_run.specs.declared.run_end.ClosedLane.{ClosedLane}
@@ -27,8 +27,8 @@ use Rattle.set_run.specs.declared.run_end.RunEnd.{RunEnd}
 use Rattle.tfm_tool.specs.declared.fault.ToolFault.{ToolFault}
 use Rattle.tfm_tool.specs.RunText.{end_text, head_text, is_refused, lane_text, records_from, why_of}
 use Rattle.tfm_tool.specs.ReportText.{is_unread, is_wanting, summary_of_run}
-use Rattle.tfm_tool.specs.Streaming.{AreOfSources, HaveCome, HaveLines, IsCutAtLine, IsCutShort, IsMerge, IsPartOfMerge, IsStreamed, SourceLine, SourceTold, end_lines, lane_lines, merged_text, of_source, record_lines, told_by}
-use Rattle.tfm_tool.specs.StreamState.{AreCounts, AreLinesOf, AreOut, IsCountOf, MovesOut, StreamStart, counts_summary, event_lines}
+use Rattle.tfm_tool.specs.Streaming.{AreOfSources, HaveCome, HaveLines, IsCutAtLine, IsCutShort, IsPartOfMerge, IsStreamed, SourceLine, lane_lines, merged_text, of_source, record_lines, told_by}
+use Rattle.tfm_tool.specs.StreamState.{AreCounts, AreLinesOf, AreOut, MovesOut, StreamStart, counts_summary, event_lines}
 use Rattle.tfm_tool.specs.declared.lane_count.LaneCount.{LaneCount}
 use Rattle.tfm_tool.specs.declared.summary.Summary.{Summary}
 use Rattle.tfm_tool.proofs.StreamEvents.{lines_of_lane}

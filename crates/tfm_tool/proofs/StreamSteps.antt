@@ -1,8 +1,8 @@
 -- A stream, event by event.
-use Rattle.std.proofs.Common.{◌≡◌, ℕ, ◌+◌, ◌<◌, List, [], ◌∷◌, ◌++◌, length, get_or, Option, Some, None, arith, refl, ap, sym, subst, ◌∙◌, append_assoc, append-nil, count_by, length-set}
+use Rattle.std.proofs.Common.{◌≡◌, ℕ, ◌+◌, ◌<◌, List, [], ◌∷◌, ◌++◌, length, get_or, Option, arith, refl, ap, sym, subst, ◌∙◌, append_assoc, append-nil, count_by, length-set}
 use Rattle.std.proofs.Math.ListN.{set}
 use Rattle.std.proofs.lemmas.List.{set-get_or}
-use Rattle.std.specs.Io.KnownBytes.{Appends, Keeps}
+use Rattle.std.specs.Io.KnownBytes.{Keeps}
 use Rattle.set_line.specs.declared.version.Version.{Version}
 use Rattle.set_line.specs.Answer.{AnswerValue}
 use Rattle.set_line.specs.Record.{record_text}

@@ -1,6 +1,5 @@
-use Rattle.std.proofs.Common.{◌≡◌, ◌+◌, [], ◌∷◌, ◌++◌, length, arith, subst, sym, length-append}
+use Rattle.std.proofs.Common.{arith}
 use Rattle.std.proofs.lemmas.Grind.{common_steps}
-use Rattle.tfm_tool.specs.StreamState.{AreCounts}
 use Rattle.tfm_tool.proofs.StreamEvents.{counts_more}
 use Rattle.tfm_tool.proofs.stream.no_answers.Goals as goal
 

@@ -1,4 +1,4 @@
-use Rattle.std.proofs.Common.{◌≡◌, ◌-◌, ◌≤◌, length, take, drop, arith, length-drop}
+use Rattle.std.proofs.Common.{◌≡◌, ◌-◌, length, take, drop, arith, length-drop}
 use Rattle.tfm_tool.proofs.StreamLemmas.{some_more, take_all_rest}
 use Rattle.tfm_tool.proofs.stream.write_some.Goals as goal
 

@@ -1,4 +1,3 @@
-use Rattle.std.proofs.Common.{rules}
 use Rattle.std.specs.Prelude.{is_ok}
 use Rattle.set_run.specs.Events.{Answered}
 use Rattle.tfm_tool.specs.StreamState.{IsStreamOf}
