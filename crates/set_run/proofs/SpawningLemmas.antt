@@ -152,7 +152,7 @@ module _ {S : Type 0} where
 
   -- and the lane is among those that have ended
   pub has_ended : {C : Type 0} (to_come : S → Option (List (List ℕ))) (failed : S → Option SourceFault) (places : C → ℕ) (given : C → List Event → Type 0)
-      (refused : C → Refusal → Type 0) (sources rest : List (S × Arc TermsValue Global)) (source : S × Arc TermsValue Global) (n : ℕ)
+      (refused : C → Option Refusal → Type 0) (sources rest : List (S × Arc TermsValue Global)) (source : S × Arc TermsValue Global) (n : ℕ)
       (start back : Feeding S) (closed closed' : List (ClosedLane S)) (workers workers1 workers2 workers3 : List (List Setter))
       (lanes lanes1 : List LaneTaker) (before : C) (collected collected' : Collected C) → sources ≡ rest ++ source ∷ []
       → Begins (n % length workers) source start (record { workers = workers; lanes = lanes }) (record { workers = workers1; lanes = lanes1 })
@@ -200,8 +200,8 @@ module _ {S : Type 0} where
             subst (All (λ lane. IsSome lane.end)) (sym now)
             (all_append (λ lane. IsSome lane.end) closed one (below.whole (open_to collected'.refusal refl none))
             (subst (λ end. IsSome end) (sym finished.1) last));
-        refuses = subst (λ c. IfSome collected'.refusal (λ refusal. refused c refusal)) (sym own_collector)
-            (subst (λ r. IfSome r (λ refusal. refused collected.collector refusal)) (sym own_refusal) below.refuses);
+        refuses = subst (λ c. refused c collected'.refusal) (sym own_collector)
+            (subst (λ r. refused collected.collector r) (sym own_refusal) below.refuses);
       }
 
 -- nothing came of lanes of which nothing was taken
@@ -225,7 +225,7 @@ all_first false last events (t ∷ ts) all = (all.0, all_first false last events
 module _ {S C : Type 0} where
   -- without a source, what was collected is all
   pub gathers_none : (to_come : S → Option (List (List ℕ))) (failed : S → Option SourceFault) (places : C → ℕ) (given : C → List Event → Type 0)
-      (refused : C → Refusal → Type 0) (sources : List (S × Arc TermsValue Global)) (lanes : List LaneTaker) (before : C) (closed : List (ClosedLane S))
+      (refused : C → Option Refusal → Type 0) (sources : List (S × Arc TermsValue Global)) (lanes : List LaneTaker) (before : C) (closed : List (ClosedLane S))
       (back : Collected C) → sources ≡ [] → closed ≡ [] → Collects places given refused lanes before back
       → Gathers to_come failed places given refused sources lanes before closed back
   gathers_none to_come failed places given refused sources lanes before closed back no_source none all =

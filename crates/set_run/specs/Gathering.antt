@@ -1,6 +1,6 @@
 -- What comes back to the thread that started the others: what was collected, and the lanes that have ended.
 -- This project's own.
-use Rattle.std.specs.Prelude.{◌≡◌, ℕ, ◌+◌, List, [], length, All, Option, IsSome, IfSome, IsTrue, is_none}
+use Rattle.std.specs.Prelude.{◌≡◌, ℕ, ◌+◌, List, [], length, All, Option, IsSome, IsTrue, is_none}
 use Rattle.std.specs.List.{AllZip}
 use Rattle.std.specs.declared.sync.Arc.{Arc}
 use Rattle.std.specs.declared.alloc.Global.{Global}
@@ -17,17 +17,17 @@ use Rattle.set_run.specs.declared.run_end.ClosedLane.{ClosedLane}
 module _ {C : Type 0} where
   -- what was collected of these takers: each is of the same lane, the collector was given what was taken, each lane has ended unless
   -- something was refused, and that is the collector's refusal
-  pub record Collects (places : C → ℕ) (given : C → List Event → Type 0) (refused : C → Refusal → Type 0) (lanes : List LaneTaker) (before : C) (back : Collected C) : Type 0 where
+  pub record Collects (places : C → ℕ) (given : C → List Event → Type 0) (refused : C → Option Refusal → Type 0) (lanes : List LaneTaker) (before : C) (back : Collected C) : Type 0 where
     pub places_kept : places back.collector ≡ places before
     pub same : AllZip SameLane lanes back.lanes.items
     pub told : TellsLanes given lanes before (is_none back.refusal) back.lanes.items back.collector
     pub whole : IsTrue (is_none back.refusal) → All (λ lane. IsSome lane.end) back.lanes.items
-    pub refuses : IfSome back.refusal (λ refusal. refused back.collector refusal)
+    pub refuses : refused back.collector back.refusal
 
 module _ {S C : Type 0} where
   -- the same, with the lanes of sources that have ended, if nothing had been taken of any lane before
   pub record Gathers (to_come : S → Option (List (List ℕ))) (failed : S → Option SourceFault) (places : C → ℕ)
-      (given : C → List Event → Type 0) (refused : C → Refusal → Type 0) (sources : List (S × Arc TermsValue Global)) (lanes : List LaneTaker) (before : C) (closed : List (ClosedLane S))
+      (given : C → List Event → Type 0) (refused : C → Option Refusal → Type 0) (sources : List (S × Arc TermsValue Global)) (lanes : List LaneTaker) (before : C) (closed : List (ClosedLane S))
       (back : Collected C) : Type 0 where
     pub places_kept : places back.collector ≡ places before
     pub same : AllZip SameLane lanes back.lanes.items
@@ -36,4 +36,4 @@ module _ {S C : Type 0} where
         × AreClosed to_come failed events 0 sources closed × HasNoOthers events (length sources + length lanes)
     pub ended : IsTrue (is_none back.refusal) → All (λ lane. IsSome lane.end) back.lanes.items
     pub whole : IsTrue (is_none back.refusal) → All (λ lane. IsSome lane.end) closed
-    pub refuses : IfSome back.refusal (λ refusal. refused back.collector refusal)
+    pub refuses : refused back.collector back.refusal

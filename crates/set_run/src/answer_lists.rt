@@ -36,6 +36,8 @@ impl Collector for AnswerLists {
 
     ghost refused = { λ c refusal. ⊤ };
 
+    ghost quiet = { λ c. ⊤ };
+
     fn take(&mut self, lane: usize, answer: Answer) -> Result<(), Refusal> {
         match self.lists[lane].push(answer) {
             Ok(()) => Ok(()),

@@ -1,6 +1,7 @@
 //! The thread that collects: it takes the answers of all lanes, and gives them to the collector.
-ghost use Rattle.std.specs.Prelude.{◌≡◌, ◌≤◌, ◌↔◌, All, IfErr, IfSome, IsSome, IsTrue, is_none, is_ok, vec_len};
+ghost use Rattle.std.specs.Prelude.{◌≡◌, ◌≤◌, ◌↔◌, All, IsSome, IsTrue, None, is_none, is_ok, vec_len};
 ghost use Rattle.std.specs.List.{AllZip};
+ghost use Rattle.std.specs.Result.{result_err};
 ghost use Rattle.set_run.specs.Collecting.{SameLane, TellsLanes};
 
 use crate::backoff::{Backoff, Waiting};
@@ -12,11 +13,12 @@ use std::time::Clock;
 /// Takes what is there of all lanes, one lane after the other. Whether anything came. The last lane has
 /// number 0.
 fn go_round<C: Collector>(lanes: &mut Vec<LaneTaker>, collector: &mut C) -> Result<bool, Refusal>
-    requires { vec_len lanes.old ≤ C.lanes collector.old }
+    requires lanes { vec_len lanes.old ≤ C.lanes collector.old }
+    requires willing { C.refused collector.old None }
     ensures same { AllZip SameLane lanes.old.items lanes.new.items }
     ensures lanes { C.lanes collector.new ≡ C.lanes collector.old }
     ensures told { TellsLanes C.given lanes.old.items collector.old (is_ok result) lanes.new.items collector.new }
-    ensures refused { IfErr result (λ refusal. C.refused collector.new refusal) }
+    ensures refused { C.refused collector.new (result_err result) }
 {
     let mut came = false;
     for i in 0..lanes.len() {
@@ -33,6 +35,13 @@ fn have_ended(lanes: &[LaneTaker]) -> bool
     lanes.iter().all(|lane| lane.end.is_some())
 }
 
+/// Waits, after a look in vain, while the collector keeps nothing back.
+fn wait<R: Clock, C: Collector>(rt: &R, backoff: &mut Backoff, _collector: &C)
+    requires { C.quiet _collector.now }
+{
+    backoff.wait(rt);
+}
+
 /// Takes the answers of all lanes up to their ends, unless the collector refuses something: then this is
 /// answered.
 fn collect_all<R: Wait + Clock, C: Collector>(
@@ -41,12 +50,13 @@ fn collect_all<R: Wait + Clock, C: Collector>(
     lanes: &mut Vec<LaneTaker>,
     collector: &mut C,
 ) -> Result<(), Refusal>
-    requires { vec_len lanes.old ≤ C.lanes collector.old }
+    requires lanes { vec_len lanes.old ≤ C.lanes collector.old }
+    requires willing { C.refused collector.old None }
     ensures same { AllZip SameLane lanes.old.items lanes.new.items }
     ensures lanes { C.lanes collector.new ≡ C.lanes collector.old }
     ensures told { TellsLanes C.given lanes.old.items collector.old (is_ok result) lanes.new.items collector.new }
     ensures whole { IsTrue (is_ok result) → All (λ lane. IsSome lane.end) lanes.new.items }
-    ensures refused { IfErr result (λ refusal. C.refused collector.new refusal) }
+    ensures refused { C.refused collector.new (result_err result) }
 {
     let mut backoff = Backoff::new(waiting);
     for _ in rt.forever() {
@@ -56,7 +66,7 @@ fn collect_all<R: Wait + Clock, C: Collector>(
             return Ok(());
         } else {
             collector.about_to_wait()?;
-            backoff.wait(rt);
+            wait(rt, &mut backoff, collector);
         }
     }
     unreachable!()
@@ -78,12 +88,13 @@ pub(crate) fn collect<R: Wait + Clock, G: Gate, C: Collector>(
     lanes: Vec<LaneTaker>,
     collector: C,
 ) -> Collected<C>
-    requires { vec_len lanes ≤ C.lanes collector }
+    requires lanes { vec_len lanes ≤ C.lanes collector }
+    requires willing { C.refused collector None }
     ensures same { AllZip SameLane lanes.items result.lanes.items }
     ensures lanes { C.lanes result.collector ≡ C.lanes collector }
     ensures told { TellsLanes C.given lanes.items collector (is_none result.refusal) result.lanes.items result.collector }
     ensures whole { IsTrue (is_none result.refusal) → All (λ lane. IsSome lane.end) result.lanes.items }
-    ensures refused { IfSome result.refusal (λ refusal. C.refused result.collector refusal) }
+    ensures refused { C.refused result.collector result.refusal }
 {
     gate.enter(Stage::Collector, 0);
     let mut lanes = lanes;

@@ -1,5 +1,6 @@
 //! The end of a lane that the collecting thread has.
-ghost use Rattle.std.specs.Prelude.{◌≡◌, ◌<◌, IfErr, is_ok};
+ghost use Rattle.std.specs.Prelude.{◌≡◌, ◌<◌, None, is_ok};
+ghost use Rattle.std.specs.Result.{result_err};
 ghost use Rattle.line_lane.specs.Ends.{SameTaker};
 ghost use Rattle.set_run.specs.Collecting.{TellsLane};
 
@@ -19,11 +20,12 @@ const TAKES: u32 = 64;
 impl LaneTaker {
     /// Takes what comes next, and gives it to the collector. Whether anything came.
     fn take<C: Collector>(&mut self, lane: usize, collector: &mut C) -> Result<bool, Refusal>
-        requires { lane < C.lanes collector.old }
+        requires lane { lane < C.lanes collector.old }
+        requires willing { C.refused collector.old None }
         ensures same { SameTaker self.old.taker self.new.taker }
         ensures lanes { C.lanes collector.new ≡ C.lanes collector.old }
         ensures told { TellsLane C.given lane self.old collector.old (is_ok result) self.new collector.new }
-        ensures refused { IfErr result (λ refusal. C.refused collector.new refusal) }
+        ensures refused { C.refused collector.new (result_err result) }
     {
         if self.end.is_some() {
             return Ok(false);
@@ -50,11 +52,12 @@ impl LaneTaker {
         lane: usize,
         collector: &mut C,
     ) -> Result<bool, Refusal>
-        requires { lane < C.lanes collector.old }
+        requires lane { lane < C.lanes collector.old }
+        requires willing { C.refused collector.old None }
         ensures same { SameTaker self.old.taker self.new.taker }
         ensures lanes { C.lanes collector.new ≡ C.lanes collector.old }
         ensures told { TellsLane C.given lane self.old collector.old (is_ok result) self.new collector.new }
-        ensures refused { IfErr result (λ refusal. C.refused collector.new refusal) }
+        ensures refused { C.refused collector.new (result_err result) }
     {
         for takes in 0..TAKES {
             if !self.take(lane, collector)? {

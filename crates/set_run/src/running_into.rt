@@ -1,6 +1,5 @@
 //! A run over a collector.
-ghost use Rattle.std.specs.Prelude.{◌≡◌, ◌+◌, ◌<◌, ◌≤◌, ◌⊎◌, [], Some, Err, IfOk, IfErr, vec_capacity, vec_len};
-ghost use Rattle.set_run.specs.declared.collector.Refusal.{Refusal as Refused};
+ghost use Rattle.std.specs.Prelude.{◌≡◌, ◌+◌, ◌<◌, ◌≤◌, ◌⊎◌, [], None, Err, IfOk, IfErr, vec_capacity, vec_len};
 ghost use Rattle.set_run.specs.declared.run_fault.RunFault.TheVariants.{TooManySources, OutOfMemory as NoMemory, Thread};
 ghost use Rattle.set_run.specs.Gathering.{Gathers};
 ghost use Rattle.set_run.specs.Reports.{IsCollected, IsWhole};
@@ -51,6 +50,7 @@ fn run_threads<
 ) -> Result<(Vec<ClosedLane<S>>, Collected<C>), Unbegun<C>>
     requires some { 0 < vec_len sources → 0 < vec_len workers }
     requires places { vec_len sources ≤ C.lanes collector }
+    requires willing { C.refused collector None }
     requires none { closed.items ≡ [] }
     requires room { vec_len sources ≤ vec_capacity closed }
     ensures gathered { IfOk result (λ back. Gathers S.to_come S.failed C.lanes C.given C.refused
@@ -66,6 +66,7 @@ fn run_threads<
         move |scope| -> Result<(Vec<ClosedLane<S>>, Collected<C>), Unbegun<C>>
             requires some { 0 < vec_len sources → 0 < vec_len workers }
             requires places { vec_len sources + vec_len lanes ≤ C.lanes collector }
+            requires willing { C.refused collector None }
             requires none { closed.items ≡ [] }
             requires room { vec_len sources ≤ vec_capacity closed }
             ensures gathered { IfOk result (λ back. Gathers S.to_come S.failed C.lanes C.given C.refused
@@ -106,12 +107,12 @@ pub fn run_into<
     gate: &G,
     collector: C,
 ) -> (C, Result<RunEnd<S>, RunFault>)
-    requires { vec_len sources ≤ C.lanes collector }
+    requires lanes { vec_len sources ≤ C.lanes collector }
+    requires willing { C.refused collector None }
     ensures collected { IfOk result.1 (λ run.
         IsCollected S.to_come S.failed C.given sources.items run collector result.0) }
     ensures whole { IfOk result.1 (λ run. IsWhole run) }
-    ensures refused { IfOk result.1 (λ run. (refusal : Refused)
-        → run.refusal ≡ Some refusal → C.refused result.0 refusal) }
+    ensures refused { IfOk result.1 (λ run. C.refused result.0 run.refusal) }
     ensures lanes { C.lanes result.0 ≡ C.lanes collector }
     ensures fault { IfErr result.1 (λ fault. result.0 ≡ collector) }
     ensures many { 64 < vec_len sources → result.1 ≡ Err TooManySources }

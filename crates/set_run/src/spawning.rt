@@ -1,6 +1,6 @@
 //! The threads of a run. Each level starts one, goes on to the level below, and joins it: so what a
 //! thread promises stands beside what it was given.
-ghost use Rattle.std.specs.Prelude.{◌≡◌, ◌+◌, ◌<◌, ◌≤◌, ◌++◌, ◌∷◌, [], vec_capacity, vec_len, IfErr, IfOk};
+ghost use Rattle.std.specs.Prelude.{◌≡◌, ◌+◌, ◌<◌, ◌≤◌, ◌++◌, ◌∷◌, [], None, vec_capacity, vec_len, IfErr, IfOk};
 ghost use Rattle.std.specs.List.{AllZip};
 ghost use Rattle.line_lane.specs.Ends.{SameSetter};
 ghost use Rattle.set_run.specs.Gathering.{Collects, Gathers};
@@ -63,7 +63,8 @@ pub(crate) fn start_workers<
     lanes: Vec<LaneTaker>,
     collector: C,
 ) -> Result<(Vec<Worker>, Collected<C>), Unbegun<C>>
-    requires { vec_len lanes ≤ C.lanes collector }
+    requires places { vec_len lanes ≤ C.lanes collector }
+    requires willing { C.refused collector None }
     ensures workers { IfOk result (λ back. AllZip (AllZip SameSetter) workers.items back.0.items) }
     ensures room { IfOk result (λ back. vec_capacity workers ≤ vec_capacity back.0) }
     ensures collected { IfOk result (λ back. Collects C.lanes C.given C.refused lanes.items collector back.1) }
@@ -119,6 +120,7 @@ pub(crate) fn start_sources<
 ) -> Result<(Vec<ClosedLane<S>>, Vec<Worker>, Collected<C>), Unbegun<C>>
     requires some { 0 < vec_len sources → 0 < vec_len workers }
     requires places { vec_len sources + vec_len lanes ≤ C.lanes collector }
+    requires willing { C.refused collector None }
     requires none { closed.items ≡ [] }
     requires room { vec_len sources ≤ vec_capacity closed }
     ensures workers { IfOk result (λ back. AllZip (AllZip SameSetter) workers.items back.1.items) }

@@ -27,7 +27,7 @@ use Rattle.set_run.specs.declared.run_end.RunEnd.{RunEnd}
 use Rattle.tfm_tool.specs.declared.fault.ToolFault.{ToolFault}
 use Rattle.tfm_tool.specs.RunText.{end_text, head_text, is_refused, lane_text, records_from, why_of}
 use Rattle.tfm_tool.specs.ReportText.{is_unread, is_wanting, summary_of_run}
-use Rattle.tfm_tool.specs.Streaming.{AreOfSources, HaveCome, HaveLines, IsCutAtLine, IsCutShort, IsPartOfMerge, IsStreamed, SourceLine, lane_lines, merged_text, of_source, record_lines, told_by}
+use Rattle.tfm_tool.specs.Streaming.{AreOfSources, HaveCome, HaveLines, IsCutAtLine, IsCutShort, IsPartOfMerge, IsStreamed, SourceLine, lane_lines, merged_text, of_source, record_lines, with_own_terms}
 use Rattle.tfm_tool.specs.StreamState.{AreCounts, AreLinesOf, AreOut, MovesOut, StreamStart, counts_summary, event_lines}
 use Rattle.tfm_tool.specs.declared.lane_count.LaneCount.{LaneCount}
 use Rattle.tfm_tool.specs.declared.summary.Summary.{Summary}
@@ -162,22 +162,14 @@ module _ {S : Type 0} where
   have_come : (to_come : S → Option (List (List ℕ))) (failed : S → Option SourceFault) (version : Version) (events : List Event) (lines : List SourceLine)
       (number next : ℕ) (sources : List (S × Arc TermsValue Global)) (lanes : List (ClosedLane S)) → next ≡ number + 1
       → AreClosed to_come failed events number sources lanes → AreLinesOf version events lines
-      → HaveCome version next (told_by to_come sources) lines
+      → HaveCome to_come failed version next (with_own_terms sources) lines
   have_come to_come failed version events lines number next [] [] at closed are = tt
   have_come to_come failed version events lines number next [] (l ∷ lanes) at closed are = absurd closed
   have_come to_come failed version events lines number next (s ∷ sources) [] at closed are = absurd closed
   have_come to_come failed version events lines number next (s ∷ sources) (l ∷ lanes) at closed are = (
     (
-      record {
-        terms = arc_value s.1;
-        before = to_come s.0;
-        answers = answers_in number events;
-        end = l.end;
-        after = to_come l.source;
-        fails = failed l.source;
-      },
-      refl,
-      refl,
+      answers_in number events,
+      l,
       closed.1,
       subst (λ n. of_source n lines ≡ lane_lines n version (answers_in number events) l.end) (sym at) (own_lines version events lines number l.end are closed.0),
     ),
@@ -234,21 +226,21 @@ module _ {S : Type 0} where
         )
 
     come_so_far : (lines : List SourceLine) → AreClosed to_come failed events 0 sources lanes → HasNoOthers events (length sources)
-        → AreLinesOf version events lines → IsPartOfMerge version (told_by to_come sources) lines
+        → AreLinesOf version events lines → IsPartOfMerge to_come failed version (with_own_terms sources) lines
     come_so_far lines closed none lined = (
       have_come to_come failed version events lines 0 1 sources lanes (omega arith) closed lined,
-      subst (λ n. AreOfSources n lines) (sym (length-map sources (λ source. (arc_value source.1, to_come source.0)))) (of_sources version events lines (length sources) lined none),
+      subst (λ n. AreOfSources n lines) (sym (length-map sources (λ source. (arc_value source.1, source.0)))) (of_sources version events lines (length sources) lined none),
     )
 
     -- some was written
     pub cut_short : (after : Option (List ℕ)) → AreClosed to_come failed events 0 sources lanes → HasNoOthers events (length sources)
-        → AreOut version events before after block → IsCutShort version (told_by to_come sources) before after
+        → AreOut version events before after block → IsCutShort to_come failed version (with_own_terms sources) before after
     cut_short after closed none (lines, lined, (written, appends, all)) =
         (lines, written, block, come_so_far lines closed none lined, all, appends)
 
     -- whole lines were written
     pub cut_at_line : (after : Option (List ℕ)) → AreClosed to_come failed events 0 sources lanes → HasNoOthers events (length sources)
-        → AreOut version events before after block → block ≡ [] → IsCutAtLine version (told_by to_come sources) before after
+        → AreOut version events before after block → block ≡ [] → IsCutAtLine to_come failed version (with_own_terms sources) before after
     cut_at_line after closed none (lines, lined, (written, appends, all)) empty =
         let text : written ≡ head_text version ++ merged_text lines = sym (append-nil written) ∙ ap (λ b. written ++ b) (sym empty) ∙ all in
         inr (lines, come_so_far lines closed none lined, subst (Appends before after) text appends)
@@ -278,12 +270,12 @@ module _ {S : Type 0} (to_come : S → Option (List (List ℕ))) (failed : S →
   pub same_name : Came → name ≡ start.name
   same_name (events, stands, closed, none) = stands.0
 
-  pub ends_short : Came → MovesOut w block w' left → IsCutShort start.version (told_by to_come sources) start.before w'
+  pub ends_short : Came → MovesOut w block w' left → IsCutShort to_come failed start.version (with_own_terms sources) start.before w'
   ends_short (events, stands, closed, none) moves =
       cut_short to_come failed start.version events sources lanes start.before left w' closed none
       (more_out start.version events start.before w w' block left moves stands.4)
 
-  pub ends_at_line : Came → MovesOut w block w' left → left ≡ [] → IsCutAtLine start.version (told_by to_come sources) start.before w'
+  pub ends_at_line : Came → MovesOut w block w' left → left ≡ [] → IsCutAtLine to_come failed start.version (with_own_terms sources) start.before w'
   ends_at_line (events, stands, closed, none) moves empty =
       cut_at_line to_come failed start.version events sources lanes start.before left w' closed none
       (more_out start.version events start.before w w' block left moves stands.4) empty

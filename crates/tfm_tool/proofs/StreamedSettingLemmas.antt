@@ -13,25 +13,25 @@ use Rattle.set_run.specs.Reports.{AreReported}
 use Rattle.set_run.specs.declared.report.LaneReport.{LaneReport}
 use Rattle.tfm_tool.specs.ReportText.{summary_of_run}
 use Rattle.tfm_tool.specs.Setting.{AreReportedWith, HasTerms}
-use Rattle.tfm_tool.specs.Streaming.{IsStreamed, SourceTold, told_by, told_with}
+use Rattle.tfm_tool.specs.Streaming.{IsStreamed, with_own_terms, with_these_terms}
 use Rattle.tfm_tool.specs.declared.summary.Summary.{Summary}
 use Rattle.tfm_tool.specs.declared.fault.ToolFault.{ToolFault}
 use Rattle.tfm_tool.proofs.SettingLemmas.{reported_with}
 
-abbrev told : TermsValue → Option (List (List ℕ)) → List SourceTold → List SourceTold
-told terms lines others = (terms, lines) ∷ others
-
 module _ {S : Type 0} where
-  -- what is known of sources that share their terms
-  pub same_told : (to_come : S → Option (List (List ℕ))) (terms : TermsValue) (sources : List S) (pairs : List (S × Arc TermsValue Global))
-      → AllZip (HasTerms terms) sources pairs → told_by to_come pairs ≡ told_with to_come terms sources
-  same_told to_come terms [] [] have = refl
-  same_told to_come terms [] (p ∷ pairs) have = elim have [ ]
-  same_told to_come terms (s ∷ sources) [] have = elim have [ ]
-  same_told to_come terms (s ∷ sources) (p ∷ pairs) have =
-      ap (λ t. told t (to_come p.0) (told_by to_come pairs)) have.0.1
-      ∙ ap (λ source. told terms (to_come source) (told_by to_come pairs)) have.0.0
-      ∙ ap (told terms (to_come s)) (same_told to_come terms sources pairs have.1)
+  abbrev one_more : TermsValue → S → List (TermsValue × S) → List (TermsValue × S)
+  one_more terms source others = (terms, source) ∷ others
+
+  -- sources that share their terms
+  pub same_terms : (terms : TermsValue) (sources : List S) (pairs : List (S × Arc TermsValue Global))
+      → AllZip (HasTerms terms) sources pairs → with_own_terms pairs ≡ with_these_terms terms sources
+  same_terms terms [] [] have = refl
+  same_terms terms [] (p ∷ pairs) have = elim have [ ]
+  same_terms terms (s ∷ sources) [] have = elim have [ ]
+  same_terms terms (s ∷ sources) (p ∷ pairs) have =
+      ap (λ t. one_more t p.0 (with_own_terms pairs)) have.0.1
+      ∙ ap (λ source. one_more terms source (with_own_terms pairs)) have.0.0
+      ∙ ap (one_more terms s) (same_terms terms sources pairs have.1)
 
   -- a run whose sources share their terms
   pub all_streamed_with : (to_come : S → Option (List (List ℕ))) (failed : S → Option SourceFault) (bytes : List ℕ) (size : Option ℕ) (font : FontValue)

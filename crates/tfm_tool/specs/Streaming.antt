@@ -11,7 +11,9 @@ use Rattle.set_line.specs.Answer.{AnswerValue}
 use Rattle.set_line.specs.Record.{record_text}
 use Rattle.set_line.specs.declared.version.Version.{Version}
 use Rattle.line_lane.specs.declared.ending.LaneEnd.{LaneEnd}
-use Rattle.set_run.specs.Reports.{IsTrueToSource, LaneSeen}
+use Rattle.line_lane.specs.declared.fault.SourceFault.{SourceFault}
+use Rattle.set_run.specs.Reports.{IsClosed}
+use Rattle.set_run.specs.declared.run_end.ClosedLane.{ClosedLane}
 use Rattle.set_run.specs.declared.report.LaneReport.{LaneReport}
 use Rattle.tfm_tool.specs.RunText.{end_text, head_text, lane_text, why_of}
 
@@ -67,51 +69,53 @@ module _ {S : Type 0} where
   IsStreamed version reports before after =
       (lines : List SourceLine) × IsMerge version reports lines × Appends before after (head_text version ++ merged_text lines)
 
--- what is known of a source at the call: its terms, and the lines that it tells
-abbrev pub SourceTold : Type 0
-SourceTold = TermsValue × Option (List (List ℕ))
-
 module _ {S : Type 0} where
-  -- each source with its terms
-  abbrev pub told_by : (S → Option (List (List ℕ))) → List (S × Arc TermsValue Global) → List SourceTold
-  told_by to_come sources = map (λ source. (arc_value source.1, to_come source.0)) sources
+  -- each source with the terms that stand beside it
+  abbrev pub with_own_terms : List (S × Arc TermsValue Global) → List (TermsValue × S)
+  with_own_terms sources = map (λ source. (arc_value source.1, source.0)) sources
 
-  -- sources that all have these terms
-  abbrev pub told_with : (S → Option (List (List ℕ))) → TermsValue → List S → List SourceTold
-  told_with to_come terms sources = map (λ source. (terms, to_come source)) sources
+  -- each source with these terms
+  abbrev pub with_these_terms : TermsValue → List S → List (TermsValue × S)
+  with_these_terms terms sources = map (λ source. (terms, source)) sources
 
--- the lines of a source, as far as they came: those of a lane that is true to it
-abbrev pub HasCome : Version → ℕ → SourceTold → List SourceLine → Type 0
-HasCome version number source lines =
-    (lane : LaneSeen)
-    × (lane.terms ≡ source.0)
-    × (lane.before ≡ source.1)
-    × IsTrueToSource lane
-    × (of_source number lines ≡ lane_lines number version lane.answers lane.end)
+  -- the lines of a source, as far as they came: those of a lane that is true to the source and to what became of it
+  abbrev pub HasCome :
+      (S → Option (List (List ℕ))) → (S → Option SourceFault) → Version → ℕ → TermsValue × S → List SourceLine → Type 0
+  HasCome to_come failed version number source lines =
+      (answers : List AnswerValue)
+      × (lane : ClosedLane S)
+      × IsClosed to_come failed source.0 source.1 answers lane
+      × (of_source number lines ≡ lane_lines number version answers lane.end)
 
--- the same of all sources, of which the first has this number
-abbrev pub HaveCome : Version → ℕ → List SourceTold → List SourceLine → Type 0
-HaveCome version number [] lines = Unit {0}
-HaveCome version number (source ∷ sources) lines = HasCome version number source lines × HaveCome version (number + 1) sources lines
+  -- the same of all sources, of which the first has this number
+  abbrev pub HaveCome :
+      (S → Option (List (List ℕ))) → (S → Option SourceFault) → Version → ℕ → List (TermsValue × S) → List SourceLine → Type 0
+  HaveCome to_come failed version number [] lines = Unit {0}
+  HaveCome to_come failed version number (source ∷ sources) lines =
+      HasCome to_come failed version number source lines × HaveCome to_come failed version (number + 1) sources lines
 
--- lines of sources as far as they came, merged in some order, and no others
-abbrev pub IsPartOfMerge : Version → List SourceTold → List SourceLine → Type 0
-IsPartOfMerge version sources lines = HaveCome version 1 sources lines × AreOfSources (length sources) lines
+  -- lines of sources as far as they came, merged in some order, and no others
+  abbrev pub IsPartOfMerge :
+      (S → Option (List (List ℕ))) → (S → Option SourceFault) → Version → List (TermsValue × S) → List SourceLine → Type 0
+  IsPartOfMerge to_come failed version sources lines =
+      HaveCome to_come failed version 1 sources lines × AreOfSources (length sources) lines
 
--- a first part of such a text was written: it may end within a line
-abbrev pub IsCutShort : Version → List SourceTold → Option (List ℕ) → Option (List ℕ) → Type 0
-IsCutShort version sources before after =
-    (lines : List SourceLine)
-    × (written : List ℕ)
-    × (unwritten : List ℕ)
-    × IsPartOfMerge version sources lines
-    × (written ++ unwritten ≡ head_text version ++ merged_text lines)
-    × Appends before after written
+  -- a first part of such a text was written: it may end within a line
+  abbrev pub IsCutShort :
+      (S → Option (List (List ℕ))) → (S → Option SourceFault) → Version → List (TermsValue × S) → Option (List ℕ) → Option (List ℕ) → Type 0
+  IsCutShort to_come failed version sources before after =
+      (lines : List SourceLine)
+      × (written : List ℕ)
+      × (unwritten : List ℕ)
+      × IsPartOfMerge to_come failed version sources lines
+      × (written ++ unwritten ≡ head_text version ++ merged_text lines)
+      × Appends before after written
 
--- nothing was written, or such a text, which ends with a whole line
-abbrev pub IsCutAtLine : Version → List SourceTold → Option (List ℕ) → Option (List ℕ) → Type 0
-IsCutAtLine version sources before after =
-    Keeps before after
-    ⊎ ((lines : List SourceLine)
-    × IsPartOfMerge version sources lines
-    × Appends before after (head_text version ++ merged_text lines))
+  -- nothing was written, or such a text, which ends with a whole line
+  abbrev pub IsCutAtLine :
+      (S → Option (List (List ℕ))) → (S → Option SourceFault) → Version → List (TermsValue × S) → Option (List ℕ) → Option (List ℕ) → Type 0
+  IsCutAtLine to_come failed version sources before after =
+      Keeps before after
+      ⊎ ((lines : List SourceLine)
+      × IsPartOfMerge to_come failed version sources lines
+      × Appends before after (head_text version ++ merged_text lines))

@@ -1,5 +1,5 @@
 //! The texts of a run's lanes, kept while it goes on.
-ghost use Rattle.std.specs.Prelude.{◌≡◌, ℕ, ◌++◌, flat_map, length, [], IfOk, OnOk};
+ghost use Rattle.std.specs.Prelude.{◌≡◌, ℕ, ◌++◌, flat_map, length, [], ⊤, IfOk, IfSome, OnOk};
 ghost use Rattle.std.specs.Io.KnownBytes.{Appends};
 ghost use Rattle.set_line.specs.declared.version.Version.{Version as Form};
 ghost use Rattle.set_line.specs.declared.version.Version.TheVariants.{One};
@@ -90,7 +90,9 @@ impl<K: Kept> Collector for RunTexts<K> {
         × (length texts.lanes.items ≡ K.lanes)
         × AreKept K.version events 0 texts.lanes.items };
 
-    ghost refused = { λ texts refusal. refusal ≡ NoMemory };
+    ghost refused = { λ texts refusal. IfSome refusal (λ refused. refused ≡ NoMemory) };
+
+    ghost quiet = { λ texts. ⊤ };
 
     fn take(&mut self, lane: usize, answer: Answer) -> Result<(), Refusal> {
         self.lanes[lane].take(lane, &answer, self.version)

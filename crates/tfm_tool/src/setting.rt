@@ -1,10 +1,10 @@
 //! Sources of lines, set in one run, and its text.
-ghost use Rattle.std.specs.Prelude.{◌≡◌, ◌⊎◌, ◌<◌, List, Err, None, Some, IfErr, IfOk, OnErr, vec_len};
+ghost use Rattle.std.specs.Prelude.{◌≡◌, ◌⊎◌, ◌<◌, ◌≤◌, List, Err, None, Some, IfErr, IfOk, IsErr, OnErr, vec_len};
 ghost use Rattle.std.specs.Arc.{arc_value};
 ghost use Rattle.std.specs.List.{AllZip};
 ghost use Rattle.set_run.specs.declared.report.LaneReport.{LaneReport as Lane};
 ghost use Rattle.set_run.specs.declared.run_fault.RunFault.{RunFault as Fault};
-ghost use Rattle.set_run.specs.declared.run_fault.RunFault.TheVariants.{TooManySources};
+ghost use Rattle.set_run.specs.declared.run_fault.RunFault.TheVariants.{TooManySources, OutOfMemory as NoMemory, Thread};
 ghost use Rattle.tfm_tables.specs.declared.fault.FontFault.{FontFault as Refusal};
 ghost use Rattle.tfm_tables.specs.Acceptance.{font_fault_of};
 ghost use Rattle.tfm_tables.specs.Font.{FontValue, IsFontOf};
@@ -46,6 +46,8 @@ where
     ensures text { IfOk result (λ summary. (reports : List (Lane S))
         × AreReported S.to_come S.failed sources.items reports
         × IsWritten version reports (W.contents out.old) (W.contents out.new) summary) }
+    ensures few { vec_len sources ≤ 64 → (fault : Fault) → result ≡ Err (ToolFault.Run fault)
+        → (fault ≡ NoMemory) ⊎ (fault ≡ Thread) }
     ensures run { (fault : Fault) → result ≡ Err (ToolFault.Run fault) → out.new ≡ out.old }
     ensures font { (fault : Refusal) → result ≡ Err (ToolFault.Font fault) → ⊥ }
 {
@@ -88,6 +90,8 @@ where
         × AreReported S.to_come S.failed sources.items reports
         × IsWritten version reports (W.contents out.old) (W.contents out.new) summary) }
     ensures many { 64 < vec_len sources → result ≡ Err (ToolFault.Run TooManySources) }
+    ensures few { vec_len sources ≤ 64 → (fault : Fault) → result ≡ Err (ToolFault.Run fault)
+        → (fault ≡ NoMemory) ⊎ (fault ≡ Thread) }
     ensures run { (fault : Fault) → result ≡ Err (ToolFault.Run fault) → out.new ≡ out.old }
     ensures font { (fault : Refusal) → result ≡ Err (ToolFault.Font fault) → ⊥ }
 {
@@ -127,7 +131,9 @@ pub(crate) fn with_terms<S: Drop>(
     sources: Vec<S>,
     terms: &Arc<Terms>,
 ) -> Result<Vec<(S, Arc<Terms>)>, AllocError>
-    ensures { IfOk result (λ pairs. AllZip (HasTerms (arc_value terms.now)) sources.items pairs.items) }
+    ensures terms { IfOk result (λ pairs.
+        AllZip (HasTerms (arc_value terms.now)) sources.items pairs.items) }
+    ensures count { IfOk result (λ pairs. vec_len pairs ≡ vec_len sources) }
 {
     let mut pairs = Vec::new(alloc);
     for source in sources {
@@ -168,6 +174,9 @@ where
         → (font_fault_of font.now ≡ Some fault) × (out.new ≡ out.old) }
     ensures refused { (fault : Refusal) → font_fault_of font.now ≡ Some fault
         → (result ≡ Err (ToolFault.Font fault)) ⊎ (result ≡ Err ToolFault.OutOfMemory) }
+    ensures many { 64 < vec_len sources → IsErr result }
+    ensures few { vec_len sources ≤ 64 → (fault : Fault) → result ≡ Err (ToolFault.Run fault)
+        → (fault ≡ NoMemory) ⊎ (fault ≡ Thread) }
     ensures run { (fault : Fault) → result ≡ Err (ToolFault.Run fault) → out.new ≡ out.old }
 {
     let font = match accepted(alloc, font, size) {

@@ -1,13 +1,14 @@
 //! Sources of lines that are set with one font, whose lines are written as they come.
-ghost use Rattle.std.specs.Prelude.{◌≡◌, ◌⊎◌, List, Err, Some, IfOk};
+ghost use Rattle.std.specs.Prelude.{◌≡◌, ◌⊎◌, ◌<◌, ◌≤◌, List, Err, Some, IfOk, IsErr, vec_len};
 ghost use Rattle.set_run.specs.declared.report.LaneReport.{LaneReport as Lane};
 ghost use Rattle.set_run.specs.declared.run_fault.RunFault.{RunFault as Fault};
+ghost use Rattle.set_run.specs.declared.run_fault.RunFault.TheVariants.{OutOfMemory as NoMemory, Thread};
 ghost use Rattle.tfm_tables.specs.declared.fault.FontFault.{FontFault as FontRefusal};
 ghost use Rattle.tfm_tables.specs.Acceptance.{font_fault_of};
 ghost use Rattle.tfm_tables.specs.Font.{FontValue, IsFontOf};
 ghost use Rattle.tfm_tool.specs.ReportText.{summary_of_run};
 ghost use Rattle.tfm_tool.specs.Setting.{AreReportedWith};
-ghost use Rattle.tfm_tool.specs.Streaming.{IsCutAtLine, IsCutShort, IsStreamed, told_with};
+ghost use Rattle.tfm_tool.specs.Streaming.{IsCutAtLine, IsCutShort, IsStreamed, with_these_terms};
 
 use crate::setting::{accepted, shared, with_terms};
 use crate::streaming::stream_each;
@@ -52,14 +53,17 @@ where
         → (font_fault_of font.now ≡ Some fault) × (out.new ≡ out.old) }
     ensures refused { (fault : FontRefusal) → font_fault_of font.now ≡ Some fault
         → (result ≡ Err (ToolFault.Font fault)) ⊎ (result ≡ Err ToolFault.OutOfMemory) }
+    ensures many { 64 < vec_len sources → IsErr result }
+    ensures few { vec_len sources ≤ 64 → (fault : Fault) → result ≡ Err (ToolFault.Run fault)
+        → (fault ≡ NoMemory) ⊎ (fault ≡ Thread) }
     ensures run { (fault : Fault) → result ≡ Err (ToolFault.Run fault) → out.new ≡ out.old }
     ensures write { result ≡ Err ToolFault.Write → (f : FontValue) × IsFontOf font.now size f
-        × IsCutShort version (told_with S.to_come
+        × IsCutShort S.to_come S.failed version (with_these_terms
         (record { font = f; limit = limit; policy = policy }) sources.items)
         (W.contents out.old) (W.contents out.new) }
     ensures memory { result ≡ Err ToolFault.OutOfMemory → (out.new ≡ out.old)
         ⊎ ((f : FontValue) × IsFontOf font.now size f
-        × IsCutAtLine version (told_with S.to_come
+        × IsCutAtLine S.to_come S.failed version (with_these_terms
         (record { font = f; limit = limit; policy = policy }) sources.items)
         (W.contents out.old) (W.contents out.new)) }
 {

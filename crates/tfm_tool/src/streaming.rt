@@ -1,13 +1,13 @@
 //! Sources of lines, set in one run, whose lines are written as they come.
-ghost use Rattle.std.specs.Prelude.{◌≡◌, true, ◌<◌, ◌≤◌, ⊤, List, [], Err, None, length, IfErr, IfOk, OnOk, vec_len};
+ghost use Rattle.std.specs.Prelude.{◌≡◌, true, ◌<◌, ◌≤◌, ◌⊎◌, ⊤, List, [], Err, None, length, IfErr, IfOk, OnOk, vec_len};
 ghost use Rattle.set_run.specs.declared.report.LaneReport.{LaneReport as Lane};
 ghost use Rattle.set_run.specs.declared.run_fault.RunFault.{RunFault as Fault};
-ghost use Rattle.set_run.specs.declared.run_fault.RunFault.TheVariants.{TooManySources};
+ghost use Rattle.set_run.specs.declared.run_fault.RunFault.TheVariants.{TooManySources, OutOfMemory as NoMemory, Thread};
 ghost use Rattle.set_run.specs.Reports.{AreReported, IsCollected, IsWhole};
 ghost use Rattle.tfm_tables.specs.declared.fault.FontFault.{FontFault as FontRefusal};
 ghost use Rattle.tfm_tool.specs.ReportText.{summary_of_run};
 ghost use Rattle.tfm_tool.specs.Status.{is_text_fault};
-ghost use Rattle.tfm_tool.specs.Streaming.{IsCutAtLine, IsCutShort, IsStreamed, told_by};
+ghost use Rattle.tfm_tool.specs.Streaming.{IsCutAtLine, IsCutShort, IsStreamed, with_own_terms};
 ghost use Rattle.tfm_tool.specs.StreamState.{IsStreamOf, MovesOut, counts_summary};
 
 use crate::lane_count::LaneCount;
@@ -56,6 +56,8 @@ impl<W: Write, K: Beginning> Collector for Begun<'_, W, K> {
 
     ghost refused = { λ begun refusal. ⊤ };
 
+    ghost quiet = { λ begun. begun.stream.block.items ≡ [] };
+
     fn take(&mut self, lane: usize, answer: Answer) -> Result<(), Refusal> {
         self.stream.take(lane, &answer)
     }
@@ -89,6 +91,8 @@ where
         (IsStreamOf W.contents K.start) sources.items run stream.entry result.0) }
     ensures whole { IfOk result.1 (λ run. IsWhole run) }
     ensures fault { IfErr result.1 (λ fault. result.0 ≡ stream.entry) }
+    ensures few { vec_len sources ≤ 64
+        → IfErr result.1 (λ fault. (fault ≡ NoMemory) ⊎ (fault ≡ Thread)) }
 {
     let begun: Begun<'a, W, K> = Begun {
         stream,
@@ -151,12 +155,14 @@ where
         × IsStreamed version reports (W.contents out.old) (W.contents out.new)
         × (summary ≡ summary_of_run reports)) }
     ensures many { 64 < vec_len sources → result ≡ Err (ToolFault.Run TooManySources) }
+    ensures few { vec_len sources ≤ 64 → (fault : Fault) → result ≡ Err (ToolFault.Run fault)
+        → (fault ≡ NoMemory) ⊎ (fault ≡ Thread) }
     ensures run { (fault : Fault) → result ≡ Err (ToolFault.Run fault) → out.new ≡ out.old }
     ensures font { (fault : FontRefusal) → result ≡ Err (ToolFault.Font fault) → ⊥ }
-    ensures write { result ≡ Err ToolFault.Write → IsCutShort version
-        (told_by S.to_come sources.items) (W.contents out.old) (W.contents out.new) }
-    ensures memory { result ≡ Err ToolFault.OutOfMemory → IsCutAtLine version
-        (told_by S.to_come sources.items) (W.contents out.old) (W.contents out.new) }
+    ensures write { result ≡ Err ToolFault.Write → IsCutShort S.to_come S.failed version
+        (with_own_terms sources.items) (W.contents out.old) (W.contents out.new) }
+    ensures memory { result ≡ Err ToolFault.OutOfMemory → IsCutAtLine S.to_come S.failed version
+        (with_own_terms sources.items) (W.contents out.old) (W.contents out.new) }
 {
     if sources.len() > MOST_SOURCES {
         return Err(ToolFault::Run(RunFault::TooManySources));

@@ -68,6 +68,8 @@ impl Collector for Refuses {
 
     ghost refused = { λ c refusal. ⊤ };
 
+    ghost quiet = { λ c. ⊤ };
+
     fn take(&mut self, lane: usize, answer: Answer) -> Result<(), Refusal> {
         if !self.is_taken() {
             return Err(self.refusal);

@@ -13,10 +13,11 @@ loop-init g c = record {
   same = zip_refl SameLane lane_refl c.args.lanes.now.items;
   lanes = refl;
   told = tells_all_same g.C.Collector.given c.args.lanes.now.items c.args.collector.now;
+  willing = c.requires.willing;
 }
 
-pub go_round-requires : goal.go_round-requires
-go_round-requires g c =
+pub go_round-requires-clause-lanes : goal.go_round-requires-clause-lanes
+go_round-requires-clause-lanes g c =
     let long : length c.args.lanes.now.items ≡ length c.loop.lanes.items =
     zip_length SameLane c.args.lanes.now.items c.loop.lanes.items c.loop.invariant.same in
     omega (arith, long, c.loop.invariant.lanes)
@@ -42,6 +43,7 @@ loop-preserved-then-branch g c =
       lanes = c.go_round.ensures.lanes ∙ c.loop.invariant.lanes;
       told = tells_all_then g.C.Collector.given ts now c.go_round.new.lanes.items c.args.collector.now c.loop.collector c.go_round.new.collector true
           (sym (zip_length SameLane ts now c.loop.invariant.same)) c.loop.invariant.told c.in_ok-go_round.ensures.told;
+      willing = c.in_ok-go_round.ensures.refused;
     }
 
 pub returns-then-have_ended-clause-same : goal.returns-then-have_ended-clause-same
@@ -79,4 +81,5 @@ loop-preserved g c =
           (tells_all_then g.C.Collector.given ts now c.go_round.new.lanes.items c.args.collector.now c.loop.collector c.go_round.new.collector true
           (sym (zip_length SameLane ts now c.loop.invariant.same)) c.loop.invariant.told c.in_ok-go_round.ensures.told)
           c.about_to_wait.ensures.given;
+      willing = c.in_ok-about_to_wait.ensures.refused;
     }

@@ -11,6 +11,7 @@ loop-i-init g c = record {
   same = zip_refl SameLane lane_refl c.args.lanes.now.items;
   lanes = refl;
   told = tells_all_same g.C.Collector.given c.args.lanes.now.items c.args.collector.now;
+  willing = c.requires.willing;
 }
 
 pub returns-in_err-came-clause-same : goal.returns-in_err-came-clause-same
@@ -48,4 +49,5 @@ loop-i-preserved g c =
           c.take_some.new.collector true (sym long) c.loop-i.invariant.told
           (tells_one g.C.Collector.given now c.loop-i.i (c.len.result - 1 - c.loop-i.i) c.index_mut.result.now c.take_some.new.self
           c.loop-i.collector c.take_some.new.collector true here at c.index_mut.ensures.value c.in_ok-came.ensures.told);
+      willing = c.in_ok-came.ensures.refused;
     }

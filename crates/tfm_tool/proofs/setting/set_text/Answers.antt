@@ -11,7 +11,7 @@ returns-in-Ok-with_terms-clause-text g c =
     let terms : TermsValue = record { font = c.in-Ok.font; limit = c.args.limit; policy = c.args.policy } in
     let same : arc_value c.in_ok-terms.terms ≡ terms = search rules in
     let have : AllZip (HasTerms terms) c.args.sources.items c.in-Ok-with_terms.sources.items =
-    subst (λ t. AllZip (HasTerms t) c.args.sources.items c.in-Ok-with_terms.sources.items) same c.in-Ok-with_terms.ensures
+    subst (λ t. AllZip (HasTerms t) c.args.sources.items c.in-Ok-with_terms.sources.items) same c.in-Ok-with_terms.ensures.terms
     in
     all_set g.S.LineSource.to_come g.S.LineSource.failed c.args.font.now c.args.size c.in-Ok.font c.args.limit c.args.policy c.args.version
     c.args.sources.items c.in-Ok-with_terms.sources.items (g.W.Write.contents c.args.out.now) (g.W.Write.contents c.set_each.new.out) c.set_each.result
