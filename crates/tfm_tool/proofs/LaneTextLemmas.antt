@@ -14,67 +14,8 @@ use Rattle.line_lane.specs.declared.ending.LaneEnd.{LaneEnd}
 use Rattle.set_run.specs.declared.collector.Refusal.{Refusal}
 use Rattle.set_run.specs.Events.{Event, LaneEvent, Answered, Ended, Gets, answers_among, of_lane}
 use Rattle.tfm_tool.specs.RunText.{end_text, is_refused, why_of}
-use Rattle.tfm_tool.specs.LaneText.{AreKept, LaneTextValue, events_text, kept_of}
-
--- ---- what came of a lane
-
-cond_append : (b : Bool) (x : LaneEvent) (xs ys : List LaneEvent) → (if b then x ∷ (xs ++ ys) else xs ++ ys) ≡ (if b then x ∷ xs else xs) ++ ys
-cond_append true x xs ys = refl
-cond_append false x xs ys = refl
-
--- one event more of this lane
-of_lane_more : (lane n : ℕ) (events : List Event) (event : LaneEvent) → n ≡ lane → of_lane lane (events ++ (n, event) ∷ []) ≡ of_lane lane events ++ event ∷ []
-of_lane_more lane n [] event same = ap (λ b. if b then event ∷ [] else []) (eq-eqb n lane same)
-of_lane_more lane n (e ∷ events) event same =
-    ap (λ more. if e.0 == lane then e.1 ∷ more else more) (of_lane_more lane n events event same)
-    ∙ cond_append (e.0 == lane) e.1 (of_lane lane events) (event ∷ [])
-
-other_test : (lane n : ℕ) → (n ≡ lane → ⊥) → (n == lane) ≡ false
-other_test lane n other = elim (eqb_tells n lane) [ inl p ↦ absurd (other p.1) | inr p ↦ p.0 ]
-
--- one event more of another lane
-of_lane_other : (lane n : ℕ) (events : List Event) (event : LaneEvent) → (n == lane) ≡ false → of_lane lane (events ++ (n, event) ∷ []) ≡ of_lane lane events
-of_lane_other lane n [] event other = ap (λ b. if b then event ∷ [] else []) other
-of_lane_other lane n (e ∷ events) event other =
-    ap (λ more. if e.0 == lane then e.1 ∷ more else more) (of_lane_other lane n events event other)
-
-among_answered : (events : List LaneEvent) (answer : AnswerValue) → answers_among (events ++ Answered answer ∷ []) ≡ answers_among events ++ answer ∷ []
-among_answered [] answer = refl
-among_answered (Answered a ∷ events) answer = ap (λ more. a ∷ more) (among_answered events answer)
-among_answered (Ended e ∷ events) answer = among_answered events answer
-
-among_ended : (events : List LaneEvent) (end : LaneEnd) → answers_among (events ++ Ended end ∷ []) ≡ answers_among events
-among_ended [] end = refl
-among_ended (Answered a ∷ events) end = ap (λ more. a ∷ more) (among_ended events end)
-among_ended (Ended e ∷ events) end = among_ended events end
-
--- ---- the text of what came of a lane
-
-text_answered : (source : ℕ) (version : Version) (before count : ℕ) (events : List LaneEvent) (answer : AnswerValue)
-    → count ≡ before + length (answers_among events)
-    → events_text source version before (events ++ Answered answer ∷ [])
-    ≡ events_text source version before events ++ record_text source (count + 1) answer.outcome version
-text_answered source version before count [] answer is =
-    append-nil _ ∙ ap (λ n. record_text source (n + 1) answer.outcome version) (let same : before ≡ count = omega arith in same)
-text_answered source version before count (Answered a ∷ events) answer is =
-    ap (λ more. record_text source (before + 1) a.outcome version ++ more) (text_answered source version (before + 1) count events answer (omega arith))
-    ∙ sym (append_assoc (record_text source (before + 1) a.outcome version) _ _)
-text_answered source version before count (Ended e ∷ events) answer is =
-    ap (λ more. end_text source (why_of e) before ++ more) (text_answered source version before count events answer is)
-    ∙ sym (append_assoc (end_text source (why_of e) before) _ _)
-
-text_ended : (source : ℕ) (version : Version) (before count : ℕ) (events : List LaneEvent) (end : LaneEnd)
-    → count ≡ before + length (answers_among events)
-    → events_text source version before (events ++ Ended end ∷ [])
-    ≡ events_text source version before events ++ end_text source (why_of end) count
-text_ended source version before count [] end is =
-    append-nil _ ∙ ap (λ n. end_text source (why_of end) n) (let same : before ≡ count = omega arith in same)
-text_ended source version before count (Answered a ∷ events) end is =
-    ap (λ more. record_text source (before + 1) a.outcome version ++ more) (text_ended source version (before + 1) count events end (omega arith))
-    ∙ sym (append_assoc (record_text source (before + 1) a.outcome version) _ _)
-text_ended source version before count (Ended e ∷ events) end is =
-    ap (λ more. end_text source (why_of e) before ++ more) (text_ended source version before count events end is)
-    ∙ sym (append_assoc (end_text source (why_of e) before) _ _)
+use Rattle.tfm_tool.specs.LaneText.{AreKept, LaneTextValue, kept_of}
+use Rattle.tfm_tool.proofs.EventLemmas.{among_answered, among_ended, of_lane_more, of_lane_other, other_test, text_more}
 
 -- ---- what is kept of a lane
 
@@ -103,7 +44,7 @@ kept_answered : (version : Version) (source : ℕ) (events : List LaneEvent) (an
 kept_answered version source events answer old new was is =
     is ∙ ap (with_answer version source answer) was
     ∙ same_lane _ _ _ _ _ _
-    (sym (text_answered source version 0 (length (answers_among events)) events answer (omega arith)))
+    (sym (text_more source version events (Answered answer)))
     (sym (ap length (among_answered events answer) ∙ length_more (answers_among events) answer))
     (sym (ap (count_by is_refused) (among_answered events answer) ∙ sum_by-append (λ a. cond (is_refused a) 1 0) (answers_among events) (answer ∷ [])))
 
@@ -112,7 +53,7 @@ kept_ended : (version : Version) (source : ℕ) (events : List LaneEvent) (end :
 kept_ended version source events end old new was is =
     is ∙ ap (with_end source end) was
     ∙ same_lane _ _ _ _ _ _
-    (sym (text_ended source version 0 (length (answers_among events)) events end (omega arith)))
+    (sym (text_more source version events (Ended end)))
     (sym (ap length (among_ended events end)))
     (sym (ap (count_by is_refused) (among_ended events end)))
 
@@ -132,7 +73,7 @@ kept_same : (version : Version) (events : List Event) (n : ℕ) (event : LaneEve
     → n < number → AreKept version events number lanes → AreKept version (events ++ (n, event) ∷ []) number lanes
 kept_same version events n event number [] before kept = tt
 kept_same version events n event number (lane ∷ lanes) before kept = (
-  kept.0 ∙ ap (kept_of version (number + 1)) (sym (of_lane_other number n events event (other_test number n (λ (e : n ≡ number). omega arith)))),
+  kept.0 ∙ ap (kept_of version (number + 1)) (sym (of_lane_other number n events event (other_test n number (λ (e : n ≡ number). omega arith)))),
   kept_same version events n event (number + 1) lanes (omega arith) kept.1,
 )
 
@@ -148,7 +89,7 @@ kept_set version events number zero n (lane ∷ lanes) event new at within is ke
       kept_same version events n event (number + 1) lanes (omega arith) kept.1,
     )
 kept_set version events number (suc i) n (lane ∷ lanes) event new at within is kept = (
-  kept.0 ∙ ap (kept_of version (number + 1)) (sym (of_lane_other number n events event (other_test number n (λ (e : n ≡ number). omega arith)))),
+  kept.0 ∙ ap (kept_of version (number + 1)) (sym (of_lane_other number n events event (other_test n number (λ (e : n ≡ number). omega arith)))),
   kept_set version events (number + 1) i n lanes event new (omega arith) (omega (arith, within)) is kept.1,
 )
 

@@ -3,7 +3,9 @@ pub mod ListingLemmas
 pub mod SettingLemmas
 pub mod StatusLemmas
 pub mod RunTextLemmas
+pub mod EventLemmas
 pub mod LaneTextLemmas
+pub mod ReportLemmas
 pub mod ReportTextLemmas
 pub mod StreamLemmas
 pub mod StreamEvents

@@ -12,30 +12,12 @@ use Rattle.line_lane.specs.declared.ending.LaneEnd.{LaneEnd}
 use Rattle.set_run.specs.Events.{Event, LaneEvent, Answered, Ended, answers_among, answers_in, of_lane, lane_events}
 use Rattle.tfm_tool.specs.RunText.{is_refused}
 use Rattle.tfm_tool.specs.Streaming.{SourceLine, end_lines, merged_text, of_source, record_lines}
-use Rattle.tfm_tool.specs.StreamState.{AreCounts, AreLinesOf, IsCountOf, event_line, event_lines}
+use Rattle.tfm_tool.specs.LaneText.{event_line, event_lines}
+use Rattle.tfm_tool.specs.StreamState.{AreCounts, AreLinesOf, IsCountOf}
 use Rattle.tfm_tool.specs.declared.lane_count.LaneCount.{LaneCount}
+use Rattle.tfm_tool.proofs.EventLemmas.{among_answered, among_ended, cond_append, lines_more, of_lane_more, of_lane_other, other_test}
 
--- ---- what came of a lane
-
-cond_append : {A : Type 0} (b : Bool) (x : A) (xs ys : List A) → (if b then x ∷ (xs ++ ys) else xs ++ ys) ≡ (if b then x ∷ xs else xs) ++ ys
-cond_append true x xs ys = refl
-cond_append false x xs ys = refl
-
-other_test : (a b : ℕ) → (a ≡ b → ⊥) → (a == b) ≡ false
-other_test a b other = elim (eqb_tells a b) [ inl p ↦ absurd (other p.1) | inr p ↦ p.0 ]
-
--- one event more of this lane
-of_lane_more : (lane n : ℕ) (events : List Event) (event : LaneEvent) → n ≡ lane → of_lane lane (events ++ (n, event) ∷ []) ≡ of_lane lane events ++ event ∷ []
-of_lane_more lane n [] event same = ap (λ b. if b then event ∷ [] else []) (eq-eqb n lane same)
-of_lane_more lane n (e ∷ events) event same =
-    ap (λ more. if e.0 == lane then e.1 ∷ more else more) (of_lane_more lane n events event same)
-    ∙ cond_append (e.0 == lane) e.1 (of_lane lane events) (event ∷ [])
-
--- one event more of another lane
-of_lane_other : (lane n : ℕ) (events : List Event) (event : LaneEvent) → (n == lane) ≡ false → of_lane lane (events ++ (n, event) ∷ []) ≡ of_lane lane events
-of_lane_other lane n [] event other = ap (λ b. if b then event ∷ [] else []) other
-of_lane_other lane n (e ∷ events) event other =
-    ap (λ more. if e.0 == lane then e.1 ∷ more else more) (of_lane_other lane n events event other)
+-- ---- lines of sources
 
 -- one line more of this source
 of_source_more : (source n : ℕ) (lines : List SourceLine) (text : List ℕ) → n ≡ source → of_source source (lines ++ (n, text) ∷ []) ≡ of_source source lines ++ text ∷ []
@@ -56,30 +38,6 @@ merged_more [] line = append-nil line.1
 merged_more (l ∷ lines) line = ap (λ t. l.1 ++ t) (merged_more lines line) ∙ sym (append_assoc l.1 (merged_text lines) line.1)
 
 -- ---- lines of events
-
--- the line of one event more
-lines_more : (source : ℕ) (version : Version) (before count : ℕ) (events : List LaneEvent) (event : LaneEvent)
-    → count ≡ before + length (answers_among events)
-    → event_lines source version before (events ++ event ∷ []) ≡ event_lines source version before events ++ event_line source version count event ∷ []
-lines_more source version before count [] (Answered answer) is =
-    let same : before ≡ count = omega arith in ap (λ n. event_line source version n (Answered answer) ∷ []) same
-lines_more source version before count [] (Ended end) is =
-    let same : before ≡ count = omega arith in ap (λ n. event_line source version n (Ended end) ∷ []) same
-lines_more source version before count (Answered a ∷ events) event is =
-    ap (λ t. event_line source version before (Answered a) ∷ t) (lines_more source version (before + 1) count events event (omega arith))
-lines_more source version before count (Ended e ∷ events) event is =
-    ap (λ t. event_line source version before (Ended e) ∷ t) (lines_more source version before count events event is)
-
--- the lines of a lane with these answers
-pub lines_of_lane : (source : ℕ) (version : Version) (before place count : ℕ) (answers : List AnswerValue) (end : Option LaneEnd)
-    → place ≡ before + 1 → count ≡ before + length answers
-    → event_lines source version before (lane_events answers end) ≡ record_lines source place version answers ++ end_lines source end count
-lines_of_lane source version before place count [] None at is = refl
-lines_of_lane source version before place count [] (Some end) at is =
-    let same : before ≡ count = omega arith in ap (λ n. end_lines source (Some end) n) same
-lines_of_lane source version before place count (answer ∷ answers) end at is =
-    ap (λ t. event_line source version before (Answered answer) ∷ t) (lines_of_lane source version (before + 1) (place + 1) count answers end (omega arith) (omega arith))
-    ∙ ap (λ n. record_text source n answer.outcome version ∷ (record_lines source (place + 1) version answers ++ end_lines source end count)) (sym at)
 
 -- one event more, and its line
 pub event_lined : (version : Version) (events : List Event) (lines : List SourceLine) (lane : ℕ) (event : LaneEvent) (text : List ℕ)
@@ -106,16 +64,6 @@ event_lined version events lines lane event text is so_far = (
         ∙ ap (event_lines (i + 1) version 0) (sym (of_lane_other i lane events event (other_test lane i differs)))
 
 -- ---- counts
-
-among_answered : (events : List LaneEvent) (answer : AnswerValue) → answers_among (events ++ Answered answer ∷ []) ≡ answers_among events ++ answer ∷ []
-among_answered [] answer = refl
-among_answered (Answered a ∷ events) answer = ap (λ more. a ∷ more) (among_answered events answer)
-among_answered (Ended e ∷ events) answer = among_answered events answer
-
-among_ended : (events : List LaneEvent) (end : LaneEnd) → answers_among (events ++ Ended end ∷ []) ≡ answers_among events
-among_ended [] end = refl
-among_ended (Answered a ∷ events) end = ap (λ more. a ∷ more) (among_ended events end)
-among_ended (Ended e ∷ events) end = among_ended events end
 
 length_more : (answers : List AnswerValue) (answer : AnswerValue) → length (answers ++ answer ∷ []) ≡ length answers + 1
 length_more answers answer = length-append answers (answer ∷ [])

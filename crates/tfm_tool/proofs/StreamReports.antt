@@ -26,36 +26,18 @@ use Rattle.set_run.specs.declared.run_end.ClosedLane.{ClosedLane}
 use Rattle.set_run.specs.declared.run_end.RunEnd.{RunEnd}
 use Rattle.tfm_tool.specs.declared.fault.ToolFault.{ToolFault}
 use Rattle.tfm_tool.specs.RunText.{end_text, head_text, is_refused, lane_text, records_from, why_of}
-use Rattle.tfm_tool.specs.ReportText.{is_unread, is_wanting, summary_of_run}
+use Rattle.tfm_tool.specs.ReportText.{is_unread, is_wanting, summary_of_lanes, summary_of_run}
 use Rattle.tfm_tool.specs.Streaming.{AreOfSources, HaveCome, HaveLines, IsCutAtLine, IsCutShort, IsPartOfMerge, IsStreamed, SourceLine, lane_lines, merged_text, of_source, record_lines, with_own_terms}
-use Rattle.tfm_tool.specs.StreamState.{AreCounts, AreLinesOf, AreOut, MovesOut, StreamStart, counts_summary, event_lines}
+use Rattle.tfm_tool.specs.StreamState.{AreCounts, AreLinesOf, AreOut, MovesOut, StreamStart}
+use Rattle.tfm_tool.specs.LaneText.{event_lines}
 use Rattle.tfm_tool.specs.declared.lane_count.LaneCount.{LaneCount}
 use Rattle.tfm_tool.specs.declared.summary.Summary.{Summary}
-use Rattle.tfm_tool.proofs.StreamEvents.{lines_of_lane}
+use Rattle.tfm_tool.proofs.EventLemmas.{lane_joined, lines_of_lane}
+use Rattle.tfm_tool.proofs.ReportLemmas.{HasEnd, are_reported, as_many, end_or, ends_of, reports_of, same_summary, some_end}
 use Rattle.tfm_tool.proofs.StreamLemmas.{moves_more}
 use Rattle.tfm_tool.proofs.StreamSteps.{StandsSo}
 
--- ---- a lane with an end
-
-abbrev end_or : Option LaneEnd → LaneEnd
-end_or None = Complete
-end_or (Some end) = end
-
-some_end : (end : Option LaneEnd) → IsSome end → end ≡ Some (end_or end)
-some_end None is = absurd (cc)
-some_end (Some end) is = refl
-
--- the lines of a lane, joined
-records_joined : (source place : ℕ) (version : Version) (answers : List AnswerValue) (last : List ℕ)
-    → concat (record_lines source place version answers ++ last ∷ []) ≡ records_from source place version answers ++ last
-records_joined source place version [] last = append-nil last
-records_joined source place version (answer ∷ answers) last =
-    ap (λ t. record_text source place answer.outcome version ++ t) (records_joined source (place + 1) version answers last)
-    ∙ sym (append_assoc (record_text source place answer.outcome version) (records_from source (place + 1) version answers) last)
-
-pub lane_joined : (source : ℕ) (version : Version) (answers : List AnswerValue) (end : LaneEnd)
-    → concat (lane_lines source version answers (Some end)) ≡ lane_text source version answers (why_of end)
-lane_joined source version answers end = records_joined source 1 version answers (end_text source (why_of end) (length answers))
+-- ---- the lines of a lane
 
 -- the lines of a source of which this came
 own_lines : (version : Version) (events : List Event) (lines : List SourceLine) (number : ℕ) (end : Option LaneEnd)
@@ -96,51 +78,7 @@ pub of_sources : (version : Version) (events : List Event) (lines : List SourceL
 of_sources version events lines sources are none =
     all_within sources lines are.0 (λ lane h. are.1 lane ∙ ap (event_lines (lane + 1) version 0) (none lane h))
 
-abbrev summary_from : ℕ → Bool → Bool → Summary
-summary_from refused read_failed memory = record { refused = refused; read_failed = read_failed; memory = memory }
-
-same_summary : (r r' : ℕ) (f f' m m' : Bool) → r ≡ r' → f ≡ f' → m ≡ m' → summary_from r f m ≡ summary_from r' f' m'
-same_summary r r' f f' m m' p q s =
-    ap (λ x. summary_from x f m) p ∙ ap (λ x. summary_from r' x m) q ∙ ap (λ x. summary_from r' f' x) s
-
 module _ {S : Type 0} where
-  abbrev HasEnd : ClosedLane S → Type 0
-  HasEnd lane = IsSome lane.end
-
-  -- the reports of lanes, of which the first has this number
-  abbrev reports_of : ℕ → List Event → List (ClosedLane S) → List (LaneReport S)
-  reports_of number events [] = []
-  reports_of number events (lane ∷ lanes) =
-      record { source = lane.source; answers = answers_in number events; end = end_or lane.end } ∷ reports_of (number + 1) events lanes
-
-  are_reported : (to_come : S → Option (List (List ℕ))) (failed : S → Option SourceFault) (events : List Event) (number : ℕ)
-      (sources : List (S × Arc TermsValue Global)) (lanes : List (ClosedLane S))
-      → AreClosed to_come failed events number sources lanes → All (λ lane. IsSome lane.end) lanes
-      → AreReported to_come failed sources (reports_of number events lanes)
-  are_reported to_come failed events number [] [] closed whole = tt
-  are_reported to_come failed events number [] (l ∷ lanes) closed whole = absurd closed
-  are_reported to_come failed events number (s ∷ sources) [] closed whole = absurd closed
-  are_reported to_come failed events number (s ∷ sources) (l ∷ lanes) closed whole = (
-    subst (λ (end : Option LaneEnd). IsTrueToSource (record {
-      terms = arc_value s.1;
-      before = to_come s.0;
-      answers = answers_in number events;
-      end = end;
-      after = to_come l.source;
-      fails = failed l.source;
-    })) (some_end l.end (All-head HasEnd l lanes whole)) closed.1,
-    are_reported to_come failed events (number + 1) sources lanes closed.2 (All-tail HasEnd l lanes whole),
-  )
-
-  -- how many reports there are
-  as_many : (to_come : S → Option (List (List ℕ))) (failed : S → Option SourceFault) (events : List Event) (number : ℕ)
-      (sources : List (S × Arc TermsValue Global)) (lanes : List (ClosedLane S))
-      → AreClosed to_come failed events number sources lanes → length (reports_of number events lanes) ≡ length sources
-  as_many to_come failed events number [] [] closed = refl
-  as_many to_come failed events number [] (l ∷ lanes) closed = absurd closed
-  as_many to_come failed events number (s ∷ sources) [] closed = absurd closed
-  as_many to_come failed events number (s ∷ sources) (l ∷ lanes) closed = ap suc (as_many to_come failed events (number + 1) sources lanes closed.2)
-
   -- the lines of the reports
   have_lines : (to_come : S → Option (List (List ℕ))) (failed : S → Option SourceFault) (version : Version) (events : List Event) (lines : List SourceLine)
       (number next : ℕ) (sources : List (S × Arc TermsValue Global)) (lanes : List (ClosedLane S)) → next ≡ number + 1
@@ -192,20 +130,13 @@ module _ {S : Type 0} where
       ∙ ap (λ n. n + sum_by (λ lane. count_by is_refused lane.answers) (reports_of (number + 1) events lanes)) are.0.1
       ∙ sym (sum_by-cons (λ (lane : LaneReport S). count_by is_refused lane.answers) (record { source = l.source; answers = answers_in number events; end = end_or l.end }) (reports_of (number + 1) events lanes))
 
-  ends_of : (is : LaneEnd → Bool) (events : List Event) (number : ℕ) (lanes : List (ClosedLane S)) → All (λ lane. IsSome lane.end) lanes
-      → list_any (λ lane. option_map_or is lane.end false) lanes ≡ list_any (λ lane. is lane.end) (reports_of number events lanes)
-  ends_of is events number [] whole = refl
-  ends_of is events number (l ∷ lanes) whole =
-      ap (λ more. option_map_or is l.end false || more) (ends_of is events (number + 1) lanes (All-tail HasEnd l lanes whole))
-      ∙ ap (λ (end : Option LaneEnd). option_map_or is end false || list_any (λ lane. is lane.end) (reports_of (number + 1) events lanes)) (some_end l.end (All-head HasEnd l lanes whole))
-
   module _ (to_come : S → Option (List (List ℕ))) (failed : S → Option SourceFault) (version : Version) (events : List Event)
       (sources : List (S × Arc TermsValue Global)) (lanes : List (ClosedLane S)) (before : Option (List ℕ)) (block : List ℕ) where
     -- all was written
     pub all_streamed : (after : Option (List ℕ)) (counts : List LaneCount) (summary : Summary)
         → AreClosed to_come failed events 0 sources lanes → HasNoOthers events (length sources) → All (λ lane. IsSome lane.end) lanes
         → length counts ≡ length sources → AreCounts events 0 counts → AreOut version events before after block → block ≡ []
-        → summary ≡ counts_summary counts lanes
+        → summary ≡ summary_of_lanes (sum_by (λ count. count.refused) counts) lanes
         → (reports : List (LaneReport S)) × AreReported to_come failed sources reports × IsStreamed version reports before after × (summary ≡ summary_of_run reports)
     all_streamed after counts summary closed none whole long are (lines, lined, (written, appends, all)) empty is =
         let reports : List (LaneReport S) = reports_of 0 events lanes in
@@ -281,7 +212,7 @@ module _ {S : Type 0} (to_come : S → Option (List (List ℕ))) (failed : S →
       (more_out start.version events start.before w w' block left moves stands.4) empty
 
   pub ends_whole : (r : Result Summary ToolFault) → Came → start.lanes ≡ length sources → MovesOut w block w' left → OnOk r (left ≡ [])
-      → OnOk r (All (λ lane. IsSome lane.end) lanes) → IfOk r (λ summary. summary ≡ counts_summary counts lanes)
+      → OnOk r (All (λ lane. IsSome lane.end) lanes) → IfOk r (λ summary. summary ≡ summary_of_lanes (sum_by (λ count. count.refused) counts) lanes)
       → IfOk r (λ summary. (reports : List (LaneReport S)) × AreReported to_come failed sources reports
       × IsStreamed start.version reports start.before w' × (summary ≡ summary_of_run reports))
   ends_whole (Ok summary) (events, stands, closed, none) long moves empty whole is =

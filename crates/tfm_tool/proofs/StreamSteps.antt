@@ -10,7 +10,8 @@ use Rattle.line_lane.specs.declared.ending.LaneEnd.{LaneEnd}
 use Rattle.set_run.specs.Events.{Event, LaneEvent, Answered, Ended, answers_in}
 use Rattle.tfm_tool.specs.RunText.{end_text, head_text, is_refused, why_of}
 use Rattle.tfm_tool.specs.Streaming.{merged_text}
-use Rattle.tfm_tool.specs.StreamState.{AreCounts, AreOut, MovesOut, IsCountOf, StreamStart, event_line}
+use Rattle.tfm_tool.specs.LaneText.{event_line}
+use Rattle.tfm_tool.specs.StreamState.{AreCounts, AreOut, MovesOut, IsCountOf, StreamStart}
 use Rattle.tfm_tool.specs.declared.lane_count.LaneCount.{LaneCount}
 use Rattle.tfm_tool.proofs.StreamLemmas.{appends_nothing, moves_more, nothing_appended}
 use Rattle.tfm_tool.proofs.StreamEvents.{count_answered, count_ended, counts_at, counts_set, event_lined, merged_more}

@@ -1,6 +1,7 @@
 -- What is kept of a lane while a run goes on: its text so far, and counts.
 -- This project's own.
-use Rattle.std.specs.Prelude.{◌≡◌, ℕ, ◌+◌, List, [], ◌∷◌, ◌++◌, count_by, length}
+use Rattle.std.specs.Prelude.{◌≡◌, ℕ, ◌+◌, List, [], ◌∷◌, count_by, length}
+use Rattle.std.specs.List.{concat}
 use Rattle.set_line.specs.declared.version.Version.{Version}
 use Rattle.set_line.specs.Record.{record_text}
 use Rattle.set_run.specs.Events.{Event, LaneEvent, Answered, Ended, answers_among, of_lane}
@@ -12,18 +13,23 @@ pub record LaneTextValue : Type 0 where
   pub answers : ℕ
   pub refused : ℕ
 
--- the text of what came of a source behind so many answers: the records of answers, and the end line
-abbrev pub events_text : ℕ → Version → ℕ → List LaneEvent → List ℕ
-events_text source version answers [] = []
-events_text source version answers (Answered answer ∷ events) =
-    record_text source (answers + 1) answer.outcome version ++ events_text source version (answers + 1) events
-events_text source version answers (Ended end ∷ events) =
-    end_text source (why_of end) answers ++ events_text source version answers events
+-- the line of what came of a source behind so many answers
+abbrev pub event_line : ℕ → Version → ℕ → LaneEvent → List ℕ
+event_line source version answers (Answered answer) = record_text source (answers + 1) answer.outcome version
+event_line source version answers (Ended end) = end_text source (why_of end) answers
+
+-- the lines of what came of a source behind so many answers
+abbrev pub event_lines : ℕ → Version → ℕ → List LaneEvent → List (List ℕ)
+event_lines source version answers [] = []
+event_lines source version answers (Answered answer ∷ events) =
+    event_line source version answers (Answered answer) ∷ event_lines source version (answers + 1) events
+event_lines source version answers (Ended end ∷ events) =
+    event_line source version answers (Ended end) ∷ event_lines source version answers events
 
 -- what is kept of a source of which this came
 abbrev pub kept_of : Version → ℕ → List LaneEvent → LaneTextValue
 kept_of version source events = record {
-  text = events_text source version 0 events;
+  text = concat (event_lines source version 0 events);
   answers = length (answers_among events);
   refused = count_by is_refused (answers_among events);
 }

@@ -2,11 +2,13 @@
 -- This project's own.
 use Rattle.std.specs.Prelude.{ℕ, ◌+◌, Bool, true, false, List, [], ◌∷◌, ◌++◌, count_by, sum_by, min, ◌-◌, ◌^◌}
 use Rattle.std.specs.List.{list_any}
+use Rattle.std.specs.Option.{option_map_or}
 use Rattle.set_line.specs.declared.version.Version.{Version}
 use Rattle.line_lane.specs.declared.fault.SourceFault.TheVariants.{Read, OutOfMemory, ReadBound}
 use Rattle.line_lane.specs.declared.ending.LaneEnd.{LaneEnd}
 use Rattle.line_lane.specs.declared.ending.LaneEnd.TheVariants.{Complete, SourceFailed, GaveUp}
 use Rattle.set_run.specs.declared.report.LaneReport.{LaneReport}
+use Rattle.set_run.specs.declared.run_end.ClosedLane.{ClosedLane}
 use Rattle.tfm_tool.specs.RunText.{head_text, lane_text, is_refused, why_of}
 use Rattle.tfm_tool.specs.declared.summary.Summary.{Summary}
 
@@ -47,4 +49,12 @@ module _ {S : Type 0} where
     refused = refused_in lanes;
     read_failed = list_any (λ lane. is_unread lane.end) lanes;
     memory = list_any (λ lane. is_wanting lane.end) lanes;
+  }
+
+  -- the same of lanes that were closed, of which so many lines were refused
+  abbrev pub summary_of_lanes : ℕ → List (ClosedLane S) → Summary
+  summary_of_lanes refused lanes = record {
+    refused = min (2 ^ 64 - 1) refused;
+    read_failed = list_any (λ lane. option_map_or is_unread lane.end false) lanes;
+    memory = list_any (λ lane. option_map_or is_wanting lane.end false) lanes;
   }

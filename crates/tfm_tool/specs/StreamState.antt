@@ -1,33 +1,15 @@
 -- Where a run stands whose lines are written as they come.
 -- This project's own.
-use Rattle.std.specs.Prelude.{◌≡◌, ℕ, ◌+◌, List, [], ◌∷◌, ◌++◌, length, count_by, sum_by, min, ◌-◌, ◌^◌, false, Option}
-use Rattle.std.specs.List.{list_any}
-use Rattle.std.specs.Option.{option_map_or}
-use Rattle.set_run.specs.declared.run_end.ClosedLane.{ClosedLane}
-use Rattle.tfm_tool.specs.ReportText.{is_unread, is_wanting}
-use Rattle.tfm_tool.specs.declared.summary.Summary.{Summary}
+use Rattle.std.specs.Prelude.{◌≡◌, ℕ, ◌+◌, List, [], ◌∷◌, ◌++◌, length, count_by, Option}
 use Rattle.std.specs.Io.KnownBytes.{Appends}
 use Rattle.set_line.specs.Answer.{AnswerValue}
-use Rattle.set_line.specs.Record.{record_text}
 use Rattle.set_line.specs.declared.version.Version.{Version}
-use Rattle.set_run.specs.Events.{Event, LaneEvent, Answered, Ended, answers_in, of_lane}
-use Rattle.tfm_tool.specs.RunText.{end_text, head_text, is_refused, why_of}
+use Rattle.set_run.specs.Events.{Event, answers_in, of_lane}
+use Rattle.tfm_tool.specs.RunText.{head_text, is_refused}
+use Rattle.tfm_tool.specs.LaneText.{event_lines}
 use Rattle.tfm_tool.specs.Streaming.{SourceLine, merged_text, of_source}
 use Rattle.tfm_tool.specs.declared.lane_count.LaneCount.{LaneCount}
 use Rattle.tfm_tool.specs.declared.stream.Stream.{Stream}
-
--- the line of what came of a source behind so many answers
-abbrev pub event_line : ℕ → Version → ℕ → LaneEvent → List ℕ
-event_line source version answers (Answered answer) = record_text source (answers + 1) answer.outcome version
-event_line source version answers (Ended end) = end_text source (why_of end) answers
-
--- the lines of what came of a source behind so many answers
-abbrev pub event_lines : ℕ → Version → ℕ → List LaneEvent → List (List ℕ)
-event_lines source version answers [] = []
-event_lines source version answers (Answered answer ∷ events) =
-    event_line source version answers (Answered answer) ∷ event_lines source version (answers + 1) events
-event_lines source version answers (Ended end ∷ events) =
-    event_line source version answers (Ended end) ∷ event_lines source version answers events
 
 -- these are the lines of events: the source of a lane has a number that is greater by one
 abbrev pub AreLinesOf : Version → List Event → List SourceLine → Type 0
@@ -71,12 +53,3 @@ module _ {W : Type 0} where
       × (length stream.counts.items ≡ start.lanes)
       × AreCounts events 0 stream.counts.items
       × AreOut start.version events start.before (contents stream.out.now) stream.block.items
-
-module _ {S : Type 0} where
-  -- what came of a run with these counts, whose lanes ended so
-  abbrev pub counts_summary : List LaneCount → List (ClosedLane S) → Summary
-  counts_summary counts lanes = record {
-    refused = min (2 ^ 64 - 1) (sum_by (λ count. count.refused) counts);
-    read_failed = list_any (λ lane. option_map_or is_unread lane.end false) lanes;
-    memory = list_any (λ lane. option_map_or is_wanting lane.end false) lanes;
-  }

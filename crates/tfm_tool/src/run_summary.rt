@@ -1,8 +1,8 @@
 //! What came of a run, in short.
-ghost use Rattle.std.specs.Prelude.{◌≡◌, false, min, ◌-◌, ◌^◌, sum_by};
+ghost use Rattle.std.specs.Prelude.{◌≡◌, ℕ, false, min, ◌-◌, ◌^◌, sum_by};
 ghost use Rattle.std.specs.List.{list_any};
 ghost use Rattle.std.specs.Option.{option_map_or};
-ghost use Rattle.tfm_tool.specs.ReportText.{is_unread, is_wanting};
+ghost use Rattle.tfm_tool.specs.ReportText.{is_unread, is_wanting, summary_of_lanes};
 
 use crate::Summary;
 use crate::lane_count::LaneCount;
@@ -11,7 +11,7 @@ use line_lane::{LaneEnd, SourceFault};
 use set_run::ClosedLane;
 
 /// How many lines of all lanes were refused, told up to 2^64 - 1.
-fn all_refused(lanes: &[LaneText]) -> u64
+pub(crate) fn all_refused(lanes: &[LaneText]) -> u64
     ensures { result ≡ min (2 ^ 64 - 1) (sum_by (λ lane. lane.refused) lanes.now) }
 {
     let mut count: u64 = 0;
@@ -22,7 +22,7 @@ fn all_refused(lanes: &[LaneText]) -> u64
 }
 
 /// The same, of lanes whose records are only counted.
-fn all_counted(counts: &[LaneCount]) -> u64
+pub(crate) fn all_counted(counts: &[LaneCount]) -> u64
     ensures { result ≡ min (2 ^ 64 - 1) (sum_by (λ count. count.refused) counts.now) }
 {
     let mut refused: u64 = 0;
@@ -61,38 +61,13 @@ fn some_wanting<S>(lanes: &[ClosedLane<S>]) -> bool
 }
 
 /// The summary of a run with so many refused lines, whose lanes ended so.
-fn summary_with<S>(refused: u64, lanes: &[ClosedLane<S>]) -> Summary
-    ensures { result ≡ record {
-      refused = refused;
-      read_failed = list_any (λ lane. option_map_or is_unread lane.end false) lanes.now;
-      memory = list_any (λ lane. option_map_or is_wanting lane.end false) lanes.now;
-    } }
+pub(crate) fn summary_of<S>(refused: u64, lanes: &[ClosedLane<S>]) -> Summary
+    ensures { (lines : ℕ) → refused ≡ min (2 ^ 64 - 1) lines
+        → result ≡ summary_of_lanes lines lanes.now }
 {
     Summary {
         refused,
         read_failed: some_unread(lanes),
         memory: some_wanting(lanes),
     }
-}
-
-/// The summary of a run with these texts.
-pub(crate) fn summary_of<S>(texts: &[LaneText], lanes: &[ClosedLane<S>]) -> Summary
-    ensures { result ≡ record {
-      refused = min (2 ^ 64 - 1) (sum_by (λ lane. lane.refused) texts.now);
-      read_failed = list_any (λ lane. option_map_or is_unread lane.end false) lanes.now;
-      memory = list_any (λ lane. option_map_or is_wanting lane.end false) lanes.now;
-    } }
-{
-    summary_with(all_refused(texts), lanes)
-}
-
-/// The summary of a run with these counts.
-pub(crate) fn summary_of_counts<S>(counts: &[LaneCount], lanes: &[ClosedLane<S>]) -> Summary
-    ensures { result ≡ record {
-      refused = min (2 ^ 64 - 1) (sum_by (λ count. count.refused) counts.now);
-      read_failed = list_any (λ lane. option_map_or is_unread lane.end false) lanes.now;
-      memory = list_any (λ lane. option_map_or is_wanting lane.end false) lanes.now;
-    } }
-{
-    summary_with(all_counted(counts), lanes)
 }

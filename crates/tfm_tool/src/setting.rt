@@ -11,7 +11,7 @@ ghost use Rattle.tfm_tables.specs.Font.{FontValue, IsFontOf};
 ghost use Rattle.set_run.specs.Reports.{AreReported};
 ghost use Rattle.tfm_tool.specs.Setting.{AreReportedWith, HasTerms, IsWritten};
 
-use crate::run_summary::summary_of;
+use crate::run_summary::{all_refused, summary_of};
 use crate::run_text::{Kept, RunTexts};
 use crate::{Summary, ToolFault};
 use set_line::{Limit, Policy, Terms, Version};
@@ -64,7 +64,8 @@ where
     if let Some(_) = run.refusal {
         return Err(ToolFault::Run(RunFault::OutOfMemory));
     }
-    let summary = summary_of(texts.lanes.as_slice(), run.lanes.as_slice());
+    let refused = all_refused(texts.lanes.as_slice());
+    let summary = summary_of(refused, run.lanes.as_slice());
     texts.write(alloc, out)?;
     Ok(summary)
 }

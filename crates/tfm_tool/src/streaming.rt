@@ -1,17 +1,17 @@
 //! Sources of lines, set in one run, whose lines are written as they come.
-ghost use Rattle.std.specs.Prelude.{◌≡◌, true, ◌<◌, ◌≤◌, ◌⊎◌, ⊤, List, [], Err, None, length, IfErr, IfOk, OnOk, vec_len};
+ghost use Rattle.std.specs.Prelude.{◌≡◌, true, ◌<◌, ◌≤◌, ◌⊎◌, ⊤, List, [], Err, None, length, sum_by, IfErr, IfOk, OnOk, vec_len};
 ghost use Rattle.set_run.specs.declared.report.LaneReport.{LaneReport as Lane};
 ghost use Rattle.set_run.specs.declared.run_fault.RunFault.{RunFault as Fault};
 ghost use Rattle.set_run.specs.declared.run_fault.RunFault.TheVariants.{TooManySources, OutOfMemory as NoMemory, Thread};
 ghost use Rattle.set_run.specs.Reports.{AreReported, IsCollected, IsWhole};
 ghost use Rattle.tfm_tables.specs.declared.fault.FontFault.{FontFault as FontRefusal};
-ghost use Rattle.tfm_tool.specs.ReportText.{summary_of_run};
+ghost use Rattle.tfm_tool.specs.ReportText.{summary_of_lanes, summary_of_run};
 ghost use Rattle.tfm_tool.specs.Status.{is_text_fault};
 ghost use Rattle.tfm_tool.specs.Streaming.{IsCutAtLine, IsCutShort, IsStreamed, with_own_terms};
-ghost use Rattle.tfm_tool.specs.StreamState.{IsStreamOf, MovesOut, counts_summary};
+ghost use Rattle.tfm_tool.specs.StreamState.{IsStreamOf, MovesOut};
 
 use crate::lane_count::LaneCount;
-use crate::run_summary::summary_of_counts;
+use crate::run_summary::{all_counted, summary_of};
 use crate::stream::{Stream, first_block, no_answers, write_block};
 use crate::{Summary, ToolFault};
 use line_lane::LaneEnd;
@@ -114,7 +114,8 @@ fn finish<W: Write, S>(
         (W.contents out.new) block.new.items }
     ensures whole { OnOk result (run.now.refusal ≡ None) }
     ensures summary { IfOk result (λ summary.
-        summary ≡ counts_summary counts.now run.now.lanes.items) }
+        summary ≡ summary_of_lanes (sum_by (λ count. count.refused) counts.now)
+        run.now.lanes.items) }
     ensures all { OnOk result (block.new.items ≡ []) }
     ensures fault { IfErr result (λ fault. is_text_fault fault ≡ true) }
     ensures memory { result ≡ Err ToolFault.OutOfMemory → block.new.items ≡ [] }
@@ -127,7 +128,7 @@ fn finish<W: Write, S>(
         Err(_) => return Err(ToolFault::Write),
     }
     match run.refusal {
-        None => Ok(summary_of_counts(counts, run.lanes.as_slice())),
+        None => Ok(summary_of(all_counted(counts), run.lanes.as_slice())),
         Some(_) => Err(ToolFault::OutOfMemory),
     }
 }

@@ -1,6 +1,7 @@
-use Rattle.std.proofs.Common.{rules, ◌≡◌, [], None}
+use Rattle.std.proofs.Common.{rules, ◌≡◌, [], None, sum_by}
 use Rattle.set_run.specs.Reports.{IsCollected, IsWhole}
 use Rattle.set_run.specs.declared.run_end.RunEnd.{RunEnd}
+use Rattle.tfm_tool.specs.ReportText.{summary_of_lanes}
 use Rattle.tfm_tool.specs.declared.run_text.RunTexts.{RunTexts}
 use Rattle.tfm_tool.proofs.LaneTextLemmas.{Given}
 use Rattle.tfm_tool.proofs.ReportTextLemmas.{kept_run}
@@ -16,7 +17,9 @@ returns-clause-text g c =
     (Given (λ (texts : RunTexts g.row.K.Denot). texts.version) (λ texts. texts.lanes.items) g.K.Kept.version g.K.Kept.lanes)
     c.args.sources.items run c.in-Ok.texts after = rw c.in-Ok-ran.is at c.run_into-texts.ensures.collected in
     let begun : Given (λ (texts : RunTexts g.row.K.Denot). texts.version) (λ texts. texts.lanes.items) g.K.Kept.version g.K.Kept.lanes c.in-Ok.texts [] = (search rules, search rules, search rules) in
+    let short : c.summary_of-summary.result ≡ summary_of_lanes (sum_by (λ text. text.refused) after.lanes.items) run.lanes.items =
+    let of = c.summary_of-summary.ensures (sum_by (λ text. text.refused) after.lanes.items) (search rules) in search rules in
     kept_run (λ (texts : RunTexts g.row.K.Denot). texts.version) (λ texts. texts.lanes.items) g.K.Kept.version
     g.S.LineSource.to_come g.S.LineSource.failed c.args.sources.items run c.in-Ok.texts after c.args.version g.K.Kept.lanes
     (g.W.Write.contents c.args.out.now) (g.W.Write.contents c.write.new.out) c.summary_of-summary.result
-    c.requires.version (search rules) begun none whole collected (search rules) (search rules)
+    c.requires.version (search rules) begun none whole collected (search rules) short

@@ -20,6 +20,12 @@ loop-source-preserved g c =
       count =
           let one_more : length c.push.new.self.items ≡ length c.loop-source.pairs.items + 1 =
           ap length more ∙ length-append c.loop-source.pairs.items (pair ∷ []) in
-          omega (arith, one_more, c.push.new.self.ok.0, c.loop-source.pairs.ok.0, c.loop-source.invariant.count,
-          length-append c.loop-source.yielded (c.in-Some.source ∷ []));
+          omega (
+            arith,
+            one_more,
+            c.push.new.self.ok.0,
+            c.loop-source.pairs.ok.0,
+            c.loop-source.invariant.count,
+            length-append c.loop-source.yielded (c.in-Some.source ∷ []),
+          );
     }

@@ -1,6 +1,7 @@
-use Rattle.std.proofs.Common.{◌≡◌, sym, subst, [], length, arith}
+use Rattle.std.proofs.Common.{◌≡◌, sym, subst, [], length, sum_by, arith}
 use Rattle.std.specs.Prelude.{IfOk}
-use Rattle.tfm_tool.specs.StreamState.{StreamStart, counts_summary}
+use Rattle.tfm_tool.specs.ReportText.{summary_of_lanes}
+use Rattle.tfm_tool.specs.StreamState.{StreamStart}
 use Rattle.tfm_tool.proofs.StreamSteps.{begins}
 use Rattle.tfm_tool.proofs.StreamReports.{ends_at_line, ends_short, ends_whole, of_ok, same_name, whole_ends}
 use Rattle.tfm_tool.proofs.streaming.stream_each.Goals as goal
@@ -19,7 +20,7 @@ returns-in-Ok-ran-clause-text g c =
     rw last (ends_whole g.S.LineSource.to_come g.S.LineSource.failed c.args.sources.items c.in-Ok-ran.run'.lanes.items start
     s.out.ghost_name s.version s.counts.items (g.W.Write.contents s.out.now) (g.W.Write.contents c.finish.new.out) s.block.items c.finish.new.block.items c.finish.result came long c.finish.ensures.moves c.finish.ensures.all
     (whole_ends c.in-Ok-ran.run' c.finish.result (of_ok _ c.run_over-stream.result.1 c.in-Ok-ran.run' c.in-Ok-ran.is c.run_over-stream.ensures.whole) c.finish.ensures.whole)
-    (subst (λ counts. IfOk c.finish.result (λ summary. summary ≡ counts_summary counts c.in-Ok-ran.run'.lanes.items)) c.as_slice.ensures.value c.finish.ensures.summary))
+    (subst (λ counts. IfOk c.finish.result (λ summary. summary ≡ summary_of_lanes (sum_by (λ count. count.refused) counts) c.in-Ok-ran.run'.lanes.items)) c.as_slice.ensures.value c.finish.ensures.summary))
 
 pub returns-in-Ok-ran-clause-write : goal.returns-in-Ok-ran-clause-write
 returns-in-Ok-ran-clause-write g c = λ is.
