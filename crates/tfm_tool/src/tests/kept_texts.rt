@@ -1,12 +1,12 @@
-//! The texts of lanes, kept while answers come.
+//! The texts of lanes, kept while answers come, in blocks.
 use super::listings::plain;
 use super::streams::Frail;
+use super::texts::small_plan;
 use super::*;
-use crate::run_text::RunTexts;
-use line_lane::LaneEnd;
-use set_line::{Answer, Limit, Line, Policy, Terms, Version, set};
-use set_run::{Collector, Refusal};
-use std::marker::Brand;
+use crate::{Summary, ToolFault, set_each};
+use set_line::{Limit, Line, Policy, Terms, Version};
+use set_run::{ListSource, NoGate};
+use std::io::Write;
 use std::sync::Arc;
 use std::test::Fail;
 use tfm_tables::Font;
@@ -37,45 +37,6 @@ fn wanted(alloc: Global) -> Result<String, Fail> {
     Ok(text)
 }
 
-fn answer(alloc: Global, terms: &Arc<Terms>, line: &str) -> Result<Answer, AllocError> {
-    let line = Line::new(Vec::from_slice(alloc, line.as_bytes())?);
-    set(alloc, terms.clone()?, line).map_err(|_| AllocError)
-}
-
-/// Gives a lane of so many lines its line of this place, or its end behind all of them.
-fn give(
-    alloc: Global,
-    terms: &Arc<Terms>,
-    lane: usize,
-    place: usize,
-    count: usize,
-    texts: &mut RunTexts<Brand>,
-) -> Result<(), Refusal> {
-    if lane >= texts.lanes.len() || place > count {
-        return Ok(());
-    }
-    if place == count {
-        return texts.end(lane, LaneEnd::Complete);
-    }
-    match answer(alloc, terms, LINES[place % 6].0) {
-        Ok(answer) => texts.take(lane, answer),
-        Err(_) => Err(Refusal::OutOfMemory),
-    }
-}
-
-/// The texts of all lanes, whose lines come by turns.
-fn kept(alloc: Global, terms: &Arc<Terms>) -> Result<RunTexts<Brand>, Refusal> {
-    let Ok(mut texts) = RunTexts::new(alloc, COUNTS.len(), Version::Two) else {
-        return Err(Refusal::OutOfMemory);
-    };
-    for place in 0..=COUNTS[0] {
-        for lane in 0..COUNTS.len() {
-            give(alloc, terms, lane, place, COUNTS[lane], &mut texts)?;
-        }
-    }
-    Ok(texts)
-}
-
 /// The terms of all lines.
 fn terms<R: Abort + AllocGlobal>(rt: &R) -> Result<Arc<Terms>, Fail> {
     let alloc = rt.alloc();
@@ -84,46 +45,75 @@ fn terms<R: Abort + AllocGlobal>(rt: &R) -> Result<Arc<Terms>, Fail> {
     Ok(Arc::new(alloc, Terms::new(font, limit, Policy::Refuse))?)
 }
 
+/// A source of so many lines.
+fn source(alloc: Global, count: usize) -> Result<ListSource, AllocError> {
+    let mut lines = Vec::new(alloc);
+    for i in 0..count {
+        let line = Vec::from_slice(alloc, LINES[i % 6].0.as_bytes())?;
+        lines.push(Line::new(line))?;
+    }
+    Ok(ListSource::new(lines))
+}
+
+/// All sources, each with these terms.
+fn sources(alloc: Global, terms: &Arc<Terms>) -> Result<Vec<(ListSource, Arc<Terms>)>, AllocError> {
+    let mut sources = Vec::new(alloc);
+    for count in COUNTS {
+        sources.push((source(alloc, count)?, terms.clone()?))?;
+    }
+    Ok(sources)
+}
+
+/// The text of all lanes.
+fn set_all<R, W>(rt: &R, terms: &Arc<Terms>, out: &mut W) -> Result<Summary, ToolFault>
+where
+    R: Abort + Threads + Wait + Clock + Sync + AllocGlobal,
+    W: Write,
+{
+    let plan = small_plan().expect(rt, "a plan");
+    let Ok(sources) = sources(rt.alloc(), terms) else {
+        return Err(ToolFault::OutOfMemory);
+    };
+    set_each(rt, rt.alloc(), sources, plan, Version::Two, &NoGate, out)
+}
+
 #[test]
 fn blocks_make_the_whole(rt: HostRuntime) -> Result<(), Fail> {
-    let alloc = rt.alloc();
     let terms = terms(&rt)?;
-    let wanted = wanted(alloc)?;
-    let mut out = Vec::new(alloc);
-    let written = match kept(alloc, &terms) {
-        Ok(texts) => texts.write(alloc, &mut out),
-        Err(refusal) => Err(refusal),
-    };
+    let wanted = wanted(rt.alloc())?;
+    let mut out = Vec::new(rt.alloc());
     // one request for memory may be refused from outside
-    let told = match written {
-        Ok(()) => {
-            assert!(&rt; out.as_slice() == wanted.as_bytes());
+    let told = match set_all(&rt, &terms, &mut out) {
+        Ok(summary) if summary.memory => "given up",
+        Ok(_) => {
+            assert!(rt; out.as_slice() == wanted.as_bytes());
             "whole"
         }
-        Err(Refusal::OutOfMemory) => "out of memory",
-        Err(Refusal::Output) => panic!(&rt; "another refusal"),
+        Err(ToolFault::OutOfMemory) => "out of memory",
+        Err(ToolFault::Run(_)) => "the run is refused",
+        Err(ToolFault::Font(_) | ToolFault::Write) => panic!(rt; "another fault"),
     };
     Ok(println!(rt; "{told}")?)
 }
 
 #[test]
 fn a_block_whose_write_fails(rt: HostRuntime) -> Result<(), Fail> {
-    let alloc = rt.alloc();
     let terms = terms(&rt)?;
-    let wanted = wanted(alloc)?;
+    let wanted = wanted(rt.alloc())?;
     // what the version begins with, four blocks, a short lane, an empty one, and two blocks
     for good_writes in 0..10 {
-        let Ok(texts) = kept(alloc, &terms) else {
-            return Ok(());
+        let mut out = Frail::new(rt.alloc(), usize::MAX, good_writes, true);
+        let all = match set_all(&rt, &terms, &mut out) {
+            Ok(_) => true,
+            Err(ToolFault::Write) => false,
+            Err(_) => return Ok(()),
         };
-        let mut out = Frail::new(alloc, usize::MAX, good_writes, true);
-        let all = texts.write(alloc, &mut out) == Ok(());
-        assert!(&rt;
+        assert!(rt;
             wanted.as_bytes().starts_with(out.text.as_slice()),
             "{good_writes}"
         );
-        assert!(&rt; all == (out.text.len() == wanted.len()), "{good_writes}");
-        assert!(&rt; all == (good_writes == 9), "{good_writes}");
+        assert!(rt; all == (out.text.len() == wanted.len()), "{good_writes}");
+        assert!(rt; all == (good_writes == 9), "{good_writes}");
     }
     Ok(())
 }
