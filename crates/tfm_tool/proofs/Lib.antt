@@ -1,5 +1,4 @@
-pub mod CountsTextLemmas
-pub mod ListingLemmas
+pub mod FontTextLemmas
 pub mod SettingLemmas
 pub mod StatusLemmas
 pub mod RunTextLemmas

@@ -1,6 +1,3 @@
-pub mod CountsText
-pub mod Listing
-pub mod ListingWords
 pub mod RunText
 pub mod LaneText
 pub mod ReportText

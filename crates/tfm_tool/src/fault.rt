@@ -1,6 +1,7 @@
 ghost use Rattle.std.specs.Prelude.{◌≡◌};
-ghost use Rattle.tfm_tool.specs.Refusals.{fault_of};
+ghost use Rattle.tfm_tool.specs.Refusals.{fault_of, fault_of_font_text};
 
+use font_texts::FontTextFault;
 use set_run::{Refusal, RunFault};
 use std::fmt;
 use tfm_tables::FontFault;
@@ -31,6 +32,18 @@ impl From<Refusal> for ToolFault {
         match refusal {
             Refusal::OutOfMemory => ToolFault::OutOfMemory,
             Refusal::Output => ToolFault::Write,
+        }
+    }
+}
+
+impl From<FontTextFault> for ToolFault {
+    ghost from_gives = { λ fault told. told ≡ fault_of_font_text fault };
+
+    fn from(fault: FontTextFault) -> ToolFault {
+        match fault {
+            FontTextFault::Font(fault) => ToolFault::Font(fault),
+            FontTextFault::OutOfMemory => ToolFault::OutOfMemory,
+            FontTextFault::Write => ToolFault::Write,
         }
     }
 }

@@ -1,7 +1,7 @@
 ghost use Rattle.std.specs.Prelude.{◌≡◌, ◌≢◌, true, [], ◌∷◌, codes, Contains, Err, None, Some, IfErr, IfOk, IfSome, OnOk};
 ghost use Rattle.std.specs.Io.KnownBytes.{Appends, Keeps};
 ghost use Rattle.std.specs.IoError.{error_kind};
-ghost use Rattle.tfm_tool.specs.CountsText.{counts_text_of};
+ghost use Rattle.font_texts.specs.CountsText.{counts_text_of};
 ghost use Rattle.tfm_tool.specs.Status.{is_before_output, status_of};
 
 use crate::args::{Request, requested};

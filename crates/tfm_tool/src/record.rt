@@ -4,8 +4,8 @@ ghost use Rattle.set_line.specs.Record.{record_text};
 ghost use Rattle.set_run.specs.declared.collector.Refusal.TheVariants.{OutOfMemory as NoMemory};
 ghost use Rattle.tfm_tool.specs.RunText.{end_text, head_text, is_refused, why_of};
 
-use crate::appending::push_number;
 use crate::lane_count::LaneCount;
+use itoa::Buffer;
 use line_lane::{LaneEnd, SourceFault};
 use set_line::{Answer, Outcome, Version, record};
 use set_run::Refusal;
@@ -50,10 +50,12 @@ fn push_end_line(
     ensures { OnOk result (text.new.items
         ≡ text.old.items ++ end_text source (why_of end) answers) }
 {
-    push_number(text, b"", source)?;
+    let mut digits = Buffer::new();
+    text.extend_from_slice(digits.format(source).as_bytes())?;
     text.extend_from_slice(b" end ")?;
     text.extend_from_slice(why(end))?;
-    push_number(text, b" ", answers)?;
+    text.extend_from_slice(b" ")?;
+    text.extend_from_slice(digits.format(answers).as_bytes())?;
     text.extend_from_slice(b"\n")
 }
 

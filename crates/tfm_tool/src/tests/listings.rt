@@ -1,9 +1,5 @@
 use super::*;
-use crate::{ToolFault, list_text};
-use std::io;
-use std::io::Write;
 use std::test::Fail;
-use tfm_tables::Font;
 
 /// The characters a, b and c at 10 points, with these three counts (lf, nl and nk), char_info words,
 /// instructions and kerns.
@@ -60,205 +56,21 @@ fn push_words(bytes: &mut Vec<u8>, words: &[[u8; 4]]) -> Result<(), AllocError> 
     Ok(())
 }
 
-/// a's program has a ligature c for b, and a kern for c; c's has a kern for b.
-fn ligature(alloc: Global, op: u8) -> Result<Vec<u8>, AllocError> {
-    letters(
-        alloc,
-        [25, 3, 2],
-        [[1, 0, 1, 0], [2, 0, 0, 0], [3, 0, 1, 2]],
-        &[[0, 98, op, 99], [128, 99, 128, 0], [128, 98, 128, 1]],
-        &[[0xFF, 0xFF, 0, 0], [0, 0, 0x80, 0]],
-    )
-}
-
-/// No characters, at 5 points, with a coding scheme, a family and the last word of a header of 18.
-fn header(
-    alloc: Global,
-    coding: &[u8],
-    family: &[u8],
-    last: [u8; 4],
-) -> Result<Vec<u8>, AllocError> {
-    let mut bytes = Vec::new(alloc);
-    for count in [28u16, 18, 1, 0, 1, 1, 1, 1, 0, 0, 0, 0] {
-        bytes.extend_from_slice(&count.to_be_bytes())?;
-    }
-    bytes.extend_from_slice(&[0, 0, 0, 0])?; // check sum
-    bytes.extend_from_slice(&[0, 0x50, 0, 0])?; // 5 points
-    bytes.extend_from_slice(coding)?;
-    bytes.resize(24 + 48, 0)?; // 40 bytes of coding scheme
-    bytes.extend_from_slice(family)?;
-    bytes.resize(24 + 68, 0)?; // 20 bytes of family
-    bytes.extend_from_slice(&last)?;
-    bytes.resize(112, 0)?; // four words: width, height, depth and italic 0
-    Ok(bytes)
-}
-
-fn listing(alloc: Global, bytes: &[u8]) -> Result<Vec<u8>, Fail> {
-    let font = Font::read(alloc, bytes, None)
-        .ok()
-        .ok_or("the font is refused")?;
-    let mut out = Vec::new(alloc);
-    match list_text(alloc, &font, &mut out) {
-        Ok(()) => Ok(out),
-        Err(_) => Err("the listing failed")?,
-    }
-}
-
-/// The listing of a font is this one.
-fn lists<R: Abort + AllocGlobal>(rt: &R, bytes: &[u8], want: &[u8]) -> Result<(), Fail> {
-    let text = listing(rt.alloc(), bytes)?;
-    assert_eq!(rt; text.as_slice(), want);
-    Ok(())
-}
-
-static LIGATURE: &[u8] = b"checksum 0\n\
+static PLAIN: &[u8] = b"checksum 0\n\
     design 655360\n\
     size 655360\n\
     right none\n\
     left none\n\
-    char 97 width 327680 height 0 depth 0 italic 0 tag lig 0\n\
+    char 97 width 327680 height 0 depth 0 italic 0 tag none\n\
     char 98 width 163840 height 0 depth 0 italic 0 tag none\n\
-    char 99 width 491520 height 0 depth 0 italic 0 tag lig 2\n\
-    step 0 skip 0 next 98 LIG 99\n\
-    step 1 skip 128 next 99 KRN 0 -40960\n\
-    step 2 skip 128 next 98 KRN 1 20480\n\
-    kern 0 -40960\n\
-    kern 1 20480\n\
+    char 99 width 491520 height 0 depth 0 italic 0 tag none\n\
     param 1 0\n\
     param 2 218453\n";
 
 #[test]
-fn a_font_with_a_ligature_is_listed(rt: HostRuntime) -> Result<(), Fail> {
-    let bytes = ligature(rt.alloc(), 0)?;
-    lists(&rt, &bytes, LIGATURE)
-}
-
-static LONG_HEADER: &[u8] = b"checksum 0\n\
-    design 327680\n\
-    size 327680\n\
-    coding TEX TEXT\n\
-    family CMR\n\
-    sevenbit no\n\
-    face 234\n\
-    right none\n\
-    left none\n";
-
-#[test]
-fn a_long_header_is_listed(rt: HostRuntime) -> Result<(), Fail> {
-    let bytes = header(rt.alloc(), b"\x08TEX TEXT", b"\x03CMR", [0, 0, 0, 0xEA])?;
-    lists(&rt, &bytes, LONG_HEADER)
-}
-
-static UNPRINTABLE: &[u8] = b"checksum 0\n\
-    design 327680\n\
-    size 327680\n\
-    coding  a\\x5c\\x7f\\xe9~\\x1f\n\
-    family \n\
-    sevenbit yes\n\
-    face 9\n\
-    right none\n\
-    left none\n";
-
-#[test]
-fn unprintable_bytes_and_backslashes_are_escaped(rt: HostRuntime) -> Result<(), Fail> {
-    let coding = b"\x07 a\\\x7F\xE9~\x1F";
-    let bytes = header(rt.alloc(), coding, b"\x00", [0x80, 0, 0, 9])?;
-    lists(&rt, &bytes, UNPRINTABLE)
-}
-
-static BOUNDARIES: &[u8] = b"checksum 0\n\
-    design 655360\n\
-    size 655360\n\
-    right 124\n\
-    left 0\n\
-    char 97 width 327680 height 0 depth 0 italic 0 tag list 98\n\
-    char 98 width 163840 height 0 depth 0 italic 0 tag ext 7\n\
-    step 0 skip 255 next 124 goto 1\n\
-    step 1 skip 255 next 0 goto 0\n\
-    kern 0 20480\n\
-    param 1 0\n\
-    param 2 218453\n";
-
-#[test]
-fn boundaries_and_tags_are_listed(rt: HostRuntime) -> Result<(), Fail> {
-    let bytes = letters(
-        rt.alloc(),
-        [23, 2, 1],
-        [[1, 0, 2, 98], [2, 0, 3, 7], [0, 0, 0, 0]],
-        &[[255, 124, 0, 1], [255, 0, 0, 0]],
-        &[[0, 0, 0x80, 0]],
-    )?;
-    lists(&rt, &bytes, BOUNDARIES)
-}
-
-/// Operations, and the line of the first step.
-static OPERATIONS: [(u8, &str); 13] = [
-    (0, "\nstep 0 skip 0 next 98 LIG 99\n"),
-    (1, "\nstep 0 skip 0 next 98 LIG/ 99\n"),
-    (2, "\nstep 0 skip 0 next 98 /LIG 99\n"),
-    (3, "\nstep 0 skip 0 next 98 /LIG/ 99\n"),
-    (4, "\nstep 0 skip 0 next 98 LIG 99\n"),
-    (5, "\nstep 0 skip 0 next 98 LIG/> 99\n"),
-    (6, "\nstep 0 skip 0 next 98 /LIG> 99\n"),
-    (7, "\nstep 0 skip 0 next 98 /LIG/> 99\n"),
-    (8, "\nstep 0 skip 0 next 98 LIG 99\n"),
-    (10, "\nstep 0 skip 0 next 98 LIG 99\n"),
-    (11, "\nstep 0 skip 0 next 98 /LIG/>> 99\n"),
-    (12, "\nstep 0 skip 0 next 98 LIG 99\n"),
-    (127, "\nstep 0 skip 0 next 98 LIG 99\n"),
-];
-
-/// The listing of the font in which a and b are replaced by this operation.
-fn text_with(alloc: Global, op: u8) -> Result<String, Fail> {
-    let bytes = ligature(alloc, op)?;
-    let text = listing(alloc, &bytes)?;
-    Ok(String::from_utf8(text).ok().ok_or("no text")?)
-}
-
-#[test]
-fn each_operation_has_its_name(rt: HostRuntime) -> Result<(), Fail> {
-    for (op, line) in &OPERATIONS {
-        let text = text_with(rt.alloc(), *op)?;
-        assert!(rt; text.contains(*line), "operation {op}");
-    }
-    Ok(())
-}
-
-/// A writer that takes some bytes, and then fails.
-#[derive(Drop)]
-struct Failing {
-    room: usize,
-}
-
-impl Write for Failing {
-    fn write(&mut self, buf: &[u8]) -> io::Result<usize> {
-        if self.room == 0 {
-            return Err(io::Error::from(io::ErrorKind::StorageFull));
-        }
-        let taken = buf.len().min(self.room);
-        self.room -= taken;
-        Ok(taken)
-    }
-
-    fn flush(&mut self) -> io::Result<()> {
-        Ok(())
-    }
-}
-
-#[test]
-fn a_listing_whose_write_fails_is_told(rt: HostRuntime) -> Result<(), Fail> {
-    let bytes = ligature(rt.alloc(), 0)?;
-    let font = Font::read(rt.alloc(), &bytes, None)
-        .ok()
-        .ok_or("the font is refused")?;
-    for room in [0, 1, 11, 300] {
-        let mut out = Failing { room };
-        let result = list_text(rt.alloc(), &font, &mut out);
-        assert!(rt;
-            matches!(result, Err(ToolFault::Write)),
-            "after {room} bytes"
-        );
-    }
+fn a_font_is_listed_by_the_program(rt: HostRuntime) -> Result<(), Fail> {
+    let done = run(&rt, &["list", "-"], &plain(rt.alloc())?);
+    assert!(rt; done.is(0, PLAIN, b""));
     Ok(())
 }
 

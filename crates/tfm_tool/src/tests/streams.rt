@@ -195,8 +195,9 @@ fn a_write_that_fails_is_told(rt: HostRuntime) -> Result<(), Fail> {
 }
 
 /// Words that print a text.
-static PRINTING: [&[&str]; 4] = [
+static PRINTING: [&[&str]; 5] = [
     &["counts", "-"],
+    &["list", "-"],
     &["--help"],
     &["--version"],
     &["help", "counts"],

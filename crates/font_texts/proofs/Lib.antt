@@ -1,0 +1,2 @@
+pub mod CountsTextLemmas
+pub mod ListingLemmas

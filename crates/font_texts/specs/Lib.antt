@@ -1,0 +1,3 @@
+pub mod CountsText
+pub mod Listing
+pub mod ListingWords

@@ -1,0 +1,136 @@
+-- The listing of a font: its lines, each a name and the words after it.
+-- This project's own text; the words of tags and instructions are defined in ListingWords.
+use Rattle.std.specs.Prelude.{ℕ, ℤ, Bool, List, [], ◌∷◌, ◌++◌, map, filter, flat_map, codes, decimal, Option, Some, None}
+use Rattle.std.specs.Fmt.{signed_decimal}
+use Rattle.std.specs.List.{range_with_len}
+use Rattle.std.specs.Option.{option_map}
+use Rattle.std.specs.Result.{result_unwrap_or}
+use Rattle.tfm_words.specs.declared.table.Table.TheVariants.{LigKern, Kern, Param}
+use Rattle.tfm_words.specs.DesignSize.{design_size_of}
+use Rattle.tfm_tables.specs.declared.left_side.LeftSide.TheVariants.{Boundary}
+use Rattle.tfm_tables.specs.Table.{entries_of}
+use Rattle.tfm_tables.specs.Header.{check_sum_of, coding_of, face_of, family_of, seven_bit_of}
+use Rattle.tfm_tables.specs.Character.{exists, char_info_of, measures_of, remainder_of, tag_number, tag_with}
+use Rattle.tfm_tables.specs.Measure.{kern_at, parameter_of}
+use Rattle.tfm_tables.specs.Program.{program_of, right_code_of, start_of, step_at}
+use Rattle.tfm_tables.specs.Font.{FontValue}
+use Rattle.font_texts.specs.ListingWords.{char_words, escaped_text, number_or_none, step_words, yes_or_no}
+
+-- a line is a name and the words after it
+abbrev pub Row : Type 0
+Row = List ℕ × List (List ℕ)
+
+-- words after a name, each with a space before it
+abbrev pub spaced : List (List ℕ) → List ℕ
+spaced words = flat_map (λ word. 32 ∷ word) words
+
+-- the text of a line, which a line feed ends
+unfoldable pub listing_row_text : Row → List ℕ
+listing_row_text row = row.0 ++ spaced row.1 ++ codes "\n"
+
+-- the lines, one after the other
+abbrev pub listing_rows_text : List Row → List ℕ
+listing_rows_text rows = flat_map listing_row_text rows
+
+-- a line with one word
+abbrev pub listing_row_of : List ℕ → List ℕ → Row
+listing_row_of name word = (name, word ∷ [])
+
+-- the same if the word is there; else no line
+abbrev pub row_where : List ℕ → Option (List ℕ) → List Row
+row_where name None = []
+row_where name (Some word) = listing_row_of name word ∷ []
+
+-- a text of the header, if it is there
+unfoldable pub text_where : List ℕ → Option (List ℕ) → List Row
+text_where name text = row_where name (option_map escaped_text text)
+
+-- a flag of the header, if it is there
+unfoldable pub flag_where : List ℕ → Option Bool → List Row
+flag_where name flag = row_where name (option_map yes_or_no flag)
+
+-- a number of the header, if it is there
+unfoldable pub number_where : List ℕ → Option ℕ → List Row
+number_where name number = row_where name (option_map decimal number)
+
+-- the check sum, the design size and the size that the font is read at
+unfoldable pub size_rows : FontValue → List Row
+size_rows font =
+    listing_row_of (codes "checksum") (decimal (check_sum_of font.words))
+    ∷ listing_row_of (codes "design") (decimal (result_unwrap_or (design_size_of font.words) 0))
+    ∷ listing_row_of (codes "size") (decimal font.size)
+    ∷ []
+
+-- what only a longer header tells
+unfoldable pub header_rows : FontValue → List Row
+header_rows font =
+    text_where (codes "coding") (coding_of font.words)
+    ++ text_where (codes "family") (family_of font.words)
+    ++ flag_where (codes "sevenbit") (seven_bit_of font.words)
+    ++ number_where (codes "face") (face_of font.words)
+
+-- the code of the right boundary character, and where the left boundary's program begins
+unfoldable pub boundary_rows : FontValue → List Row
+boundary_rows font =
+    listing_row_of (codes "right") (number_or_none (right_code_of (program_of font.words)))
+    ∷ listing_row_of (codes "left") (number_or_none (start_of font.words Boundary))
+    ∷ []
+
+-- a character that exists
+unfoldable pub char_row : FontValue → ℕ → Row
+char_row font code = (
+  codes "char",
+  char_words code (measures_of font.words font.size code)
+      (tag_with (tag_number (char_info_of font.words code)) (remainder_of (char_info_of font.words code))),
+)
+
+-- an instruction
+unfoldable pub step_row : FontValue → ℕ → Row
+step_row font i = (codes "step", step_words font i (step_at font.words i))
+
+-- an amount with its number
+abbrev pub amount_row : List ℕ → ℕ → ℤ → Row
+amount_row name number amount = (name, decimal number ∷ signed_decimal amount ∷ [])
+
+-- a kern
+unfoldable pub kern_row : FontValue → ℕ → Row
+kern_row font k = amount_row (codes "kern") k (kern_at font.words font.size k)
+
+-- a parameter
+unfoldable pub param_row : FontValue → ℕ → Row
+param_row font n = amount_row (codes "param") n (parameter_of font.words font.size n)
+
+-- the codes that a character may have
+unfoldable pub all_codes : List ℕ
+all_codes = range_with_len 0 256
+
+-- the characters that exist, by code
+unfoldable pub char_rows : FontValue → List Row
+char_rows font = map (char_row font) (filter (exists font.words) all_codes)
+
+-- the instructions, by address
+unfoldable pub step_rows : FontValue → List Row
+step_rows font = map (step_row font) (range_with_len 0 (entries_of font.words LigKern))
+
+-- the kerns, from 0
+unfoldable pub kern_rows : FontValue → List Row
+kern_rows font = map (kern_row font) (range_with_len 0 (entries_of font.words Kern))
+
+-- the parameters, from 1
+unfoldable pub param_rows : FontValue → List Row
+param_rows font = map (param_row font) (range_with_len 1 (entries_of font.words Param))
+
+-- the lines of a font's listing
+abbrev pub listing_rows : FontValue → List Row
+listing_rows font =
+    size_rows font
+    ++ header_rows font
+    ++ boundary_rows font
+    ++ char_rows font
+    ++ step_rows font
+    ++ kern_rows font
+    ++ param_rows font
+
+-- the listing of a font
+unfoldable pub listing_of : FontValue → List ℕ
+listing_of font = listing_rows_text (listing_rows font)

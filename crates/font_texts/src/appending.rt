@@ -1,0 +1,50 @@
+ghost use Rattle.std.specs.Prelude.{◌≡◌, ◌<◌, ◌++◌, OnOk, false};
+ghost use Rattle.std.specs.Fmt.{digit_glyph};
+ghost use Rattle.font_texts.specs.ListingWords.{escaped, escaped_text};
+
+use itoa::{Buffer, Integer};
+use std::alloc::AllocError;
+
+/// Appends some bytes, and a number in decimal.
+pub fn push_number<I: Integer>(
+    text: &mut Vec<u8>,
+    before: &[u8],
+    number: I,
+) -> Result<(), AllocError>
+    ensures { OnOk result (text.new.items ≡ text.old.items ++ before.now ++ I.text number) }
+{
+    let mut buffer = Buffer::new();
+    text.extend_from_slice(before)?;
+    text.extend_from_slice(buffer.format(number).as_bytes())
+}
+
+fn hex_digit(value: u8) -> u8
+    requires { value < 16 }
+    ensures { result ≡ digit_glyph false value }
+{
+    if value < 10 {
+        b'0' + value
+    } else {
+        b'a' + (value - 10)
+    }
+}
+
+#[tactic(auto, unfolding(crate::specs::ListingWords::escaped))]
+fn push_escaped(text: &mut Vec<u8>, byte: u8) -> Result<(), AllocError>
+    ensures { OnOk result (text.new.items ≡ text.old.items ++ escaped byte) }
+{
+    if matches!(byte, 32..=126) && byte != b'\\' {
+        return text.extend_from_slice(&[byte]);
+    }
+    text.extend_from_slice(&[b'\\', b'x', hex_digit(byte / 16), hex_digit(byte % 16)])
+}
+
+/// Appends a text, whose unprintable bytes and backslashes are escaped.
+pub fn push_escaped_text(text: &mut Vec<u8>, bytes: &[u8]) -> Result<(), AllocError>
+    ensures { OnOk result (text.new.items ≡ text.old.items ++ escaped_text bytes.now) }
+{
+    for byte in bytes {
+        push_escaped(text, *byte)?;
+    }
+    Ok(())
+}

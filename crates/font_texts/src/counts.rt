@@ -1,0 +1,86 @@
+ghost use Rattle.std.specs.Prelude.{◌≡◌, ◌≢◌, ◌++◌, ◌∷◌, [], ◌↔◌, map, length, Some, Ok, Err, IfOk, IfErr, OnOk};
+ghost use Rattle.std.specs.Io.KnownBytes.{Appends};
+ghost use Rattle.tfm_tables.specs.declared.fault.FontFault.{FontFault};
+ghost use Rattle.font_texts.specs.CountsText.{count_rows, counts_text_of, head_rows, head_fault_of, count_row_of, count_row_text, count_rows_text};
+
+use crate::FontTextFault;
+use itoa::Buffer;
+use std::alloc::{AllocError, Global};
+use std::io::Write;
+use tfm_tables::FontFault;
+use tfm_words::{Counts, Size, design_size};
+
+/// Room for the longest text: twelve lines of at most 9 bytes, and one of 17.
+const TEXT_ROOM: usize = 128;
+
+/// Writes the twelve counts and the design size of a font, a line each, in one piece.
+pub fn counts_text<W: Write>(alloc: Global, bytes: &[u8], out: &mut W) -> Result<(), FontTextFault>
+    ensures text { OnOk result
+        (Appends (W.contents out.old) (W.contents out.new) (counts_text_of bytes.now)) }
+    ensures font { (f : FontFault) →
+        (result ≡ Err (FontTextFault.Font f)) ↔ (head_fault_of bytes.now ≡ Some f) }
+    ensures untouched { IfErr result (λ fault. fault ≢ FontTextFault.Write → out.new ≡ out.old) }
+{
+    let counts = Counts::read(bytes)
+        .map_err(FontFault::Counts)
+        .map_err(FontTextFault::Font)?;
+    let design = design_size(bytes, &counts)
+        .map_err(FontFault::Design)
+        .map_err(FontTextFault::Font)?;
+    let text = text_of(alloc, &counts, design).map_err(|_| FontTextFault::OutOfMemory)?;
+    out.write_all(text.as_slice())
+        .map_err(|_| FontTextFault::Write)
+}
+
+/// The text of these counts and this design size.
+fn text_of(alloc: Global, counts: &Counts, design: Size) -> Result<Vec<u8>, AllocError>
+    ensures { IfOk result (λ text. text.items ≡ count_rows_text (head_rows counts.now design)) }
+{
+    let mut text = Vec::with_capacity(alloc, TEXT_ROOM)?;
+    push_rows(&mut text, &rows_of(counts))?;
+    push_row(&mut text, "design", design.get())?;
+    Ok(text)
+}
+
+/// The names and the numbers of the twelve counts, in the file's order.
+#[tactic(auto, unfolding(crate::specs::CountsText::count_rows))]
+fn rows_of(counts: &Counts) -> [(&'static str, u16); 12]
+    ensures { map count_row_of result ≡ count_rows counts.now }
+{
+    [
+        ("lf", counts.lf()),
+        ("lh", counts.lh()),
+        ("bc", counts.bc()),
+        ("ec", counts.ec()),
+        ("nw", counts.nw()),
+        ("nh", counts.nh()),
+        ("nd", counts.nd()),
+        ("ni", counts.ni()),
+        ("nl", counts.nl()),
+        ("nk", counts.nk()),
+        ("ne", counts.ne()),
+        ("np", counts.np()),
+    ]
+}
+
+/// Appends a line for each name and its number.
+#[tactic(auto, using(crate::proofs::CountsTextLemmas::row_more))]
+fn push_rows(text: &mut Vec<u8>, rows: &[(&str, u16)]) -> Result<(), AllocError>
+    ensures { OnOk result (text.new.items ≡ text.old.items ++ count_rows_text (map count_row_of rows.now)) }
+{
+    for (name, number) in rows {
+        push_row(text, name, u32::from(*number))?;
+    }
+    Ok(())
+}
+
+/// Appends a line: a name, a space and a number.
+fn push_row(text: &mut Vec<u8>, name: &str, number: u32) -> Result<(), AllocError>
+    ensures { OnOk result (text.new.items ≡ text.old.items ++ count_row_text (name.now, number)) }
+{
+    let mut buffer = Buffer::new();
+    text.extend_from_slice(name.as_bytes())?;
+    text.extend_from_slice(b" ")?;
+    text.extend_from_slice(buffer.format(number).as_bytes())?;
+    text.extend_from_slice(b"\n")
+}

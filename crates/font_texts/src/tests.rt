@@ -1,0 +1,2 @@
+mod counts_of_fonts;
+mod listings;

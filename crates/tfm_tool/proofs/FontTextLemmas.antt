@@ -1,0 +1,25 @@
+-- Lemmas on the faults of the texts of fonts.
+use Rattle.std.proofs.Common.{rules, ◌≡◌, Result, Ok, Err}
+use Rattle.std.specs.Result.{IsErrAnd}
+use Rattle.font_texts.specs.declared.fault.FontTextFault.{FontTextFault}
+use Rattle.font_texts.specs.declared.fault.FontTextFault.TheVariants.{Font as NoFont, OutOfMemory as NoRoom, Write as NotWritten}
+use Rattle.tfm_tables.specs.declared.fault.FontFault.{FontFault}
+use Rattle.tfm_tool.specs.Refusals.{fault_of_font_text}
+use Rattle.tfm_tool.specs.declared.fault.ToolFault.{ToolFault}
+use Rattle.tfm_tool.specs.declared.fault.ToolFault.TheVariants.{Font}
+
+-- only a refused font is told as one, with its own fault
+of_refused_font : (fault : FontTextFault) (f : FontFault) → fault_of_font_text fault ≡ Font f → fault ≡ NoFont f
+of_refused_font (NoFont g) f is = search rules
+of_refused_font NoRoom f is = absurd (search rules)
+of_refused_font NotWritten f is = absurd (search rules)
+
+module _ (fault : FontTextFault) (f : FontFault) where
+  pub is_of_refused_font : (r : Result (Unit {0}) ToolFault) → IsErrAnd r (λ told. told ≡ fault_of_font_text fault) → r ≡ Err (Font f) → fault ≡ NoFont f
+  is_of_refused_font (Ok u) tells is = absurd (search rules)
+  is_of_refused_font (Err told) tells is = of_refused_font fault f (search rules)
+
+  -- and a refused font is told as one
+  pub tells_refused_font : (r : Result (Unit {0}) ToolFault) → IsErrAnd r (λ told. told ≡ fault_of_font_text fault) → fault ≡ NoFont f → r ≡ Err (Font f)
+  tells_refused_font (Ok u) tells is = elim tells [ ]
+  tells_refused_font (Err told) tells is = search rules

@@ -1,7 +1,0 @@
--- the text has the bytes so far, escaped
-use Rattle.std.proofs.Common.{◌≡◌, ◌++◌, take}
-use Rattle.tfm_tool.specs.ListingWords.{escaped_text}
-use Rattle.tfm_tool.proofs.appending.push_escaped_text.Given as goal
-
-abbrev pub invariant-loop-byte : goal.invariant-loop-byte
-invariant-loop-byte l = l.text.items ≡ l.initial.text.items ++ escaped_text (take l.byte-index l.bytes)
