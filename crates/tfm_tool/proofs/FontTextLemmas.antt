@@ -4,9 +4,9 @@ use Rattle.std.specs.Result.{IsErrAnd}
 use Rattle.font_texts.specs.declared.fault.FontTextFault.{FontTextFault}
 use Rattle.font_texts.specs.declared.fault.FontTextFault.TheVariants.{Font as NoFont, OutOfMemory as NoRoom, Write as NotWritten}
 use Rattle.tfm_tables.specs.declared.fault.FontFault.{FontFault}
-use Rattle.tfm_tool.specs.Refusals.{fault_of_font_text}
-use Rattle.tfm_tool.specs.declared.fault.ToolFault.{ToolFault}
-use Rattle.tfm_tool.specs.declared.fault.ToolFault.TheVariants.{Font}
+use Rattle.run_texts.specs.Refusals.{fault_of_font_text}
+use Rattle.run_texts.specs.declared.fault.ToolFault.{ToolFault}
+use Rattle.run_texts.specs.declared.fault.ToolFault.TheVariants.{Font}
 
 -- only a refused font is told as one, with its own fault
 of_refused_font : (fault : FontTextFault) (f : FontFault) → fault_of_font_text fault ≡ Font f → fault ≡ NoFont f

@@ -1,13 +1,2 @@
 pub mod FontTextLemmas
-pub mod SettingLemmas
 pub mod StatusLemmas
-pub mod RunTextLemmas
-pub mod EventLemmas
-pub mod LaneTextLemmas
-pub mod ReportLemmas
-pub mod ReportTextLemmas
-pub mod StreamLemmas
-pub mod StreamEvents
-pub mod StreamSteps
-pub mod StreamReports
-pub mod StreamedSettingLemmas

@@ -2,7 +2,7 @@
 use Rattle.std.proofs.Common.{[], ◌∷◌, Contains, lit<, refl}
 use Rattle.tfm_tool.specs.declared.exit.Failure.{Failure}
 use Rattle.tfm_tool.specs.declared.exit.Failure.TheVariants.{Usage, NotInThrees, TooManyFiles, LimitRange, FontAndText, NotRead, FontNotRead, FontRefused, FileNotOpened, FileNotEnded, Tool}
-use Rattle.tfm_tool.specs.declared.fault.ToolFault.TheVariants.{Font, Run, OutOfMemory, Write}
+use Rattle.run_texts.specs.declared.fault.ToolFault.TheVariants.{Font, Run, OutOfMemory, Write}
 use Rattle.set_run.specs.declared.run_fault.RunFault.TheVariants.{TooManySources, OutOfMemory as RunOutOfMemory, Thread}
 use Rattle.tfm_tool.specs.Status.{status_of}
 

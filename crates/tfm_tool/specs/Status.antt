@@ -1,11 +1,10 @@
 -- The status that the program ends with, by what went wrong.
 -- The table is this project's own; 2 for a command line that is refused is common use.
-use Rattle.std.specs.Prelude.{ℕ, ◌==◌, ◌||◌, Bool, true, false, if◌then◌else◌}
+use Rattle.std.specs.Prelude.{ℕ, ◌==◌, ◌||◌, Bool}
 use Rattle.tfm_tool.specs.declared.exit.Failure.{Failure}
 use Rattle.tfm_tool.specs.declared.exit.Failure.TheVariants.{Usage, NotInThrees, TooManyFiles, LimitRange, FontAndText, NotRead, FontNotRead, FontRefused, FileNotOpened, FileNotEnded, Tool}
-use Rattle.tfm_tool.specs.declared.summary.Summary.{Summary}
-use Rattle.tfm_tool.specs.declared.fault.ToolFault.{ToolFault}
-use Rattle.tfm_tool.specs.declared.fault.ToolFault.TheVariants.{Font, Run, OutOfMemory, Write}
+use Rattle.run_texts.specs.declared.fault.ToolFault.{ToolFault}
+use Rattle.run_texts.specs.declared.fault.ToolFault.TheVariants.{Font, Run, OutOfMemory, Write}
 use Rattle.set_run.specs.declared.run_fault.RunFault.TheVariants.{TooManySources, OutOfMemory as RunOutOfMemory, Thread}
 use Rattle.tfm_tool.specs.declared.files.ReadFault.{ReadFault}
 use Rattle.tfm_tool.specs.declared.files.ReadFault.TheVariants.{NotRead as Unread, OutOfMemory as NoRoom}
@@ -18,13 +17,6 @@ text_status_of (Run RunOutOfMemory) = 5
 text_status_of (Run Thread) = 5
 text_status_of OutOfMemory = 5
 text_status_of Write = 5
-
--- whether a fault is one of writing a text: out of memory, or the output
-abbrev pub is_text_fault : ToolFault → Bool
-is_text_fault (Font _) = false
-is_text_fault (Run _) = false
-is_text_fault OutOfMemory = true
-is_text_fault Write = true
 
 -- the status of a failure
 abbrev pub status_of : Failure → ℕ
@@ -48,8 +40,3 @@ failure_of NoRoom = Tool OutOfMemory
 -- whether a failure comes with nothing written before it: the command line or a font is refused
 abbrev pub is_before_output : Failure → Bool
 is_before_output failure = (status_of failure == 2) || (status_of failure == 3)
-
--- the status after a text was written: refused memory comes before a failed read, and that before refused lines
-abbrev pub summary_status : Summary → ℕ
-summary_status summary =
-    if summary.memory then 5 else (if summary.read_failed then 4 else (if summary.refused == 0 then 0 else 1))

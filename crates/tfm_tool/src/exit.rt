@@ -2,9 +2,8 @@ ghost use Rattle.std.specs.Prelude.{◌≡◌};
 ghost use Rattle.tfm_tool.specs.declared.exit.Failure.TheVariants.{Tool};
 ghost use Rattle.tfm_tool.specs.Status.{failure_of, status_of};
 
-use crate::ToolFault;
-use crate::fault::Numbered;
 use crate::files::ReadFault;
+use run_texts::{Numbered, ToolFault};
 use set_run::RunFault;
 use tfm_tables::FontFault;
 use thiserror::Error;

@@ -1,10 +1,9 @@
 //! The jobs of `each`: a font, a limit and a file, again and again.
 
-use crate::ToolFault;
 use crate::args::Layout;
 use crate::exit::Failure;
 use crate::files::{ReadFault, font_file};
-use crate::setting::{accepted, shared};
+use run_texts::{ToolFault, accepted};
 use set_line::{Limit, Terms};
 use set_run::MOST_SOURCES;
 use std::alloc::Global;
@@ -63,7 +62,9 @@ fn terms_of<R: Files + AllocGlobal>(
         Err(ReadFault::OutOfMemory) => return Err(Failure::Tool(ToolFault::OutOfMemory)),
     };
     match accepted(rt.alloc(), bytes.as_slice(), layout.size) {
-        Ok(font) => Ok(shared(rt.alloc(), Terms::new(font, job.limit, layout.policy))?),
+        Ok(font) => Arc::new(rt.alloc(), Terms::new(font, job.limit, layout.policy)).map_err(
+            |_| Failure::Tool(ToolFault::OutOfMemory),
+        ),
         Err(ToolFault::Font(fault)) => Err(Failure::FontRefused { number, fault }),
         Err(fault) => Err(Failure::Tool(fault)),
     }

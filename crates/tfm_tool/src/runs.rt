@@ -3,14 +3,14 @@ ghost use Rattle.std.specs.Prelude.{◌≡◌, ◌⊎◌, true, false, [], ◌�
 ghost use Rattle.tfm_tables.specs.declared.fault.FontFault.{FontFault as Refusal};
 ghost use Rattle.tfm_tables.specs.Acceptance.{font_fault_of};
 ghost use Rattle.tfm_tool.specs.declared.exit.Failure.TheVariants.{FontAndText, Tool};
-ghost use Rattle.tfm_tool.specs.Status.{is_before_output, summary_status};
+ghost use Rattle.tfm_tool.specs.Status.{is_before_output};
+ghost use Rattle.run_texts.specs.Endings.{summary_status};
 
 use crate::args::{Jobs, Setting};
 use crate::exit::Failure;
 use crate::files::{font_bytes, open_each, open_files};
 use crate::jobs::{all_terms, jobs};
-use crate::setting::accepted;
-use crate::{Summary, ToolFault, set_each, set_text, status, stream_text};
+use run_texts::{Summary, ToolFault, accepted, set_each, set_text, status, stream_text};
 use set_run::{LineSource, MOST_SOURCES, NoGate, ReaderSource};
 use std::io::{Read, Write};
 use std::rt::Files;

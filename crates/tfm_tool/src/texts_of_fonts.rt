@@ -5,7 +5,7 @@ ghost use Rattle.font_texts.specs.CountsText.{counts_text_of, head_fault_of};
 ghost use Rattle.font_texts.specs.Listing.{listing_of};
 ghost use Rattle.tfm_tables.specs.declared.fault.FontFault.{FontFault};
 
-use crate::ToolFault;
+use run_texts::ToolFault;
 use std::alloc::Global;
 use std::io::Write;
 use tfm_tables::Font;

@@ -1,0 +1,11 @@
+pub mod SettingLemmas
+pub mod RunTextLemmas
+pub mod EventLemmas
+pub mod LaneTextLemmas
+pub mod ReportLemmas
+pub mod ReportTextLemmas
+pub mod StreamLemmas
+pub mod StreamEvents
+pub mod StreamSteps
+pub mod StreamReports
+pub mod StreamedSettingLemmas

@@ -1,0 +1,110 @@
+-- A stream, event by event.
+use Rattle.std.proofs.Common.{◌≡◌, ℕ, ◌+◌, ◌<◌, List, [], ◌∷◌, ◌++◌, length, get_or, Option, arith, refl, ap, sym, subst, ◌∙◌, append_assoc, append-nil, count_by, length-set}
+use Rattle.std.proofs.Math.ListN.{set}
+use Rattle.std.proofs.lemmas.List.{set-get_or}
+use Rattle.std.specs.Io.KnownBytes.{Keeps}
+use Rattle.set_line.specs.declared.version.Version.{Version}
+use Rattle.set_line.specs.Answer.{AnswerValue}
+use Rattle.set_line.specs.Record.{record_text}
+use Rattle.line_lane.specs.declared.ending.LaneEnd.{LaneEnd}
+use Rattle.set_run.specs.Events.{Event, LaneEvent, Answered, Ended, answers_in}
+use Rattle.run_texts.specs.RunText.{end_text, head_text, is_refused, why_of}
+use Rattle.run_texts.specs.Streaming.{merged_text}
+use Rattle.run_texts.specs.LaneText.{event_line}
+use Rattle.run_texts.specs.StreamState.{AreCounts, AreOut, MovesOut, IsCountOf, StreamStart}
+use Rattle.run_texts.specs.declared.lane_count.LaneCount.{LaneCount}
+use Rattle.run_texts.proofs.StreamLemmas.{appends_nothing, moves_more, nothing_appended}
+use Rattle.run_texts.proofs.StreamEvents.{count_answered, count_ended, counts_at, counts_set, event_lined, merged_more}
+
+-- how a stream stands that began so and was given these events
+abbrev pub StandsSo : StreamStart → ℕ → Version → List LaneCount → Option (List ℕ) → List ℕ → List Event → Type 0
+StandsSo start name version counts written block events =
+    (name ≡ start.name)
+    × (version ≡ start.version)
+    × (length counts ≡ start.lanes)
+    × AreCounts events 0 counts
+    × AreOut start.version events start.before written block
+
+-- the line of one event more
+out_more : (version : Version) (events : List Event) (before after : Option (List ℕ)) (block block' : List ℕ) (lane : ℕ) (event : LaneEvent) (text : List ℕ)
+    → text ≡ event_line (lane + 1) version (length (answers_in lane events)) event → block' ≡ block ++ text
+    → AreOut version events before after block → AreOut version (events ++ (lane, event) ∷ []) before after block'
+out_more version events before after block block' lane event text is more (lines, are, (written, appends, all)) = (
+  lines ++ (lane + 1, text) ∷ [],
+  event_lined version events lines lane event text is are,
+  (
+    written,
+    appends,
+    ap (λ b. written ++ b) more ∙ sym (append_assoc written block text) ∙ ap (λ t. t ++ text) all
+        ∙ append_assoc (head_text version) (merged_text lines) text ∙ ap (λ t. head_text version ++ t) (sym (merged_more lines (lane + 1, text))),
+  ),
+)
+
+-- some of the block was written
+pub goes_on : (start : StreamStart) (name name' : ℕ) (version version' : Version) (counts counts' : List LaneCount) (w w' : Option (List ℕ)) (b b' : List ℕ) (events : List Event)
+    → name' ≡ name → version' ≡ version → counts' ≡ counts → MovesOut w b w' b'
+    → StandsSo start name version counts w b events → StandsSo start name' version' counts' w' b' events
+goes_on start name name' version version' counts counts' w w' b b' events same_name same_version same_counts moves (named, form, lanes, are, (lines, lined, out)) = (
+  same_name ∙ named,
+  same_version ∙ form,
+  ap length same_counts ∙ lanes,
+  subst (AreCounts events 0) (sym same_counts) are,
+  (lines, lined, moves_more start.before w w' (head_text start.version ++ merged_text lines) b b' out moves),
+)
+
+-- the writer was flushed
+pub flushed : (start : StreamStart) (name : ℕ) (version : Version) (counts : List LaneCount) (w w' : Option (List ℕ)) (b : List ℕ) (events : List Event)
+    → Keeps w w' → StandsSo start name version counts w b events → StandsSo start name version counts w' b events
+flushed start name version counts w w' b events keeps stands =
+    goes_on start name name version version counts counts w w' b b events refl refl refl ([], nothing_appended w w' keeps, refl) stands
+
+-- a stream begins
+pub begins : (name : ℕ) (version : Version) (counts : List LaneCount) (w : Option (List ℕ)) (block : List ℕ) → AreCounts [] 0 counts → block ≡ head_text version
+    → StandsSo (record { before = w; name = name; version = version; lanes = length counts }) name version counts w block []
+begins name version counts w block none is =
+    (refl, refl, refl, none, ([], (refl, λ lane. refl), ([], appends_nothing w, is ∙ sym (append-nil (head_text version)))))
+
+-- nothing was taken
+pub as_before : (start : StreamStart) (name : ℕ) (version : Version) (counts : List LaneCount) (w : Option (List ℕ)) (b b' : List ℕ) (events : List Event)
+    → b' ≡ b → StandsSo start name version counts w b events → StandsSo start name version counts w b' events
+as_before start name version counts w b b' events same stands =
+    subst (λ block. StandsSo start name version counts w block events) (sym same) stands
+
+-- an answer was taken
+pub taken : (start : StreamStart) (name : ℕ) (version : Version) (counts : List LaneCount) (w : Option (List ℕ)) (b b' : List ℕ) (events : List Event)
+    (lane : ℕ) (answer : AnswerValue) (count new : LaneCount)
+    → lane < length counts → count ≡ get_or counts lane count
+    → b' ≡ b ++ record_text (lane + 1) (count.answers + 1) answer.outcome version
+    → new.answers ≡ count.answers + 1 → new.refused ≡ count.refused + count_by is_refused (answer ∷ [])
+    → StandsSo start name version counts w b events → StandsSo start name version (set counts lane new) w b' (events ++ (lane, Answered answer) ∷ [])
+taken start name version counts w b b' events lane answer count new within at more answers refused (named, form, lanes, are, out) =
+    let was : IsCountOf count (answers_in lane events) =
+    subst (λ n. IsCountOf n (answers_in lane events)) (sym at) (counts_at events 0 lane lane counts count (omega arith) within are) in
+    let line : record_text (lane + 1) (count.answers + 1) answer.outcome version ≡ event_line (lane + 1) start.version (length (answers_in lane events)) (Answered answer) =
+    ap (λ n. record_text (lane + 1) (n + 1) answer.outcome version) was.0 ∙ ap (record_text (lane + 1) (length (answers_in lane events) + 1) answer.outcome) form in (
+      named,
+      form,
+      length-set counts lane new ∙ lanes,
+      counts_set events 0 lane lane counts (Answered answer) new (omega arith) within (count_answered count new lane events answer was answers refused) are,
+      out_more start.version events start.before w b b' lane (Answered answer) (record_text (lane + 1) (count.answers + 1) answer.outcome version) line more out,
+    )
+
+-- an end was taken
+pub ended : (start : StreamStart) (name : ℕ) (version : Version) (counts : List LaneCount) (w : Option (List ℕ)) (b b' : List ℕ) (events : List Event)
+    (lane : ℕ) (end : LaneEnd) (count : LaneCount)
+    → lane < length counts → count ≡ get_or counts lane count
+    → b' ≡ b ++ end_text (lane + 1) (why_of end) count.answers
+    → StandsSo start name version counts w b events → StandsSo start name version counts w b' (events ++ (lane, Ended end) ∷ [])
+ended start name version counts w b b' events lane end count within at more (named, form, lanes, are, out) =
+    let was : IsCountOf count (answers_in lane events) =
+    subst (λ n. IsCountOf n (answers_in lane events)) (sym at) (counts_at events 0 lane lane counts count (omega arith) within are) in
+    let line : end_text (lane + 1) (why_of end) count.answers ≡ event_line (lane + 1) start.version (length (answers_in lane events)) (Ended end) =
+    ap (end_text (lane + 1) (why_of end)) was.0 in
+    let same : set counts lane count ≡ counts = ap (set counts lane) at ∙ set-get_or counts lane count in (
+      named,
+      form,
+      lanes,
+      subst (AreCounts (events ++ (lane, Ended end) ∷ []) 0) same
+          (counts_set events 0 lane lane counts (Ended end) count (omega arith) within (count_ended count lane events end was) are),
+      out_more start.version events start.before w b b' lane (Ended end) (end_text (lane + 1) (why_of end) count.answers) line more out,
+    )

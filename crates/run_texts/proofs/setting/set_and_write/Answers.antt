@@ -1,0 +1,25 @@
+use Rattle.std.proofs.Common.{rules, ◌≡◌, [], None, sum_by}
+use Rattle.set_run.specs.Reports.{IsCollected, IsWhole}
+use Rattle.set_run.specs.declared.run_end.RunEnd.{RunEnd}
+use Rattle.run_texts.specs.ReportText.{summary_of_lanes}
+use Rattle.run_texts.specs.declared.run_text.RunTexts.{RunTexts}
+use Rattle.run_texts.proofs.LaneTextLemmas.{Given}
+use Rattle.run_texts.proofs.ReportTextLemmas.{kept_run}
+use Rattle.run_texts.proofs.setting.set_and_write.Goals as goal
+
+pub returns-clause-text : goal.returns-clause-text
+returns-clause-text g c =
+    let run : RunEnd g.row.S.Denot = c.in-Ok-ran.run' in
+    let after : RunTexts g.row.K.Denot = c.run_into-texts.result.0 in
+    let none : run.refusal ≡ None = search rules in
+    let whole : IsWhole run = rw c.in-Ok-ran.is at c.run_into-texts.ensures.whole in
+    let collected : IsCollected g.S.LineSource.to_come g.S.LineSource.failed
+    (Given (λ (texts : RunTexts g.row.K.Denot). texts.version) (λ texts. texts.lanes.items) g.K.Kept.version g.K.Kept.lanes)
+    c.args.sources.items run c.in-Ok.texts after = rw c.in-Ok-ran.is at c.run_into-texts.ensures.collected in
+    let begun : Given (λ (texts : RunTexts g.row.K.Denot). texts.version) (λ texts. texts.lanes.items) g.K.Kept.version g.K.Kept.lanes c.in-Ok.texts [] = (search rules, search rules, search rules) in
+    let short : c.summary_of-summary.result ≡ summary_of_lanes (sum_by (λ text. text.refused) after.lanes.items) run.lanes.items =
+    let of = c.summary_of-summary.ensures (sum_by (λ text. text.refused) after.lanes.items) (search rules) in search rules in
+    kept_run (λ (texts : RunTexts g.row.K.Denot). texts.version) (λ texts. texts.lanes.items) g.K.Kept.version
+    g.S.LineSource.to_come g.S.LineSource.failed c.args.sources.items run c.in-Ok.texts after c.args.version g.K.Kept.lanes
+    (g.W.Write.contents c.args.out.now) (g.W.Write.contents c.write.new.out) c.summary_of-summary.result
+    c.requires.version (search rules) begun none whole collected (search rules) short

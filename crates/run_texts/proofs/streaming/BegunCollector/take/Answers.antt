@@ -1,0 +1,12 @@
+use Rattle.std.specs.Prelude.{is_ok}
+use Rattle.set_run.specs.Events.{Answered}
+use Rattle.run_texts.specs.StreamState.{IsStreamOf}
+use Rattle.run_texts.specs.declared.streaming.Begun.{Begun}
+use Rattle.run_texts.proofs.StreamLemmas.{gets_within}
+use Rattle.run_texts.proofs.streaming.BegunCollector.take.Goals as goal
+
+pub returns-clause-given : goal.returns-clause-given
+returns-clause-given g c =
+    let after : Begun g.row.W.Denot g.row.K.Denot = record { stream = c.take.new.self; of = c.args.self.now.of } in
+    gets_within (λ (begun : Begun g.row.W.Denot g.row.K.Denot). begun.stream) (IsStreamOf g.W.Write.contents g.K.Beginning.start) c.args.self.now after
+    (c.args.lane, Answered c.args.answer) (is_ok c.take.result) (c.take.ensures.given g.K.Beginning.start)

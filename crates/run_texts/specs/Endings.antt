@@ -1,0 +1,18 @@
+-- How the text of a run ends: its faults, and the status by its summary.
+-- This project's own.
+use Rattle.std.specs.Prelude.{ℕ, ◌==◌, Bool, true, false, if◌then◌else◌}
+use Rattle.run_texts.specs.declared.fault.ToolFault.{ToolFault}
+use Rattle.run_texts.specs.declared.fault.ToolFault.TheVariants.{Font, Run, OutOfMemory, Write}
+use Rattle.run_texts.specs.declared.summary.Summary.{Summary}
+
+-- whether a fault is one of writing a text: out of memory, or the output
+abbrev pub is_text_fault : ToolFault → Bool
+is_text_fault (Font _) = false
+is_text_fault (Run _) = false
+is_text_fault OutOfMemory = true
+is_text_fault Write = true
+
+-- the status after a text was written: refused memory comes before a failed read, and that before refused lines
+abbrev pub summary_status : Summary → ℕ
+summary_status summary =
+    if summary.memory then 5 else (if summary.read_failed then 4 else (if summary.refused == 0 then 0 else 1))

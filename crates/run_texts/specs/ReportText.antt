@@ -1,0 +1,60 @@
+-- The text of a run's report, and its summary.
+-- This project's own.
+use Rattle.std.specs.Prelude.{ℕ, ◌+◌, Bool, true, false, List, [], ◌∷◌, ◌++◌, count_by, sum_by, min, ◌-◌, ◌^◌}
+use Rattle.std.specs.List.{list_any}
+use Rattle.std.specs.Option.{option_map_or}
+use Rattle.set_line.specs.declared.version.Version.{Version}
+use Rattle.line_lane.specs.declared.fault.SourceFault.TheVariants.{Read, OutOfMemory, ReadBound}
+use Rattle.line_lane.specs.declared.ending.LaneEnd.{LaneEnd}
+use Rattle.line_lane.specs.declared.ending.LaneEnd.TheVariants.{Complete, SourceFailed, GaveUp}
+use Rattle.set_run.specs.declared.report.LaneReport.{LaneReport}
+use Rattle.set_run.specs.declared.run_end.ClosedLane.{ClosedLane}
+use Rattle.run_texts.specs.RunText.{head_text, lane_text, is_refused, why_of}
+use Rattle.run_texts.specs.declared.summary.Summary.{Summary}
+
+-- whether a lane's source failed at a read, or made too many for one line
+abbrev pub is_unread : LaneEnd → Bool
+is_unread (SourceFailed Read) = true
+is_unread (SourceFailed ReadBound) = true
+is_unread (SourceFailed OutOfMemory) = false
+is_unread Complete = false
+is_unread GaveUp = false
+
+-- whether memory was wanted for a lane
+abbrev pub is_wanting : LaneEnd → Bool
+is_wanting (SourceFailed OutOfMemory) = true
+is_wanting GaveUp = true
+is_wanting (SourceFailed Read) = false
+is_wanting (SourceFailed ReadBound) = false
+is_wanting Complete = false
+
+module _ {S : Type 0} where
+  -- the texts of lanes, of which the first has this number
+  abbrev pub lanes_text : ℕ → Version → List (LaneReport S) → List ℕ
+  lanes_text number version [] = []
+  lanes_text number version (lane ∷ lanes) =
+      lane_text number version lane.answers (why_of lane.end) ++ lanes_text (number + 1) version lanes
+
+  -- the text of a run: what its version begins with, and the texts of all lanes in order
+  abbrev pub run_text : Version → List (LaneReport S) → List ℕ
+  run_text version lanes = head_text version ++ lanes_text 1 version lanes
+
+  -- how many lines of all lanes were refused, told up to 2^64 - 1
+  abbrev pub refused_in : List (LaneReport S) → ℕ
+  refused_in lanes = min (2 ^ 64 - 1) (sum_by (λ lane. count_by is_refused lane.answers) lanes)
+
+  -- what came of a run, in short
+  abbrev pub summary_of_run : List (LaneReport S) → Summary
+  summary_of_run lanes = record {
+    refused = refused_in lanes;
+    read_failed = list_any (λ lane. is_unread lane.end) lanes;
+    memory = list_any (λ lane. is_wanting lane.end) lanes;
+  }
+
+  -- the same of lanes that were closed, of which so many lines were refused
+  abbrev pub summary_of_lanes : ℕ → List (ClosedLane S) → Summary
+  summary_of_lanes refused lanes = record {
+    refused = min (2 ^ 64 - 1) refused;
+    read_failed = list_any (λ lane. option_map_or is_unread lane.end false) lanes;
+    memory = list_any (λ lane. option_map_or is_wanting lane.end false) lanes;
+  }

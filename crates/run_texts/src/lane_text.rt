@@ -1,0 +1,149 @@
+//! The text of a lane, kept while its run goes on.
+ghost use Rattle.std.specs.Prelude.{◌≡◌, ◌+◌, ◌<◌, ◌^◌, ◌++◌, [], ◌∷◌, count_by, IfErr, OnErr, OnOk};
+ghost use Rattle.std.specs.Io.KnownBytes.{Appends};
+ghost use Rattle.std.specs.List.{concat};
+ghost use Rattle.set_line.specs.Record.{record_text};
+ghost use Rattle.set_run.specs.declared.collector.Refusal.TheVariants.{OutOfMemory as NoMemory};
+ghost use Rattle.run_texts.specs.RunText.{end_text, is_refused, why_of};
+
+use crate::block::TextBlock;
+use crate::lane_count::LaneCount;
+use line_lane::LaneEnd;
+use set_line::{Answer, Version};
+use set_run::Refusal;
+use std::alloc::{AllocError, Global};
+use std::io::Write;
+use std::marker::Model;
+use std::mem;
+
+/// A block with so many bytes takes no more records.
+const FULL: usize = 65_536;
+
+/// A block has room for so many bytes at once: more than it needs, mostly, for its last record.
+const ROOM: usize = 73_728;
+
+/// The text of a lane, in blocks of which the last one is being filled.
+#[derive(Drop)]
+pub(crate) struct LaneText {
+    blocks: Vec<TextBlock>,
+    last: Vec<u8>,
+    count: LaneCount,
+}
+
+impl Model for LaneText {
+    ghost use Rattle.std.specs.Prelude.{◌++◌};
+    ghost use Rattle.std.specs.List.{concat};
+    ghost use Rattle.run_texts.specs.LaneText.{LaneTextValue};
+
+    ghost Value = { LaneTextValue };
+
+    ghost view = { λ lane. record {
+      text = concat lane.blocks.items ++ lane.last.items;
+      answers = lane.count.answers;
+      refused = lane.count.refused;
+    } };
+}
+
+/// Writes blocks, of which each is given back as soon as it is written.
+fn write_blocks<W: Write>(blocks: Vec<TextBlock>, out: &mut W) -> Result<(), Refusal>
+    ensures { OnOk result (Appends (W.contents out.old) (W.contents out.new)
+        (concat blocks.items)) }
+{
+    for block in blocks {
+        out.write_all(block.as_slice())
+            .map_err(|_| Refusal::Output)?;
+    }
+    Ok(())
+}
+
+impl LaneText {
+    /// No text yet. It takes no memory.
+    pub fn new(alloc: Global) -> Self
+        ensures { result ≡ record { text = []; answers = 0; refused = 0 } }
+    {
+        LaneText {
+            blocks: Vec::new(alloc),
+            last: Vec::new(alloc),
+            count: LaneCount::new(),
+        }
+    }
+
+    /// How many of its answers are refusals.
+    pub fn refused(&self) -> u64
+        ensures { result ≡ self.now.refused }
+    {
+        self.count.refused
+    }
+
+    /// Begins a block.
+    fn begin_block(&mut self) -> Result<(), AllocError>
+        ensures { self.new ≡ self.old }
+    {
+        let alloc = *self.last.allocator();
+        let begun = Vec::with_capacity(alloc, ROOM)?;
+        let full = TextBlock::new(mem::replace(&mut self.last, begun));
+        match self.blocks.push(full) {
+            Ok(()) => Ok(()),
+            Err(failed) => {
+                self.last = failed.value.into_vec();
+                Err(AllocError)
+            }
+        }
+    }
+
+    /// Begins a block where the last one is full.
+    fn make_room(&mut self) -> Result<(), Refusal>
+        ensures as_before { self.new ≡ self.old }
+        ensures refusal { IfErr result (λ refusal. refusal ≡ NoMemory) }
+    {
+        if self.last.len() < FULL {
+            return Ok(());
+        }
+        self.begin_block().map_err(|_| Refusal::OutOfMemory)
+    }
+
+    /// Appends the record of its next answer.
+    pub fn take(&mut self, lane: usize, answer: &Answer, version: Version) -> Result<(), Refusal>
+        requires { lane + 1 < 2 ^ 64 }
+        ensures taken { OnOk result (self.new ≡ record {
+          text = self.old.text
+              ++ record_text (lane + 1) (self.old.answers + 1) answer.now.outcome version;
+          answers = self.old.answers + 1;
+          refused = self.old.refused + count_by is_refused (answer.now ∷ []);
+        }) }
+        ensures as_before { OnErr result (self.new ≡ self.old) }
+        ensures refusal { IfErr result (λ refusal. refusal ≡ NoMemory) }
+    {
+        self.make_room()?;
+        self.count
+            .push_record(lane, answer, version, &mut self.last)
+    }
+
+    /// Appends its end line.
+    pub fn end(&mut self, lane: usize, end: LaneEnd) -> Result<(), Refusal>
+        requires { lane + 1 < 2 ^ 64 }
+        ensures ended { OnOk result (self.new ≡ record {
+          text = self.old.text ++ end_text (lane + 1) (why_of end) self.old.answers;
+          answers = self.old.answers;
+          refused = self.old.refused;
+        }) }
+        ensures as_before { OnErr result (self.new ≡ self.old) }
+        ensures refusal { IfErr result (λ refusal. refusal ≡ NoMemory) }
+    {
+        self.count.push_end(lane, end, &mut self.last)
+    }
+
+    /// Writes the text, and gives its memory back.
+    pub fn write<W: Write>(self, out: &mut W) -> Result<(), Refusal>
+        ensures { OnOk result (Appends (W.contents out.old) (W.contents out.new) self.text) }
+    {
+        let LaneText {
+            blocks,
+            last,
+            count: _,
+        } = self;
+        write_blocks(blocks, out)?;
+        out.write_all(last.as_slice()).map_err(|_| Refusal::Output)?;
+        Ok(())
+    }
+}

@@ -1,0 +1,119 @@
+//! The lines of a text, one by one: its first line, the record of an answer, and the end of a lane.
+ghost use Rattle.std.specs.Prelude.{◌≡◌, ◌+◌, ◌<◌, ◌^◌, ◌++◌, [], ◌∷◌, count_by, IfErr, OnErr, OnOk};
+ghost use Rattle.set_line.specs.Record.{record_text};
+ghost use Rattle.set_run.specs.declared.collector.Refusal.TheVariants.{OutOfMemory as NoMemory};
+ghost use Rattle.run_texts.specs.RunText.{end_text, head_text, is_refused, why_of};
+
+use crate::lane_count::LaneCount;
+use itoa::Buffer;
+use line_lane::{LaneEnd, SourceFault};
+use set_line::{Answer, Outcome, Version, record};
+use set_run::Refusal;
+use std::alloc::AllocError;
+
+/// The word for the end of a lane.
+#[tactic(auto, unfolding(crate::specs::RunText::why_of))]
+fn why(end: LaneEnd) -> &'static [u8]
+    ensures { result.now ≡ why_of end }
+{
+    match end {
+        LaneEnd::Complete => b"complete",
+        LaneEnd::SourceFailed(SourceFault::Read) => b"read",
+        LaneEnd::SourceFailed(SourceFault::OutOfMemory) => b"memory",
+        LaneEnd::SourceFailed(SourceFault::ReadBound) => b"bound",
+        LaneEnd::GaveUp => b"gave-up",
+    }
+}
+
+/// Appends what a text begins with.
+pub(crate) fn push_head(version: Version, text: &mut Vec<u8>) -> Result<(), Refusal>
+    ensures text { OnOk result (text.new.items ≡ text.old.items ++ head_text version) }
+    ensures as_before { OnErr result (text.new.items ≡ text.old.items) }
+    ensures refusal { IfErr result (λ refusal. refusal ≡ NoMemory) }
+{
+    match version {
+        Version::One => Ok(()),
+        Version::Two => text
+            .extend_from_slice(b"records 2\n")
+            .map_err(|_| Refusal::OutOfMemory),
+    }
+}
+
+/// Appends the end line of a source that has so many answers.
+#[tactic(auto, unfolding(crate::specs::RunText::end_text))]
+fn push_end_line(
+    source: u64,
+    end: LaneEnd,
+    answers: u64,
+    text: &mut Vec<u8>,
+) -> Result<(), AllocError>
+    ensures { OnOk result (text.new.items
+        ≡ text.old.items ++ end_text source (why_of end) answers) }
+{
+    let mut digits = Buffer::new();
+    text.extend_from_slice(digits.format(source).as_bytes())?;
+    text.extend_from_slice(b" end ")?;
+    text.extend_from_slice(why(end))?;
+    text.extend_from_slice(b" ")?;
+    text.extend_from_slice(digits.format(answers).as_bytes())?;
+    text.extend_from_slice(b"\n")
+}
+
+impl LaneCount {
+    /// No answer yet.
+    pub fn new() -> Self
+        ensures answers { result.answers ≡ 0 }
+        ensures refused { result.refused ≡ 0 }
+    {
+        LaneCount {
+            answers: 0,
+            refused: 0,
+        }
+    }
+
+    /// Appends the record of the lane's next answer, and counts it.
+    pub fn push_record(
+        &mut self,
+        lane: usize,
+        answer: &Answer,
+        version: Version,
+        text: &mut Vec<u8>,
+    ) -> Result<(), Refusal>
+        requires { lane + 1 < 2 ^ 64 }
+        ensures text { OnOk result (text.new.items ≡ text.old.items
+            ++ record_text (lane + 1) (self.old.answers + 1) answer.now.outcome version) }
+        ensures answers { OnOk result (self.new.answers ≡ self.old.answers + 1) }
+        ensures refused { OnOk result
+            (self.new.refused ≡ self.old.refused + count_by is_refused (answer.now ∷ [])) }
+        ensures as_before { OnErr result ((text.new.items ≡ text.old.items)
+            × (self.new ≡ self.old)) }
+        ensures refusal { IfErr result (λ refusal. refusal ≡ NoMemory) }
+    {
+        let Some(answers) = self.answers.checked_add(1) else {
+            return Err(Refusal::OutOfMemory);
+        };
+        record(lane as u64 + 1, answers, answer, version, text).map_err(|_| Refusal::OutOfMemory)?;
+        let more = u64::from(matches!(answer.outcome(), Outcome::Refused(_)));
+        *self = LaneCount {
+            answers,
+            refused: self.refused + more,
+        };
+        Ok(())
+    }
+
+    /// Appends the lane's end line.
+    pub fn push_end(&self, lane: usize, end: LaneEnd, text: &mut Vec<u8>) -> Result<(), Refusal>
+        requires { lane + 1 < 2 ^ 64 }
+        ensures text { OnOk result (text.new.items ≡ text.old.items
+            ++ end_text (lane + 1) (why_of end) self.now.answers) }
+        ensures as_before { OnErr result (text.new.items ≡ text.old.items) }
+        ensures refusal { IfErr result (λ refusal. refusal ≡ NoMemory) }
+    {
+        let mut line = Vec::new(*text.allocator());
+        push_end_line(lane as u64 + 1, end, self.answers, &mut line).map_err(
+            |_| Refusal::OutOfMemory,
+        )?;
+        text.extend_from_slice(line.as_slice())
+            .map_err(|_| Refusal::OutOfMemory)
+    }
+}

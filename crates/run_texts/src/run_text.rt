@@ -1,0 +1,108 @@
+//! The texts of a run's lanes, kept while it goes on.
+ghost use Rattle.std.specs.Prelude.{◌≡◌, ℕ, ◌++◌, flat_map, length, [], ⊤, IfOk, IfSome, OnOk};
+ghost use Rattle.std.specs.Io.KnownBytes.{Appends};
+ghost use Rattle.set_line.specs.declared.version.Version.{Version as Form};
+ghost use Rattle.set_line.specs.declared.version.Version.TheVariants.{One};
+ghost use Rattle.set_run.specs.declared.collector.Refusal.TheVariants.{OutOfMemory as NoMemory};
+ghost use Rattle.run_texts.specs.LaneText.{AreKept};
+ghost use Rattle.run_texts.specs.RunText.{head_text};
+
+use crate::lane_text::LaneText;
+use crate::record::push_head;
+use line_lane::LaneEnd;
+use set_line::{Answer, Version};
+use set_run::{Collector, Refusal};
+use std::alloc::{AllocError, Global};
+use std::io::Write;
+use std::marker::{Brand, PhantomData};
+
+/// A run whose texts are kept.
+pub(crate) trait Kept {
+    /// How many lanes it has.
+    ghost lanes: { ℕ };
+
+    /// The form of its records.
+    ghost version: { Form };
+}
+
+/// A placeholder: the proof of the caller chooses both.
+impl Kept for Brand {
+    ghost lanes = { 0 };
+
+    ghost version = { One };
+}
+
+/// The texts of a run's lanes.
+#[derive(Drop)]
+pub(crate) struct RunTexts<K: Kept> {
+    pub version: Version,
+    pub lanes: Vec<LaneText>,
+    of: PhantomData<K>,
+}
+
+/// Writes texts in order. Each is given back as soon as it is written.
+fn write_lanes<W: Write>(lanes: Vec<LaneText>, out: &mut W) -> Result<(), Refusal>
+    ensures { OnOk result (Appends (W.contents out.old) (W.contents out.new)
+        (flat_map (λ lane. lane.text) lanes.items)) }
+{
+    for lane in lanes {
+        lane.write(out)?;
+    }
+    Ok(())
+}
+
+impl<K: Kept> RunTexts<K> {
+    /// No text yet of any of so many lanes.
+    pub fn new(alloc: Global, count: usize, version: Version) -> Result<Self, AllocError>
+        ensures version { IfOk result (λ texts. texts.version ≡ version) }
+        ensures lanes { IfOk result (λ texts. length texts.lanes.items ≡ count) }
+        ensures kept { IfOk result (λ texts. AreKept version [] 0 texts.lanes.items) }
+    {
+        let mut lanes = Vec::with_capacity(alloc, count)?;
+        for _ in 0..count {
+            lanes.push(LaneText::new(alloc))?;
+        }
+        Ok(RunTexts {
+            version,
+            lanes,
+            of: PhantomData,
+        })
+    }
+
+    /// Writes them, behind what their version begins with.
+    #[tactic(auto, using(crate::proofs::RunTextLemmas::appends_more))]
+    pub fn write<W: Write>(self, alloc: Global, out: &mut W) -> Result<(), Refusal>
+        ensures { OnOk result (Appends (W.contents out.old) (W.contents out.new)
+            (head_text self.version ++ flat_map (λ lane. lane.text) self.lanes.items)) }
+    {
+        let mut head = Vec::new(alloc);
+        push_head(self.version, &mut head)?;
+        out.write_all(head.as_slice()).map_err(|_| Refusal::Output)?;
+        write_lanes(self.lanes, out)?;
+        Ok(())
+    }
+}
+
+impl<K: Kept> Collector for RunTexts<K> {
+    ghost lanes = { λ texts. length texts.lanes.items };
+
+    ghost given = { λ texts events. (texts.version ≡ K.version)
+        × (length texts.lanes.items ≡ K.lanes)
+        × AreKept K.version events 0 texts.lanes.items };
+
+    ghost refused = { λ texts refusal. IfSome refusal (λ refused. refused ≡ NoMemory) };
+
+    ghost quiet = { λ texts. ⊤ };
+
+    fn take(&mut self, lane: usize, answer: Answer) -> Result<(), Refusal> {
+        self.lanes[lane].take(lane, &answer, self.version)
+    }
+
+    fn end(&mut self, lane: usize, end: LaneEnd) -> Result<(), Refusal> {
+        self.lanes[lane].end(lane, end)
+    }
+
+    fn about_to_wait(&mut self) -> Result<(), Refusal> {
+        Ok(())
+    }
+}
