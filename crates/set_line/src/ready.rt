@@ -1,6 +1,7 @@
 //! Texts of items, made beforehand: nearly all items of a line are characters and spaces, each as wide
 //! as its font says, so that their texts only need to be copied.
-ghost use Rattle.std.specs.Prelude.{◌≡◌, ◌+◌, ◌≤◌, ◌++◌, length, drop, IsTrue};
+ghost use Rattle.std.specs.Prelude.{◌≡◌, ◌+◌, ◌≤◌, ◌++◌, length, drop, IfSome};
+ghost use Rattle.lig_kern.specs.declared.item.Item.TheVariants.{Char, Space};
 ghost use Rattle.set_line.specs.Record.{item_text};
 
 use crate::writing::write_made;
@@ -10,74 +11,97 @@ use tfm_tables::Font;
 /// So many bytes are copied, however short the text is: a number that the processor copies at once.
 const BYTES: usize = 24;
 
-/// An item with its text, which is the end of some bytes.
+/// The text of an item, which is the end of some bytes.
 #[derive(Clone, Copy, Debug)]
 pub(crate) struct ReadyText {
-    item: Item,
     start: u8,
-    text: [u8; BYTES],
+    bytes: [u8; BYTES],
     ghost within: { (start ≤ 24) × (24 ≤ start + 17) },
-    ghost right: { drop start text ≡ item_text item },
 }
 
 impl ReadyText {
     /// The text of this item.
     fn new(item: Item) -> Self
-        ensures { result.item ≡ item }
+        ensures { drop result.start result.bytes ≡ item_text item }
     {
-        let mut text = [0; BYTES];
-        let start = write_made(&mut text, BYTES, item);
+        let mut bytes = [0; BYTES];
+        let start = write_made(&mut bytes, BYTES, &item);
         ReadyText {
-            item,
             start: start as u8,
-            text,
+            bytes,
         }
     }
 
-    /// Whether it is the text of this item.
-    pub fn is_of(&self, item: Item) -> bool
-        ensures { IsTrue result → self.now.item ≡ item }
-    {
-        self.item == item
-    }
-
-    /// Writes the text before `end`: where it begins.
+    /// Writes the text before `end`: where it begins. A copy of the bytes can't lie in `text`, so that
+    /// nothing is looked at before they are written.
     pub fn write(&self, text: &mut [u8], end: usize) -> usize
         requires { (24 ≤ end) × (end ≤ length text.old) }
         ensures place { (result ≤ end) × (end ≤ result + 17) }
-        ensures written { drop result text.new ≡ item_text self.now.item ++ drop end text.old }
+        ensures written { drop result text.new ≡ drop self.now.start self.now.bytes ++ drop end text.old }
     {
         let from = end - BYTES;
-        text[from..end].copy_from_slice(&self.text);
+        let bytes = self.bytes;
+        text[from..end].copy_from_slice(&bytes);
         from + usize::from(self.start)
+    }
+}
+
+/// A character with its text.
+#[derive(Clone, Copy, Debug)]
+struct ReadyChar {
+    width: i32,
+    code: u8,
+    text: ReadyText,
+    ghost right: { drop text.start text.bytes ≡ item_text (Char code width) },
+}
+
+impl ReadyChar {
+    fn new(code: u8, width: i32) -> Self {
+        ReadyChar {
+            width,
+            code,
+            text: ReadyText::new(Item::Char { code, width }),
+        }
     }
 }
 
 /// A text for each code, and one for the space.
 #[derive(Debug, Drop)]
 pub(crate) struct ReadyTexts {
-    texts: [ReadyText; 256],
-    space: ReadyText,
+    chars: [ReadyChar; 256],
+    space: i32,
+    space_text: ReadyText,
+    ghost right: { drop space_text.start space_text.bytes ≡ item_text (Space space) },
 }
 
 impl ReadyTexts {
     /// The texts of a font's characters and of its space, each with its own width; 0 is the width of a
     /// code that is no character.
     pub fn new(font: &Font) -> Self {
-        let space = ReadyText::new(Item::Space(font.space()));
-        let mut texts = [space; 256];
+        let mut chars = [ReadyChar::new(0, 0); 256];
         for code in 0..=255 {
             let width = font.metrics(code).map_or(0, |metrics| metrics.width);
-            texts[usize::from(code)] = ReadyText::new(Item::Char { code, width });
+            chars[usize::from(code)] = ReadyChar::new(code, width);
         }
-        ReadyTexts { texts, space }
+        let space = font.space();
+        ReadyTexts {
+            chars,
+            space,
+            space_text: ReadyText::new(Item::Space(space)),
+        }
     }
 
-    /// The text that may serve an item, if any does.
-    pub fn of(&self, item: Item) -> &ReadyText {
-        match item {
-            Item::Char { code, .. } => &self.texts[usize::from(code)],
-            _ => &self.space,
+    /// The text of an item, where it is ready.
+    pub fn of(&self, item: &Item) -> Option<&ReadyText>
+        ensures { IfSome result (λ made. drop made.now.start made.now.bytes ≡ item_text item.now) }
+    {
+        if let Item::Char { code, width } = *item {
+            let made = &self.chars[usize::from(code)];
+            return (made.width == width && made.code == code).then_some(&made.text);
+        }
+        match *item {
+            Item::Space(amount) if amount == self.space => Some(&self.space_text),
+            _ => None,
         }
     }
 }

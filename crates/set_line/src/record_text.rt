@@ -23,15 +23,21 @@ fn push_number<I: Integer>(text: &mut Vec<u8>, before: &[u8], number: I) -> Resu
     text.extend_from_slice(buffer.format(number).as_bytes())
 }
 
-/// Appends some items: their texts are put together first, and copied once.
+/// Appends some items: their texts are put together in `room`, and copied once.
 #[tactic(auto, using(crate::proofs::RecordLemmas::fronts))]
-fn push_some(text: &mut Vec<u8>, items: &[Item], ready: &ReadyTexts) -> Result<(), AllocError>
-    requires { length items.now ≤ 32 }
+fn push_some(
+    text: &mut Vec<u8>,
+    room: &mut [u8],
+    items: &[Item],
+    ready: &ReadyTexts,
+) -> Result<(), AllocError>
+    requires items { length items.now ≤ 32 }
+    requires room { 551 ≤ length room.old }
     ensures front { StaysInFront text.old.items text.new.items }
     ensures pushed { OnOk result (text.new.items ≡ text.old.items ++ flat_map item_text items.now) }
+    ensures room { length room.new ≡ length room.old }
 {
-    let mut room = [0; ITEMS_AT_ONCE * ITEM_BYTES + BYTES_BEFORE];
-    let start = write_items(&mut room, items, ready);
+    let start = write_items(room, items, ready);
     text.extend_from_slice(&room[start..])
 }
 
@@ -40,13 +46,14 @@ fn push_items(text: &mut Vec<u8>, items: &[Item], ready: &ReadyTexts) -> Result<
     ensures front { StaysInFront text.old.items text.new.items }
     ensures pushed { OnOk result (text.new.items ≡ text.old.items ++ flat_map item_text items.now) }
 {
+    let mut room = [0; ITEMS_AT_ONCE * ITEM_BYTES + BYTES_BEFORE];
     let mut rest = items;
     while rest.len() > ITEMS_AT_ONCE {
         let (some, more) = rest.split_at(ITEMS_AT_ONCE);
-        push_some(text, some, ready)?;
+        push_some(text, &mut room, some, ready)?;
         rest = more;
     }
-    push_some(text, rest, ready)
+    push_some(text, &mut room, rest, ready)
 }
 
 #[tactic(auto, using(crate::proofs::RecordLemmas::fronts), unfolding(crate::specs::Record::refusal_text))]

@@ -60,12 +60,12 @@ fn write_amount(text: &mut [u8], end: usize, amount: i32) -> usize
 
 /// Makes the text of an item before `end`: where it begins.
 #[tactic(auto, using(crate::proofs::WritingLemmas::items), unfolding(crate::specs::Record::item_text))]
-pub(crate) fn write_made(text: &mut [u8], end: usize, item: Item) -> usize
+pub(crate) fn write_made(text: &mut [u8], end: usize, item: &Item) -> usize
     requires { (17 ≤ end) × (end ≤ length text.old) }
     ensures place { (result ≤ end) × (end ≤ result + 17) }
-    ensures written { drop result text.new ≡ item_text item ++ drop end text.old }
+    ensures written { drop result text.new ≡ item_text item.now ++ drop end text.old }
 {
-    match item {
+    match *item {
         Item::Char { code, width } => {
             let width_at = write_amount(text, end, width);
             let equals_at = write_byte(text, width_at, b'=');
@@ -88,16 +88,14 @@ pub(crate) fn write_made(text: &mut [u8], end: usize, item: Item) -> usize
 }
 
 /// Writes the text of an item before `end`, which is copied where it is ready: where it begins.
-fn write_item(text: &mut [u8], end: usize, item: Item, ready: &ReadyTexts) -> usize
+fn write_item(text: &mut [u8], end: usize, item: &Item, ready: &ReadyTexts) -> usize
     requires { (24 ≤ end) × (end ≤ length text.old) }
     ensures place { (result ≤ end) × (end ≤ result + 17) }
-    ensures written { drop result text.new ≡ item_text item ++ drop end text.old }
+    ensures written { drop result text.new ≡ item_text item.now ++ drop end text.old }
 {
-    let made = ready.of(item);
-    if made.is_of(item) {
-        made.write(text, end)
-    } else {
-        write_made(text, end, item)
+    match ready.of(item) {
+        Some(made) => made.write(text, end),
+        None => write_made(text, end, item),
     }
 }
 
@@ -112,7 +110,7 @@ pub(crate) fn write_items(text: &mut [u8], items: &[Item], ready: &ReadyTexts) -
     let mut left = items.len();
     while left > 0 {
         left -= 1;
-        at = write_item(text, at, items[left], ready);
+        at = write_item(text, at, &items[left], ready);
     }
     at
 }
