@@ -34,8 +34,6 @@ mod shortage;
 mod source;
 mod source_thread;
 mod spawning;
-#[cfg(test)]
-mod tests;
 mod worker;
 mod worker_thread;
 mod workers;

@@ -1,8 +1,8 @@
 //! Lines of readers.
 use super::trickle::{Asked, Trickle};
-use crate::{LineSource, ReaderSource};
 use line_lane::SourceFault;
 use set_line::lines;
+use set_run::{LineSource, ReaderSource};
 use std::process::Abort;
 use std::test::Fail;
 

@@ -1,7 +1,7 @@
 //! Sample fonts, and what a run is made of.
-use crate::{ListSource, Plan, Workers};
 use line_lane::{Block, Capacity};
 use set_line::{Limit, Line, Policy, Terms};
+use set_run::{ListSource, Plan, Workers};
 use std::alloc::Global;
 use std::sync::Arc;
 use tfm_tables::Font;

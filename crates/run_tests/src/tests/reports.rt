@@ -1,8 +1,8 @@
 //! Reports as text.
 use super::samples::{plain, source_of};
-use crate::{LaneReport, LineSource, ListSource, NoGate, Plan, Report, run};
 use line_lane::{LaneEnd, SourceFault};
 use set_line::{Terms, Version, record};
+use set_run::{LaneReport, LineSource, ListSource, NoGate, Plan, Report, run};
 use std::alloc::Global;
 use std::process::Abort;
 use std::sync::{Arc, Wait};

@@ -2,8 +2,8 @@
 use super::meeting::{Guest, Held, Meeting};
 use super::reports::says_ab;
 use super::samples::{plain, plan};
-use crate::run;
 use set_line::Terms;
+use set_run::run;
 use std::alloc::Global;
 use std::process::Abort;
 use std::sync::{Arc, Wait};

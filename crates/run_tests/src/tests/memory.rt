@@ -5,10 +5,10 @@
 //! which it was.
 use super::plans::three_sources;
 use super::samples::plan;
-use crate::{LaneReport, ListSource, NoGate, Report, RunFault, run};
 use lig_kern::Item;
 use line_lane::LaneEnd;
 use set_line::{Answer, LineRefusal, Outcome};
+use set_run::{LaneReport, ListSource, NoGate, Report, RunFault, run};
 use std::process::Abort;
 use std::test::Fail;
 

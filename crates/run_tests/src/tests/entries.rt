@@ -1,5 +1,5 @@
 //! A gate that notes who entered it.
-use crate::{Gate, Stage};
+use set_run::{Gate, Stage};
 use std::process::Abort;
 use std::sync::atomic::{AtomicU64, Ordering};
 

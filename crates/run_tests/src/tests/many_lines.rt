@@ -1,7 +1,7 @@
 //! Many lines of many sources, compared with the same lines set one after the other.
 use super::samples::{LIGATURE, LIMIT, plan, terms_of};
-use crate::{ListSource, NoGate, Report, run};
 use set_line::{Answer, Line, Outcome, Terms, set};
+use set_run::{ListSource, NoGate, Report, run};
 use std::alloc::Global;
 use std::process::Abort;
 use std::sync::{Arc, Wait};

@@ -2,8 +2,8 @@
 use super::entries::Entries;
 use super::reports::{reports, says_ab, sources_of_ab, text_of_ab};
 use super::samples::{ENDLESS, LIGATURE, LIMIT, PLAIN, line, plain, plan, source_of, terms_of};
-use crate::{ListSource, NoGate, RunFault, run};
 use set_line::{Line, Terms};
+use set_run::{ListSource, NoGate, RunFault, run};
 use std::alloc::Global;
 use std::process::Abort;
 use std::sync::{Arc, Wait};

@@ -3,9 +3,9 @@ ghost use Rattle.std.specs.Prelude.{◌<◌};
 
 use super::reports::sources_of_ab;
 use super::samples::plan;
-use crate::{ClosedLane, Collector, ListSource, NoGate, Refusal, RunEnd, run_into};
 use line_lane::LaneEnd;
 use set_line::{Answer, Outcome};
+use set_run::{ClosedLane, Collector, ListSource, NoGate, Refusal, RunEnd, run_into};
 use std::process::Abort;
 use std::sync::Wait;
 use std::test::Fail;

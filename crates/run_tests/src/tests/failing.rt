@@ -2,9 +2,9 @@
 use super::reports::reports;
 use super::samples::{line, plain, plan};
 use super::trickle::{Asked, Trickle};
-use crate::{LineSource, ReaderSource};
 use line_lane::SourceFault;
 use set_line::{Line, Terms};
+use set_run::{LineSource, ReaderSource};
 use std::alloc::Global;
 use std::process::Abort;
 use std::sync::{Arc, Wait};

@@ -1,8 +1,8 @@
 //! A gate that holds threads until others came by, and sources that tell it when they are asked.
 use super::samples::line;
-use crate::{Gate, LineSource, Stage};
 use line_lane::SourceFault;
 use set_line::Line;
+use set_run::{Gate, LineSource, Stage};
 use std::alloc::Global;
 use std::process::Abort;
 use std::sync::atomic::{AtomicBool, AtomicU64, Ordering};

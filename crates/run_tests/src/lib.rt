@@ -1,0 +1,5 @@
+//! The tests of `set_run`, over its public calls alone.
+#![tactic(auto)]
+
+#[cfg(test)]
+mod tests;
