@@ -28,7 +28,5 @@ mod sender;
 mod setter;
 mod settling;
 mod taker;
-#[cfg(test)]
-mod tests;
 mod took;
 mod turn;

@@ -1,7 +1,7 @@
 //! Scripts of calls, and what plays them.
 use super::lane::Lane;
 use super::samples::{is_answer, line, plain};
-use crate::{LaneEnd, OfferFault, SourceEnd, Took, Turn};
+use line_lane::{LaneEnd, OfferFault, SourceEnd, Took, Turn};
 use std::process::Abort;
 
 /// What becomes of a line that is offered.

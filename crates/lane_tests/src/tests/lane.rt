@@ -2,7 +2,7 @@
 ghost use Rattle.line_lane.specs.Ends.{IsLane};
 
 use super::samples::sizes;
-use crate::{Feeder, LaneEnd, Open, Setter, Taker, open, settle};
+use line_lane::{Feeder, LaneEnd, Open, Setter, Taker, open, settle};
 use set_line::Terms;
 use std::alloc::Global;
 use std::sync::Arc;

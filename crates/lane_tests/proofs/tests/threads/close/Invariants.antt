@@ -1,6 +1,6 @@
 -- the same end
 use Rattle.line_lane.specs.Ends.{SameFeeder}
-use Rattle.line_lane.proofs.tests.threads.feed.Given as goal
+use Rattle.lane_tests.proofs.tests.threads.close.Given as goal
 
 abbrev pub invariant-loop : goal.invariant-loop
 invariant-loop g l = SameFeeder l.initial.feeder l.feeder

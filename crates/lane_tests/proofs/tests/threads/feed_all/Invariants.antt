@@ -1,6 +1,6 @@
 -- the same end
 use Rattle.line_lane.specs.Ends.{SameFeeder}
-use Rattle.line_lane.proofs.tests.threads.feed_all.Given as goal
+use Rattle.lane_tests.proofs.tests.threads.feed_all.Given as goal
 
 abbrev pub invariant-loop-line : goal.invariant-loop-line
 invariant-loop-line g l = SameFeeder l.initial.feeder l.feeder

@@ -1,5 +1,5 @@
 //! Sample fonts, and what is made with them.
-use crate::{Block, Capacity};
+use line_lane::{Block, Capacity};
 use set_line::{Answer, Limit, Line, Policy, Terms, Version, record};
 use std::alloc::Global;
 use std::process::Abort;

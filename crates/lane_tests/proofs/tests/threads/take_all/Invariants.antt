@@ -1,6 +1,6 @@
 -- the same end
 use Rattle.line_lane.specs.Ends.{SameTaker}
-use Rattle.line_lane.proofs.tests.threads.take_all.Given as goal
+use Rattle.lane_tests.proofs.tests.threads.take_all.Given as goal
 
 abbrev pub invariant-loop : goal.invariant-loop
 invariant-loop g l = SameTaker l.initial.taker l.taker

@@ -1,6 +1,6 @@
 -- the same end
 use Rattle.line_lane.specs.Ends.{SameSetter}
-use Rattle.line_lane.proofs.tests.threads.set_all.Given as goal
+use Rattle.lane_tests.proofs.tests.threads.set_all.Given as goal
 
 abbrev pub invariant-loop : goal.invariant-loop
 invariant-loop g l = SameSetter l.initial.setter l.setter

@@ -5,8 +5,8 @@
 //! says which it was.
 use super::lane::Lane;
 use super::samples::{ligature, line};
-use crate::{LaneEnd, SourceEnd, Took, Turn};
 use lig_kern::Item;
+use line_lane::{LaneEnd, SourceEnd, Took, Turn};
 use set_line::{Answer, OutOfMemory, Outcome, Terms};
 use std::alloc::Global;
 use std::process::Abort;

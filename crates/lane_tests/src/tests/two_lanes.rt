@@ -7,7 +7,7 @@ ghost use Rattle.line_lane.specs.Lane.{answers_of};
 ghost use Rattle.line_lane.specs.Ends.{IsLane, SameFeeder, SameSetter, SameTaker, fed, state_of, taken};
 
 use super::samples::{is_answer, ligature, line, plain, sizes};
-use crate::{Feeder, LaneEnd, Setter, SourceEnd, Taker, Took, open, settle};
+use line_lane::{Feeder, LaneEnd, Setter, SourceEnd, Taker, Took, open, settle};
 use set_line::{Answer, Line, Terms};
 use std::alloc::Global;
 use std::process::Abort;

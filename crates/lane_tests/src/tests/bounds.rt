@@ -1,5 +1,5 @@
 //! Capacities and blocks at the ends of their ranges.
-use crate::{Block, Capacity};
+use line_lane::{Block, Capacity};
 
 /// A number; whether it is a capacity; whether it is a block.
 static NUMBERS: [(usize, bool, bool); 8] = [

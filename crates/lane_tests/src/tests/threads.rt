@@ -2,7 +2,7 @@
 ghost use Rattle.line_lane.specs.Ends.{IsLane, SameFeeder, SameSetter, SameTaker};
 
 use super::samples::{plain, recorded, sizes};
-use crate::{Feeder, LaneEnd, OfferFault, Setter, SourceEnd, Taker, Took, Turn, open, settle};
+use line_lane::{Feeder, LaneEnd, OfferFault, Setter, SourceEnd, Taker, Took, Turn, open, settle};
 use set_line::{Answer, Line, OutOfMemory, Terms, set};
 use std::alloc::Global;
 use std::process::Abort;

@@ -2,7 +2,7 @@
 use super::script::Offered::{Accepted, Closed, NoRoom};
 use super::script::Step::{Close, Flush, GiveUp, Offer, Stay, Take, Turns};
 use super::script::{Script, Step, Taken, plays};
-use crate::{LaneEnd, SourceEnd, SourceFault, Turn};
+use line_lane::{LaneEnd, SourceEnd, SourceFault, Turn};
 
 const MOVED: Step = Turns(Turn::Moved);
 
