@@ -21,5 +21,3 @@ mod pairs;
 mod step;
 mod tables;
 mod tag;
-#[cfg(test)]
-mod tests;

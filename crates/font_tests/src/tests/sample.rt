@@ -1,6 +1,6 @@
 //! A font of its parts, and the file that it makes.
-use crate::Step;
 use std::alloc::{AllocError, Global};
+use tfm_tables::Step;
 
 /// A char_info word, field by field.
 #[derive(Clone, Copy)]

@@ -1,10 +1,10 @@
 use super::sample::Sample;
 use super::samples::{LEFT_BOUNDARY, LIGATURE, PLAIN, RIGHT_BOUNDARY, header, header_texts};
 use super::slow::slow_fault;
-use crate::Font;
 use std::io::Print;
 use std::process::Abort;
 use std::test::Fail;
+use tfm_tables::Font;
 use tfm_words::Size;
 
 /// The reading of a file and the slow checker agree. Whether a fault was found.

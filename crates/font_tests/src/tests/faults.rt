@@ -4,9 +4,9 @@ use super::sample::Sample;
 use super::samples::{
     A, C, KERN_BEFORE_B, KERN_BEFORE_C, LIGATURE, PLAIN, with_characters, with_program,
 };
-use crate::{Font, FontFault, Part, Step};
 use std::process::Abort;
 use std::test::Fail;
+use tfm_tables::{Font, FontFault, Part, Step};
 use tfm_words::Table::Height;
 use tfm_words::{CountFault, DesignFault, Size};
 

@@ -1,9 +1,9 @@
 use super::readers::read;
 use super::sample::Sample;
 use super::samples::{PLAIN, header, header_texts};
-use crate::Font;
 use std::process::Abort;
 use std::test::Fail;
+use tfm_tables::Font;
 
 /// The text is there, and this.
 fn is_text(found: Option<&[u8]>, wanted: &[u8]) -> bool {

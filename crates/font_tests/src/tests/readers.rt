@@ -3,10 +3,10 @@ use super::samples::{
     A, A_FROM_0, AHEAD, BACK, C, HALF, KERN_BEFORE_C, LIGATURE, NO_CHARACTERS, NOTHING, PLAIN,
     QUARTER, THREE_QUARTERS,
 };
-use crate::{Font, LeftSide, Metrics, Tag};
 use std::alloc::Global;
 use std::process::Abort;
 use std::test::Fail;
+use tfm_tables::{Font, LeftSide, Metrics, Tag};
 use tfm_words::Size;
 
 /// The font at its design size, or at a size in scaled points.

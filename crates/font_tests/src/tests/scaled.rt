@@ -1,9 +1,9 @@
 use super::readers::read;
 use super::sample::Sample;
 use super::samples::{BACK, HALF, PLAIN, PLAIN_PARAMETERS};
-use crate::{Font, Metrics};
 use std::process::Abort;
 use std::test::Fail;
+use tfm_tables::{Font, Metrics};
 
 /// Parameters, a size, and the answers for the numbers from 0 on.
 static PARAMETERS: [(&str, &[u32], Option<u32>, [i32; 5]); 6] = [

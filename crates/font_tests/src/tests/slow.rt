@@ -1,7 +1,7 @@
 //! A second look at what a font may not have: every condition in order, as the definition lists
 //! them, over the words of the file alone. Of the crates it uses the names of the faults, and
 //! nothing that reads or computes.
-use crate::{FontFault, Part};
+use tfm_tables::{FontFault, Part};
 use tfm_words::{Count, CountFault, DesignFault, Table};
 
 const COUNTS: [Count; 12] = [

@@ -1,8 +1,8 @@
 use super::faults::is_truncated;
 use super::samples::{RIGHT_BOUNDARY, largest, largest_program};
-use crate::{Font, FontFault, LeftSide, Step};
 use std::process::Abort;
 use std::test::Fail;
+use tfm_tables::{Font, FontFault, LeftSide, Step};
 
 /// The font has this instruction at an address.
 fn has_step<R: Abort>(rt: &R, font: &Font, i: usize, step: Step) {

@@ -4,10 +4,10 @@ use super::samples::{
     LEFT_BOUNDARY, LIGATURE, NO_CHARACTERS, NO_PROGRAM, NOTHING, PLAIN, RIGHT_BOUNDARY, largest,
     largest_program,
 };
-use crate::{Font, LeftSide, Step};
 use std::alloc::{AllocError, Global};
 use std::process::Abort;
 use std::test::Fail;
+use tfm_tables::{Font, LeftSide, Step};
 
 const BOUNDARY: LeftSide = LeftSide::Boundary;
 

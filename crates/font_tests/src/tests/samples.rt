@@ -1,7 +1,7 @@
 //! Sample fonts.
 use super::sample::{Info, Sample};
-use crate::Step;
 use std::alloc::{AllocError, Global};
+use tfm_tables::Step;
 
 /// A code without a character.
 pub const NOTHING: Info = Info {

@@ -4,7 +4,7 @@ use super::samples::{
     KERN_BEFORE_B, KERN_BEFORE_C, LEFT_BOUNDARY, LIGATURE, LIGATURE_C, NO_CHARACTERS, PLAIN,
     RIGHT_BOUNDARY,
 };
-use crate::{Part, Step};
+use tfm_tables::{Part, Step};
 
 /// Instructions, as the bytes of a word, that begin the program of the font with a ligature, and
 /// the part that is wrong in each.

@@ -4,9 +4,9 @@ use super::samples::{
     A_FROM_0, A_FROM_1, BACK, BOUNDARY_EXISTS, C, ENDLESS, INDIRECT, KERN_BEFORE_C, LEFT_BOUNDARY,
     LIGATURE, NO_CHARACTERS, NO_PROGRAM, PLAIN, RIGHT_BOUNDARY, ligature_program, with_program,
 };
-use crate::{Font, LeftSide, Step};
 use std::process::Abort;
 use std::test::Fail;
+use tfm_tables::{Font, LeftSide, Step};
 
 /// Where the programs of the boundary, a, b, c and d begin.
 type Starts = [Option<usize>; 5];

@@ -3,7 +3,7 @@ use super::sample::{Info, Sample};
 use super::samples::{
     A_FROM_0, B, BACK, C, HALF, KERN_BEFORE_B, KERN_BEFORE_C, LIGATURE, LIGATURE_C, NOTHING, PLAIN,
 };
-use crate::{FontFault, Step};
+use tfm_tables::{FontFault, Step};
 use tfm_words::Table::{Depth, Height, Italic, Kern, Param, Width};
 
 /// There is no width 4.
