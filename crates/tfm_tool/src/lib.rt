@@ -12,6 +12,4 @@ mod files;
 mod jobs;
 mod program;
 mod runs;
-#[cfg(test)]
-mod tests;
 mod texts_of_fonts;

@@ -5,11 +5,11 @@ use super::settings::{Case, ENDLESS_CASES, PLAIN_CASES, file_name};
 use super::streams::{FAILED, Frail, Trickle};
 use super::texts::{small_plan, two_sources};
 use super::*;
-use crate::{Summary, ToolFault, stream_text};
 use set_line::{Limit, Policy, Version};
 use set_run::NoGate;
 use std::test::Fail;
 use std::{fs, process};
+use tfm_tool::{Summary, ToolFault, stream_text};
 
 /// The words of a case of `set` with the font `-`: of this subcommand, with a font that is a file.
 fn words_for<'a, R: AllocGlobal>(

@@ -1,8 +1,8 @@
 use super::*;
-use crate::words_refused;
 use std::io;
 use std::io::ErrorKind;
 use std::test::Fail;
+use tfm_tool::words_refused;
 
 /// Words that are refused, and a part of what is told of them.
 static REFUSED: [(&[&str], &str); 32] = [

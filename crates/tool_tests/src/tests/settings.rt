@@ -1,8 +1,8 @@
 use super::listings::{letters, plain};
 use super::*;
-use crate::{Summary, status};
 use std::test::Fail;
 use std::{env, fs, process};
+use tfm_tool::{Summary, status};
 
 /// A text, the words before its file, the status and what is printed.
 pub type Case = (&'static [u8], &'static [&'static str], u8, &'static str);

@@ -2,12 +2,12 @@
 use super::listings::plain;
 use super::streams::{Frail, Trickle};
 use super::*;
-use crate::{Summary, ToolFault, stream_text};
 use line_lane::{Block, Capacity};
 use set_line::{Limit, Policy, Version};
 use set_run::{NoGate, Plan, ReaderSource, RunFault, Workers};
 use std::io::Write;
 use std::test::Fail;
+use tfm_tool::{Summary, ToolFault, stream_text};
 
 /// The smallest rings, and two setters.
 fn small_plan() -> Option<Plan> {

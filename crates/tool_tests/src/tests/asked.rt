@@ -2,7 +2,6 @@
 //! does that asks for one line after another at the other end of two pipes.
 use super::listings::plain;
 use super::*;
-use crate::{Summary, stream_text};
 use line_lane::{Block, Capacity};
 use set_line::{Limit, Policy, Version};
 use set_run::{NoGate, Plan, ReaderSource, Workers};
@@ -10,6 +9,7 @@ use std::io::{ErrorKind, Read, Write};
 use std::sync::atomic::{AtomicU64, Ordering};
 use std::test::Fail;
 use std::{io, thread};
+use tfm_tool::{Summary, stream_text};
 
 /// How often it is looked whether a record was written, at most: a stream that hoards fails by that.
 const LOOKS: u64 = 20_000_000;

@@ -1,4 +1,3 @@
-use crate::tool;
 use std::alloc::{AllocError, Global};
 use std::env::Env;
 use std::process::Abort;
@@ -6,6 +5,7 @@ use std::rt::Files;
 use std::sync::Wait;
 use std::thread::Threads;
 use std::time::Clock;
+use tfm_tool::tool;
 
 mod asked;
 mod counts_of_fonts;

@@ -3,13 +3,13 @@ use super::listings::plain;
 use super::streams::Frail;
 use super::texts::small_plan;
 use super::*;
-use crate::{Summary, ToolFault, set_each};
 use set_line::{Limit, Line, Policy, Terms, Version};
 use set_run::{ListSource, NoGate};
 use std::io::Write;
 use std::sync::Arc;
 use std::test::Fail;
 use tfm_tables::Font;
+use tfm_tool::{Summary, ToolFault, set_each};
 
 /// Lines, and what their records have behind the numbers.
 static LINES: [(&str, &str); 6] = [
