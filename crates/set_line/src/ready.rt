@@ -32,8 +32,7 @@ impl ReadyText {
         }
     }
 
-    /// Writes the text before `end`: where it begins. A copy of the bytes can't lie in `text`, so that
-    /// nothing is looked at before they are written.
+    /// Writes the text before `end`: where it begins.
     pub fn write(&self, text: &mut [u8], end: usize) -> usize
         requires { (24 ≤ end) × (end ≤ length text.old) }
         ensures place { (result ≤ end) × (end ≤ result + 17) }

@@ -3,7 +3,7 @@ use Rattle.std.proofs.Common.{rules}
 use Rattle.set_line.proofs.WritingLemmas.{copy_before}
 use Rattle.set_line.proofs.ready.ReadyText.write.Goals as goal
 
--- src/ready.rt:37:5
+-- src/ready.rt:36:5
 pub returns-clause-written : goal.returns-clause-written
 returns-clause-written c =
     rw c.from.ensures
