@@ -78,7 +78,7 @@ module _ {S : Type 0} where
   abbrev pub with_these_terms : TermsValue → List S → List (TermsValue × S)
   with_these_terms terms sources = map (λ source. (terms, source)) sources
 
-  -- the lines of a source, as far as they came: those of a lane that is true to the source and to what became of it
+  -- the lines of a source, as far as they came: those of some closed lane that is true to it; which source was handed back isn't said
   abbrev pub HasCome :
       (S → Option (List (List ℕ))) → (S → Option SourceFault) → Version → ℕ → TermsValue × S → List SourceLine → Type 0
   HasCome to_come failed version number source lines =

@@ -3,7 +3,7 @@ ghost use Rattle.std.specs.Prelude.{◌≡◌, ◌+◌, ◌<◌, ◌^◌, ◌++�
 ghost use Rattle.std.specs.Io.KnownBytes.{Appends};
 ghost use Rattle.std.specs.List.{concat};
 ghost use Rattle.set_line.specs.Record.{record_text};
-ghost use Rattle.set_run.specs.declared.collector.Refusal.TheVariants.{OutOfMemory as NoMemory};
+ghost use Rattle.set_run.specs.declared.collector.Refusal.TheVariants.{OutOfMemory as NoMemory, Output};
 ghost use Rattle.run_texts.specs.RunText.{end_text, is_refused, why_of};
 
 use crate::block::TextBlock;
@@ -46,8 +46,9 @@ impl Model for LaneText {
 
 /// Writes blocks, of which each is given back as soon as it is written.
 fn write_blocks<W: Write>(blocks: Vec<TextBlock>, out: &mut W) -> Result<(), Refusal>
-    ensures { OnOk result (Appends (W.contents out.old) (W.contents out.new)
+    ensures written { OnOk result (Appends (W.contents out.old) (W.contents out.new)
         (concat blocks.items)) }
+    ensures refusal { IfErr result (λ refusal. refusal ≡ Output) }
 {
     for block in blocks {
         out.write_all(block.as_slice())
@@ -135,7 +136,8 @@ impl LaneText {
 
     /// Writes the text, and gives its memory back.
     pub fn write<W: Write>(self, out: &mut W) -> Result<(), Refusal>
-        ensures { OnOk result (Appends (W.contents out.old) (W.contents out.new) self.text) }
+        ensures written { OnOk result (Appends (W.contents out.old) (W.contents out.new) self.text) }
+        ensures refusal { IfErr result (λ refusal. refusal ≡ Output) }
     {
         let LaneText {
             blocks,

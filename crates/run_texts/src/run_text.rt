@@ -1,9 +1,9 @@
 //! The texts of a run's lanes, kept while it goes on.
-ghost use Rattle.std.specs.Prelude.{◌≡◌, ℕ, ◌++◌, flat_map, length, [], ⊤, IfOk, IfSome, OnOk};
+ghost use Rattle.std.specs.Prelude.{◌≡◌, ℕ, ◌++◌, flat_map, length, [], ⊤, Err, IfErr, IfOk, IfSome, OnOk};
 ghost use Rattle.std.specs.Io.KnownBytes.{Appends};
 ghost use Rattle.set_line.specs.declared.version.Version.{Version as Form};
 ghost use Rattle.set_line.specs.declared.version.Version.TheVariants.{One};
-ghost use Rattle.set_run.specs.declared.collector.Refusal.TheVariants.{OutOfMemory as NoMemory};
+ghost use Rattle.set_run.specs.declared.collector.Refusal.TheVariants.{OutOfMemory as NoMemory, Output};
 ghost use Rattle.run_texts.specs.LaneText.{AreKept};
 ghost use Rattle.run_texts.specs.RunText.{head_text};
 
@@ -42,8 +42,9 @@ pub(crate) struct RunTexts<K: Kept> {
 
 /// Writes texts in order. Each is given back as soon as it is written.
 fn write_lanes<W: Write>(lanes: Vec<LaneText>, out: &mut W) -> Result<(), Refusal>
-    ensures { OnOk result (Appends (W.contents out.old) (W.contents out.new)
+    ensures written { OnOk result (Appends (W.contents out.old) (W.contents out.new)
         (flat_map (λ lane. lane.text) lanes.items)) }
+    ensures refusal { IfErr result (λ refusal. refusal ≡ Output) }
 {
     for lane in lanes {
         lane.write(out)?;
@@ -72,8 +73,9 @@ impl<K: Kept> RunTexts<K> {
     /// Writes them, behind what their version begins with.
     #[tactic(auto, using(crate::proofs::RunTextLemmas::appends_more))]
     pub fn write<W: Write>(self, alloc: Global, out: &mut W) -> Result<(), Refusal>
-        ensures { OnOk result (Appends (W.contents out.old) (W.contents out.new)
+        ensures written { OnOk result (Appends (W.contents out.old) (W.contents out.new)
             (head_text self.version ++ flat_map (λ lane. lane.text) self.lanes.items)) }
+        ensures memory { result ≡ Err NoMemory → out.new ≡ out.old }
     {
         let mut head = Vec::new(alloc);
         push_head(self.version, &mut head)?;

@@ -1,5 +1,5 @@
 //! Sources of lines, set in one run, and its text.
-ghost use Rattle.std.specs.Prelude.{◌≡◌, ◌⊎◌, ◌<◌, ◌≤◌, List, Err, None, Some, IfErr, IfOk, IsErr, OnErr, vec_len};
+ghost use Rattle.std.specs.Prelude.{◌≡◌, ◌⊎◌, ◌<◌, ◌≤◌, List, Err, None, Some, IfErr, IfOk, OnErr, vec_len};
 ghost use Rattle.std.specs.Arc.{arc_value};
 ghost use Rattle.std.specs.List.{AllZip};
 ghost use Rattle.set_run.specs.declared.report.LaneReport.{LaneReport as Lane};
@@ -50,6 +50,7 @@ where
         → (fault ≡ NoMemory) ⊎ (fault ≡ Thread) }
     ensures run { (fault : Fault) → result ≡ Err (ToolFault.Run fault) → out.new ≡ out.old }
     ensures font { (fault : Refusal) → result ≡ Err (ToolFault.Font fault) → ⊥ }
+    ensures memory { result ≡ Err ToolFault.OutOfMemory → out.new ≡ out.old }
 {
     let texts = match RunTexts::<K>::new(alloc, sources.len(), version) {
         Ok(texts) => texts,
@@ -71,8 +72,8 @@ where
 }
 
 /// Sets the lines of all sources, each with its terms, in one run, and writes the text of its report
-/// once the run has returned. `Run` says why there is no report, and nothing was written then; after
-/// `Write` and `OutOfMemory` some of the text may be out. It never answers `Font`.
+/// once the run has returned. `Run` says why there is no report; nothing was written then, nor after
+/// `OutOfMemory`. After `Write` some of the text may be out. It never answers `Font`.
 pub fn set_each<R, S, G, W>(
     rt: &R,
     alloc: Global,
@@ -95,6 +96,7 @@ where
         → (fault ≡ NoMemory) ⊎ (fault ≡ Thread) }
     ensures run { (fault : Fault) → result ≡ Err (ToolFault.Run fault) → out.new ≡ out.old }
     ensures font { (fault : Refusal) → result ≡ Err (ToolFault.Font fault) → ⊥ }
+    ensures memory { result ≡ Err ToolFault.OutOfMemory → out.new ≡ out.old }
 {
     if sources.len() > MOST_SOURCES {
         return Err(ToolFault::Run(RunFault::TooManySources));
@@ -116,8 +118,8 @@ pub fn accepted(alloc: Global, bytes: &[u8], size: Option<Size>) -> Result<Font,
     ensures font { (f : Refusal) → result ≡ Err (ToolFault.Font f) → font_fault_of bytes.now ≡ Some f }
     ensures refused { (f : Refusal) → font_fault_of bytes.now ≡ Some f
         → (result ≡ Err (ToolFault.Font f)) ⊎ (result ≡ Err ToolFault.OutOfMemory) }
-    ensures run { (fault : Fault) → result ≡ Err (ToolFault.Run fault) → ⊥ }
-    ensures write { result ≡ Err ToolFault.Write → ⊥ }
+    ensures fault { IfErr result (λ fault. (fault ≡ ToolFault.OutOfMemory)
+        ⊎ ((f : Refusal) × (fault ≡ ToolFault.Font f))) }
 {
     match Font::read(alloc, bytes, size) {
         Ok(font) => Ok(font),
@@ -146,8 +148,8 @@ pub(crate) fn with_terms<S: Drop>(
 
 /// Sets the lines of all sources in one run, with the font in these bytes at a size, else at its
 /// design size, and writes the text of the run's report once the run has returned. `Font` is the
-/// font's first fault and `Run` why there is no report; nothing was written then. After `Write` and
-/// `OutOfMemory` some of the text may be out.
+/// font's first fault and `Run` why there is no report; nothing was written then, nor after
+/// `OutOfMemory`. After `Write` some of the text may be out.
 pub fn set_text<R, S, G, W>(
     rt: &R,
     alloc: Global,
@@ -175,10 +177,13 @@ where
         → (font_fault_of font.now ≡ Some fault) × (out.new ≡ out.old) }
     ensures refused { (fault : Refusal) → font_fault_of font.now ≡ Some fault
         → (result ≡ Err (ToolFault.Font fault)) ⊎ (result ≡ Err ToolFault.OutOfMemory) }
-    ensures many { 64 < vec_len sources → IsErr result }
+    ensures many { 64 < vec_len sources → (result ≡ Err (ToolFault.Run TooManySources))
+        ⊎ (result ≡ Err ToolFault.OutOfMemory)
+        ⊎ ((fault : Refusal) × (result ≡ Err (ToolFault.Font fault))) }
     ensures few { vec_len sources ≤ 64 → (fault : Fault) → result ≡ Err (ToolFault.Run fault)
         → (fault ≡ NoMemory) ⊎ (fault ≡ Thread) }
     ensures run { (fault : Fault) → result ≡ Err (ToolFault.Run fault) → out.new ≡ out.old }
+    ensures memory { result ≡ Err ToolFault.OutOfMemory → out.new ≡ out.old }
 {
     let font = match accepted(alloc, font, size) {
         Ok(font) => font,

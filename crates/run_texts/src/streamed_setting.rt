@@ -1,8 +1,8 @@
 //! Sources of lines that are set with one font, whose lines are written as they come.
-ghost use Rattle.std.specs.Prelude.{◌≡◌, ◌⊎◌, ◌<◌, ◌≤◌, List, Err, Some, IfOk, IsErr, vec_len};
+ghost use Rattle.std.specs.Prelude.{◌≡◌, ◌⊎◌, ◌<◌, ◌≤◌, List, Err, Some, IfOk, vec_len};
 ghost use Rattle.set_run.specs.declared.report.LaneReport.{LaneReport as Lane};
 ghost use Rattle.set_run.specs.declared.run_fault.RunFault.{RunFault as Fault};
-ghost use Rattle.set_run.specs.declared.run_fault.RunFault.TheVariants.{OutOfMemory as NoMemory, Thread};
+ghost use Rattle.set_run.specs.declared.run_fault.RunFault.TheVariants.{OutOfMemory as NoMemory, Thread, TooManySources};
 ghost use Rattle.tfm_tables.specs.declared.fault.FontFault.{FontFault as FontRefusal};
 ghost use Rattle.tfm_tables.specs.Acceptance.{font_fault_of};
 ghost use Rattle.tfm_tables.specs.Font.{FontValue, IsFontOf};
@@ -53,7 +53,9 @@ where
         → (font_fault_of font.now ≡ Some fault) × (out.new ≡ out.old) }
     ensures refused { (fault : FontRefusal) → font_fault_of font.now ≡ Some fault
         → (result ≡ Err (ToolFault.Font fault)) ⊎ (result ≡ Err ToolFault.OutOfMemory) }
-    ensures many { 64 < vec_len sources → IsErr result }
+    ensures many { 64 < vec_len sources → (result ≡ Err (ToolFault.Run TooManySources))
+        ⊎ (result ≡ Err ToolFault.OutOfMemory)
+        ⊎ ((fault : FontRefusal) × (result ≡ Err (ToolFault.Font fault))) }
     ensures few { vec_len sources ≤ 64 → (fault : Fault) → result ≡ Err (ToolFault.Run fault)
         → (fault ≡ NoMemory) ⊎ (fault ≡ Thread) }
     ensures run { (fault : Fault) → result ≡ Err (ToolFault.Run fault) → out.new ≡ out.old }

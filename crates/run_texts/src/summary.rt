@@ -8,7 +8,7 @@ pub struct Summary {
     pub refused: u64,
     /// Some source failed at a read, or made too many for one line.
     pub read_failed: bool,
-    /// Memory was refused to some source.
+    /// Memory was refused to some source or setter.
     pub memory: bool,
 }
 

@@ -70,7 +70,7 @@ module _ {S : Type 0} where
   AreAnswered to_come sources reports =
       AllZip (λ source report. IfSome (to_come source.0) (λ lines. report.answers ≡ answers_of (arc_value source.1) lines)) sources reports
 
-  -- a lane with these answers whose source was handed back
+  -- a closed lane with these answers is true to its source as it was at the call, and as it was handed back
   abbrev pub IsClosed :
       (S → Option (List (List ℕ))) → (S → Option SourceFault) → TermsValue → S → List AnswerValue → ClosedLane S → Type 0
   IsClosed to_come failed terms source answers lane =
@@ -83,8 +83,8 @@ module _ {S : Type 0} where
         fails = failed lane.source;
       })
 
-  -- the lanes of sources, of which the first has this number: what came of each of them are its answers and then its end, where it
-  -- has one
+  -- the lanes of sources, of which the first has this number: what came of each of them are its answers and then its end, if it has
+  -- one, and it is true to its source
   abbrev pub AreClosed :
       (S → Option (List (List ℕ))) → (S → Option SourceFault) → List Event → ℕ → List (S × Arc TermsValue Global) → List (ClosedLane S) → Type 0
   AreClosed to_come failed events number [] [] = Unit {0}

@@ -17,6 +17,6 @@ pub struct ClosedLane<S> {
 pub struct RunEnd<S> {
     /// What became of each source, in order.
     pub lanes: Vec<ClosedLane<S>>,
-    /// What the collector refused, if that is told; where it is `None`, each lane has its end.
+    /// What the collector refused, if anything; if nothing, each lane has its end.
     pub refusal: Option<Refusal>,
 }

@@ -1,2 +1,4 @@
 pub mod FontTextLemmas
 pub mod StatusLemmas
+pub mod JobLemmas
+pub mod ListLemmas

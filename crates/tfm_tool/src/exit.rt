@@ -8,7 +8,7 @@ use set_run::RunFault;
 use tfm_tables::FontFault;
 use thiserror::Error;
 
-/// Why the program ends with a status other than 0. Its message is all that goes to the standard
+/// Why the program ends with a status from 2 on. Its message is all that goes to the standard
 /// error.
 #[derive(Debug, Drop, Error)]
 pub(crate) enum Failure {
@@ -47,7 +47,7 @@ pub(crate) enum Failure {
     /// Some file was not read to its end; the text was written.
     #[error("tfmset: some file was not read to its end\n")]
     FileNotEnded,
-    /// The text was not written.
+    /// The text was not written, or memory was refused on the way.
     #[error("tfmset: {0}\n")]
     Tool(ToolFault),
 }

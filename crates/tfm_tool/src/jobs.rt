@@ -1,5 +1,10 @@
 //! The jobs of `each`: a font, a limit and a file, again and again.
 
+ghost use Rattle.std.specs.Prelude.{IfOk};
+ghost use Rattle.std.specs.Arc.{arc_value};
+ghost use Rattle.std.specs.List.{AllZip};
+ghost use Rattle.tfm_tool.specs.Runs.{AreTermsOf};
+
 use crate::args::Layout;
 use crate::exit::Failure;
 use crate::files::{ReadFault, font_file};
@@ -55,7 +60,10 @@ fn terms_of<R: Files + AllocGlobal>(
     number: usize,
     job: &Job<'_>,
     layout: &Layout,
-) -> Result<Arc<Terms>, Failure> {
+) -> Result<Arc<Terms>, Failure>
+    ensures { IfOk result (λ terms.
+        AreTermsOf layout.now.size job.now.limit layout.now.policy (arc_value terms)) }
+{
     let bytes = match font_file(rt, job.font) {
         Ok(bytes) => bytes,
         Err(ReadFault::NotRead) => return Err(Failure::FontNotRead(number)),
@@ -75,10 +83,13 @@ pub(crate) fn all_terms<R: Files + AllocGlobal>(
     rt: &R,
     jobs: &[Job<'_>],
     layout: &Layout,
-) -> Result<Vec<Arc<Terms>>, Failure> {
+) -> Result<Vec<Arc<Terms>>, Failure>
+    ensures { IfOk result (λ all. AllZip (λ job terms.
+        AreTermsOf layout.now.size job.limit layout.now.policy (arc_value terms)) jobs.now all.items) }
+{
     let mut all = Vec::new(rt.alloc());
-    for (i, job) in jobs.iter().enumerate() {
-        let terms = terms_of(rt, i + 1, job, layout)?;
+    for job in jobs {
+        let terms = terms_of(rt, all.len() + 1, job, layout)?;
         all.push(terms)
             .map_err(|_| Failure::Tool(ToolFault::OutOfMemory))?;
     }

@@ -2,6 +2,8 @@ ghost use Rattle.std.specs.Prelude.{◌≡◌, ◌≢◌, true, [], ◌∷◌, c
 ghost use Rattle.std.specs.Io.KnownBytes.{Appends, Keeps};
 ghost use Rattle.std.specs.IoError.{error_kind};
 ghost use Rattle.font_texts.specs.CountsText.{counts_text_of};
+ghost use Rattle.font_texts.specs.Listing.{listing_of};
+ghost use Rattle.tfm_tables.specs.Font.{FontValue, IsFontOf};
 ghost use Rattle.tfm_tool.specs.Status.{is_before_output, status_of};
 
 use crate::args::{Request, requested};
@@ -102,7 +104,10 @@ where
     R: Files + AllocGlobal,
     I: Read,
     O: Write,
-    ensures { IfErr result (λ failure. is_before_output failure ≡ true → out.new ≡ out.old) }
+    ensures text { OnOk result (font.now ≡ codes "-" → IfSome (I.remaining input.old)
+        (λ all. (f : FontValue) × IsFontOf all None f
+        × Appends (O.contents out.old) (O.contents out.new) (listing_of f))) }
+    ensures untouched { IfErr result (λ failure. is_before_output failure ≡ true → out.new ≡ out.old) }
 {
     let bytes = font_bytes(rt, font, input)?;
     let font = accepted(rt.alloc(), bytes.as_slice(), None)?;

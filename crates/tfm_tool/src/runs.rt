@@ -2,8 +2,11 @@
 ghost use Rattle.std.specs.Prelude.{◌≡◌, ◌⊎◌, true, false, [], ◌∷◌, codes, Contains, Err, Some, IfErr, IfOk};
 ghost use Rattle.tfm_tables.specs.declared.fault.FontFault.{FontFault as Refusal};
 ghost use Rattle.tfm_tables.specs.Acceptance.{font_fault_of};
+ghost use Rattle.tfm_tables.specs.Font.{FontValue, IsFontOf};
+ghost use Rattle.std.specs.Io.KnownBytes.{Keeps};
+ghost use Rattle.tfm_tool.specs.Runs.{IsPrinted, IsPrintedAsItComes};
 ghost use Rattle.tfm_tool.specs.declared.exit.Failure.TheVariants.{FontAndText, Tool};
-ghost use Rattle.tfm_tool.specs.Status.{is_before_output};
+ghost use Rattle.tfm_tool.specs.Status.{is_before_output, status_of};
 ghost use Rattle.run_texts.specs.Endings.{summary_status};
 
 use crate::args::{Jobs, Setting};
@@ -63,15 +66,38 @@ where
     ensures untouched { IfErr result (λ failure. is_before_output failure ≡ true → out.new ≡ out.old) }
 {
     let (font, files) = font_and_files(rt, setting, input)?;
+    set_sources(rt, setting, font.as_slice(), files, out)
+}
+
+/// The lines of these sources, set with the font in these bytes.
+fn set_sources<R, S, O>(
+    rt: &R,
+    setting: &Setting<'_>,
+    font: &[u8],
+    sources: Vec<S>,
+    out: &mut O,
+) -> Result<u8, Failure>
+where
+    R: AllocGlobal + Threads + Wait + Clock + Sync,
+    S: LineSource + Send + Drop,
+    O: Write,
+    ensures text { IfOk result (λ status. (f : FontValue)
+        × IsFontOf font.now setting.now.layout.size f
+        × IsPrinted S.to_come S.failed
+        (record { font = f; limit = setting.now.limit; policy = setting.now.layout.policy })
+        setting.now.layout.version sources.items (O.contents out.old) (O.contents out.new) status) }
+    ensures status { IfOk result (λ status. Contains (0 ∷ 1 ∷ []) status) }
+    ensures untouched { IfErr result (λ failure. is_before_output failure ≡ true → out.new ≡ out.old) }
+{
     let layout = setting.layout;
     let summary = set_text(
         rt,
         rt.alloc(),
-        font.as_slice(),
+        font,
         layout.size,
         setting.limit,
         layout.policy,
-        files,
+        sources,
         layout.plan,
         layout.version,
         &NoGate,
@@ -142,6 +168,11 @@ where
     R: AllocGlobal + Threads + Wait + Clock + Sync,
     S: LineSource + Send + Drop,
     O: Write,
+    ensures text { IfOk result (λ status. (f : FontValue)
+        × IsFontOf font.now setting.now.layout.size f
+        × IsPrintedAsItComes S.to_come S.failed
+        (record { font = f; limit = setting.now.limit; policy = setting.now.layout.policy })
+        setting.now.layout.version sources.items (O.contents out.old) (O.contents out.new) status) }
     ensures refused { (fault : Refusal) → font_fault_of font.now ≡ Some fault
         → (result ≡ Err (Tool (ToolFault.Font fault))) ⊎ (result ≡ Err (Tool ToolFault.OutOfMemory)) }
     ensures status { IfOk result (λ status. Contains (0 ∷ 1 ∷ []) status) }
@@ -194,7 +225,10 @@ where
 fn finish<O: Write>(summary: &Summary, out: &mut O) -> Result<u8, Failure>
     ensures status { IfOk result (λ status. Contains (0 ∷ 1 ∷ []) status) }
     ensures worst { IfOk result (λ status. status ≡ summary_status summary.now) }
+    ensures kept { Keeps (O.contents out.old) (O.contents out.new) }
     ensures told { IfErr result (λ failure. is_before_output failure ≡ false) }
+    ensures status_told { IfErr result (λ failure. (failure ≡ Tool ToolFault.Write)
+        ⊎ (status_of failure ≡ summary_status summary.now)) }
 {
     out.flush().map_err(|_| Failure::Tool(ToolFault::Write))?;
     match status(summary) {

@@ -44,10 +44,11 @@ impl Read for Asking<'_> {
     }
 }
 
-/// Counts the lines that it was given.
+/// Counts the lines that it was given, once it is flushed.
 #[derive(Drop)]
 struct Counting<'a> {
     text: Vec<u8>,
+    unflushed: u64,
     written: &'a AtomicU64,
 }
 
@@ -56,13 +57,15 @@ impl Write for Counting<'_> {
         self.text.extend_from_slice(buf)?;
         for byte in buf {
             if *byte == b'\n' {
-                self.written.fetch_add(1, Ordering::SeqCst);
+                self.unflushed = self.unflushed.saturating_add(1);
             }
         }
         Ok(buf.len())
     }
 
     fn flush(&mut self) -> io::Result<()> {
+        self.written.fetch_add(self.unflushed, Ordering::SeqCst);
+        self.unflushed = 0;
         Ok(())
     }
 }
@@ -84,6 +87,7 @@ fn each_record_is_written_before_the_next_line_is_there(rt: HostRuntime) -> Resu
     let written = AtomicU64::new(0);
     let mut out = Counting {
         text: Vec::new(alloc),
+        unflushed: 0,
         written: &written,
     };
     let mut sources = Vec::new(alloc);

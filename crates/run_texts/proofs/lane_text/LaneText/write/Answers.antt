@@ -4,8 +4,8 @@ use Rattle.std.specs.List.{concat}
 use Rattle.run_texts.proofs.RunTextLemmas.{appends_more}
 use Rattle.run_texts.proofs.lane_text.LaneText.write.Goals as goal
 
-pub returns : goal.returns
-returns g c =
+pub returns-clause-written : goal.returns-clause-written
+returns-clause-written g c =
     let all : concat c.self.inside.blocks.items ++ c.self.inside.last.items ≡ c.args.self.text = search rules in
     subst (Appends (g.W.Write.contents c.args.out.now) (g.W.Write.contents c.write_all.new.self)) all
     (appends_more (g.W.Write.contents c.args.out.now) (g.W.Write.contents c.write_blocks.new.out) (g.W.Write.contents c.write_all.new.self)
