@@ -8,5 +8,8 @@ mod plans;
 mod readers;
 mod reports;
 mod samples;
+mod slow;
+mod stopping;
 mod threads;
 mod trickle;
+mod waking;

@@ -1,3 +1,4 @@
+pub mod FeedLemmas
 pub mod ReadingLemmas
 pub mod Zips
 pub mod SameEnds

@@ -3,16 +3,22 @@ ghost use Rattle.std.specs.Prelude.{◌≡◌, ◌≤◌, ◌↔◌, All, IsSome
 ghost use Rattle.std.specs.List.{AllZip};
 ghost use Rattle.std.specs.Result.{result_err};
 ghost use Rattle.set_run.specs.Collecting.{SameLane, TellsLanes};
+ghost use Rattle.set_run.specs.Events.{Keeps};
 
-use crate::backoff::{Backoff, Waiting};
+use crate::backoff::Backoff;
+use crate::came::Came;
 use crate::lane_taker::LaneTaker;
+use crate::signals::Signals;
 use crate::{Collector, Gate, Refusal, Stage};
 use std::sync::Wait;
-use std::time::Clock;
 
 /// Takes what is there of all lanes, one lane after the other. Whether anything came. The last lane has
 /// number 0.
-fn go_round<C: Collector>(lanes: &mut Vec<LaneTaker>, collector: &mut C) -> Result<bool, Refusal>
+fn go_round<C: Collector>(
+    signals: &Signals,
+    lanes: &mut Vec<LaneTaker>,
+    collector: &mut C,
+) -> Result<bool, Refusal>
     requires lanes { vec_len lanes.old ≤ C.lanes collector.old }
     requires willing { C.refused collector.old None }
     ensures same { AllZip SameLane lanes.old.items lanes.new.items }
@@ -23,7 +29,9 @@ fn go_round<C: Collector>(lanes: &mut Vec<LaneTaker>, collector: &mut C) -> Resu
     let mut came = false;
     for i in 0..lanes.len() {
         let lane = lanes.len() - 1 - i;
-        came |= lanes[i].take_some(lane, collector)?;
+        let took = lanes[i].take_some(lane, signals.lines(), collector)?;
+        signals.some_taken(lane, took);
+        came |= took != Came::Nothing;
     }
     Ok(came)
 }
@@ -35,18 +43,38 @@ fn have_ended(lanes: &[LaneTaker]) -> bool
     lanes.iter().all(|lane| lane.end.is_some())
 }
 
-/// Waits, after a look in vain, while the collector keeps nothing back.
-fn wait<R: Clock, C: Collector>(rt: &R, backoff: &mut Backoff, _collector: &C)
+/// Sleeps, while the collector keeps nothing back.
+fn sleep<R: Wait, C: Collector>(rt: &R, signals: &Signals, backoff: &mut Backoff, _collector: &C)
     requires { C.quiet _collector.now }
 {
-    backoff.wait(rt);
+    signals.sleep_as_collector(rt, backoff);
+}
+
+/// Lets a moment pass; or, if enough of them have, tells the collector and sleeps.
+fn wait<R: Wait, C: Collector>(
+    rt: &R,
+    signals: &Signals,
+    backoff: &mut Backoff,
+    collector: &mut C,
+) -> Result<(), Refusal>
+    requires willing { C.refused collector.old None }
+    ensures lanes { C.lanes collector.new ≡ C.lanes collector.old }
+    ensures given { Keeps C.given collector.old collector.new }
+    ensures refused { C.refused collector.new (result_err result) }
+{
+    if backoff.looks_again() {
+        return Ok(());
+    }
+    collector.about_to_wait()?;
+    sleep(rt, signals, backoff, collector);
+    Ok(())
 }
 
 /// Takes the answers of all lanes up to their ends, unless the collector refuses something: then this is
 /// answered.
-fn collect_all<R: Wait + Clock, C: Collector>(
+fn collect_all<R: Wait, C: Collector>(
     rt: &R,
-    waiting: Waiting,
+    signals: &Signals,
     lanes: &mut Vec<LaneTaker>,
     collector: &mut C,
 ) -> Result<(), Refusal>
@@ -58,15 +86,14 @@ fn collect_all<R: Wait + Clock, C: Collector>(
     ensures whole { IsTrue (is_ok result) → All (λ lane. IsSome lane.end) lanes.new.items }
     ensures refused { C.refused collector.new (result_err result) }
 {
-    let mut backoff = Backoff::new(waiting);
+    let mut backoff = Backoff::new();
     for _ in rt.forever() {
-        if go_round(lanes, collector)? {
+        if go_round(signals, lanes, collector)? {
             backoff.renew();
         } else if have_ended(lanes.as_slice()) {
             return Ok(());
         } else {
-            collector.about_to_wait()?;
-            wait(rt, &mut backoff, collector);
+            wait(rt, signals, &mut backoff, collector)?;
         }
     }
     unreachable!()
@@ -81,10 +108,10 @@ pub(crate) struct Collected<C> {
 }
 
 /// The work of the collecting thread: it enters the gate, and takes the answers of all lanes.
-pub(crate) fn collect<R: Wait + Clock, G: Gate, C: Collector>(
+pub(crate) fn collect<R: Wait, G: Gate, C: Collector>(
     rt: &R,
     gate: &G,
-    waiting: Waiting,
+    signals: &Signals,
     lanes: Vec<LaneTaker>,
     collector: C,
 ) -> Collected<C>
@@ -99,7 +126,7 @@ pub(crate) fn collect<R: Wait + Clock, G: Gate, C: Collector>(
     gate.enter(Stage::Collector, 0);
     let mut lanes = lanes;
     let mut collector = collector;
-    let refusal = collect_all(rt, waiting, &mut lanes, &mut collector).err();
+    let refusal = collect_all(rt, signals, &mut lanes, &mut collector).err();
     Collected {
         lanes,
         collector,

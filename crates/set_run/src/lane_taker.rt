@@ -4,6 +4,7 @@ ghost use Rattle.std.specs.Result.{result_err};
 ghost use Rattle.line_lane.specs.Ends.{SameTaker};
 ghost use Rattle.set_run.specs.Collecting.{TellsLane};
 
+use crate::came::Came;
 use crate::{Collector, Refusal};
 use line_lane::{LaneEnd, Taker, Took};
 
@@ -13,9 +14,6 @@ pub(crate) struct LaneTaker {
     pub taker: Taker,
     pub end: Option<LaneEnd>,
 }
-
-/// How many answers of a lane are taken after one another, at most, before the next lane is looked at.
-const TAKES: u32 = 64;
 
 impl LaneTaker {
     /// Takes what comes next, and gives it to the collector. Whether anything came.
@@ -46,12 +44,13 @@ impl LaneTaker {
         }
     }
 
-    /// Takes what is there, up to so many answers. Whether anything came.
+    /// Takes what is there, at most so many answers.
     pub fn take_some<C: Collector>(
         &mut self,
         lane: usize,
+        most: usize,
         collector: &mut C,
-    ) -> Result<bool, Refusal>
+    ) -> Result<Came, Refusal>
         requires lane { lane < C.lanes collector.old }
         requires willing { C.refused collector.old None }
         ensures same { SameTaker self.old.taker self.new.taker }
@@ -59,11 +58,15 @@ impl LaneTaker {
         ensures told { TellsLane C.given lane self.old collector.old (is_ok result) self.new collector.new }
         ensures refused { C.refused collector.new (result_err result) }
     {
-        for takes in 0..TAKES {
+        for takes in 0..most {
             if !self.take(lane, collector)? {
-                return Ok(takes > 0);
+                return Ok(if takes > 0 {
+                    Came::Moved
+                } else {
+                    Came::Nothing
+                });
             }
         }
-        Ok(true)
+        Ok(Came::Most)
     }
 }

@@ -31,6 +31,7 @@ mod run_fault;
 mod running;
 mod running_into;
 mod shortage;
+mod signals;
 mod source;
 mod source_thread;
 mod spawning;

@@ -34,4 +34,8 @@ impl LineSource for ListSource {
     fn next_line(&mut self) -> Result<Option<Line>, SourceFault> {
         Ok(self.lines.next())
     }
+
+    fn is_ready(&self) -> bool {
+        true
+    }
 }

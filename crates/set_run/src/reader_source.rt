@@ -84,4 +84,9 @@ impl<R: Read> LineSource for ReaderSource<R> {
             ReaderState::Failed(fault) => Err(fault),
         }
     }
+
+    /// Whether the next line stands in what was read last.
+    fn is_ready(&self) -> bool {
+        self.buffer.has_feed()
+    }
 }

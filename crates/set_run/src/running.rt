@@ -13,7 +13,6 @@ use set_line::Terms;
 use std::alloc::{AllocError, Global};
 use std::sync::{Arc, Wait};
 use std::thread::Threads;
-use std::time::Clock;
 
 /// The reports of lanes that have all ended, each with its answers: from the last one down.
 fn reports_of<S: Drop>(
@@ -52,7 +51,7 @@ fn reports_of<S: Drop>(
 /// thread; `Thread`, if a thread was refused. After a fault all threads that were started have
 /// been joined, and sources and answers are gone.
 #[tactic(auto, using(crate::proofs::FinishedLemmas::answered))]
-pub fn run<R: Threads + Wait + Clock + Sync, S: LineSource + Send + Drop, G: Gate + Sync>(
+pub fn run<R: Threads + Wait + Sync, S: LineSource + Send + Drop, G: Gate + Sync>(
     rt: &R,
     alloc: Global,
     sources: Vec<(S, Arc<Terms>)>,

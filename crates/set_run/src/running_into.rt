@@ -7,16 +7,15 @@ ghost use Rattle.set_run.specs.Reports.{IsCollected, IsWhole};
 use crate::collector_thread::Collected;
 use crate::lane_taker::LaneTaker;
 use crate::shortage::{Shortage, Unbegun};
+use crate::signals::Signals;
 use crate::spawning::start_sources;
 use crate::worker::Worker;
 use crate::{ClosedLane, Collector, Gate, LineSource, Plan, RunEnd, RunFault};
 use set_line::Terms;
 use std::alloc::{AllocError, Global};
-use std::sync::atomic::AtomicBool;
 use std::sync::{Arc, Wait};
 use std::thread;
 use std::thread::{Scope, Threads};
-use std::time::Clock;
 
 /// How many sources a run takes at most.
 pub const MOST_SOURCES: usize = 64;
@@ -34,7 +33,7 @@ fn empty_workers(alloc: Global, threads: usize) -> Result<Vec<Worker>, AllocErro
 
 /// The run, with its threads in one scope.
 fn run_threads<
-    R: Threads + Wait + Clock + Sync,
+    R: Threads + Wait + Sync,
     S: LineSource + Send + Drop,
     G: Gate + Sync,
     C: Collector + Drop,
@@ -57,8 +56,8 @@ fn run_threads<
         sources.items [] collector back.0.items back.1) }
     ensures unbegun { IfErr result (λ unbegun. unbegun.collector ≡ collector) }
 {
-    let stop = AtomicBool::new(false);
-    let stop = &stop;
+    let signals = Signals::new(plan, sources.len(), workers.len());
+    let signals = &signals;
     let lanes: Vec<LaneTaker> = Vec::new(alloc);
     thread::scope(
         thread::scope_env(),
@@ -74,7 +73,7 @@ fn run_threads<
             ensures unbegun { IfErr result (λ unbegun. unbegun.collector ≡ collector) }
         {
             let (closed, _, collected) = start_sources(
-                scope, rt, gate, stop, alloc, plan, sources, closed, workers, lanes, collector,
+                scope, rt, gate, signals, alloc, plan, sources, closed, workers, lanes, collector,
             )?;
             Ok((closed, collected))
         },
@@ -95,7 +94,7 @@ fn run_threads<
 /// `Thread`, if a thread was refused. After a fault all threads that were started have been joined, the
 /// sources are gone, and the collector wasn't called.
 pub fn run_into<
-    R: Threads + Wait + Clock + Sync,
+    R: Threads + Wait + Sync,
     S: LineSource + Send + Drop,
     G: Gate + Sync,
     C: Collector + Drop,

@@ -16,4 +16,10 @@ pub trait LineSource {
     /// The next line; `None` where none is to come, now and later; or a fault, once and for all.
     fn next_line(&mut self) -> Result<Option<Line>, SourceFault>
         ensures { Reads (to_come self.old) (failed self.old) result (to_come self.new) (failed self.new) };
+
+    /// Whether `next_line` would have to wait for nothing. It only decides when other threads are woken: a
+    /// source that can't tell says no.
+    fn is_ready(&self) -> bool {
+        false
+    }
 }

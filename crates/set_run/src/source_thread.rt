@@ -4,15 +4,14 @@ ghost use Rattle.line_lane.specs.Ends.{SameFeeder, fed, feeder_end};
 ghost use Rattle.line_lane.specs.Messages.{first_end};
 ghost use Rattle.set_run.specs.Given.{AreFed, HandsBack};
 
-use crate::backoff::{Backoff, Waiting};
+use crate::backoff::Backoff;
+use crate::signals::Signals;
 use crate::{Gate, LineSource, Stage};
 use line_lane::{Feeder, OfferFault, SourceEnd};
 use set_line::Line;
 use std::snapshot::Snapshot;
 use std::sync::Wait;
-use std::sync::atomic::{AtomicBool, Ordering};
 use std::thread::Promise;
-use std::time::Clock;
 
 /// A source with the feeder of its lane.
 #[derive(Drop)]
@@ -30,38 +29,32 @@ impl<S: LineSource> Promise<Feeding<S>> for FedFrom<S> {
 }
 
 /// Feeds a line, as soon as there is room for it; false where the run is stopped.
-fn offer<R: Wait + Clock>(
-    rt: &R,
-    stop: &AtomicBool,
-    waiting: Waiting,
-    feeder: &mut Feeder,
-    line: Line,
-) -> bool
+fn offer<R: Wait>(rt: &R, signals: &Signals, number: usize, feeder: &mut Feeder, line: Line) -> bool
     ensures lane { SameFeeder feeder.old feeder.new }
     ensures end { feeder_end feeder.new ≡ feeder_end feeder.old }
     ensures fed { fed feeder.new ≡ (if result then fed feeder.old ++ line ∷ [] else fed feeder.old) }
 {
     let mut line = line;
-    let mut backoff = Backoff::new(waiting);
+    let mut backoff = Backoff::new();
     for _ in rt.forever() {
         match feeder.offer(line) {
             Ok(()) => return true,
             Err(OfferFault::NoRoom(back)) => line = back,
             Err(OfferFault::Closed(_)) => return false,
         }
-        if stop.load(Ordering::SeqCst) {
+        if signals.is_stopped() {
             return false;
         }
-        backoff.wait(rt);
+        signals.wait_as_source(rt, number, &mut backoff);
     }
     unreachable!()
 }
 
 /// Closes the feeder, as soon as there is room for its end; false where the run is stopped.
-fn close<R: Wait + Clock>(
+fn close<R: Wait>(
     rt: &R,
-    stop: &AtomicBool,
-    waiting: Waiting,
+    signals: &Signals,
+    number: usize,
     feeder: &mut Feeder,
     end: SourceEnd,
 ) -> bool
@@ -69,25 +62,39 @@ fn close<R: Wait + Clock>(
     ensures fed { fed feeder.new ≡ fed feeder.old }
     ensures end { feeder_end feeder.new ≡ (if result then first_end (feeder_end feeder.old) (Some end) else feeder_end feeder.old) }
 {
-    let mut backoff = Backoff::new(waiting);
+    let mut backoff = Backoff::new();
     for _ in rt.forever() {
         if feeder.close(end) {
             return true;
         }
-        if stop.load(Ordering::SeqCst) {
+        if signals.is_stopped() {
             return false;
         }
-        backoff.wait(rt);
+        signals.wait_as_source(rt, number, &mut backoff);
     }
     unreachable!()
 }
 
+/// Tells the worker of lines that were fed, if they are many, or the next one isn't there yet. How many
+/// it wasn't told of, with the next one.
+fn tell(signals: &Signals, number: usize, unheard: usize, is_ready: bool) -> usize {
+    if unheard > 0 && !is_ready {
+        signals.all_fed(number);
+        1
+    } else if unheard >= signals.lines() {
+        signals.some_fed(number);
+        1
+    } else {
+        unheard.saturating_add(1)
+    }
+}
+
 /// Feeds a source's lines, each after the one before it was accepted. How they end; `None` where the
 /// run is stopped.
-fn feed_lines<R: Wait + Clock, S: LineSource>(
+fn feed_lines<R: Wait, S: LineSource>(
     rt: &R,
-    stop: &AtomicBool,
-    waiting: Waiting,
+    signals: &Signals,
+    number: usize,
     source: &mut S,
     feeder: &mut Feeder,
 ) -> Option<SourceEnd>
@@ -96,13 +103,15 @@ fn feed_lines<R: Wait + Clock, S: LineSource>(
     ensures fed { fed feeder.old ≡ [] →
         AreFed result (fed feeder.new) (S.to_come source.old) (S.to_come source.new) (S.failed source.new) }
 {
+    let mut unheard = 0;
     for _ in rt.forever() {
-        if stop.load(Ordering::SeqCst) {
+        if signals.is_stopped() {
             return None;
         }
+        unheard = tell(signals, number, unheard, source.is_ready());
         match source.next_line() {
             Ok(Some(line)) => {
-                if !offer(rt, stop, waiting, feeder, line) {
+                if !offer(rt, signals, number, feeder, line) {
                     return None;
                 }
             }
@@ -115,12 +124,11 @@ fn feed_lines<R: Wait + Clock, S: LineSource>(
 
 /// The work of a source's thread: it enters the gate, feeds the source's lines, and closes the feeder
 /// with their end.
-pub(crate) fn feed<R: Wait + Clock, S: LineSource, G: Gate>(
+pub(crate) fn feed<R: Wait, S: LineSource, G: Gate>(
     rt: &R,
     gate: &G,
-    stop: &AtomicBool,
+    signals: &Signals,
     number: usize,
-    waiting: Waiting,
     feeding: Feeding<S>,
 ) -> Feeding<S>
     ensures { HandsBack S.to_come S.failed feeding result }
@@ -130,8 +138,9 @@ pub(crate) fn feed<R: Wait + Clock, S: LineSource, G: Gate>(
         mut source,
         mut feeder,
     } = feeding;
-    if let Some(end) = feed_lines(rt, stop, waiting, &mut source, &mut feeder) {
-        let _ = close(rt, stop, waiting, &mut feeder, end);
+    if let Some(end) = feed_lines(rt, signals, number, &mut source, &mut feeder) {
+        let _ = close(rt, signals, number, &mut feeder, end);
     }
+    signals.all_fed(number);
     Feeding { source, feeder }
 }

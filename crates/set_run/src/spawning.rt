@@ -5,11 +5,11 @@ ghost use Rattle.std.specs.List.{AllZip};
 ghost use Rattle.line_lane.specs.Ends.{SameSetter};
 ghost use Rattle.set_run.specs.Gathering.{Collects, Gathers};
 
-use crate::backoff::Waiting;
 use crate::collector_thread::{Collected, collect};
 use crate::lane::{begin, end};
 use crate::lane_taker::LaneTaker;
 use crate::shortage::{Shortage, Unbegun};
+use crate::signals::Signals;
 use crate::source_thread::{FedFrom, feed};
 use crate::worker::Worker;
 use crate::worker_thread::{WorkedFrom, work};
@@ -17,16 +17,14 @@ use crate::{ClosedLane, Collector, Gate, LineSource, Plan};
 use set_line::Terms;
 use std::alloc::Global;
 use std::snapshot::Snapshot;
-use std::sync::atomic::{AtomicBool, Ordering};
 use std::sync::{Arc, Wait};
 use std::thread::{Scope, Threads};
-use std::time::Clock;
 
 /// Stops the run's threads before anything was collected.
-fn stopped<C>(stop: &AtomicBool, collector: C, shortage: Shortage) -> Unbegun<C>
+fn stopped<C>(signals: &Signals, collector: C, shortage: Shortage) -> Unbegun<C>
     ensures { result.collector ≡ collector }
 {
-    stop.store(true, Ordering::SeqCst);
+    signals.stop();
     Unbegun {
         collector,
         shortage,
@@ -47,18 +45,11 @@ fn put_back(workers: &mut Vec<Worker>, worker: Worker)
 
 /// A thread for each worker, from the last one on; then the answers are collected, and where the
 /// collector refused something the run is stopped. From then on nothing can be refused any more.
-pub(crate) fn start_workers<
-    's,
-    E,
-    R: Threads + Wait + Clock + Sync,
-    G: Gate + Sync,
-    C: Collector + Drop,
->(
+pub(crate) fn start_workers<'s, E, R: Threads + Wait + Sync, G: Gate + Sync, C: Collector + Drop>(
     scope: &'s Scope<'s, E>,
     rt: &'s R,
     gate: &'s G,
-    stop: &'s AtomicBool,
-    waiting: Waiting,
+    signals: &'s Signals,
     workers: Vec<Worker>,
     lanes: Vec<LaneTaker>,
     collector: C,
@@ -72,24 +63,22 @@ pub(crate) fn start_workers<
 {
     let mut workers = workers;
     let Some(worker) = workers.pop() else {
-        let collected = collect(rt, gate, waiting, lanes, collector);
+        let collected = collect(rt, gate, signals, lanes, collector);
         if collected.refusal.is_some() {
-            stop.store(true, Ordering::SeqCst);
+            signals.stop();
         }
         return Ok((workers, collected));
     };
     if workers.reserve(1).is_err() {
-        return Err(stopped(stop, collector, Shortage::Memory));
+        return Err(stopped(signals, collector, Shortage::Memory));
     }
     let number = workers.len();
     let promise = WorkedFrom(Snapshot::of(&worker));
-    let Ok(child) = scope.spawn_with(
-        promise,
-        move || work(rt, gate, stop, number, waiting, worker),
-    ) else {
-        return Err(stopped(stop, collector, Shortage::Thread));
+    let Ok(child) = scope.spawn_with(promise, move || work(rt, gate, signals, number, worker))
+    else {
+        return Err(stopped(signals, collector, Shortage::Thread));
     };
-    let below = start_workers(scope, rt, gate, stop, waiting, workers, lanes, collector);
+    let below = start_workers(scope, rt, gate, signals, workers, lanes, collector);
     let worker = child.join(rt);
     let (mut workers, collected) = below?;
     put_back(&mut workers, worker);
@@ -101,7 +90,7 @@ pub(crate) fn start_workers<
 pub(crate) fn start_sources<
     's,
     E,
-    R: Threads + Wait + Clock + Sync,
+    R: Threads + Wait + Sync,
     S: LineSource + Send + Drop + 's,
     G: Gate + Sync,
     C: Collector + Drop,
@@ -109,7 +98,7 @@ pub(crate) fn start_sources<
     scope: &'s Scope<'s, E>,
     rt: &'s R,
     gate: &'s G,
-    stop: &'s AtomicBool,
+    signals: &'s Signals,
     alloc: Global,
     plan: &Plan,
     sources: Vec<(S, Arc<Terms>)>,
@@ -130,27 +119,24 @@ pub(crate) fn start_sources<
         sources.items lanes.items collector back.0.items back.2) }
     ensures unbegun { IfErr result (λ unbegun. unbegun.collector ≡ collector) }
 {
-    let waiting = Waiting::of(plan);
     let (mut sources, mut workers, mut lanes) = (sources, workers, lanes);
     let Some(source) = sources.pop() else {
         let (workers, collected) = start_workers(
-            scope, rt, gate, stop, waiting, workers, lanes, collector,
+            scope, rt, gate, signals, workers, lanes, collector,
         )?;
         return Ok((closed, workers, collected));
     };
     let number = sources.len();
     let Ok(feeding) = begin(alloc, plan, number, source, &mut workers, &mut lanes) else {
-        return Err(stopped(stop, collector, Shortage::Memory));
+        return Err(stopped(signals, collector, Shortage::Memory));
     };
     let promise = FedFrom(Snapshot::of(&feeding));
-    let Ok(child) = scope.spawn_with(
-        promise,
-        move || feed(rt, gate, stop, number, waiting, feeding),
-    ) else {
-        return Err(stopped(stop, collector, Shortage::Thread));
+    let Ok(child) = scope.spawn_with(promise, move || feed(rt, gate, signals, number, feeding))
+    else {
+        return Err(stopped(signals, collector, Shortage::Thread));
     };
     let below = start_sources(
-        scope, rt, gate, stop, alloc, plan, sources, closed, workers, lanes, collector,
+        scope, rt, gate, signals, alloc, plan, sources, closed, workers, lanes, collector,
     );
     let feeding = child.join(rt);
     let (mut closed, mut workers, mut collected) = below?;

@@ -1,15 +1,16 @@
 //! The lanes that one thread sets.
-ghost use Rattle.std.specs.Prelude.{◌≡◌, ◌<◌, ◌%◌, ◌++◌, ◌∷◌, [], get_or, length, vec_len, OnOk, MatchOption};
+ghost use Rattle.std.specs.Prelude.{◌≡◌, ◌<◌, ◌%◌, ◌++◌, ◌∷◌, [], get_or, length, vec_len, ◌⊎◌, OnOk, MatchOption};
 ghost use Rattle.std.specs.List.{AllZip};
-ghost use Rattle.line_lane.specs.Ends.{SameSetter};
+ghost use Rattle.line_lane.specs.Ends.{SameSetter, state_of};
+ghost use Rattle.line_lane.specs.Turns.{Turns, given_up};
 ghost use Rattle.set_run.specs.Workers.{HasOneMore};
 
 use crate::came::Came;
+use crate::signals::Signals;
 use line_lane::{Setter, Turn};
 use set_line::OutOfMemory;
 use std::alloc::{AllocError, Global};
 use std::marker::Model;
-use std::sync::atomic::{AtomicBool, Ordering};
 
 /// The setters of the lanes that one thread sets.
 #[derive(Drop)]
@@ -26,12 +27,11 @@ impl Model for Worker {
     ghost view = { λ h. h.setters.items };
 }
 
-/// How many moves of a lane follow one another, at most, before the next lane gets its turn.
-const MOVES: u32 = 64;
-
-/// A turn. A lane whose line can't be set for want of memory is given up.
+/// A turn; or, if memory is refused to it, its lane is given up.
 fn turn(setter: &mut Setter) -> Turn
-    ensures { SameSetter setter.old setter.new }
+    ensures lane { SameSetter setter.old setter.new }
+    ensures turn { Turns (state_of setter.old) result (state_of setter.new)
+        ⊎ (state_of setter.new ≡ given_up (state_of setter.old)) }
 {
     match setter.turn() {
         Ok(turn) => turn,
@@ -42,19 +42,19 @@ fn turn(setter: &mut Setter) -> Turn
     }
 }
 
-/// The turns of a lane, up to one that doesn't move.
-fn take_turns(setter: &mut Setter) -> Came
+/// The turns of a lane, up to one that doesn't move, and at most so many.
+fn take_turns(setter: &mut Setter, most: usize) -> Came
     ensures { SameSetter setter.old setter.new }
 {
-    for moves in 0..MOVES {
+    for moves in 0..most {
         match turn(setter) {
             Turn::Moved => (),
+            _ if moves > 0 => return Came::Moved,
             Turn::Done => return Came::Done,
-            Turn::Idle | Turn::Blocked if moves > 0 => return Came::Moved,
             Turn::Idle | Turn::Blocked => return Came::Nothing,
         }
     }
-    Came::Moved
+    Came::Most
 }
 
 impl Worker {
@@ -79,18 +79,23 @@ impl Worker {
         self.setters.pop()
     }
 
-    /// The turns of all lanes, one lane after the other; done at once where the run is stopped.
-    pub fn go_round(&mut self, stop: &AtomicBool) -> Came
+    /// The turns of all lanes, one lane after the other; done at once where the run is stopped. The last
+    /// lane has the number of the worker, and the numbers of the others come after it.
+    pub fn go_round(&mut self, signals: &Signals, number: usize) -> Came
         ensures { AllZip SameSetter self.old self.new }
     {
         let mut all = Came::Done;
         for i in 0..self.setters.len() {
-            if stop.load(Ordering::SeqCst) {
+            if signals.is_stopped() {
                 return Came::Done;
             }
-            match take_turns(&mut self.setters[i]) {
+            match take_turns(&mut self.setters[i], signals.moves()) {
                 Came::Done => (),
                 Came::Moved => all = Came::Moved,
+                Came::Most => {
+                    signals.some_set(number, self.setters.len() - 1 - i);
+                    all = Came::Moved;
+                }
                 Came::Nothing if all == Came::Done => all = Came::Nothing,
                 Came::Nothing => (),
             }

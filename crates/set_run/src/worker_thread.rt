@@ -2,15 +2,14 @@
 ghost use Rattle.std.specs.List.{AllZip};
 ghost use Rattle.line_lane.specs.Ends.{SameSetter};
 
-use crate::backoff::{Backoff, Waiting};
+use crate::backoff::Backoff;
 use crate::came::Came;
+use crate::signals::Signals;
 use crate::worker::Worker;
 use crate::{Gate, Stage};
 use std::snapshot::Snapshot;
 use std::sync::Wait;
-use std::sync::atomic::AtomicBool;
 use std::thread::Promise;
-use std::time::Clock;
 
 /// What the thread of a setter promises: its lanes' setters as they were when it began.
 #[derive(Drop)]
@@ -21,24 +20,26 @@ impl Promise<Worker> for WorkedFrom {
 }
 
 /// The work of a setter's thread: it enters the gate, and gives its lanes turns until all are done.
-pub(crate) fn work<R: Wait + Clock, G: Gate>(
+pub(crate) fn work<R: Wait, G: Gate>(
     rt: &R,
     gate: &G,
-    stop: &AtomicBool,
+    signals: &Signals,
     number: usize,
-    waiting: Waiting,
     worker: Worker,
 ) -> Worker
     ensures { AllZip SameSetter worker result }
 {
     gate.enter(Stage::Setter, number);
     let mut worker = worker;
-    let mut backoff = Backoff::new(waiting);
+    let mut backoff = Backoff::new();
     for _ in rt.forever() {
-        match worker.go_round(stop) {
-            Came::Done => return worker,
-            Came::Moved => backoff.renew(),
-            Came::Nothing => backoff.wait(rt),
+        match worker.go_round(signals, number) {
+            Came::Done => {
+                signals.all_set();
+                return worker;
+            }
+            Came::Moved | Came::Most => backoff.renew(),
+            Came::Nothing => signals.wait_as_worker(rt, number, &mut backoff),
         }
     }
     unreachable!()

@@ -4,6 +4,7 @@ ghost use Rattle.std.specs.Io.KnownBytes.{Consumes, IsAtEnd};
 ghost use Rattle.set_run.specs.Reading.{MovesLine};
 
 use line_lane::SourceFault;
+use memchr::memchr;
 use std::alloc::Global;
 use std::io::Read;
 use std::marker::Model;
@@ -70,6 +71,11 @@ impl Buffer {
         }
     }
 
+    /// Whether there is a line feed.
+    pub(crate) fn has_feed(&self) -> bool {
+        first_feed(&self.space[self.start..self.end]).is_some()
+    }
+
     /// Moves its bytes behind `line`: those up to a line feed, which is dropped, else all. Answers
     /// whether there was a line feed.
     pub(crate) fn move_line(&mut self, line: &mut Vec<u8>) -> Result<bool, SourceFault>
@@ -96,7 +102,7 @@ impl Buffer {
 fn first_feed(bytes: &[u8]) -> Option<usize>
     ensures { result ≡ position (λ byte. byte == 10) bytes.now }
 {
-    bytes.iter().position(|byte| *byte == b'\n')
+    memchr(b'\n', bytes)
 }
 
 fn append(line: &mut Vec<u8>, bytes: &[u8]) -> Result<(), SourceFault>

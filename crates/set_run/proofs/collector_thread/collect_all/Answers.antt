@@ -56,18 +56,18 @@ returns-then-have_ended-clause-told g c =
     tells_all_then g.C.Collector.given ts now c.go_round.new.lanes.items c.args.collector.now c.loop.collector c.go_round.new.collector true
     (sym (zip_length SameLane ts now c.loop.invariant.same)) c.loop.invariant.told c.in_ok-go_round.ensures.told
 
-pub returns-in_err-about_to_wait-clause-same : goal.returns-in_err-about_to_wait-clause-same
-returns-in_err-about_to_wait-clause-same g c =
+pub returns-in_err-wait-clause-same : goal.returns-in_err-wait-clause-same
+returns-in_err-wait-clause-same g c =
     zip_trans SameLane lane_trans c.args.lanes.now.items c.loop.lanes.items c.go_round.new.lanes.items c.loop.invariant.same c.go_round.ensures.same
 
-pub returns-in_err-about_to_wait-clause-told : goal.returns-in_err-about_to_wait-clause-told
-returns-in_err-about_to_wait-clause-told g c =
+pub returns-in_err-wait-clause-told : goal.returns-in_err-wait-clause-told
+returns-in_err-wait-clause-told g c =
     let ts = c.args.lanes.now.items in let now = c.loop.lanes.items in
-    tells_all_kept g.C.Collector.given ts c.go_round.new.lanes.items c.args.collector.now c.go_round.new.collector c.about_to_wait.new.self
-    (is_ok c.from_residual-in_err-about_to_wait.result)
+    tells_all_kept g.C.Collector.given ts c.go_round.new.lanes.items c.args.collector.now c.go_round.new.collector c.wait.new.collector
+    (is_ok c.from_residual-in_err-wait.result)
     (tells_all_then g.C.Collector.given ts now c.go_round.new.lanes.items c.args.collector.now c.loop.collector c.go_round.new.collector true
     (sym (zip_length SameLane ts now c.loop.invariant.same)) c.loop.invariant.told c.in_ok-go_round.ensures.told)
-    c.about_to_wait.ensures.given
+    c.wait.ensures.given
 
 pub loop-preserved : goal.loop-preserved
 loop-preserved g c =
@@ -75,11 +75,11 @@ loop-preserved g c =
       can_next = tt;
       is_finite = tt;
       same = zip_trans SameLane lane_trans ts now c.go_round.new.lanes.items c.loop.invariant.same c.go_round.ensures.same;
-      lanes = c.about_to_wait.ensures.lanes ∙ c.go_round.ensures.lanes ∙ c.loop.invariant.lanes;
-      told = tells_all_kept g.C.Collector.given ts c.go_round.new.lanes.items c.args.collector.now c.go_round.new.collector c.about_to_wait.new.self
+      lanes = c.wait.ensures.lanes ∙ c.go_round.ensures.lanes ∙ c.loop.invariant.lanes;
+      told = tells_all_kept g.C.Collector.given ts c.go_round.new.lanes.items c.args.collector.now c.go_round.new.collector c.wait.new.collector
           true
           (tells_all_then g.C.Collector.given ts now c.go_round.new.lanes.items c.args.collector.now c.loop.collector c.go_round.new.collector true
           (sym (zip_length SameLane ts now c.loop.invariant.same)) c.loop.invariant.told c.in_ok-go_round.ensures.told)
-          c.about_to_wait.ensures.given;
-      willing = c.in_ok-about_to_wait.ensures.refused;
+          c.wait.ensures.given;
+      willing = c.in_ok-wait.ensures.refused;
     }

@@ -14,13 +14,13 @@ loop-i-init g c = record {
   willing = c.requires.willing;
 }
 
-pub returns-in_err-came-clause-same : goal.returns-in_err-came-clause-same
-returns-in_err-came-clause-same g c =
+pub returns-in_err-took-clause-same : goal.returns-in_err-took-clause-same
+returns-in_err-took-clause-same g c =
     zip_change SameLane lane_trans c.args.lanes.now.items c.loop-i.lanes.items c.loop-i.i c.index_mut.result.now c.take_some.new.self
     c.index_mut.ensures.value (search rules) c.loop-i.invariant.same c.take_some.ensures.same
 
-pub returns-in_err-came-clause-told : goal.returns-in_err-came-clause-told
-returns-in_err-came-clause-told g c =
+pub returns-in_err-took-clause-told : goal.returns-in_err-took-clause-told
+returns-in_err-took-clause-told g c =
     let ts = c.args.lanes.now.items in let now = c.loop-i.lanes.items in
     let long : length ts ≡ length now = zip_length SameLane ts now c.loop-i.invariant.same in
     let below : c.loop-i.i < length ts = search rules in
@@ -32,7 +32,7 @@ returns-in_err-came-clause-told g c =
     (tells_all_then g.C.Collector.given ts now (slice_set now c.loop-i.i c.take_some.new.self) c.args.collector.now c.loop-i.collector
     c.take_some.new.collector false (sym long) c.loop-i.invariant.told
     (tells_one g.C.Collector.given now c.loop-i.i (c.len.result - 1 - c.loop-i.i) c.index_mut.result.now c.take_some.new.self c.loop-i.collector
-    c.take_some.new.collector false here at c.index_mut.ensures.value c.in_err-came.ensures.told))
+    c.take_some.new.collector false here at c.index_mut.ensures.value c.in_err-took.ensures.told))
 
 pub loop-i-preserved : goal.loop-i-preserved
 loop-i-preserved g c =
@@ -48,6 +48,6 @@ loop-i-preserved g c =
       told = tells_all_then g.C.Collector.given ts now (slice_set now c.loop-i.i c.take_some.new.self) c.args.collector.now c.loop-i.collector
           c.take_some.new.collector true (sym long) c.loop-i.invariant.told
           (tells_one g.C.Collector.given now c.loop-i.i (c.len.result - 1 - c.loop-i.i) c.index_mut.result.now c.take_some.new.self
-          c.loop-i.collector c.take_some.new.collector true here at c.index_mut.ensures.value c.in_ok-came.ensures.told);
-      willing = c.in_ok-came.ensures.refused;
+          c.loop-i.collector c.take_some.new.collector true here at c.index_mut.ensures.value c.in_ok-took.ensures.told);
+      willing = c.in_ok-took.ensures.refused;
     }

@@ -1,0 +1,67 @@
+//! Runs over small rings, whose threads often sleep: each is woken.
+use super::samples::plan;
+use super::slow::{Late, Patient, sources};
+use set_run::run_into;
+use std::process::Abort;
+use std::sync::Wait;
+use std::test::Fail;
+use std::thread::Threads;
+use std::time::Clock;
+
+/// How many sources there are, and of how many lines each.
+const SOURCES: u32 = 3;
+
+const LINES: u32 = 60;
+
+/// Who takes its time: the pause before a line, the pause before an answer is taken, and how long the
+/// collecting thread is kept waiting at first, in microseconds.
+static PAUSES: [(&str, u64, u64, u64); 4] = [
+    ("nobody", 0, 0, 0),
+    ("sources", 700, 0, 0),
+    ("the collector", 0, 700, 0),
+    ("the collector at first", 0, 0, 20_000),
+];
+
+/// Rings and messages, and workers.
+static PLANS: [((usize, usize), usize); 4] = [((1, 1), 1), ((1, 1), 3), ((2, 1), 2), ((1, 8), 1)];
+
+/// A run of this plan comes to its end while somebody takes his time.
+fn ends<R: Threads + Wait + Clock + Abort + AllocGlobal + Sync>(
+    rt: &R,
+    (who, before_line, before_answer, late): (&str, u64, u64, u64),
+    (size, workers): ((usize, usize), usize),
+) -> Result<(), Fail> {
+    let plan = plan(size.0, size.1, workers)?;
+    let sources = sources(rt, rt.alloc(), SOURCES as usize, (LINES, before_line)).ok_or(
+        "out of memory",
+    )?;
+    if sources.len() > 64 {
+        return Err("too many sources".into());
+    }
+    let collector = Patient {
+        rt,
+        pause: before_answer,
+        left: SOURCES * LINES,
+        answers: 0,
+        ends: 0,
+        wrong: false,
+    };
+    let late = Late { rt, pause: late };
+    let (collector, ended) = run_into(rt, rt.alloc(), sources, plan, &late, collector);
+    let run = ended?;
+    assert_eq!(rt; run.refusal, None, "{who}");
+    assert_eq!(rt; collector.answers, SOURCES * LINES, "{who}");
+    assert_eq!(rt; collector.ends, SOURCES, "{who}");
+    assert!(rt; !collector.wrong, "{who}");
+    Ok(())
+}
+
+#[test]
+fn each_thread_that_sleeps_is_woken(rt: HostRuntime) -> Result<(), Fail> {
+    for pauses in &PAUSES {
+        for plan in &PLANS {
+            ends(&rt, *pauses, *plan)?;
+        }
+    }
+    Ok(())
+}
