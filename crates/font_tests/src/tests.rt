@@ -1,9 +1,11 @@
+mod counts_of_fonts;
 mod damage;
 mod faults;
 mod faulty;
 mod faulty_programs;
 mod finds;
 mod headers;
+mod listings;
 mod programs;
 mod readers;
 mod reading;
@@ -11,3 +13,4 @@ mod sample;
 mod samples;
 mod scaled;
 mod slow;
+mod words;

@@ -10,5 +10,3 @@ mod counts;
 mod fault;
 mod listing;
 mod rows;
-#[cfg(test)]
-mod tests;

@@ -17,6 +17,4 @@ mod laws;
 mod matching;
 mod setting;
 mod symbol;
-#[cfg(test)]
-mod tests;
 mod word_fault;

@@ -146,6 +146,35 @@ pub(crate) fn with_terms<S: Drop>(
     Ok(pairs)
 }
 
+/// The sources, each with terms of the font in these bytes at a size, else at its design size.
+pub(crate) fn with_font<S: Drop>(
+    alloc: Global,
+    font: &[u8],
+    size: Option<Size>,
+    limit: Limit,
+    policy: Policy,
+    sources: Vec<S>,
+) -> Result<Vec<(S, Arc<Terms>)>, ToolFault>
+    ensures terms { IfOk result (λ pairs. (f : FontValue) × IsFontOf font.now size f
+        × AllZip (HasTerms (record { font = f; limit = limit; policy = policy })) sources.items pairs.items) }
+    ensures count { IfOk result (λ pairs. vec_len pairs ≡ vec_len sources) }
+    ensures font { (f : Refusal) → result ≡ Err (ToolFault.Font f) → font_fault_of font.now ≡ Some f }
+    ensures refused { (f : Refusal) → font_fault_of font.now ≡ Some f
+        → (result ≡ Err (ToolFault.Font f)) ⊎ (result ≡ Err ToolFault.OutOfMemory) }
+    ensures fault { IfErr result (λ fault. (fault ≡ ToolFault.OutOfMemory)
+        ⊎ ((f : Refusal) × (fault ≡ ToolFault.Font f))) }
+{
+    let font = match accepted(alloc, font, size) {
+        Ok(font) => font,
+        Err(fault) => return Err(fault),
+    };
+    let terms = shared(alloc, Terms::new(font, limit, policy))?;
+    match with_terms(alloc, sources, &terms) {
+        Ok(pairs) => Ok(pairs),
+        Err(_) => Err(ToolFault::OutOfMemory),
+    }
+}
+
 /// Sets the lines of all sources in one run, with the font in these bytes at a size, else at its
 /// design size, and writes the text of the run's report once the run has returned. `Font` is the
 /// font's first fault and `Run` why there is no report; nothing was written then, nor after
@@ -185,13 +214,8 @@ where
     ensures run { (fault : Fault) → result ≡ Err (ToolFault.Run fault) → out.new ≡ out.old }
     ensures memory { result ≡ Err ToolFault.OutOfMemory → out.new ≡ out.old }
 {
-    let font = match accepted(alloc, font, size) {
-        Ok(font) => font,
-        Err(fault) => return Err(fault),
-    };
-    let terms = shared(alloc, Terms::new(font, limit, policy))?;
-    match with_terms(alloc, sources, &terms) {
+    match with_font(alloc, font, size, limit, policy, sources) {
         Ok(sources) => set_each(rt, alloc, sources, plan, version, gate, out),
-        Err(_) => Err(ToolFault::OutOfMemory),
+        Err(fault) => Err(fault),
     }
 }

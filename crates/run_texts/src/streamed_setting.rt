@@ -10,10 +10,10 @@ ghost use Rattle.run_texts.specs.ReportText.{summary_of_run};
 ghost use Rattle.run_texts.specs.Setting.{AreReportedWith};
 ghost use Rattle.run_texts.specs.Streaming.{IsCutAtLine, IsCutShort, IsStreamed, with_these_terms};
 
-use crate::setting::{accepted, shared, with_terms};
+use crate::setting::with_font;
 use crate::streaming::stream_each;
 use crate::{Summary, ToolFault};
-use set_line::{Limit, Policy, Terms, Version};
+use set_line::{Limit, Policy, Version};
 use set_run::{Gate, LineSource, Plan};
 use std::alloc::Global;
 use std::io::Write;
@@ -69,13 +69,8 @@ where
         (record { font = f; limit = limit; policy = policy }) sources.items)
         (W.contents out.old) (W.contents out.new)) }
 {
-    let font = match accepted(alloc, font, size) {
-        Ok(font) => font,
-        Err(fault) => return Err(fault),
-    };
-    let terms = shared(alloc, Terms::new(font, limit, policy))?;
-    match with_terms(alloc, sources, &terms) {
+    match with_font(alloc, font, size, limit, policy, sources) {
         Ok(sources) => stream_each(rt, alloc, sources, plan, version, gate, out),
-        Err(_) => Err(ToolFault::OutOfMemory),
+        Err(fault) => Err(fault),
     }
 }

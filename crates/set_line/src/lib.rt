@@ -29,8 +29,6 @@ mod ready;
 mod record_text;
 mod setting;
 mod terms;
-#[cfg(test)]
-mod tests;
 mod version;
 mod width;
 mod writing;

@@ -21,6 +21,4 @@ mod fix_word;
 mod numbers;
 mod size;
 mod table;
-#[cfg(test)]
-mod tests;
 mod word;

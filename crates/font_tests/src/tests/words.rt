@@ -1,8 +1,12 @@
-use crate::Table::{CharInfo, Depth, Exten, Header, Height, Italic, Kern, LigKern, Param, Width};
-use crate::{Count, CountFault, Counts, DesignFault, FixWord, Size, Table, design_size, word_at};
 use std::alloc::{AllocError, Global};
 use std::process::Abort;
 use std::test::Fail;
+use tfm_words::Table::{
+    CharInfo, Depth, Exten, Header, Height, Italic, Kern, LigKern, Param, Width,
+};
+use tfm_words::{
+    Count, CountFault, Counts, DesignFault, FixWord, Size, Table, design_size, word_at,
+};
 
 /// The twelve counts of a sample font.
 #[derive(Clone, Copy)]

@@ -3,8 +3,8 @@ use super::answers::{answer_to, terms_of, text_of};
 use super::samples::{
     left_boundary, ligature, ligature_with_long_header, long_header, right_boundary,
 };
-use crate::{Answer, LineRefusal, Outcome, Policy, Terms, Version};
 use lig_kern::Item;
+use set_line::{Answer, LineRefusal, Outcome, Policy, Terms, Version};
 use std::alloc::{AllocError, Global};
 use std::process::Abort;
 use std::sync::Arc;

@@ -1,7 +1,7 @@
 //! Records with other numbers of source and place, and behind other text.
 use super::answers::{LIMIT, answer_to, terms_of};
 use super::samples::{endless, plain};
-use crate::{Answer, Limit, Policy, Terms, Version, record};
+use set_line::{Answer, Limit, Policy, Terms, Version, record};
 use std::process::Abort;
 use std::sync::Arc;
 use std::test::Fail;

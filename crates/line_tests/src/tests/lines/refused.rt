@@ -1,7 +1,7 @@
 //! Lines that are refused at sight.
 use super::answers::{LIMIT, refuses, terms_of};
 use super::samples::{endless, plain};
-use crate::{Policy, Terms};
+use set_line::{Policy, Terms};
 use std::process::Abort;
 use std::sync::Arc;
 use std::test::Fail;

@@ -1,8 +1,8 @@
 //! The small types give what was put in.
 use super::answers::{answer_to, refusal_of, terms_of};
 use super::samples::plain;
-use crate::{Answer, Items, Limit, Line, LineRefusal, OutOfMemory, Outcome, Policy, Terms};
 use lig_kern::Item;
+use set_line::{Answer, Items, Limit, Line, LineRefusal, OutOfMemory, Outcome, Policy, Terms};
 use std::alloc::AllocError;
 use std::process::Abort;
 use std::test::Fail;

@@ -3,7 +3,7 @@ use super::samples::{
     boundary_exists, endless, indirect, left_boundary, ligature, plain, right_boundary, skipped,
     two_for_one_pair,
 };
-use crate::{Item, WordFault, set_word};
+use lig_kern::{Item, WordFault, set_word};
 use std::process::Abort;
 use std::test::Fail;
 use tfm_tables::Font;

@@ -1,7 +1,7 @@
 //! Words of many small fonts, set by `set_word` and by the definition alone.
 use super::parts::{Character, PLAIN, boundary, from, go_to, kern_before, last, ligature_before};
 use super::slow::slow_set;
-use crate::{WordFault, set_word};
+use lig_kern::{WordFault, set_word};
 use std::alloc::{AllocError, Global};
 use std::process::Abort;
 use std::test::Fail;

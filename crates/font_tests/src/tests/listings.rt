@@ -1,4 +1,4 @@
-use crate::{FontTextFault, list_text};
+use font_texts::{FontTextFault, list_text};
 use std::alloc::{AllocError, Global};
 use std::io;
 use std::io::Write;

@@ -3,7 +3,7 @@ use super::answers::{LIMIT, Row, refuses, sets_each, sets_row, terms_of};
 use super::samples::{
     boundary_exists, endless, indirect, left_boundary, ligature, plain, right_boundary,
 };
-use crate::Policy;
+use set_line::Policy;
 use std::process::Abort;
 use std::test::Fail;
 

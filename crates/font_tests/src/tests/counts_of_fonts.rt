@@ -1,4 +1,4 @@
-use crate::{FontTextFault, counts_text};
+use font_texts::{FontTextFault, counts_text};
 use std::process::Abort;
 use std::test::Fail;
 use tfm_tables::FontFault;

@@ -3,7 +3,7 @@ use super::samples::{
     boundary_exists, indirect, largest, left_boundary, ligature, no_program, plain, right_boundary,
     skipped, two_for_one_pair,
 };
-use crate::{Action, Symbol, first_match};
+use lig_kern::{Action, Symbol, first_match};
 use std::process::Abort;
 use std::test::Fail;
 use tfm_tables::Font;

@@ -1,5 +1,5 @@
 //! Texts cut at their line feeds.
-use crate::{Line, lines};
+use set_line::{Line, lines};
 use std::process::Abort;
 use std::test::Fail;
 

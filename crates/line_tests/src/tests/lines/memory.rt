@@ -4,11 +4,11 @@
 //! before, and the same call then succeeds. The text that is printed says which it was.
 use super::answers::refusal_of;
 use super::samples::{endless, ligature};
-use crate::{
+use lig_kern::Item;
+use set_line::{
     Answer, Limit, Line, LineRefusal, OutOfMemory, Outcome, Policy, Terms, Version, lines, record,
     set,
 };
-use lig_kern::Item;
 use std::alloc::{AllocError, Global};
 use std::process::Abort;
 use std::sync::Arc;

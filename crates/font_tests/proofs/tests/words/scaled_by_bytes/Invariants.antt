@@ -1,5 +1,5 @@
 use Rattle.std.proofs.Common.{◌+◌, ◌-◌, ◌^◌, ◌<◌, ◌≤◌}
-use Rattle.tfm_words.proofs.tests.scaled_by_bytes.Given as goal
+use Rattle.font_tests.proofs.tests.words.scaled_by_bytes.Given as goal
 
 abbrev pub invariant-loop-z : goal.invariant-loop-z
 invariant-loop-z l = (l.z < 2 ^ 27) × (16 ≤ l.alpha) × (l.alpha ≤ 256)

@@ -1,7 +1,7 @@
 //! Spaces, and lines without anything else.
 use super::answers::{LIMIT, Row, has_records, sets_each, sets_many, terms_of};
 use super::samples::{largest, plain, without_parameters, without_space};
-use crate::Policy;
+use set_line::Policy;
 use std::test::Fail;
 
 static SPACES: [Row; 3] = [

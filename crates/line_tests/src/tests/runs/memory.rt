@@ -3,7 +3,7 @@
 //! refused one of these is told as want of memory, the list is then as before, and the text that is
 //! printed says which it was.
 use super::samples::{endless, ligature};
-use crate::{Item, WordFault, set_word};
+use lig_kern::{Item, WordFault, set_word};
 use std::process::Abort;
 use std::test::Fail;
 

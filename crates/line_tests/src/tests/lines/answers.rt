@@ -1,5 +1,5 @@
 //! Lines set with sample fonts, and the records of their answers.
-use crate::{
+use set_line::{
     Answer, Limit, Line, LineRefusal, OutOfMemory, Outcome, Policy, Terms, Version, record, set,
 };
 use std::process::Abort;

@@ -1,7 +1,7 @@
 //! A second way to set a word, by the definition alone: the whole word is one list with a cursor,
 //! each step replaces two neighbours in that list, and instructions are looked for one after the
 //! other. Of the crates it uses the font's instructions, kerns, widths and starts.
-use crate::Item;
+use lig_kern::Item;
 use std::alloc::{AllocError, Global};
 use tfm_tables::{Font, LeftSide, Step};
 

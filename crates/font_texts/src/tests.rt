@@ -1,2 +1,0 @@
-mod counts_of_fonts;
-mod listings;
