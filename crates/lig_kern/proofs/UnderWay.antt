@@ -1,5 +1,5 @@
 -- What holds between two steps of the body, and what each end of the loop makes of it.
-use Rattle.std.proofs.Common.{◌≡◌, ℕ, suc, zero, ◌+◌, ◌<◌, ◌≤◌, Bool, true, false, List, [], ◌∷◌, ◌++◌, length, map, take, Option, Some, None, arith, rules, refl, ap, sym, subst, ◌∙◌, ◌&&◌}
+use Rattle.std.proofs.Common.{◌≡◌, ℕ, suc, zero, ◌+◌, ◌-◌, ◌≤◌, Bool, true, false, List, [], ◌∷◌, ◌++◌, length, length-drop, map, take, drop, Option, Some, None, arith, rules, refl, ap, sym, subst, ◌∙◌, ◌&&◌}
 use Rattle.std.specs.Prelude.{if◌then◌else◌, is_some, nat_lt}
 use Rattle.std.proofs.Math.Seq.{take-append_seam, take-length}
 use Rattle.std.proofs.lemmas.List.{length-take}
@@ -140,6 +140,20 @@ is_result font run right before used limit current [] out after way last within 
         → IsAppendedResult font run right limit before after used
     by None is whole = absurd (search rules)
     by (Some items) is whole = record { items = items; result = is; within = within; appended = grind arith }
+
+-- a slice from a place to the end
+pub rest_whole : (xs : List ℕ) (n : ℕ) → take (length xs - n) (drop n xs) ≡ drop n xs
+rest_whole xs n = ap (λ k. take k (drop n xs)) (sym (length-drop n xs)) ∙ take-length (drop n xs)
+
+-- nothing is left of the run, and no boundary stands behind it
+pub ends_here : (font : FontValue) (run : List ℕ) (right : Bool) (before : List Item) (used limit : ℕ) (current : Symbol) (stands : Bool) (rest : List ℕ) (out after : List Item)
+    → IsUnderWay font run right before used current (symbols_ahead [] rest stands) out → length rest ≡ 0 → stands ≡ false → used ≤ limit
+    → after ≡ out ++ items_of font (of_symbol current ∷ []) → IsAppendedResult font run right limit before after used
+unfolding symbols_ahead
+ends_here font run right before used limit current true rest out after way none alone within sent = absurd (search rules)
+ends_here font run right before used limit current false (code ∷ rest) out after way none alone within sent = absurd (omega arith)
+ends_here font run right before used limit current false [] out after way none alone within sent =
+    is_result font run right before used limit current [] out after way refl within sent
 
 pub ruleset fronts = (front_at_once, front_of_append, front_through)
 

@@ -1,5 +1,5 @@
 //! One run, set step by step.
-ghost use Rattle.std.specs.Prelude.{◌≡◌, ◌≤◌, ◌++◌, Bool, List, [], ◌∷◌, ◌&&◌, map, is_some, Err, Some, IfOk, OnOk, OnErr, MatchOption};
+ghost use Rattle.std.specs.Prelude.{◌≡◌, ◌≤◌, ◌++◌, Bool, List, [], ◌∷◌, ◌&&◌, drop, length, map, is_some, Err, Some, IfOk, OnOk, OnErr, MatchOption};
 ghost use Rattle.std.specs.List.{slice_get};
 ghost use Rattle.tfm_tables.specs.Program.{program_of, right_code_of};
 ghost use Rattle.lig_kern.specs.declared.word_fault.WordFault.TheVariants.{TooManySteps as TooMany};
@@ -128,35 +128,37 @@ fn plain_step(
     }
 }
 
-/// Steps along a run as long as each step passes one character: how many steps, what is current then,
-/// and the rest of the run. Few runs need more, so that most are set without any symbols put ahead.
+/// Steps along a run as long as each step passes one character: how many steps, which is how many
+/// characters are passed, and what is current then. Few runs need more, so that most are set without any
+/// symbols put ahead.
 #[tactic(auto, using(crate::proofs::UnderWay::ways))]
-fn glide<'a>(
+fn glide(
     font: &Font,
-    word: &'a [u8],
+    word: &[u8],
     steps_left: u32,
     out: &mut Vec<Item>,
-) -> Result<(u32, Symbol, &'a [u8]), AllocError>
-    ensures within { IfOk result (λ reached. reached.0 ≤ steps_left) }
+) -> Result<(u32, Symbol), AllocError>
+    ensures within { IfOk result (λ reached.
+        (reached.0 ≤ steps_left) × (reached.0 ≤ length word.now)) }
     ensures front { StaysInFront out.old.items out.new.items }
     ensures under_way { IfOk result (λ reached. (right stands : Bool)
         → stands ≡ (right && is_some (right_code_of (program_of font.now.words)))
         → IsUnderWay font.now word.now right out.old.items reached.0 reached.1
-        (symbols_ahead [] reached.2.now stands) out.new.items) }
+        (symbols_ahead [] (drop reached.0 word.now) stands) out.new.items) }
 {
-    let mut rest = word;
+    let most = if word.len() < steps_left as usize {
+        word.len() as u32
+    } else {
+        steps_left
+    };
     let mut current = Symbol::Left;
-    for used in 0..steps_left {
-        let Some((next, more)) = rest.split_first() else {
-            return Ok((used, current, rest));
-        };
-        match plain_step(font, current, *next, out)? {
-            None => return Ok((used, current, rest)),
+    for used in 0..most {
+        match plain_step(font, current, word[used as usize], out)? {
+            None => return Ok((used, current)),
             Some(after) => current = after,
         }
-        rest = more;
     }
-    Ok((steps_left, current, rest))
+    Ok((most, current))
 }
 
 /// Whether the right boundary stands after a run.
@@ -179,8 +181,14 @@ fn run_steps(
     ensures front { StaysInFront out.old.items out.new.items }
     ensures ended { IfOk result (λ steps. MatchOption steps (HasNoResultWithin font.now word.now right steps_left) (IsAppendedResult font.now word.now right steps_left out.old.items out.new.items)) }
 {
-    let (glided, mut current, rest) = glide(font, word, steps_left, out)?;
-    let mut ahead = Ahead::new(*out.allocator(), rest, right_stands(font, right));
+    let (glided, mut current) = glide(font, word, steps_left, out)?;
+    let rest = &word[glided as usize..];
+    let stands = right_stands(font, right);
+    if glided as usize == word.len() && !stands {
+        send(font, current, out)?;
+        return Ok(Some(glided));
+    }
+    let mut ahead = Ahead::new(*out.allocator(), rest, stands);
     for used in glided..steps_left {
         let Some(next) = ahead.first() else {
             send(font, current, out)?;

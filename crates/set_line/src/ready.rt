@@ -39,8 +39,7 @@ impl ReadyText {
         ensures written { drop result text.new ≡ drop self.now.start self.now.bytes ++ drop end text.old }
     {
         let from = end - BYTES;
-        let bytes = self.bytes;
-        text[from..end].copy_from_slice(&bytes);
+        text[from..end].copy_from_slice(&self.bytes);
         from + usize::from(self.start)
     }
 }

@@ -34,9 +34,8 @@ fn refusal(terms: &Terms, line: &[u8]) -> Option<LineRefusal>
     missing(terms.font(), terms.policy(), line)
 }
 
-/// Sets a line that isn't refused at sight. The answer holds a copy of the items, which takes just the
-/// memory that they need: what a vector with spare room gives back when it shrinks is a gap too small
-/// for the next line's.
+/// Sets a line that isn't refused at sight, into a list with room for as many items as lines mostly have.
+/// The answer holds that list as it is.
 fn set_items(alloc: Global, terms: &Terms, line: &[u8]) -> Result<Outcome, AllocError>
     requires { refusal_of terms.now line.now ≡ None }
     ensures { IfOk result (λ outcome. outcome ≡ outcome_of terms.now line.now) }
@@ -45,10 +44,9 @@ fn set_items(alloc: Global, terms: &Terms, line: &[u8]) -> Result<Outcome, Alloc
     let mut items = Vec::with_capacity(alloc, line.len() + line.len() / 4)?;
     match set_portions(terms, line, &mut items)? {
         Some(steps) => {
-            let kept = Vec::from_slice(alloc, items.as_slice())?;
-            let width = width::total(&kept);
+            let width = width::total(&items);
             Ok(Outcome::Set {
-                items: Items::new(kept),
+                items: Items::new(items),
                 width,
                 steps,
             })

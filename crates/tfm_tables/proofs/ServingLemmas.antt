@@ -12,7 +12,7 @@ use Rattle.tfm_tables.specs.Program.{IsServing, program_of, step_at, start_of, c
 use Rattle.tfm_tables.proofs.ProgramLemmas.{length-program_of, program_of-get}
 
 -- what is found passes the test
-found_passes : {X : Type 0} (p : X → Bool) (xs : List X) → IfSome (find p xs) (λ x. p x ≡ true)
+pub found_passes : {X : Type 0} (p : X → Bool) (xs : List X) → IfSome (find p xs) (λ x. p x ≡ true)
 found_passes p [] = tt
 found_passes {X} p (x ∷ xs) = by (p x) refl (found_passes p xs)
   where

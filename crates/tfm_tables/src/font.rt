@@ -156,8 +156,8 @@ impl Font {
 
     /// The address of the instruction for a left side and the code to its right: the first in the
     /// chain of the left side's program that is for this code and has a skip of at most 128. `None`
-    /// where there is none, also for a code that doesn't exist or has no program. It is looked up by
-    /// halving. What it answers is below `steps`.
+    /// where there is none, also for a code that doesn't exist or has no program. It is one
+    /// look into a table. What it answers is below `steps`.
     #[tactic(auto, using(crate::proofs::ServingLemmas::served))]
     pub fn find(&self, left: LeftSide, code: u8) -> Option<usize>
         ensures value { result ≡ address_between self.now.words left code }

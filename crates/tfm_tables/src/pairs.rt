@@ -1,27 +1,21 @@
 //! The table of pairs: what the chains of a program come to, for each left side.
-ghost use Rattle.std.specs.Prelude.{◌≡◌, ℕ, ◌+◌, ◌^◌, ◌<◌, ◌≤◌, ◌==◌, ◌&&◌, ◌++◌, List, length, get_or, nat_le, Option, IfOk, if◌then◌else◌};
-ghost use Rattle.std.specs.List.{find as find_first, slice_get};
-ghost use Rattle.std.specs.Option.{option_and_then, option_map, option_or};
+ghost use Rattle.std.specs.Prelude.{◌≡◌, ℕ, ◌^◌, ◌<◌, ◌≤◌, ◌==◌, ◌&&◌, List, length, map, get_or, nat_le, Option, Some, None, IfOk, if◌then◌else◌};
+ghost use Rattle.std.specs.List.{slice_get};
+ghost use Rattle.std.specs.Option.{option_and_then, option_or};
 ghost use Rattle.tfm_tables.specs.declared.step.Step.{Step as Instruction};
 ghost use Rattle.tfm_tables.specs.Program.{address_of};
-ghost use Rattle.tfm_tables.specs.Pairs.{CodesRise, IsTableOf, marked_pairs, pairs_of};
+ghost use Rattle.tfm_tables.specs.Pairs.{IsTableOf, entry_for, row_of};
 
 use crate::Step;
 use std::alloc::{AllocError, Global};
 
-/// A code on the right, and the address of the first instruction that serves it.
-#[derive(Clone, Copy, Debug, PartialEq, Eq)]
-pub(crate) struct Pair {
-    pub next: u8,
-    pub address: u16,
-}
+/// What stands in a row for a code that nothing serves: no address is so large.
+const NOWHERE: u16 = u16::MAX;
 
-/// The pairs of all left sides, one flat list sorted by code within each side.
+/// A row for each left side: the address of the first instruction that serves each code on the right.
 #[derive(Debug, Drop)]
 pub(crate) struct PairTable {
-    pub pairs: Vec<Pair>,
-    /// Where each side's pairs begin, and where the last one's end.
-    pub ends: Vec<u32>,
+    pub rows: Vec<[u16; 256]>,
 }
 
 /// Notes the address for the code that an instruction serves, unless an earlier one does.
@@ -51,51 +45,52 @@ fn first_addresses(program: &[Step], start: usize) -> [Option<u16>; 256]
     marks
 }
 
-/// Appends the pairs of the codes that are marked.
-#[tactic(auto, using(crate::proofs::PairLemmas::marked))]
-fn add_marked(pairs: &mut Vec<Pair>, marks: &[Option<u16>; 256]) -> Result<(), AllocError>
-    ensures { IfOk result (λ _. pairs.new.items ≡ pairs.old.items ++ marked_pairs marks.now) }
+/// A row of what a walk has marked.
+fn row(marks: &[Option<u16>; 256]) -> [u16; 256]
+    ensures { (code : ℕ) → code < 256 → get_or result code 0 ≡ entry_for (get_or marks.now code None) }
 {
+    let mut row = [NOWHERE; 256];
     for code in 0..256 {
         if let Some(address) = marks[code] {
-            pairs.push(Pair {
-                next: code as u8,
-                address,
-            })?;
+            row[code] = address;
         }
     }
-    Ok(())
+    row
 }
 
-/// Appends the pairs of a left side.
-#[tactic(auto, using(crate::proofs::PairLemmas::adding))]
-fn add_pairs(
-    pairs: &mut Vec<Pair>,
-    program: &[Step],
-    start: Option<usize>,
-) -> Result<(), AllocError>
+/// The row of a left side, by a walk.
+fn walked_row(program: &[Step], start: Option<usize>) -> [u16; 256]
     requires { length program.now ≤ 2 ^ 15 }
-    ensures { IfOk result (λ _. pairs.new.items ≡ pairs.old.items ++ pairs_of program.now start) }
+    ensures { result ≡ row_of program.now start }
 {
-    match start {
-        None => Ok(()),
-        Some(start) => add_marked(pairs, &first_addresses(program, start)),
-    }
+    let marks = match start {
+        Some(start) => first_addresses(program, start),
+        None => [None; 256],
+    };
+    row(&marks)
 }
 
-/// The address in the pair for a code.
-fn find_address(pairs: &[Pair], code: u8) -> Option<usize>
-    requires { CodesRise pairs.now }
-    ensures { result ≡ option_map (λ pair. pair.address) (find_first (λ pair. pair.next == code) pairs.now) }
+/// The row of a left side: that of one before it that begins at the same address, where there is one.
+fn next_row(
+    program: &[Step],
+    starts: &[Option<usize>],
+    rows: &[[u16; 256]],
+    start: Option<usize>,
+) -> [u16; 256]
+    requires addresses { length program.now ≤ 2 ^ 15 }
+    requires before { rows.now ≡ map (row_of program.now) starts.now }
+    ensures { result ≡ row_of program.now start }
 {
-    match pairs.binary_search_by_key(&code, |pair| pair.next) {
-        Ok(at) => Some(usize::from(pairs[at].address)),
-        Err(_) => None,
+    for side in 0..starts.len() {
+        if starts[side] == start {
+            return rows[side];
+        }
     }
+    walked_row(program, start)
 }
 
 impl PairTable {
-    /// One walk a left side.
+    /// One walk for each address at which programs begin.
     pub fn build(
         alloc: Global,
         program: &[Step],
@@ -105,23 +100,23 @@ impl PairTable {
         requires sides { length starts.now ≤ 257 }
         ensures { IfOk result (IsTableOf program.now starts.now) }
     {
-        let mut pairs = Vec::new(alloc);
-        let mut ends = Vec::with_capacity(alloc, starts.len() + 1)?;
-        ends.push(0)?;
-        for start in starts {
-            add_pairs(&mut pairs, program, *start)?;
-            ends.push(pairs.len() as u32)?;
+        let mut rows = Vec::with_capacity(alloc, starts.len())?;
+        for side in 0..starts.len() {
+            let row = next_row(program, &starts[..side], &rows, starts[side]);
+            rows.push(row)?;
         }
-        Ok(PairTable { pairs, ends })
+        Ok(PairTable { rows })
     }
 
     /// The address for a left side, by its place among the starts, and the code to its right.
     pub fn find(&self, side: usize, code: u8) -> Option<usize>
         requires { (program : List Instruction) × (starts : List (Option ℕ)) × IsTableOf program starts self.now × (side < length starts) }
-        ensures { (program : List Instruction) (starts : List (Option ℕ)) → IsTableOf program starts self.now → (start : Option ℕ) → slice_get starts side ≡ Some start → result ≡ option_and_then (λ at. address_of program at code) start }
+        ensures { (program : List Instruction) (starts : List (Option ℕ)) → length program ≤ 2 ^ 15 → IsTableOf program starts self.now → (start : Option ℕ) → slice_get starts side ≡ Some start → result ≡ option_and_then (λ at. address_of program at code) start }
     {
-        let first = self.ends[side] as usize;
-        let end = self.ends[side + 1] as usize;
-        find_address(&self.pairs[first..end], code)
+        let address = self.rows[side][usize::from(code)];
+        if address == NOWHERE {
+            return None;
+        }
+        Some(usize::from(address))
     }
 }

@@ -16,7 +16,7 @@ returns-in-Some c =
     c.requires (grind arith) (rw c.in-Some.is at c.in_ok-steps.ensures.reached) (grind arith)
     (to_z-of_z w64 c.total-width.result (search rules) ∙ c.total-width.ensures ∙ ap total_width {x = c.deref.result.now} {y = c.set_portions.new.items.items} (grind arith))
 
-pub returns : goal.returns
-returns c =
+pub returns-in-None : goal.returns-in-None
+returns-in-None c =
     outcome_steps_as c.args.terms.now c.args.line.now c.in_ok-items.items.items c.get-limit.result
     c.requires (grind arith) (rw c.in-None.is at c.in_ok-steps.ensures.reached) (grind arith)

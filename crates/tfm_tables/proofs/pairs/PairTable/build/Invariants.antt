@@ -1,10 +1,6 @@
-use Rattle.std.proofs.Common.{◌≡◌, ◌+◌, length, map, take}
-use Rattle.std.specs.List.{range_with_len, flat_map}
-use Rattle.tfm_tables.specs.Pairs.{pairs_of}
+use Rattle.std.proofs.Common.{◌≡◌, map, take}
+use Rattle.tfm_tables.specs.Pairs.{row_of}
 use Rattle.tfm_tables.proofs.pairs.PairTable.build.Given as goal
 
-abbrev pub invariant-loop-start : goal.invariant-loop-start
-invariant-loop-start l = record {
-  pairs : l.pairs.items ≡ flat_map (pairs_of l.program) (take l.start-index l.starts);
-  ends : l.ends.items ≡ map (λ k. length (flat_map (pairs_of l.program) (take k l.starts))) (range_with_len 0 (l.start-index + 1));
-}
+abbrev pub invariant-loop-side : goal.invariant-loop-side
+invariant-loop-side l = l.rows.items ≡ map (row_of l.program) (take l.side l.starts)
