@@ -49,11 +49,6 @@ impl Backoff {
         true
     }
 
-    /// Whether the thread hasn't slept since a look that wasn't in vain.
-    pub fn is_first_sleep(&self) -> bool {
-        self.sleeps == 0
-    }
-
     /// How long the thread sleeps now, at most. The next time it is twice as long.
     pub fn sleep_time(&mut self) -> Duration {
         let millis = LEAST_SLEEP << self.sleeps.min(DOUBLINGS);

@@ -5,8 +5,6 @@ pub(crate) enum Came {
     Done,
     /// Something was done.
     Moved,
-    /// As much was done as is done at once.
-    Most,
     /// Nothing could be done yet.
     Nothing,
 }

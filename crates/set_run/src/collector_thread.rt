@@ -30,7 +30,7 @@ fn go_round<C: Collector>(
     for i in 0..lanes.len() {
         let lane = lanes.len() - 1 - i;
         let took = lanes[i].take_some(lane, signals.lines(), collector)?;
-        signals.some_taken(lane, took);
+        signals.answers_taken(lane, took);
         came |= took != Came::Nothing;
     }
     Ok(came)

@@ -67,6 +67,6 @@ impl LaneTaker {
                 });
             }
         }
-        Ok(Came::Most)
+        Ok(Came::Moved)
     }
 }

@@ -56,7 +56,7 @@ fn run_threads<
         sources.items [] collector back.0.items back.1) }
     ensures unbegun { IfErr result (λ unbegun. unbegun.collector ≡ collector) }
 {
-    let signals = Signals::new(plan, sources.len(), workers.len());
+    let signals = Signals::new(plan, workers.len());
     let signals = &signals;
     let lanes: Vec<LaneTaker> = Vec::new(alloc);
     thread::scope(

@@ -78,11 +78,8 @@ fn close<R: Wait>(
 /// Tells the worker of lines that were fed, if they are many, or the next one isn't there yet. How many
 /// it wasn't told of, with the next one.
 fn tell(signals: &Signals, number: usize, unheard: usize, is_ready: bool) -> usize {
-    if unheard > 0 && !is_ready {
-        signals.all_fed(number);
-        1
-    } else if unheard >= signals.lines() {
-        signals.some_fed(number);
+    if unheard >= signals.lines() || unheard > 0 && !is_ready {
+        signals.lines_fed(number);
         1
     } else {
         unheard.saturating_add(1)
@@ -141,6 +138,6 @@ pub(crate) fn feed<R: Wait, S: LineSource, G: Gate>(
     if let Some(end) = feed_lines(rt, signals, number, &mut source, &mut feeder) {
         let _ = close(rt, signals, number, &mut feeder, end);
     }
-    signals.all_fed(number);
+    signals.lines_fed(number);
     Feeding { source, feeder }
 }

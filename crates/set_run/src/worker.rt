@@ -54,7 +54,7 @@ fn take_turns(setter: &mut Setter, most: usize) -> Came
             Turn::Idle | Turn::Blocked => return Came::Nothing,
         }
     }
-    Came::Most
+    Came::Moved
 }
 
 impl Worker {
@@ -91,9 +91,8 @@ impl Worker {
             }
             match take_turns(&mut self.setters[i], signals.moves()) {
                 Came::Done => (),
-                Came::Moved => all = Came::Moved,
-                Came::Most => {
-                    signals.some_set(number, self.setters.len() - 1 - i);
+                Came::Moved => {
+                    signals.lines_set(number, self.setters.len() - 1 - i);
                     all = Came::Moved;
                 }
                 Came::Nothing if all == Came::Done => all = Came::Nothing,

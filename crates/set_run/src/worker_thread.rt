@@ -34,11 +34,8 @@ pub(crate) fn work<R: Wait, G: Gate>(
     let mut backoff = Backoff::new();
     for _ in rt.forever() {
         match worker.go_round(signals, number) {
-            Came::Done => {
-                signals.all_set();
-                return worker;
-            }
-            Came::Moved | Came::Most => backoff.renew(),
+            Came::Done => return worker,
+            Came::Moved => backoff.renew(),
             Came::Nothing => signals.wait_as_worker(rt, number, &mut backoff),
         }
     }

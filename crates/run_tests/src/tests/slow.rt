@@ -40,6 +40,10 @@ impl<R: Clock> LineSource for Slow<'_, R> {
         };
         Ok(Some(line))
     }
+
+    fn is_ready(&self) -> bool {
+        self.pause == 0
+    }
 }
 
 /// Sleeps for so many microseconds.

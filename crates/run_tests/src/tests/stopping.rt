@@ -25,7 +25,7 @@ struct Case {
     taken: u32,
 }
 
-static CASES: [Case; 6] = [
+static CASES: [Case; 7] = [
     Case {
         name: "all threads at work",
         lines: ENDLESS,
@@ -50,6 +50,13 @@ static CASES: [Case; 6] = [
     Case {
         name: "sources asleep with an end for which there is no room",
         lines: 3,
+        pause: 0,
+        late: 30_000,
+        taken: 0,
+    },
+    Case {
+        name: "workers asleep after the end of their sources",
+        lines: 2,
         pause: 0,
         late: 30_000,
         taken: 0,
