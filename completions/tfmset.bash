@@ -1,0 +1,85 @@
+# Completion of tfmset for bash: subcommands, options, their values where these are few, and names of files.
+# checks/packaging compares it with the program's help.
+
+# Completes a font: files that end in .tfm, and folders; where there is none of them, any file.
+_tfmset_font() {
+    mapfile -t COMPREPLY < <(compgen -f -X '!*.tfm' -- "$1"; compgen -d -- "$1")
+    if ((${#COMPREPLY[@]})); then compopt -o filenames; else compopt -o default; fi
+}
+
+# Completes a file, in the shell's own way.
+_tfmset_file() {
+    compopt -o default
+}
+
+_tfmset() {
+    local word=${COMP_WORDS[COMP_CWORD]} before=${COMP_WORDS[COMP_CWORD - 1]} options='' place=0 ended='' i
+    local commands='counts list set each stream help'
+    COMPREPLY=()
+
+    if ((COMP_CWORD == 1)); then
+        case $word in
+            -*) mapfile -t COMPREPLY < <(compgen -W '-h --help -V --version' -- "$word") ;;
+            *) mapfile -t COMPREPLY < <(compgen -W "$commands" -- "$word") ;;
+        esac
+        return
+    fi
+
+    case ${COMP_WORDS[1]} in
+        counts | list) options='-h --help' ;;
+        set | stream) options='--size --limit --missing --workers --capacity --block --record -h --help' ;;
+        each) options='--size --missing --workers --capacity --block --record -h --help' ;;
+        help)
+            ((COMP_CWORD > 2)) || mapfile -t COMPREPLY < <(compgen -W "$commands" -- "$word")
+            return
+            ;;
+        *) return ;;
+    esac
+
+    # How many words behind the subcommand are neither options nor their values. Bash takes `=` for a word.
+    for ((i = 2; i < COMP_CWORD; i++)); do
+        if [[ ! $ended && ${COMP_WORDS[i]} == -- ]]; then
+            ended=yes
+        elif [[ ! $ended && ${COMP_WORDS[i]} == --?* ]]; then
+            [[ ${COMP_WORDS[i]} == --help ]] || i=$((i + 1))
+            [[ ${COMP_WORDS[i]} != = ]] || i=$((i + 1))
+        elif [[ $ended || ${COMP_WORDS[i]} != -?* ]]; then
+            place=$((place + 1))
+        fi
+    done
+
+    if [[ ! $ended ]]; then
+        if [[ $word == = ]]; then
+            word=''
+        elif [[ $before == = ]]; then
+            before=${COMP_WORDS[COMP_CWORD - 2]}
+        fi
+        case $before in
+            --missing) mapfile -t COMPREPLY < <(compgen -W 'refuse skip' -- "$word") ;;
+            --workers) mapfile -t COMPREPLY < <(compgen -W "$(echo {1..16})" -- "$word") ;;
+            --block) mapfile -t COMPREPLY < <(compgen -W "$(echo {1..8})" -- "$word") ;;
+            --record) mapfile -t COMPREPLY < <(compgen -W '1 2' -- "$word") ;;
+        esac
+        case $before in
+            --size | --limit | --missing | --workers | --capacity | --block | --record) return ;;
+        esac
+        if [[ $word == -* ]]; then
+            mapfile -t COMPREPLY < <(compgen -W "$options" -- "$word")
+            return
+        fi
+    fi
+
+    case ${COMP_WORDS[1]} in
+        counts | list) ((place > 0)) || _tfmset_font "$word" ;;
+        set | stream) if ((place == 0)); then _tfmset_font "$word"; else _tfmset_file; fi ;;
+        each)
+            case $((place % 3)) in
+                0) _tfmset_font "$word" ;;
+                1) mapfile -t COMPREPLY < <(compgen -W 1048576 -- "$word") ;;
+                2) _tfmset_file ;;
+            esac
+            ;;
+    esac
+}
+
+complete -F _tfmset tfmset
