@@ -1,7 +1,7 @@
 //! What the arguments ask for.
 use crate::commands::tfmset_command;
 use clap::error::ErrorKind;
-use clap::{ArgMatches, Error};
+use clap::{ArgMatches, Command, Error};
 use line_lane::{Block, Capacity};
 use set_line::{Limit, Policy, Version};
 use set_run::{Plan, Workers};
@@ -52,11 +52,20 @@ pub(crate) struct Jobs<'a> {
 /// Reads the words after the program's name. The error is also how help and the version come.
 pub(crate) fn requested<'a, S: AsStr>(alloc: Global, words: &'a [S]) -> Result<Request<'a>, Error> {
     let mut command = tfmset_command(alloc)?;
-    let matches = command.try_get_matches_from_mut(words)?;
-    match given(alloc, &matches)? {
+    match read_by(alloc, &mut command, words)? {
         Some(request) => Ok(request),
         None => Err(command.error(ErrorKind::MissingSubcommand, "no subcommand was given")?),
     }
+}
+
+/// What the words ask for, as the command reads them.
+fn read_by<'a, S: AsStr>(
+    alloc: Global,
+    command: &mut Command<'a>,
+    words: &'a [S],
+) -> Result<Option<Request<'a>>, Error> {
+    let matches = command.try_get_matches_from_mut(words)?;
+    Ok(given(alloc, &matches)?)
 }
 
 /// What the subcommand asks for, if there is one.

@@ -122,19 +122,33 @@ const FONT_HELP: &str = "A TFM file, or - for standard input";
 
 /// The whole command.
 pub(crate) fn tfmset_command<'a>(alloc: Global) -> Result<Command<'a>, AllocError> {
-    Command::new(alloc, "tfmset")
-        .bin_name("tfmset")?
+    let command = bare_command(alloc)?;
+    let command = with(command, counts_command(alloc))?;
+    let command = with(command, list_command(alloc))?;
+    let command = with(command, set_command(alloc))?;
+    let command = with(command, stream_command(alloc))?;
+    with(command, each_command(alloc))
+}
+
+/// The command without its subcommands.
+fn bare_command<'a>(alloc: Global) -> Result<Command<'a>, AllocError> {
+    let command = Command::new(alloc, "tfmset")
         .no_binary_name(true)
         .version(VERSION)
         .about(ABOUT)
         .after_help(AFTER_HELP)
         .arg_required_else_help(true)
-        .subcommand_required(true)
-        .subcommand(counts_command(alloc)?)?
-        .subcommand(list_command(alloc)?)?
-        .subcommand(set_command(alloc)?)?
-        .subcommand(stream_command(alloc)?)?
-        .subcommand(each_command(alloc)?)
+        .subcommand_required(true);
+    command.bin_name("tfmset")
+}
+
+/// The command with one more subcommand, if that could be made. One place for what each of them needs, since it is slow
+/// to prove.
+fn with<'a>(
+    command: Command<'a>,
+    subcommand: Result<Command<'a>, AllocError>,
+) -> Result<Command<'a>, AllocError> {
+    command.subcommand(subcommand?)
 }
 
 fn counts_command<'a>(alloc: Global) -> Result<Command<'a>, AllocError> {
@@ -171,10 +185,12 @@ fn stream_command<'a>(alloc: Global) -> Result<Command<'a>, AllocError> {
 
 /// The options of a run with one font, and the font.
 fn setting_options<'a>(alloc: Global, command: Command<'a>) -> Result<Command<'a>, AllocError> {
-    let command = command
-        .arg(number_option(alloc, "size", SIZE_HELP, 134_217_727))?
-        .arg(number_option(alloc, "limit", LIMIT_HELP, 16_777_216).default_value("1048576"))?;
-    run_options(alloc, command)?.arg(font_argument(alloc))
+    let size = number_option(alloc, "size", SIZE_HELP, 134_217_727);
+    let command = with_argument(command, size)?;
+    let limit = number_option(alloc, "limit", LIMIT_HELP, 16_777_216).default_value("1048576");
+    let command = with_argument(command, limit)?;
+    let command = run_options(alloc, command)?;
+    with_argument(command, font_argument(alloc))
 }
 
 fn each_command<'a>(alloc: Global) -> Result<Command<'a>, AllocError> {
@@ -187,17 +203,22 @@ fn each_command<'a>(alloc: Global) -> Result<Command<'a>, AllocError> {
 
 /// The options that every run has.
 fn run_options<'a>(alloc: Global, command: Command<'a>) -> Result<Command<'a>, AllocError> {
-    command
-        .arg(choice_option(
-            alloc,
-            ["missing", "P", MISSING_HELP],
-            &["refuse", "skip"],
-            "refuse",
-        ))?
-        .arg(number_option(alloc, "workers", WORKERS_HELP, 16).default_value("2"))?
-        .arg(number_option(alloc, "capacity", CAPACITY_HELP, 65_536).default_value("16"))?
-        .arg(number_option(alloc, "block", BLOCK_HELP, 8).default_value("1"))?
-        .arg(choice_option(alloc, ["record", "V", RECORD_HELP], &["1", "2"], "1"))
+    let missing = ["missing", "P", MISSING_HELP];
+    let missing = choice_option(alloc, missing, &["refuse", "skip"], "refuse");
+    let command = with_argument(command, missing)?;
+    let workers = number_option(alloc, "workers", WORKERS_HELP, 16).default_value("2");
+    let command = with_argument(command, workers)?;
+    let capacity = number_option(alloc, "capacity", CAPACITY_HELP, 65_536).default_value("16");
+    let command = with_argument(command, capacity)?;
+    let block = number_option(alloc, "block", BLOCK_HELP, 8).default_value("1");
+    let command = with_argument(command, block)?;
+    let record = choice_option(alloc, ["record", "V", RECORD_HELP], &["1", "2"], "1");
+    with_argument(command, record)
+}
+
+/// The command with one more argument, in one place as `with` is.
+fn with_argument<'a>(command: Command<'a>, argument: Arg<'a>) -> Result<Command<'a>, AllocError> {
+    command.arg(argument)
 }
 
 /// As many words as there are.
