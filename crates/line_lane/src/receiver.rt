@@ -49,14 +49,12 @@ impl<T: Drop, E: Copy> Receiver<T, E> {
             (received self.new.consumer ≡ received self.old.consumer)
             × (self.new.hand ≡ self.old.hand) }
     {
-        match self.consumer.pop() {
-            Ok(message) => {
-                // Called for its clause: a message has at most eight items.
-                let _ = message.len();
-                self.hand = message;
-                true
-            }
-            Err(_) => false,
+        if self.consumer.is_empty() {
+            return false;
         }
+        self.hand = self.consumer.pop_known();
+        // Called for its clause: a message has at most eight items.
+        let _ = self.hand.len();
+        true
     }
 }

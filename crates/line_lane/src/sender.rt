@@ -62,8 +62,9 @@ impl<T: Drop, E: Copy> Sender<T, E> {
         ensures ended { end_sent self.new ≡ self.old.hand.ending }
         ensures hand { self.new.hand ≡ nothing }
     {
-        let message = mem::replace(&mut self.hand, Message::new(self.alloc));
-        self.ended = message.ending();
-        self.producer.push_reserved(message);
+        self.ended = self.hand.ending();
+        let next = Message::new(self.alloc);
+        self.producer
+            .push_reserved(mem::replace(&mut self.hand, next));
     }
 }

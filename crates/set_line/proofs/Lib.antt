@@ -2,6 +2,7 @@ pub mod AnswerLemmas
 pub mod LineLemmas
 pub mod OnwardLemmas
 pub mod PlaceLemmas
+pub mod ReadyLemmas
 pub mod RecordLemmas
 pub mod WidthLemmas
 pub mod WorkedRows

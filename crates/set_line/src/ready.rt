@@ -3,6 +3,7 @@
 ghost use Rattle.std.specs.Prelude.{◌≡◌, ◌+◌, ◌≤◌, ◌++◌, length, drop, IfSome};
 ghost use Rattle.lig_kern.specs.declared.item.Item.TheVariants.{Char, Space};
 ghost use Rattle.set_line.specs.Record.{item_text};
+ghost use Rattle.set_line.specs.Ready.{AreByCode};
 
 use crate::writing::write_made;
 use lig_kern::Item;
@@ -54,7 +55,9 @@ struct ReadyChar {
 }
 
 impl ReadyChar {
-    fn new(code: u8, width: i32) -> Self {
+    fn new(code: u8, width: i32) -> Self
+        ensures { result.code ≡ code }
+    {
         ReadyChar {
             width,
             code,
@@ -69,6 +72,7 @@ pub(crate) struct ReadyTexts {
     chars: [ReadyChar; 256],
     space: i32,
     space_text: ReadyText,
+    ghost codes: { AreByCode (λ made. made.code) chars },
     ghost right: { drop space_text.start space_text.bytes ≡ item_text (Space space) },
 }
 
@@ -77,9 +81,9 @@ impl ReadyTexts {
     /// code that is no character.
     pub fn new(font: &Font) -> Self {
         let mut chars = [ReadyChar::new(0, 0); 256];
-        for code in 0..=255 {
-            let width = font.metrics(code).map_or(0, |metrics| metrics.width);
-            chars[usize::from(code)] = ReadyChar::new(code, width);
+        for code in 0..256u16 {
+            let width = font.metrics(code as u8).map_or(0, |metrics| metrics.width);
+            chars[usize::from(code)] = ReadyChar::new(code as u8, width);
         }
         let space = font.space();
         ReadyTexts {
@@ -95,7 +99,7 @@ impl ReadyTexts {
     {
         if let Item::Char { code, width } = *item {
             let made = &self.chars[usize::from(code)];
-            return (made.width == width && made.code == code).then_some(&made.text);
+            return (made.width == width).then_some(&made.text);
         }
         match *item {
             Item::Space(amount) if amount == self.space => Some(&self.space_text),

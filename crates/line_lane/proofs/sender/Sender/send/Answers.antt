@@ -5,9 +5,9 @@ use Rattle.line_lane.proofs.sender.Sender.send.Goals as goal
 
 pub invariant_of-self-clause-last : goal.invariant_of-self-clause-last
 invariant_of-self-clause-last g c =
-    rw (c.push_reserved.ensures.sent.0, c.replace-message.ensures.value) (ends_last-append (sent c.args.self.now.producer) c.args.self.now.hand c.requires.unended)
+    rw (c.push_reserved.ensures.sent.0, c.replace.ensures.value) (ends_last-append (sent c.args.self.now.producer) c.args.self.now.hand c.requires.unended)
 
 pub invariant_of-self-clause-told : goal.invariant_of-self-clause-told
 invariant_of-self-clause-told g c =
-    rw (c.push_reserved.ensures.sent.0, c.ending-self.ensures, c.replace-message.ensures.value)
+    rw (c.push_reserved.ensures.sent.0, c.ending-self.ensures, c.replace.ensures.value)
     (sym (end_of-append (sent c.args.self.now.producer) c.args.self.now.hand c.requires.unended))

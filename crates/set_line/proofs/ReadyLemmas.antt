@@ -1,0 +1,20 @@
+-- Things that are made one code after the other.
+use Rattle.std.proofs.Common.{◌≡◌, ℕ, ◌+◌, ◌<◌, Bool, true, false, List, length, get_or, arith, refl, ap, sym, ◌∙◌}
+use Rattle.std.specs.Prelude.{nat_lt, slice_set}
+use Rattle.std.proofs.lemmas.Bool.{ltb-true, ltb-false}
+use Rattle.std.proofs.lemmas.List.{get_or-set_other}
+use Rattle.std.proofs.lemmas.Grind.{get_or-set_at}
+
+-- one more stands at its code
+pub one_more_code : {T : Type 0} (code_of : T → ℕ) (things : List T) (at place : ℕ) (thing : T) → place ≡ at → length things ≡ 256 → place < 256 → code_of thing ≡ at
+    → ((code : ℕ) (other : T) → code < at → code < 256 → code_of (get_or things code other) ≡ code)
+    → (code : ℕ) (other : T) → code < at + 1 → code < 256 → code_of (get_or (slice_set things place thing) code other) ≡ code
+one_more_code {T} code_of things at place thing here long within is before code other below small = by (nat_lt code at) refl
+  where
+    by : (b : Bool) → nat_lt code at ≡ b → code_of (get_or (slice_set things place thing) code other) ≡ code
+    by true earlier =
+        let less : code < at = ltb-true code at earlier in
+        ap code_of (get_or-set_other things place code thing other (λ same. omega (arith, less, same, here))) ∙ before code other less small
+    by false later =
+        let same : code ≡ at = omega (arith, ltb-false code at later, below) in
+        ap code_of (get_or-set_at things place code thing other (same ∙ sym here) (omega (arith, within, long))) ∙ is ∙ sym same

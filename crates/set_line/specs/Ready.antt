@@ -1,0 +1,7 @@
+-- What is made beforehand for each code.
+-- This project's own representation.
+use Rattle.std.specs.Prelude.{◌≡◌, ℕ, ◌<◌, List, get_or}
+
+-- each of 256 things stands at its code
+abbrev pub AreByCode : {T : Type 0} → (T → ℕ) → List T → Type 0
+AreByCode {T} code_of things = (code : ℕ) (other : T) → code < 256 → code_of (get_or things code other) ≡ code
