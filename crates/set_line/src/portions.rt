@@ -97,7 +97,6 @@ fn cut_piece<'a>(line: &'a [u8]) -> Option<(&'a [u8], &'a [u8])>
 
 /// Sets a run behind what there is, unless it is empty: the steps so far, or `None` where the limit
 /// isn't kept.
-#[inline(always)]
 fn set_run(
     font: &Font,
     run: &[u8],
