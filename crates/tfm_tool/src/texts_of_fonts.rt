@@ -4,6 +4,7 @@ ghost use Rattle.std.specs.Io.KnownBytes.{Appends};
 ghost use Rattle.font_texts.specs.CountsText.{counts_text_of, head_fault_of};
 ghost use Rattle.font_texts.specs.Listing.{listing_of};
 ghost use Rattle.tfm_tables.specs.declared.fault.FontFault.{FontFault};
+ghost use Rattle.set_run.specs.declared.run_fault.RunFault.{RunFault};
 
 use run_texts::ToolFault;
 use std::alloc::Global;
@@ -17,6 +18,7 @@ pub fn counts_text<W: Write>(alloc: Global, bytes: &[u8], out: &mut W) -> Result
     ensures font { (f : FontFault) →
         (result ≡ Err (ToolFault.Font f)) ↔ (head_fault_of bytes.now ≡ Some f) }
     ensures untouched { IfErr result (λ fault. fault ≢ ToolFault.Write → out.new ≡ out.old) }
+    ensures run { (f : RunFault) → result ≢ Err (ToolFault.Run f) }
 {
     font_texts::counts_text(alloc, bytes, out)?;
     Ok(())

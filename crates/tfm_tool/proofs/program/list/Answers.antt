@@ -1,4 +1,4 @@
-use Rattle.std.proofs.Common.{rules, ◌≡◌, None, subst}
+use Rattle.std.proofs.Common.{None, subst}
 use Rattle.tfm_tables.specs.Font.{IsFontOf}
 use Rattle.tfm_tool.proofs.ListLemmas.{listed}
 use Rattle.tfm_tool.proofs.program.list.Goals as goal

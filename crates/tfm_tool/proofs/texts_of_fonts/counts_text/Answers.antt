@@ -1,7 +1,7 @@
 use Rattle.std.proofs.Common.{rules, ◌≡◌, ◌∙◌, ap, Err}
 use Rattle.font_texts.specs.declared.fault.FontTextFault.{FontTextFault}
 use Rattle.font_texts.specs.declared.fault.FontTextFault.TheVariants.{Font as NoFont}
-use Rattle.tfm_tool.proofs.FontTextLemmas.{is_of_refused_font, tells_refused_font}
+use Rattle.tfm_tool.proofs.FontTextLemmas.{is_not_of_run, is_of_refused_font, tells_refused_font}
 use Rattle.tfm_tool.proofs.texts_of_fonts.counts_text.Goals as goal
 
 pub returns-in_err-counts_text-clause-font : goal.returns-in_err-counts_text-clause-font
@@ -18,3 +18,6 @@ returns-clause-font g c = λ f. (
   λ is. absurd (search rules),
   λ first. let wrong : c.counts_text.result ≡ Err (NoFont f) = (c.counts_text.ensures.font f).1 first in absurd (search rules),
 )
+
+pub returns-in_err-counts_text-clause-run : goal.returns-in_err-counts_text-clause-run
+returns-in_err-counts_text-clause-run g c = λ f is. is_not_of_run c.in_err-counts_text.field-0.0 f c.from_residual.result c.from_residual.ensures.1 is
