@@ -1,8 +1,7 @@
 -- The outcome of a line, from what was found on the way.
-use Rattle.std.proofs.Common.{◌≡◌, ℕ, ◌+◌, ◌*◌, ◌≤◌, Bool, true, false, ℤ, List, [], length, Some, None, arith, rules, refl, ap, sym, ◌∙◌}
-use Rattle.std.specs.Prelude.{nat_lt, if◌then◌else◌}
+use Rattle.std.proofs.Common.{◌≡◌, ℕ, ◌+◌, ◌*◌, ◌<◌, ◌≤◌, true, false, ℤ, List, [], length, Some, None, arith, refl, ap, sym, ◌∙◌}
+use Rattle.std.specs.Prelude.{nat_lt}
 use Rattle.std.specs.Option.{option_map_or}
-use Rattle.std.proofs.lemmas.Bool.{ltb-false}
 use Rattle.lig_kern.specs.declared.item.Item.{Item}
 use Rattle.set_line.specs.declared.outcome.LineRefusal.{LineRefusal}
 use Rattle.set_line.specs.declared.outcome.LineRefusal.TheVariants.{TooLong, Steps}
@@ -12,20 +11,40 @@ use Rattle.set_line.specs.Pieces.{portions_of}
 use Rattle.set_line.specs.Width.{total_width}
 use Rattle.set_line.specs.Answer.{refusal_of, missing_in, set_as, set_or_refused, outcome_of}
 use Rattle.set_line.specs.Onward.{onward, setting}
+use Rattle.set_line.specs.Stops.{has_refused}
 use Rattle.set_line.proofs.OnwardLemmas.{setting_is}
+use Rattle.set_line.proofs.StopLemmas.{none_refused, not_missing}
 
--- a line that isn't refused at sight isn't long
-pub short_line : (terms : TermsValue) (line : List ℕ) → refusal_of terms line ≡ None → length line ≤ 65535
-unfolding refusal_of
-short_line terms line none = by (nat_lt 65535 (length line)) refl none
-  where
-    by : (b : Bool) → nat_lt 65535 (length line) ≡ b → (if b then Some (TooLong (length line)) else missing_in terms.policy terms.font line) ≡ None → length line ≤ 65535
-    by true long e = absurd (search rules)
-    by false short e = ltb-false 65535 (length line) short
-
-pub outcome_refused : (terms : TermsValue) (line : List ℕ) (refusal : LineRefusal) → refusal_of terms line ≡ Some refusal → Refused refusal ≡ outcome_of terms line
+outcome_refused : (terms : TermsValue) (line : List ℕ) (refusal : LineRefusal) → refusal_of terms line ≡ Some refusal → Refused refusal ≡ outcome_of terms line
 unfolding outcome_of
 outcome_refused terms line refusal is = sym (ap (λ r. option_map_or Refused r (set_or_refused terms line)) is)
+
+-- a line that isn't long is refused at sight for a missing character alone
+refusal_short : (terms : TermsValue) (line : List ℕ) → length line ≤ 65535 → refusal_of terms line ≡ missing_in terms.policy terms.font line
+unfolding refusal_of
+refusal_short terms line short = let few : nat_lt 65535 (length line) ≡ false = grind arith in rw few refl
+
+pub too_long : (terms : TermsValue) (line : List ℕ) → 65535 < length line → Refused (TooLong (length line)) ≡ outcome_of terms line
+unfolding refusal_of
+too_long terms line long =
+    outcome_refused terms line (TooLong (length line)) (let many : nat_lt 65535 (length line) ≡ true = grind arith in rw many refl)
+
+pub outcome_missing : (terms : TermsValue) (line : List ℕ) (refusal : LineRefusal) → length line ≤ 65535
+    → Some refusal ≡ missing_in terms.policy terms.font line → Refused refusal ≡ outcome_of terms line
+outcome_missing terms line refusal short is = outcome_refused terms line refusal (refusal_short terms line short ∙ sym is)
+
+pub not_refused : (terms : TermsValue) (line : List ℕ) → length line ≤ 65535 → None ≡ missing_in terms.policy terms.font line
+    → refusal_of terms line ≡ None
+not_refused terms line short none = refusal_short terms line short ∙ sym none
+
+-- with nothing missing no byte is refused, and the converse
+pub none_there : (terms : TermsValue) (line : List ℕ) → length line ≤ 65535 → refusal_of terms line ≡ None
+    → has_refused terms.policy terms.font line ≡ false
+none_there terms line short none = none_refused terms.policy terms.font line (sym (refusal_short terms line short) ∙ none)
+
+pub none_met : (terms : TermsValue) (line : List ℕ) → length line ≤ 65535 → has_refused terms.policy terms.font line ≡ false
+    → refusal_of terms line ≡ None
+none_met terms line short none = refusal_short terms line short ∙ not_missing terms.policy terms.font line none
 
 pub outcome_set : (terms : TermsValue) (line : List ℕ) (steps : ℕ) (before items : List Item) → refusal_of terms line ≡ None → before ≡ []
     → onward terms.font terms.limit (setting 0 before) (portions_of terms.policy terms.font line) ≡ Some (setting steps items)
@@ -60,8 +79,6 @@ outcome_steps_as terms line before limit none empty reached same =
     ap (λ n. Refused (Steps n)) same ∙ outcome_steps terms line before none empty reached
 
 -- so few items that their width fits
-pub few_enough : (terms : TermsValue) (line : List ℕ) (steps : ℕ) (before items : List Item) → refusal_of terms line ≡ None → before ≡ []
-    → terms.limit ≤ 16777216 → steps ≤ terms.limit → length items + 2 * 0 ≤ length before + 2 * steps + length line → length items ≤ 2147483648
-few_enough terms line steps before items none empty low kept few = omega (arith, short_line terms line none, ap length empty, low, kept, few)
-
-pub ruleset outcomes = (outcome_refused)
+pub few_enough : (line : List ℕ) (steps : ℕ) (before items : List Item) → length line ≤ 65535 → before ≡ []
+    → steps ≤ 16777216 → length items + 2 * 0 ≤ length before + 2 * steps + length line → length items ≤ 2147483648
+few_enough line steps before items short empty kept few = omega (arith, short, ap length empty, kept, few)

@@ -4,6 +4,7 @@ pub mod OnwardLemmas
 pub mod PlaceLemmas
 pub mod ReadyLemmas
 pub mod RecordLemmas
+pub mod StopLemmas
 pub mod WidthLemmas
 pub mod WorkedRows
 pub mod WritingLemmas

@@ -102,7 +102,7 @@ run_few used steps before after font codes right limit some few is =
 
 -- ---- the parts of a piece
 
-get_or-drop-zero : (n : ℕ) (xs : List ℕ) → slice_index (drop n xs) 0 ≡ slice_index xs n
+pub get_or-drop-zero : (n : ℕ) (xs : List ℕ) → slice_index (drop n xs) 0 ≡ slice_index xs n
 get_or-drop-zero n xs = let same : n + 0 ≡ n = omega arith in get_or-drop n xs 0 0 ∙ ap (slice_index xs) same
 
 pub drop-more : (n : ℕ) (xs : List ℕ) → drop (n + 1) xs ≡ drop 1 (drop n xs)

@@ -5,16 +5,16 @@ use Rattle.std.proofs.lemmas.Bool.{ltb-true, ltb-false}
 use Rattle.std.proofs.lemmas.List.{get_or-set_other}
 use Rattle.std.proofs.lemmas.Grind.{get_or-set_at}
 
--- one more stands at its code
-pub one_more_code : {T : Type 0} (code_of : T → ℕ) (things : List T) (at place : ℕ) (thing : T) → place ≡ at → length things ≡ 256 → place < 256 → code_of thing ≡ at
-    → ((code : ℕ) (other : T) → code < at → code < 256 → code_of (get_or things code other) ≡ code)
-    → (code : ℕ) (other : T) → code < at + 1 → code < 256 → code_of (get_or (slice_set things place thing) code other) ≡ code
-one_more_code {T} code_of things at place thing here long within is before code other below small = by (nat_lt code at) refl
+-- one more thing is what is wanted at its code
+pub one_more : {T X : Type 0} (view : T → X) (wanted : ℕ → X) (things : List T) (at place : ℕ) (thing : T) → place ≡ at → length things ≡ 256 → place < 256
+    → view thing ≡ wanted at → ((code : ℕ) (other : T) → code < at → code < 256 → view (get_or things code other) ≡ wanted code)
+    → (code : ℕ) (other : T) → code < at + 1 → code < 256 → view (get_or (slice_set things place thing) code other) ≡ wanted code
+one_more {T} {X} view wanted things at place thing here long within is before code other below small = by (nat_lt code at) refl
   where
-    by : (b : Bool) → nat_lt code at ≡ b → code_of (get_or (slice_set things place thing) code other) ≡ code
+    by : (b : Bool) → nat_lt code at ≡ b → view (get_or (slice_set things place thing) code other) ≡ wanted code
     by true earlier =
         let less : code < at = ltb-true code at earlier in
-        ap code_of (get_or-set_other things place code thing other (λ same. omega (arith, less, same, here))) ∙ before code other less small
+        ap view (get_or-set_other things place code thing other (λ same. omega (arith, less, same, here))) ∙ before code other less small
     by false later =
         let same : code ≡ at = omega (arith, ltb-false code at later, below) in
-        ap code_of (get_or-set_at things place code thing other (same ∙ sym here) (omega (arith, within, long))) ∙ is ∙ sym same
+        ap view (get_or-set_at things place code thing other (same ∙ sym here) (omega (arith, within, long))) ∙ is ∙ ap wanted (sym same)

@@ -2,6 +2,7 @@ pub mod Terms
 pub mod Pieces
 pub mod Width
 pub mod Answer
+pub mod Stops
 pub mod Onward
 pub mod Ready
 pub mod Record

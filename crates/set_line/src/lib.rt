@@ -28,6 +28,7 @@ mod portions;
 mod ready;
 mod record_text;
 mod setting;
+mod stops;
 mod terms;
 mod version;
 mod width;

@@ -1,14 +1,15 @@
 //! The portions of a line, set one behind the other.
-ghost use Rattle.std.specs.Prelude.{◌≡◌, ◌+◌, ◌≤◌, [], ◌∷◌, ◌++◌, true, false, length, IfOk, IfSome, MatchOption, OnOk};
+ghost use Rattle.std.specs.Prelude.{◌≡◌, ◌+◌, ◌≤◌, [], ◌∷◌, ◌++◌, true, false, length, IfOk, IfSome, MatchOption, OnErr, OnOk};
 ghost use Rattle.std.specs.List.{position_or_len};
+ghost use Rattle.std.specs.Option.{option_map_or};
 ghost use Rattle.tfm_tables.specs.Font.{FontValue};
 ghost use Rattle.tfm_tables.specs.Measure.{parameter_of};
 ghost use Rattle.lig_kern.specs.declared.item.Item.TheVariants.{Space as SpaceItem};
-ghost use Rattle.set_line.specs.declared.policy.Policy.{Policy as PolicyValue};
 ghost use Rattle.set_line.specs.declared.policy.Policy.TheVariants.{Skip as SkipPolicy};
-ghost use Rattle.set_line.specs.Pieces.{is_missing, is_space, portions_of, portions_of_piece, run_of, skipped, space};
+ghost use Rattle.set_line.specs.Pieces.{is_missing, portions_of, portions_of_piece, run_of, skipped, space};
 ghost use Rattle.set_line.specs.Answer.{is_neither as is_neither_in};
 ghost use Rattle.set_line.specs.Onward.{AreFew, Reaches, onward, setting};
+ghost use Rattle.set_line.specs.Stops.{has_refused, is_stop};
 
 use crate::{Policy, Terms};
 use lig_kern::{Item, WordFault, few_items, result_within_limit, set_word};
@@ -50,14 +51,14 @@ pub(crate) fn neither_or_end(font: &Font, bytes: &[u8]) -> usize
     bytes.len()
 }
 
-/// The place of the first space, else the length.
+/// The place of the first byte at which a piece ends, else the length.
 #[tactic(auto, using(crate::proofs::PlaceLemmas::places))]
-fn space_or_end(bytes: &[u8]) -> usize
-    ensures place { result ≡ position_or_len is_space bytes.now }
+fn stop_or_end(terms: &Terms, bytes: &[u8]) -> usize
+    ensures place { result ≡ position_or_len (is_stop terms.now.policy terms.now.font) bytes.now }
     ensures within { result ≤ length bytes.now }
 {
     for i in 0..bytes.len() {
-        if bytes[i] == b' ' {
+        if terms.stops_at(bytes[i]) {
             return i;
         }
     }
@@ -80,18 +81,31 @@ fn cut_part<'a>(font: &Font, piece: &'a [u8]) -> Option<(&'a [u8], u8, &'a [u8])
     }
 }
 
-/// The piece before the first space, and what stands behind that; `None` where there is no space.
-fn cut_piece<'a>(line: &'a [u8]) -> Option<(&'a [u8], &'a [u8])>
-    ensures shorter { IfSome result (λ cut.
-        length cut.0.now + length cut.1.now + 1 ≡ length line.now) }
-    ensures portions { (policy : PolicyValue) (font : FontValue) → MatchOption result
-        (portions_of policy font line.now ≡ portions_of_piece policy font line.now)
-        (λ cut. portions_of policy font line.now ≡ portions_of_piece policy font cut.0.now ++ space ∷ portions_of policy font cut.1.now) }
+/// A line has a byte that is refused.
+#[derive(Drop)]
+struct Refused;
+
+/// The piece before the first space, and what stands behind that; `None` where there is no space. Where a
+/// byte before that is refused there is no piece.
+fn cut_piece<'a>(terms: &Terms, line: &'a [u8]) -> Result<Option<(&'a [u8], &'a [u8])>, Refused>
+    ensures shorter { IfOk result (λ cut. IfSome cut (λ cut.
+        length cut.0.now + length cut.1.now + 1 ≡ length line.now)) }
+    ensures portions { IfOk result (λ cut. MatchOption cut
+        (portions_of terms.now.policy terms.now.font line.now ≡ portions_of_piece terms.now.policy terms.now.font line.now)
+        (λ cut. portions_of terms.now.policy terms.now.font line.now
+        ≡ portions_of_piece terms.now.policy terms.now.font cut.0.now ++ space ∷ portions_of terms.now.policy terms.now.font cut.1.now)) }
+    ensures none { IfOk result (λ cut. has_refused terms.now.policy terms.now.font line.now
+        ≡ option_map_or (λ cut. has_refused terms.now.policy terms.now.font cut.1.now) cut false) }
+    ensures refused { OnErr result (has_refused terms.now.policy terms.now.font line.now ≡ true) }
 {
-    let (piece, behind) = line.split_at(space_or_end(line));
-    match behind.split_first() {
-        Some((_, rest)) => Some((piece, rest)),
-        None => None,
+    let (piece, behind) = line.split_at(stop_or_end(terms, line));
+    let Some((stop, rest)) = behind.split_first() else {
+        return Ok(None);
+    };
+    if *stop == b' ' {
+        Ok(Some((piece, rest)))
+    } else {
+        Err(Refused)
     }
 }
 
@@ -163,7 +177,8 @@ fn set_piece(
     items: &mut Vec<Item>,
 ) -> Result<Option<u32>, AllocError>
     requires { used ≤ terms.now.limit }
-    ensures within { IfOk result (λ steps. IfSome steps (λ n. n ≤ terms.now.limit)) }
+    ensures within { IfOk result (λ steps.
+        IfSome steps (λ n. (n ≤ terms.now.limit) × (n ≤ 16777216))) }
     ensures few { IfOk result (λ steps.
         IfSome steps (AreFew used items.old.items piece.now items.new.items)) }
     ensures reached { IfOk result (λ steps.
@@ -188,23 +203,28 @@ fn push_space(terms: &Terms, items: &mut Vec<Item>) -> Result<(), AllocError>
     Ok(())
 }
 
-/// Sets a line's pieces, with a space between neighbours: the steps, or `None` where the limit isn't
-/// kept.
+/// Sets a line's pieces, with a space between neighbours: the steps, or `None` where a byte is refused or
+/// the limit isn't kept.
 pub(crate) fn set_portions(
     terms: &Terms,
     line: &[u8],
     items: &mut Vec<Item>,
 ) -> Result<Option<u32>, AllocError>
-    ensures within { IfOk result (λ steps. IfSome steps (λ n. n ≤ terms.now.limit)) }
+    ensures within { IfOk result (λ steps. IfSome steps (λ n. n ≤ 16777216)) }
     ensures few { IfOk result (λ steps.
         IfSome steps (AreFew 0 items.old.items line.now items.new.items)) }
-    ensures reached { IfOk result (λ steps.
+    ensures none { IfOk result (λ steps.
+        IfSome steps (λ n. has_refused terms.now.policy terms.now.font line.now ≡ false)) }
+    ensures reached { IfOk result (λ steps. has_refused terms.now.policy terms.now.font line.now ≡ false →
         Reaches (onward terms.now.font terms.now.limit (setting 0 items.old.items)
         (portions_of terms.now.policy terms.now.font line.now)) steps items.new.items) }
 {
     let mut rest = line;
     let mut so_far = 0;
-    while let Some((piece, behind)) = cut_piece(rest) {
+    while let Ok(cut) = cut_piece(terms, rest) {
+        let Some((piece, behind)) = cut else {
+            return set_piece(terms, rest, so_far, items);
+        };
         let Some(steps) = set_piece(terms, piece, so_far, items)? else {
             return Ok(None);
         };
@@ -212,5 +232,5 @@ pub(crate) fn set_portions(
         so_far = steps;
         rest = behind;
     }
-    set_piece(terms, rest, so_far, items)
+    Ok(None)
 }

@@ -12,6 +12,24 @@ use tfm_tables::Font;
 /// So many bytes are copied, however short the text is: a number that the processor copies at once.
 const BYTES: usize = 24;
 
+/// Copies bytes as one value, which takes no test.
+fn copy(place: &mut [u8; BYTES], bytes: &[u8; BYTES])
+    ensures { place.new ≡ bytes.now }
+{
+    *place = *bytes;
+}
+
+/// Copies bytes to a place with room for just these.
+fn put(place: &mut [u8], bytes: &[u8; BYTES])
+    requires { length place.old ≡ 24 }
+    ensures { place.new ≡ bytes.now }
+{
+    match place.as_mut_array() {
+        Some(place) => copy(place, bytes),
+        None => unreachable!(),
+    }
+}
+
 /// The text of an item, which is the end of some bytes.
 #[derive(Clone, Copy, Debug)]
 pub(crate) struct ReadyText {
@@ -40,7 +58,7 @@ impl ReadyText {
         ensures written { drop result text.new ≡ drop self.now.start self.now.bytes ++ drop end text.old }
     {
         let from = end - BYTES;
-        text[from..end].copy_from_slice(&self.bytes);
+        put(&mut text[from..end], &self.bytes);
         from + usize::from(self.start)
     }
 }

@@ -1,5 +1,7 @@
-ghost use Rattle.std.specs.Prelude.{◌≡◌, None, OnErr, IfOk, IfErr};
+ghost use Rattle.std.specs.Prelude.{◌≡◌, ◌≤◌, length, None, OnErr, IfOk, IfErr, MatchOption};
 ghost use Rattle.std.specs.Arc.{arc_value};
+ghost use Rattle.set_line.specs.declared.outcome.LineRefusal.TheVariants.{Steps};
+ghost use Rattle.set_line.specs.declared.outcome.Outcome.TheVariants.{Refused};
 ghost use Rattle.set_line.specs.Answer.{answer_of, missing_in, outcome_of, refusal_of};
 
 use crate::portions::{neither_or_end, set_portions};
@@ -23,52 +25,63 @@ fn missing(font: &Font, policy: Policy, line: &[u8]) -> Option<LineRefusal>
     Some(LineRefusal::Missing { offset, code })
 }
 
-/// Why a line is refused before it is set.
-#[tactic(auto, unfolding(crate::specs::Answer::refusal_of))]
-fn refusal(terms: &Terms, line: &[u8]) -> Option<LineRefusal>
-    ensures { result ≡ refusal_of terms.now line.now }
+/// Sets a line that isn't too long, into a list with room for as many items as lines mostly have, which
+/// the answer holds as it is: `None` where a byte is refused or the limit isn't kept.
+fn set_items(alloc: Global, terms: &Terms, line: &[u8]) -> Result<Option<Outcome>, AllocError>
+    requires { length line.now ≤ 65535 }
+    ensures { IfOk result (λ outcome. MatchOption outcome
+        (refusal_of terms.now line.now ≡ None → Refused (Steps terms.now.limit) ≡ outcome_of terms.now line.now)
+        (λ outcome. outcome ≡ outcome_of terms.now line.now)) }
 {
-    if line.len() > MOST_BYTES {
-        return Some(LineRefusal::TooLong(line.len()));
-    }
-    missing(terms.font(), terms.policy(), line)
-}
-
-/// Sets a line that isn't refused at sight, into a list with room for as many items as lines mostly have.
-/// The answer holds that list as it is.
-fn set_items(alloc: Global, terms: &Terms, line: &[u8]) -> Result<Outcome, AllocError>
-    requires { refusal_of terms.now line.now ≡ None }
-    ensures { IfOk result (λ outcome. outcome ≡ outcome_of terms.now line.now) }
-{
-    let limit = terms.limit().get();
     let mut items = Vec::with_capacity(alloc, line.len() + line.len() / 4)?;
-    match set_portions(terms, line, &mut items)? {
-        Some(steps) => {
-            let width = width::total(&items);
-            Ok(Outcome::Set {
-                items: Items::new(items),
-                width,
-                steps,
-            })
-        }
-        None => Ok(Outcome::Refused(LineRefusal::Steps(limit))),
+    let Some(steps) = set_portions(terms, line, &mut items)? else {
+        return Ok(None);
+    };
+    let width = width::total(&items);
+    Ok(Some(Outcome::Set {
+        items: Items::new(items),
+        width,
+        steps,
+    }))
+}
+
+/// The outcome of a line that wasn't set: a missing character comes before all else.
+fn unset(
+    terms: &Terms,
+    line: &[u8],
+    reason: Result<LineRefusal, AllocError>,
+) -> Result<Outcome, AllocError>
+    requires short { length line.now ≤ 65535 }
+    requires reason { IfOk reason (λ refusal. refusal_of terms.now line.now ≡ None
+        → Refused refusal ≡ outcome_of terms.now line.now) }
+    ensures ok { IfOk result (λ outcome. outcome ≡ outcome_of terms.now line.now) }
+    ensures refused { OnErr result (refusal_of terms.now line.now ≡ None) }
+{
+    match missing(terms.font(), terms.policy(), line) {
+        Some(refusal) => Ok(Outcome::Refused(refusal)),
+        None => Ok(Outcome::Refused(reason?)),
     }
 }
 
-#[tactic(auto, using(crate::proofs::AnswerLemmas::outcomes))]
+/// The outcome of a line. A missing character is met as the line is set; only a line that isn't set is
+/// looked at as a whole for one.
 fn outcome(alloc: Global, terms: &Terms, line: &[u8]) -> Result<Outcome, AllocError>
     ensures ok { IfOk result (λ outcome. outcome ≡ outcome_of terms.now line.now) }
     ensures refused { OnErr result (refusal_of terms.now line.now ≡ None) }
 {
-    match refusal(terms, line) {
-        Some(refusal) => Ok(Outcome::Refused(refusal)),
-        None => set_items(alloc, terms, line),
+    if line.len() > MOST_BYTES {
+        return Ok(Outcome::Refused(LineRefusal::TooLong(line.len())));
+    }
+    match set_items(alloc, terms, line) {
+        Ok(Some(outcome)) => Ok(outcome),
+        Ok(None) => unset(terms, line, Ok(LineRefusal::Steps(terms.limit().get()))),
+        Err(fault) => unset(terms, line, Err(fault)),
     }
 }
 
 /// Sets a line: the answer that the definitions give it with these terms. Where memory is wanted the
 /// line is handed back; a line that is too long, or has a missing character that the terms refuse,
-/// gets its refusal without memory.
+/// gets its refusal also then.
 pub fn set(alloc: Global, terms: Arc<Terms>, line: Line) -> Result<Answer, (Line, OutOfMemory)>
     ensures ok { IfOk result (λ answer. answer ≡ answer_of (arc_value terms) line) }
     ensures line { IfErr result (λ refused. refused.0 ≡ line) }

@@ -1,7 +1,9 @@
 ghost use Rattle.std.specs.Prelude.{◌≡◌};
 ghost use Rattle.set_line.specs.Terms.{TermsValue};
+ghost use Rattle.set_line.specs.Stops.{is_stop};
 
 use crate::ready::ReadyTexts;
+use crate::stops::stops_of;
 use crate::{Limit, Policy};
 use std::marker::Model;
 use tfm_tables::Font;
@@ -12,16 +14,21 @@ pub struct Terms {
     font: Font,
     limit: Limit,
     policy: Policy,
+    /// Whether a piece ends at each byte.
+    stops: [bool; 256],
     /// Texts for records, as a font's characters need them again and again.
     ready: ReadyTexts,
 }
 
 impl Model for Terms {
     ghost use Rattle.set_line.specs.Terms.{TermsValue};
+    ghost use Rattle.set_line.specs.Stops.{AreStops};
 
     ghost Value = { TermsValue };
 
     ghost view = { λ t. record { font = t.font; limit = t.limit; policy = t.policy } };
+
+    ghost invariant = { λ t. AreStops t.policy t.font t.stops };
 }
 
 impl Terms {
@@ -29,11 +36,13 @@ impl Terms {
     pub fn new(font: Font, limit: Limit, policy: Policy) -> Self
         ensures { result ≡ record { font = font; limit = limit; policy = policy } }
     {
+        let stops = stops_of(&font, policy);
         let ready = ReadyTexts::new(&font);
         Terms {
             font,
             limit,
             policy,
+            stops,
             ready,
         }
     }
@@ -57,6 +66,13 @@ impl Terms {
         ensures { result ≡ self.now.policy }
     {
         self.policy
+    }
+
+    /// Whether a piece ends at this byte: a space, or a byte that is refused.
+    pub(crate) fn stops_at(&self, byte: u8) -> bool
+        ensures { result ≡ is_stop self.now.policy self.now.font byte }
+    {
+        self.stops[usize::from(byte)]
     }
 
     /// The texts of the font's characters.

@@ -7,5 +7,5 @@ use Rattle.set_line.proofs.ready.ReadyText.write.Goals as goal
 pub returns-clause-written : goal.returns-clause-written
 returns-clause-written c =
     rw c.from.ensures
-    (copy_before c.args.end c.args.self.now.start c.args.text.now c.copy_from_slice.new.self _
+    (copy_before c.args.end c.args.self.now.start c.args.text.now c.put.new.place _
     c.requires.0 c.requires.1 (search rules) (search rules) (search rules))

@@ -1,11 +1,11 @@
 use Rattle.std.proofs.Common.{rules}
-use Rattle.set_line.proofs.ReadyLemmas.{one_more_code}
+use Rattle.set_line.proofs.ReadyLemmas.{one_more}
 use Rattle.set_line.proofs.ready.ReadyTexts.new.Goals as goal
 
 pub loop-code-preserved : goal.loop-code-preserved
 loop-code-preserved c = record {
   all = search rules;
   done =
-      one_more_code (λ made. made.code) c.loop-code.chars c.loop-code.code c.from.result c.new.result (search rules) c.loop-code.invariant.all (search rules) (search rules)
+      one_more (λ made. made.code) (λ code. code) c.loop-code.chars c.loop-code.code c.from.result c.new.result (search rules) c.loop-code.invariant.all (search rules) (search rules)
       c.loop-code.invariant.done;
 }
