@@ -1,6 +1,6 @@
 -- What holds between two steps of the body, and what each end of the loop makes of it.
-use Rattle.std.proofs.Common.{◌≡◌, ℕ, suc, zero, ◌+◌, ◌-◌, ◌≤◌, Bool, true, false, List, [], ◌∷◌, ◌++◌, length, length-drop, map, take, drop, Option, Some, None, arith, rules, refl, ap, sym, subst, ◌∙◌, ◌&&◌}
-use Rattle.std.specs.Prelude.{if◌then◌else◌, is_some, nat_lt}
+use Rattle.std.proofs.Common.{◌≡◌, ℕ, suc, zero, ◌+◌, ◌-◌, ◌<◌, ◌≤◌, Bool, true, false, List, [], ◌∷◌, ◌++◌, length, length-drop, drop-cons, get_or, map, take, drop, Option, Some, None, arith, rules, refl, ap, sym, subst, ◌∙◌, ◌&&◌}
+use Rattle.std.specs.Prelude.{if◌then◌else◌, is_some, nat_lt, Result, Ok, Err, IfOk}
 use Rattle.std.proofs.Math.Seq.{take-append_seam, take-length}
 use Rattle.std.proofs.lemmas.List.{length-take}
 use Rattle.std.proofs.lemmas.Bool.{ltb-true, ltb-false}
@@ -13,7 +13,7 @@ use Rattle.lig_kern.specs.declared.symbol.Symbol.TheVariants.{Left, Char, Right}
 use Rattle.lig_kern.specs.declared.item.Item.{Item}
 use Rattle.lig_kern.specs.Rewriting.{of_symbol, items_of, right_end}
 use Rattle.lig_kern.specs.Result.{HasNoResultWithin, IsAppendedResult, StaysInFront, result_after}
-use Rattle.lig_kern.specs.Ahead.{HasTurned, IsUnderWay, finish, turn_of, symbols_ahead}
+use Rattle.lig_kern.specs.Ahead.{EndsAfter, HasTurned, IsUnderWay, finish, turn_of, symbols_ahead}
 use Rattle.lig_kern.proofs.Onward.{option_map-twice, result_is}
 
 -- ---- what stays in front
@@ -109,6 +109,9 @@ IsGliding font run before used current rest out =
     (right stands : Bool) → stands ≡ (right && is_some (right_code_of (program_of font.words)))
     → IsUnderWay font run right before used current (symbols_ahead [] rest stands) out
 
+pub glide_first : (font : FontValue) (run : List ℕ) (before : List Item) → IsGliding font run before 0 Left run before
+glide_first font run before = λ right stands e. under_way_first font run right before stands e
+
 pub glide_next : (font : FontValue) (run : List ℕ) (before : List Item) (used : ℕ) (current after : Symbol) (rest : List ℕ) (code : ℕ) (more : List ℕ) (out out' : List Item)
     → IsGliding font run before used current rest out → rest ≡ code ∷ more
     → ((symbols : List Symbol) → HasTurned (turn_of font current (Char code ∷ symbols)) after symbols out out') → StaysInFront out out'
@@ -119,6 +122,16 @@ glide_next font run before used current after rest code more out out' way is tur
     let here : IsUnderWay font run right before used current (Char code ∷ symbols) out =
     subst (λ rest. IsUnderWay font run right before used current (symbols_ahead [] rest stands) out) is (way right stands e) in
     under_way_next font run right before used current after (Char code) (Char code ∷ symbols) symbols out out' here refl (turned symbols) front
+
+-- the same where what is left of the run is told by a place
+pub glide_at : (font : FontValue) (run : List ℕ) (before : List Item) (used further : ℕ) (current after : Symbol) (out out' : List Item)
+    → IsGliding font run before used current (drop used run) out → used < length run → further ≡ used + 1
+    → ((symbols : List Symbol) → HasTurned (turn_of font current (Char (get_or run used 0) ∷ symbols)) after symbols out out') → StaysInFront out out'
+    → IsGliding font run before further after (drop further run) out'
+glide_at font run before used further current after out out' way within next turned front =
+    let here : drop used run ≡ get_or run used 0 ∷ drop (used + 1) run =
+    drop-cons run used 0 within ∙ ap (λ k. get_or run used 0 ∷ drop k run) {x = suc used} {y = used + 1} (omega arith) in
+    rw next (glide_next font run before used current after (drop used run) (get_or run used 0) (drop (used + 1) run) out out' way here turned front)
 
 -- ---- its ends
 
@@ -155,6 +168,16 @@ ends_here font run right before used limit current false (code ∷ rest) out aft
 ends_here font run right before used limit current false [] out after way none alone within sent =
     is_result font run right before used limit current [] out after way refl within sent
 
+-- what comes of each run that may be under way, of one that is
+pub ended_of : {E : Type 0} (font : FontValue) (run : List ℕ) (right : Bool) (before : List Item) (used limit : ℕ) (current : Symbol) (ahead : List Symbol) (out after : List Item)
+    → (r : Result (Option ℕ) E)
+    → IfOk r (λ steps. (run : List ℕ) (right : Bool) (before : List Item) → IsUnderWay font run right before used current ahead out → EndsAfter font run right limit before after steps)
+    → IsUnderWay font run right before used current ahead out → IfOk r (EndsAfter font run right limit before after)
+ended_of font run right before used limit current ahead out after (Ok steps) ends way = ends run right before way
+ended_of font run right before used limit current ahead out after (Err fault) ends way = tt
+
 pub ruleset fronts = (front_at_once, front_of_append, front_through)
 
-pub ruleset ways = (front_at_once, front_of_append, front_through, under_way_first, under_way_next, no_result, is_result)
+pub ruleset ways = (front_at_once, front_of_append, front_through, under_way_first, under_way_next)
+
+pub ruleset ends = (front_at_once, front_through)

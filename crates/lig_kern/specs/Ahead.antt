@@ -1,6 +1,6 @@
 -- What the body keeps of a run that is being set: the current symbol and the symbols ahead of it; all that stands to the
 -- left is items already. This project's own representation; what it stands for is a configuration (Rewriting).
-use Rattle.std.specs.Prelude.{◌≡◌, ℕ, zero, suc, ◌+◌, ◌<◌, Bool, true, false, List, [], ◌∷◌, ◌++◌, map, take, drop, reverse, get_or, Option, Some, None, if◌then◌else◌}
+use Rattle.std.specs.Prelude.{◌≡◌, ℕ, zero, suc, ◌+◌, ◌<◌, Bool, true, false, List, [], ◌∷◌, ◌++◌, map, take, drop, reverse, get_or, Option, Some, None, MatchOption, if◌then◌else◌}
 use Rattle.tfm_tables.specs.Font.{FontValue}
 use Rattle.lig_kern.specs.declared.symbol.Symbol.{Symbol}
 use Rattle.lig_kern.specs.declared.symbol.Symbol.TheVariants.{Char, Right}
@@ -10,7 +10,7 @@ use Rattle.lig_kern.specs.declared.item.Item.{Item}
 use Rattle.std.specs.Option.{option_map}
 use Rattle.lig_kern.specs.Matching.{action_between}
 use Rattle.lig_kern.specs.Rewriting.{of_symbol, of_kern, items_of}
-use Rattle.lig_kern.specs.Result.{StaysInFront, result_after}
+use Rattle.lig_kern.specs.Result.{HasNoResultWithin, IsAppendedResult, StaysInFront, result_after}
 
 -- the symbols ahead: characters that operations put there, the last one first, then the rest of the run, then perhaps the
 -- right boundary
@@ -68,3 +68,7 @@ pub record IsUnderWay (font : FontValue) (run : List ℕ) (right : Bool) (before
   pub not_before : (n : ℕ) → n < used → result_after font run right n ≡ None
   pub onward : (n m : ℕ) → m ≡ used + n → option_map (λ items. before ++ items) (result_after font run right m) ≡ option_map (λ items. out ++ items) (finish font n current ahead)
   pub front : StaysInFront before out
+
+-- what comes of a run within a limit: its result was appended, after so many steps, or it has none
+abbrev pub EndsAfter : FontValue → List ℕ → Bool → ℕ → List Item → List Item → Option ℕ → Type 0
+EndsAfter font run right limit before after steps = MatchOption steps (HasNoResultWithin font run right limit) (IsAppendedResult font run right limit before after)

@@ -1,13 +1,14 @@
 //! One run, set step by step.
-ghost use Rattle.std.specs.Prelude.{◌≡◌, ◌≤◌, ◌++◌, Bool, List, [], ◌∷◌, ◌&&◌, drop, length, map, is_some, Err, Some, IfOk, OnOk, OnErr, MatchOption};
+ghost use Rattle.std.specs.Prelude.{◌≡◌, ℕ, ◌≤◌, ◌++◌, Bool, List, [], ◌∷◌, ◌&&◌, drop, length, map, is_some, Err, Some, IfOk, OnOk, OnErr, MatchOption};
 ghost use Rattle.std.specs.List.{slice_get};
 ghost use Rattle.tfm_tables.specs.Program.{program_of, right_code_of};
 ghost use Rattle.lig_kern.specs.declared.word_fault.WordFault.TheVariants.{TooManySteps as TooMany};
 ghost use Rattle.lig_kern.specs.Rewriting.{items_of, of_symbol};
 ghost use Rattle.lig_kern.specs.Result.{HasNoResultWithin, IsAppendedResult, StaysInFront};
+ghost use Rattle.lig_kern.specs.declared.item.Item.{Item as ItemValue};
 ghost use Rattle.lig_kern.specs.declared.symbol.Symbol.{Symbol as SymbolValue};
 ghost use Rattle.lig_kern.specs.declared.symbol.Symbol.TheVariants.{Char as CharSymbol};
-ghost use Rattle.lig_kern.specs.Ahead.{HasTurned, IsUnderWay, stays, symbols_ahead, turn_of};
+ghost use Rattle.lig_kern.specs.Ahead.{EndsAfter, HasTurned, IsUnderWay, stays, symbols_ahead, turn_of};
 
 use crate::ahead::Ahead;
 use crate::{Action, Item, Symbol, WordFault, first_match};
@@ -21,7 +22,7 @@ fn send(font: &Font, symbol: Symbol, out: &mut Vec<Item>) -> Result<(), AllocErr
     ensures sent { OnOk result (out.new.items ≡ out.old.items ++ items_of font.now (of_symbol symbol ∷ [])) }
 {
     if let Symbol::Char(code) = symbol {
-        let width = font.metrics(code).map_or(0, |metrics| metrics.width);
+        let width = font.width(code);
         out.push(Item::Char { code, width })?;
     }
     Ok(())
@@ -91,30 +92,30 @@ fn step(
 }
 
 /// One step between the current symbol and a character ahead of it, where the step passes just that
-/// character: nothing matches, a kern comes between, or a ligature stands for both. What is current
-/// then; `None`, with nothing done, where another operation matches.
+/// character: nothing matches, a kern comes between, or a ligature stands for both. The code that is
+/// current then; `None`, with nothing done, where another operation matches.
 #[tactic(auto, using(crate::proofs::UnderWay::fronts))]
 fn plain_step(
     font: &Font,
     current: Symbol,
     next: u8,
     out: &mut Vec<Item>,
-) -> Result<Option<Symbol>, AllocError>
+) -> Result<Option<u8>, AllocError>
     ensures front { StaysInFront out.old.items out.new.items }
     ensures turned { IfOk result (λ after. MatchOption after (out.new.items ≡ out.old.items)
-        (λ symbol. (rest : List SymbolValue) →
+        (λ code. (rest : List SymbolValue) →
         HasTurned (turn_of font.now current (CharSymbol next ∷ rest))
-        symbol rest out.old.items out.new.items)) }
+        (CharSymbol code) rest out.old.items out.new.items)) }
 {
     match first_match(font, current, Symbol::Char(next)) {
         None => {
             send(font, current, out)?;
-            Ok(Some(Symbol::Char(next)))
+            Ok(Some(next))
         }
         Some(Action::Kern(kern)) => {
             send(font, current, out)?;
             out.push(Item::Kern(kern))?;
-            Ok(Some(Symbol::Char(next)))
+            Ok(Some(next))
         }
         Some(
             Action::Lig {
@@ -123,7 +124,7 @@ fn plain_step(
                 keep_right: false,
                 pass: 0,
             },
-        ) => Ok(Some(Symbol::Char(code))),
+        ) => Ok(Some(code)),
         Some(_) => Ok(None),
     }
 }
@@ -151,14 +152,20 @@ fn glide(
     } else {
         steps_left
     };
-    let mut current = Symbol::Left;
-    for used in 0..most {
-        match plain_step(font, current, word[used as usize], out)? {
-            None => return Ok((used, current)),
+    if most == 0 {
+        return Ok((0, Symbol::Left));
+    }
+    let Some(first) = plain_step(font, Symbol::Left, word[0], out)? else {
+        return Ok((0, Symbol::Left));
+    };
+    let mut current = first;
+    for used in 1..most {
+        match plain_step(font, Symbol::Char(current), word[used as usize], out)? {
+            None => return Ok((used, Symbol::Char(current))),
             Some(after) => current = after,
         }
     }
-    Ok((most, current))
+    Ok((most, Symbol::Char(current)))
 }
 
 /// Whether the right boundary stands after a run.
@@ -168,9 +175,41 @@ fn right_stands(font: &Font, right: bool) -> bool
     right && font.right_boundary().is_some()
 }
 
+/// Steps on until the current symbol is the last one, and sends that out: how many steps were taken by
+/// then, with those before, or `None` where so many as there may be lead to no end.
+#[tactic(auto, using(crate::proofs::UnderWay::ends))]
+fn go_on(
+    font: &Font,
+    from: Symbol,
+    ahead: &mut Ahead<'_>,
+    taken: u32,
+    steps_left: u32,
+    out: &mut Vec<Item>,
+) -> Result<Option<u32>, AllocError>
+    requires { taken ≤ steps_left }
+    ensures front { StaysInFront out.old.items out.new.items }
+    ensures ended { IfOk result (λ steps. (run : List ℕ) (right : Bool) (before : List ItemValue)
+        → IsUnderWay font.now run right before taken from ahead.old out.old.items
+        → EndsAfter font.now run right steps_left before out.new.items steps) }
+{
+    let mut current = from;
+    for used in taken..steps_left {
+        let Some(next) = ahead.first() else {
+            send(font, current, out)?;
+            return Ok(Some(used));
+        };
+        current = step(font, current, next, ahead, out)?;
+    }
+    if ahead.first().is_some() {
+        return Ok(None);
+    }
+    send(font, current, out)?;
+    Ok(Some(steps_left))
+}
+
 /// Steps until the current symbol is the last one, and sends that out: how many steps it took, or
 /// `None` where so many steps lead to no end.
-#[tactic(auto, using(crate::proofs::UnderWay::ways))]
+#[tactic(auto, using(crate::proofs::UnderWay::fronts))]
 fn run_steps(
     font: &Font,
     word: &[u8],
@@ -179,28 +218,17 @@ fn run_steps(
     out: &mut Vec<Item>,
 ) -> Result<Option<u32>, AllocError>
     ensures front { StaysInFront out.old.items out.new.items }
-    ensures ended { IfOk result (λ steps. MatchOption steps (HasNoResultWithin font.now word.now right steps_left) (IsAppendedResult font.now word.now right steps_left out.old.items out.new.items)) }
+    ensures ended { IfOk result
+        (EndsAfter font.now word.now right steps_left out.old.items out.new.items) }
 {
-    let (glided, mut current) = glide(font, word, steps_left, out)?;
-    let rest = &word[glided as usize..];
+    let (glided, current) = glide(font, word, steps_left, out)?;
     let stands = right_stands(font, right);
     if glided as usize == word.len() && !stands {
         send(font, current, out)?;
         return Ok(Some(glided));
     }
-    let mut ahead = Ahead::new(*out.allocator(), rest, stands);
-    for used in glided..steps_left {
-        let Some(next) = ahead.first() else {
-            send(font, current, out)?;
-            return Ok(Some(used));
-        };
-        current = step(font, current, next, &mut ahead, out)?;
-    }
-    if ahead.first().is_some() {
-        return Ok(None);
-    }
-    send(font, current, out)?;
-    Ok(Some(steps_left))
+    let mut ahead = Ahead::new(*out.allocator(), &word[glided as usize..], stands);
+    go_on(font, current, &mut ahead, glided, steps_left, out)
 }
 
 /// Sets one run of character codes. The left boundary stands before it, and the right boundary after

@@ -1,6 +1,9 @@
 -- A decoded list grows by one entry at a time, and each entry is the function's value there.
 use Rattle.std.proofs.Common.{◌≡◌, ℕ, ℤ, pos, ◌+◌, ◌<◌, ◌≤◌, ◌^◌, Bool, true, false, ◌&&◌, if◌then◌else◌, nat_lt, nat_le, List, [], ◌∷◌, ◌++◌, length, length-append, map, get_or, ap, ◌∙◌, arith, refl, sym, subst}
 use Rattle.std.specs.Prelude.{Ok, Option, Some, None}
+use Rattle.std.proofs.Math.ListN.{set}
+use Rattle.std.proofs.lemmas.List.{get_or-set_other, get_or-set_same}
+use borrow.Author.Count.{below_more}
 use Rattle.std.proofs.lemmas.Bool.{lt-leb}
 use Rattle.std.proofs.lemmas.List.FromFn.{map-range_with_len_more, length-map-range_with_len, get_or-map-range_with_len}
 use Rattle.std.proofs.lemmas.Int.{to_z-of_z}
@@ -16,10 +19,11 @@ use Rattle.tfm_tables.specs.declared.character.Character.{Character}
 use Rattle.tfm_tables.specs.declared.font.Font.TheInside.{Inside}
 use Rattle.tfm_tables.specs.declared.left_side.LeftSide.TheVariants.{Boundary, Char}
 use Rattle.tfm_tables.specs.Table.{entries_of}
+use Rattle.tfm_tables.specs.Character.{character_width_of, width_in}
 use Rattle.tfm_tables.specs.Measure.{parameter_of}
 use Rattle.tfm_tables.specs.Program.{program_of, right_code_of, start_of}
 use Rattle.tfm_tables.specs.Sound.{HasSoundTables}
-use Rattle.tfm_tables.specs.Decoded.{character_of, characters_of, kerns_of, parameters_of, starts_of}
+use Rattle.tfm_tables.specs.Decoded.{AreWidthsOf, character_of, characters_of, kerns_of, parameters_of, starts_of}
 use Rattle.tfm_tables.specs.Pairs.{IsTableOf}
 use Rattle.tfm_tables.specs.Inside.{IsDecoded}
 
@@ -47,6 +51,19 @@ unfolding characters_of
 length-characters_of words size = length-map-range_with_len (character_of words size) 0 256
 
 pub ruleset characters = (entry_of_characters, length-characters_of)
+
+-- ---- widths
+
+-- one width more
+pub widths_more : (words : List ℕ) (size : ℕ) (characters : List Character) (widths : List ℤ) (at : ℕ) (width : ℤ) (d : Character)
+    → characters ≡ characters_of words size → at < length widths → at < 256 → width ≡ width_in (get_or characters at d).metrics
+    → ((code : ℕ) → code < at → get_or widths code (pos 0) ≡ character_width_of words size code)
+    → (code : ℕ) → code < at + 1 → get_or (set widths at width) code (pos 0) ≡ character_width_of words size code
+unfolding character_of
+widths_more words size characters widths at width d is long small here before =
+    below_more (λ code. get_or (set widths at width) code (pos 0) ≡ character_width_of words size code) at
+    (λ code below. get_or-set_other widths at code width (pos 0) (λ same. absurd (omega arith)) ∙ before code below)
+    (get_or-set_same widths at width (pos 0) long ∙ here ∙ ap width_in (ap (λ character. character.metrics) (ap (λ all. get_or all at d) is ∙ entry_of_characters words size at d small)))
 
 -- ---- parameters that aren't there
 
@@ -115,16 +132,17 @@ pub ruleset sized = (few_steps, length-characters_of)
 -- what is decoded of words is decoded of a font's own copy of them
 pub decoded_of : (f : Inside) (words : List ℕ) → f.words.items ≡ words → AreCountsOf words f.counts → HasSoundTables words
     → design_size_of words ≡ Ok f.design → f.right ≡ right_code_of (program_of words) → f.left ≡ start_of words Boundary
-    → f.characters.items ≡ characters_of words f.size → f.program.items ≡ program_of words → f.kerns.items ≡ kerns_of words f.size
+    → f.characters.items ≡ characters_of words f.size → AreWidthsOf words f.size f.widths → f.program.items ≡ program_of words → f.kerns.items ≡ kerns_of words f.size
     → f.parameters.items ≡ parameters_of words f.size
     → IsTableOf (program_of words) (starts_of f.characters.items f.left) f.pairs → IsDecoded f
-decoded_of f words own counts sound design right left characters program kerns parameters pairs =
+decoded_of f words own counts sound design right left characters widths program kerns parameters pairs =
     let are : List ℕ → Type 0 = λ w. AreCountsOf w f.counts in
     let are_sound : List ℕ → Type 0 = λ w. HasSoundTables w in
     let designed : List ℕ → Type 0 = λ w. design_size_of w ≡ Ok f.design in
     let righted : List ℕ → Type 0 = λ w. f.right ≡ right_code_of (program_of w) in
     let lefted : List ℕ → Type 0 = λ w. f.left ≡ start_of w Boundary in
     let charactered : List ℕ → Type 0 = λ w. f.characters.items ≡ characters_of w f.size in
+    let widthed : List ℕ → Type 0 = λ w. AreWidthsOf w f.size f.widths in
     let programmed : List ℕ → Type 0 = λ w. f.program.items ≡ program_of w in
     let kerned : List ℕ → Type 0 = λ w. f.kerns.items ≡ kerns_of w f.size in
     let parametered : List ℕ → Type 0 = λ w. f.parameters.items ≡ parameters_of w f.size in
@@ -137,6 +155,7 @@ decoded_of f words own counts sound design right left characters program kerns p
       right = subst righted back right;
       left = subst lefted back left;
       characters = subst charactered back characters;
+      widths = subst widthed back widths;
       program = subst programmed back program;
       kerns = subst kerned back kerns;
       parameters = subst parametered back parameters;

@@ -1,6 +1,7 @@
 -- What a char_info word says of a character code.
 -- Public source: tftopl.web, sections 11 and 12; tex.web, sections 543, 544 and 554.
-use Rattle.std.specs.Prelude.{ℕ, ℤ, zero, suc, ◌-◌, ◌/◌, ◌%◌, ◌==◌, ◌&&◌, nat_le, not, Bool, List, slice_index, Option, Some, None, if◌then◌else◌}
+use Rattle.std.specs.Prelude.{ℕ, ℤ, pos, zero, suc, ◌-◌, ◌/◌, ◌%◌, ◌==◌, ◌&&◌, nat_le, not, Bool, List, slice_index, Option, Some, None, if◌then◌else◌}
+use Rattle.std.specs.Option.{option_map_or}
 use Rattle.tfm_words.specs.declared.table.Table.TheVariants.{CharInfo, Width, Height, Depth, Italic}
 use Rattle.tfm_words.specs.Counts.{counts_of}
 use Rattle.tfm_tables.specs.declared.tag.Tag.{Tag}
@@ -73,3 +74,11 @@ measures_of words size code = record {
 -- the measures of a character that exists
 abbrev pub metrics_of : List ℕ → ℕ → ℕ → Option Metrics
 metrics_of words size code = if exists words code then Some (measures_of words size code) else None
+
+-- the width that stands in these measures; without any it is 0
+abbrev pub width_in : Option Metrics → ℤ
+width_in metrics = option_map_or (λ some. some.width) metrics (pos 0)
+
+-- the width of a character that exists; 0 for a code that doesn't
+abbrev pub character_width_of : List ℕ → ℕ → ℕ → ℤ
+character_width_of words size code = width_in (metrics_of words size code)

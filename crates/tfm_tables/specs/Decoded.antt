@@ -1,12 +1,12 @@
 -- What a font keeps of its words, decoded once: by code, by address, by kern and by parameter.
 -- This project's own representation; each entry is what the definitions say of it.
-use Rattle.std.specs.Prelude.{ℕ, ℤ, List, [], ◌∷◌, ◌++◌, map, Option}
+use Rattle.std.specs.Prelude.{◌≡◌, ℕ, ◌<◌, ℤ, pos, List, [], ◌∷◌, ◌++◌, get_or, map, Option}
 use Rattle.std.specs.List.{range_with_len}
 use Rattle.tfm_words.specs.declared.table.Table.TheVariants.{Kern, Param}
 use Rattle.tfm_tables.specs.declared.character.Character.{Character}
 use Rattle.tfm_tables.specs.declared.left_side.LeftSide.TheVariants.{Char}
 use Rattle.tfm_tables.specs.Table.{entries_of}
-use Rattle.tfm_tables.specs.Character.{tag_of, metrics_of}
+use Rattle.tfm_tables.specs.Character.{tag_of, metrics_of, character_width_of}
 use Rattle.tfm_tables.specs.Measure.{kern_at, parameter_of}
 use Rattle.tfm_tables.specs.Program.{start_of}
 
@@ -17,6 +17,10 @@ character_of words size code = record { metrics = metrics_of words size code; ta
 -- of every code
 unfoldable pub characters_of : List ℕ → ℕ → List Character
 characters_of words size = map (character_of words size) (range_with_len 0 256)
+
+-- the width of every code, by code
+abbrev pub AreWidthsOf : List ℕ → ℕ → List ℤ → Type 0
+AreWidthsOf words size widths = (code : ℕ) → code < 256 → get_or widths code (pos 0) ≡ character_width_of words size code
 
 -- the kerns
 abbrev pub kerns_of : List ℕ → ℕ → List ℤ

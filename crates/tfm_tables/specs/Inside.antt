@@ -7,7 +7,7 @@ use Rattle.tfm_tables.specs.declared.font.Font.TheInside.{Inside}
 use Rattle.tfm_tables.specs.declared.left_side.LeftSide.TheVariants.{Boundary}
 use Rattle.tfm_tables.specs.Program.{program_of, right_code_of, start_of}
 use Rattle.tfm_tables.specs.Sound.{HasSoundTables}
-use Rattle.tfm_tables.specs.Decoded.{characters_of, kerns_of, parameters_of, starts_of}
+use Rattle.tfm_tables.specs.Decoded.{AreWidthsOf, characters_of, kerns_of, parameters_of, starts_of}
 use Rattle.tfm_tables.specs.Pairs.{IsTableOf}
 
 pub record IsDecoded (f : Inside) : Type 0 where
@@ -17,6 +17,7 @@ pub record IsDecoded (f : Inside) : Type 0 where
   pub right : f.right ≡ right_code_of (program_of f.words.items)
   pub left : f.left ≡ start_of f.words.items Boundary
   pub characters : f.characters.items ≡ characters_of f.words.items f.size
+  pub widths : AreWidthsOf f.words.items f.size f.widths
   pub program : f.program.items ≡ program_of f.words.items
   pub kerns : f.kerns.items ≡ kerns_of f.words.items f.size
   pub parameters : f.parameters.items ≡ parameters_of f.words.items f.size

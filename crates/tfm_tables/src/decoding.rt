@@ -1,15 +1,15 @@
-ghost use Rattle.std.specs.Prelude.{◌≡◌, ◌+◌, ◌<◌, ◌≤◌, ◌^◌, length, IfOk, true};
+ghost use Rattle.std.specs.Prelude.{◌≡◌, ℕ, List, ◌+◌, ◌<◌, ◌≤◌, ◌^◌, length, IfOk, true};
 ghost use Rattle.std.specs.Option.{option_map};
 ghost use Rattle.tfm_words.specs.Counts.{AreCountsOf};
 ghost use Rattle.tfm_words.specs.declared.table.Table.TheVariants.{Kern, Param};
 ghost use Rattle.tfm_tables.specs.Table.{entries_of, entry_at};
-ghost use Rattle.tfm_tables.specs.Character.{is_coded, measures_of, metrics_of, tag_of, tag_with};
+ghost use Rattle.tfm_tables.specs.Character.{is_coded, measures_of, metrics_of, tag_of, tag_with, width_in};
 ghost use Rattle.tfm_tables.specs.Measure.{kern_at, measure_at, parameter_of};
 ghost use Rattle.tfm_tables.specs.Program.{begin_at, left_start_of, program_of, start_of, tag_start, target_of};
 ghost use Rattle.tfm_tables.specs.declared.left_side.LeftSide.TheVariants.{Char};
 ghost use Rattle.tfm_tables.specs.Sound.{HasSoundTables};
 ghost use Rattle.tfm_tables.specs.Pairs.{IsTableOf};
-ghost use Rattle.tfm_tables.specs.Decoded.{character_of, characters_of, kerns_of, parameters_of, starts_of};
+ghost use Rattle.tfm_tables.specs.Decoded.{AreWidthsOf, character_of, characters_of, kerns_of, parameters_of, starts_of};
 
 use crate::character::Character;
 use crate::checks::{char_info, exists, step_at};
@@ -228,6 +228,24 @@ pub fn characters(
         characters.push(character(words, counts, size, program, code as u8))?;
     }
     Ok(characters)
+}
+
+fn width(metrics: Option<Metrics>) -> i32
+    ensures { result ≡ width_in metrics }
+{
+    metrics.map_or(0, |metrics| metrics.width)
+}
+
+/// The width of each code, 0 where there is no character.
+pub fn widths(characters: &[Character]) -> [i32; 256]
+    requires { length characters.now ≡ 256 }
+    ensures { (words : List ℕ) (size : ℕ) → characters.now ≡ characters_of words size → AreWidthsOf words size result }
+{
+    let mut widths = [0; 256];
+    for code in 0..256 {
+        widths[code] = width(characters[code].metrics);
+    }
+    widths
 }
 
 /// The table of pairs.

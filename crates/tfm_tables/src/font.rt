@@ -6,7 +6,7 @@ ghost use Rattle.tfm_words.specs.declared.table.Table.TheVariants.{LigKern, Kern
 ghost use Rattle.tfm_tables.specs.Table.{entries_of};
 ghost use Rattle.tfm_tables.specs.Font.{IsFontOf, IsRefusalOf};
 ghost use Rattle.tfm_tables.specs.Header.{check_sum_of, coding_of, face_of, family_of, seven_bit_of};
-ghost use Rattle.tfm_tables.specs.Character.{exists as exists_in, metrics_of, tag_of};
+ghost use Rattle.tfm_tables.specs.Character.{character_width_of, exists as exists_in, metrics_of, tag_of};
 ghost use Rattle.tfm_tables.specs.Measure.{kern_at, parameter_of};
 ghost use Rattle.tfm_tables.specs.Program.{IsServing, address_between, program_of, right_code_of, start_of, step_at};
 ghost use Rattle.tfm_tables.specs.Decoded.{character_of};
@@ -31,6 +31,7 @@ pub struct Font {
     parameters: Vec<i32>,
     pairs: PairTable,
     left: Option<usize>,
+    widths: [i32; 256],
     counts: Counts,
     size: Size,
     design: Size,
@@ -91,6 +92,7 @@ impl Font {
     {
         let program = decoding::program(alloc, words, &counts)?;
         let characters = decoding::characters(alloc, words, &counts, size, &program)?;
+        let widths = decoding::widths(&characters);
         let kerns = decoding::kerns(alloc, words, &counts, size)?;
         let parameters = decoding::parameters(alloc, words, &counts, size)?;
         let left = decoding::left_start(&program);
@@ -98,6 +100,7 @@ impl Font {
         Ok(Font {
             words: Vec::from_slice(alloc, words)?,
             left,
+            widths,
             pairs,
             right: right_code(words, &counts),
             characters,
@@ -131,6 +134,14 @@ impl Font {
         ensures { result ≡ metrics_of self.now.words self.now.size code }
     {
         self.character(code).metrics
+    }
+
+    /// The width of a character, in scaled points; 0 for a code that doesn't exist. It is one look into
+    /// a table.
+    pub fn width(&self, code: u8) -> i32
+        ensures { result ≡ character_width_of self.now.words self.now.size code }
+    {
+        self.widths[usize::from(code)]
     }
 
     /// The tag of a character; `None` where it doesn't exist.

@@ -1,30 +1,39 @@
-use Rattle.std.proofs.Common.{◌≡◌, ◌+◌, ◌∷◌, ◌<◌, drop, length, get_or, suc, arith, ap, ◌∙◌, drop-cons}
-use Rattle.lig_kern.proofs.UnderWay.{front_at_once, front_through, under_way_first, glide_next}
+use Rattle.std.proofs.Common.{◌≡◌, ◌+◌, ◌<◌, length, arith, refl}
+use Rattle.lig_kern.specs.declared.symbol.Symbol.TheVariants.{Left, Char}
+use Rattle.lig_kern.proofs.UnderWay.{front_through, glide_first, glide_at}
 use Rattle.lig_kern.proofs.setting.glide.Goals as goal
 
+pub returns-then-most-eq0-clause-under_way : goal.returns-then-most-eq0-clause-under_way
+returns-then-most-eq0-clause-under_way c = glide_first c.args.font.now c.args.word.now c.args.out.now.items
+
+pub returns-in_default-clause-under_way : goal.returns-in_default-clause-under_way
+returns-in_default-clause-under_way c =
+    let same : c.plain_step.new.out.items ≡ c.args.out.now.items = rw c.in_default.is at c.in_ok-first.ensures.turned in
+    rw same (glide_first c.args.font.now c.args.word.now c.args.out.now.items)
+
 pub loop-used-init : goal.loop-used-init
-loop-used-init c = record {
-  front = front_at_once c.args.out.now.items;
-  under_way = λ right stands e. under_way_first c.args.font.now c.args.word.now right c.args.out.now.items stands e;
-}
+loop-used-init c =
+    let within : 0 < length c.args.word.now = omega arith in
+    record {
+      front = c.plain_step.ensures.front;
+      under_way = glide_at c.args.font.now c.args.word.now c.args.out.now.items 0 1 Left (Char c.in-Some.first) c.args.out.now.items c.plain_step.new.out.items
+          (glide_first c.args.font.now c.args.word.now c.args.out.now.items) within refl (rw c.in-Some.is at c.in_ok-first.ensures.turned) c.plain_step.ensures.front;
+    }
 
 pub loop-used-preserved : goal.loop-used-preserved
 loop-used-preserved c =
-    let word = c.args.word.now in
-    let used = c.loop-used.used in
-    let within : used < length word = grind arith in
-    let here : drop used word ≡ get_or word used 0 ∷ drop (used + 1) word =
-    drop-cons word used 0 within ∙ ap (λ k. get_or word used 0 ∷ drop k word) {x = suc used} {y = used + 1} (omega arith) in
+    let out = c.loop-used.out.items in
+    let after = c.plain_step-in-loop-used.new.out.items in
+    let within : c.loop-used.used < length c.args.word.now = omega arith in
     record {
-      front = front_through c.args.out.now.items c.loop-used.out.items c.plain_step.new.out.items c.loop-used.invariant.front c.plain_step.ensures.front;
-      under_way = glide_next c.args.font.now word c.args.out.now.items used
-          c.loop-used.current c.in-Some.after (drop used word) (get_or word used 0) (drop (used + 1) word) c.loop-used.out.items c.plain_step.new.out.items
-          c.loop-used.invariant.under_way here (rw c.in-Some.is at c.in_ok-plain_step.ensures.turned) c.plain_step.ensures.front;
+      front = front_through c.args.out.now.items out after c.loop-used.invariant.front c.plain_step-in-loop-used.ensures.front;
+      under_way = glide_at c.args.font.now c.args.word.now c.args.out.now.items c.loop-used.used (c.loop-used.used + 1) (Char c.loop-used.current) (Char c.in-Some-2.after) out after
+          c.loop-used.invariant.under_way within refl (rw c.in-Some-2.is at c.in_ok-plain_step.ensures.turned) c.plain_step-in-loop-used.ensures.front;
     }
 
 pub returns-in-None-clause-under_way : goal.returns-in-None-clause-under_way
 returns-in-None-clause-under_way c = λ right stands e.
-    let same : c.plain_step.new.out.items ≡ c.loop-used.out.items = rw c.in-None.is at c.in_ok-plain_step.ensures.turned in
+    let same : c.plain_step-in-loop-used.new.out.items ≡ c.loop-used.out.items = rw c.in-None.is at c.in_ok-plain_step.ensures.turned in
     rw same (c.loop-used.invariant.under_way right stands e)
 
 pub returns-clause-under_way : goal.returns-clause-under_way

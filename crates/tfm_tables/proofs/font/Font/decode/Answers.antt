@@ -1,4 +1,4 @@
-use Rattle.std.proofs.Common.{arith}
+use Rattle.std.proofs.Common.{arith, ◌∙◌}
 use Rattle.std.proofs.lemmas.Grind.{common_steps}
 use Rattle.tfm_tables.specs.Program.{start_of}
 use Rattle.tfm_tables.proofs.DecodedLemmas.{decoded_of}
@@ -9,5 +9,5 @@ unfolding start_of
 invariant_of-result c =
     decoded_of _ c.args.words.now c.in_ok-from_slice.ensures.items c.requires.counts c.requires.sound c.requires.design c.right_code.ensures
     (grind (arith, common_steps))
-    c.in_ok-characters.ensures c.in_ok-program.ensures c.in_ok-kerns.ensures c.in_ok-parameters.ensures
+    c.in_ok-characters.ensures (c.widths-widths.ensures c.args.words.now c.args.size (c.deref-2.ensures.value ∙ c.in_ok-characters.ensures)) c.in_ok-program.ensures c.in_ok-kerns.ensures c.in_ok-parameters.ensures
     (grind (arith, common_steps))

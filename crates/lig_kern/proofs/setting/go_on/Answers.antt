@@ -1,0 +1,28 @@
+use Rattle.std.proofs.Common.{◌≡◌, arith}
+use Rattle.lig_kern.proofs.UnderWay.{front_through, under_way_next, no_result, is_result}
+use Rattle.lig_kern.proofs.setting.go_on.Goals as goal
+
+pub loop-used-preserved : goal.loop-used-preserved
+loop-used-preserved c = record {
+  front = front_through c.args.out.now.items c.loop-used.out.items c.step.new.out.items c.loop-used.invariant.front c.step.ensures.front;
+  under_way = λ run right before way.
+      under_way_next c.args.font.now run right before c.loop-used.used
+      c.loop-used.current c.in_ok-current.current c.in-Some.next c.loop-used.ahead c.step.new.ahead c.loop-used.out.items c.step.new.out.items
+      (c.loop-used.invariant.under_way run right before way) (grind arith) c.in_ok-current.ensures.turned c.step.ensures.front;
+}
+
+pub returns-in_default-clause-ended : goal.returns-in_default-clause-ended
+returns-in_default-clause-ended c = λ run right before way.
+    is_result c.args.font.now run right before c.loop-used.used c.args.steps_left c.loop-used.current c.loop-used.ahead c.loop-used.out.items c.send.new.out.items
+    (c.loop-used.invariant.under_way run right before way) (grind arith) (omega arith) (grind arith)
+
+pub returns-then-is_some-clause-ended : goal.returns-then-is_some-clause-ended
+returns-then-is_some-clause-ended c = λ run right before way.
+    no_result c.args.font.now run right before c.loop-used.used c.args.steps_left c.loop-used.current c.loop-used.ahead c.loop-used.out.items
+    (c.loop-used.invariant.under_way run right before way) (grind arith) (omega arith)
+
+pub returns-clause-ended : goal.returns-clause-ended
+returns-clause-ended c = λ run right before way.
+    is_result c.args.font.now run right before c.args.steps_left c.args.steps_left c.loop-used.current c.loop-used.ahead c.loop-used.out.items c.send-2.new.out.items
+    (let end : c.args.steps_left ≡ c.loop-used.used = omega arith in rw end (c.loop-used.invariant.under_way run right before way))
+    (grind arith) (omega arith) (grind arith)

@@ -1,0 +1,11 @@
+use Rattle.std.proofs.Common.{◌≡◌, ℕ, pos, ◌<◌, List, get_or, length}
+use Rattle.tfm_tables.specs.Character.{character_width_of}
+use Rattle.tfm_tables.specs.Decoded.{characters_of}
+use Rattle.tfm_tables.proofs.decoding.widths.Given as goal
+
+abbrev pub invariant-loop-code : goal.invariant-loop-code
+invariant-loop-code l = record {
+  long : length l.widths ≡ 256;
+  done : (words : List ℕ) (size : ℕ) → l.characters ≡ characters_of words size
+      → (code : ℕ) → code < l.code → get_or l.widths code (pos 0) ≡ character_width_of words size code;
+}
