@@ -25,9 +25,11 @@ fn pop<T: Drop, E: Copy>(consumer: &mut Consumer<Message<T, E>>, hand: &mut Mess
     ensures received { received consumer.new ≡ received consumer.old ++ hand.new ∷ [] }
     ensures few { length hand.new.items ≤ 8 }
 {
-    let before = mem::replace(hand, consumer.pop_known());
-    if before.len() == 0 {
-        mem::forget(before);
+    let next = consumer.pop_known();
+    if hand.len() == 0 {
+        mem::forget(mem::replace(hand, next));
+    } else {
+        *hand = next;
     }
     // Called for its clause: a message has at most eight items.
     let _ = hand.len();
