@@ -23,6 +23,7 @@ mod meeting;
 mod message;
 mod offer_fault;
 mod opening;
+mod places;
 mod receiver;
 mod sender;
 mod setter;

@@ -2,40 +2,45 @@
 ghost use Rattle.std.specs.Prelude.{◌≡◌, ◌≤◌, ◌<◌, [], ◌∷◌, ◌++◌, length, Some, MatchOption};
 ghost use Rattle.line_lane.specs.Messages.{nothing};
 
-use smallvec::SmallVec;
-use std::alloc::Global;
+use crate::places::{put, take_out};
 use std::marker::Model;
 
-/// Up to eight items, and perhaps an end behind them. Each place of the list has its item: an empty
-/// one is what an inline list needs for those beyond its length.
+/// How many items a message has room for.
+const ROOM: usize = 8;
+
+/// Up to eight items, and perhaps an end behind them. The items stand side by side, from the place
+/// `first` on; all other places are empty.
 #[derive(Drop)]
 pub(crate) struct Message<T, E> {
-    items: SmallVec<Option<T>, 8>,
+    first: usize,
+    count: usize,
     ending: Option<E>,
+    places: [Option<T>; 8],
 }
 
 impl<T, E> Model for Message<T, E> {
-    ghost use Rattle.std.specs.Prelude.{◌≡◌};
-    ghost use Rattle.line_lane.specs.Held.{held, AreFull};
+    ghost use Rattle.line_lane.specs.Held.{held, AreSideBySide};
     ghost use Rattle.line_lane.specs.Messages.{MessageValue, message_code};
 
     ghost Value = { MessageValue T E };
 
     ghost coded = { message_code T.code E.code };
 
-    ghost view = { λ m. record { items = held m.items.items; ending = m.ending } };
+    ghost view = { λ m. record { items = held m.places; ending = m.ending } };
 
-    ghost invariant = { λ m. AreFull m.items.items × (m.items.capacity ≡ 8) };
+    ghost invariant = { λ m. AreSideBySide m.first m.count m.places };
 }
 
 impl<T: Drop, E: Copy> Message<T, E> {
     /// A message with nothing in it.
-    pub fn new(alloc: Global) -> Self
+    pub fn new() -> Self
         ensures { result ≡ nothing }
     {
         Message {
-            items: SmallVec::new(alloc),
+            first: 0,
+            count: 0,
             ending: None,
+            places: [None, None, None, None, None, None, None, None],
         }
     }
 
@@ -44,7 +49,7 @@ impl<T: Drop, E: Copy> Message<T, E> {
         ensures value { result ≡ length self.now.items }
         ensures few { result ≤ 8 }
     {
-        self.items.len()
+        self.count
     }
 
     /// Its end, where it has one.
@@ -60,7 +65,24 @@ impl<T: Drop, E: Copy> Message<T, E> {
         ensures { self.new
             ≡ record { items = self.old.items ++ item ∷ []; ending = self.old.ending } }
     {
-        self.items.push_reserved(Some(item));
+        if self.first + self.count == ROOM {
+            return self.move_and_push(item);
+        }
+        put(&mut self.places, self.first + self.count, item);
+        self.count += 1;
+    }
+
+    /// Appends an item, once all others have moved to the first places.
+    #[cold]
+    fn move_and_push(&mut self, item: T)
+        requires { length self.old.items < 8 }
+        ensures { self.new
+            ≡ record { items = self.old.items ++ item ∷ []; ending = self.old.ending } }
+    {
+        self.places.rotate_left(self.first);
+        self.first = 0;
+        put(&mut self.places, self.count, item);
+        self.count += 1;
     }
 
     /// Puts an item before all others.
@@ -68,10 +90,24 @@ impl<T: Drop, E: Copy> Message<T, E> {
         requires { length self.old.items < 8 }
         ensures { self.new ≡ record { items = item ∷ self.old.items; ending = self.old.ending } }
     {
-        match self.items.insert(0, Some(item)) {
-            Ok(()) => (),
-            Err(_) => unreachable!(),
+        if self.first == 0 {
+            return self.move_and_put_back(item);
         }
+        self.first -= 1;
+        put(&mut self.places, self.first, item);
+        self.count += 1;
+    }
+
+    /// Puts an item before all others, once these have moved to the last places.
+    #[cold]
+    fn move_and_put_back(&mut self, item: T)
+        requires { length self.old.items < 8 }
+        ensures { self.new ≡ record { items = item ∷ self.old.items; ending = self.old.ending } }
+    {
+        self.places.rotate_left(self.first + self.count);
+        self.count += 1;
+        self.first = ROOM - self.count;
+        put(&mut self.places, self.first, item);
     }
 
     /// Takes the first item out.
@@ -81,20 +117,22 @@ impl<T: Drop, E: Copy> Message<T, E> {
             (λ item. self.old
             ≡ record { items = item ∷ self.new.items; ending = self.new.ending }) }
     {
-        if self.items.is_empty() {
+        if self.count == 0 {
             return None;
         }
-        match self.items.remove(0) {
-            Some(item) => Some(item),
-            None => unreachable!(),
-        }
+        let item = take_out(&mut self.places, self.first);
+        self.first += 1;
+        self.count -= 1;
+        item
     }
 
     /// Drops its items.
     pub fn clear(&mut self)
         ensures { self.new ≡ record { items = []; ending = self.old.ending } }
     {
-        self.items.clear();
+        self.first = 0;
+        self.count = 0;
+        self.places = [None, None, None, None, None, None, None, None];
     }
 
     /// Gives it an end.

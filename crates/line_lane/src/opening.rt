@@ -36,12 +36,12 @@ pub fn open(
     };
     let setter = Setter {
         terms,
-        receiver: Receiver::new(alloc, lines_out),
+        receiver: Receiver::new(lines_out),
         sender: Sender::new(alloc, answers_in),
         ready: false,
     };
     let taker = Taker {
-        receiver: Receiver::new(alloc, answers_out),
+        receiver: Receiver::new(answers_out),
         ended: false,
     };
     Ok((feeder, setter, taker))

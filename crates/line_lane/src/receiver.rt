@@ -1,12 +1,12 @@
 //! The receiving end of a ring of messages.
-ghost use Rattle.std.specs.Prelude.{◌≡◌};
+ghost use Rattle.std.specs.Prelude.{◌≡◌, ◌<◌, ◌≤◌, [], ◌∷◌, ◌++◌, length};
 ghost use Rattle.std.specs.Coded.{Coded-set, coded_option};
-ghost use Rattle.rtrb.specs.Ring.{received};
+ghost use Rattle.rtrb.specs.Ring.{SameConsumer, known_items, received};
 ghost use Rattle.line_lane.specs.Messages.{end_of};
 
 use crate::message::Message;
 use rtrb::Consumer;
-use std::alloc::Global;
+use std::mem;
 
 /// The end that receives, with the message that was received last.
 #[derive(Drop)]
@@ -16,20 +16,39 @@ pub(crate) struct Receiver<T, E> {
     ghost told: { hand.ending ≡ end_of (received consumer) } by { Coded-set (coded_option E.code) _ _ },
 }
 
+/// Receives a message that was seen, in place of the one before. It is a function by itself, since one
+/// that moves a message clears the room for that at its beginning. An empty one needn't be dropped.
+#[inline(never)]
+fn pop<T: Drop, E: Copy>(consumer: &mut Consumer<Message<T, E>>, hand: &mut Message<T, E>)
+    requires { 0 < length (known_items consumer.old) }
+    ensures same { SameConsumer consumer.old consumer.new }
+    ensures received { received consumer.new ≡ received consumer.old ++ hand.new ∷ [] }
+    ensures few { length hand.new.items ≤ 8 }
+{
+    let next = consumer.pop_known();
+    if hand.len() == 0 {
+        mem::forget(mem::replace(hand, next));
+    } else {
+        *hand = next;
+    }
+    // Called for its clause: a message has at most eight items.
+    let _ = hand.len();
+}
+
 impl<T: Drop, E: Copy> Receiver<T, E> {
-    ghost use Rattle.std.specs.Prelude.{◌+◌, [], ◌∷◌, ◌++◌, ◌≤◌, None, length, IsTrue, IsFalse};
+    ghost use Rattle.std.specs.Prelude.{◌+◌, None, IsTrue, IsFalse};
     ghost use Rattle.line_lane.specs.Messages.{nothing};
     ghost use Rattle.line_lane.specs.Rings.{SameReceiver, end_received, items_received, messages_received};
 
     /// An end that has received nothing.
-    pub fn new(alloc: Global, consumer: Consumer<Message<T, E>>) -> Self
+    pub fn new(consumer: Consumer<Message<T, E>>) -> Self
         requires { received consumer ≡ [] }
         ensures consumer { result.consumer ≡ consumer }
         ensures hand { result.hand ≡ nothing }
     {
         Receiver {
             consumer,
-            hand: Message::new(alloc),
+            hand: Message::new(),
         }
     }
 
@@ -52,9 +71,7 @@ impl<T: Drop, E: Copy> Receiver<T, E> {
         if self.consumer.is_empty() {
             return false;
         }
-        self.hand = self.consumer.pop_known();
-        // Called for its clause: a message has at most eight items.
-        let _ = self.hand.len();
+        pop(&mut self.consumer, &mut self.hand);
         true
     }
 }

@@ -35,7 +35,7 @@ impl<T: Drop, E: Copy> Sender<T, E> {
     {
         Sender {
             producer,
-            hand: Message::new(alloc),
+            hand: Message::new(),
             ended: None,
             alloc,
         }
@@ -63,7 +63,7 @@ impl<T: Drop, E: Copy> Sender<T, E> {
         ensures hand { self.new.hand ≡ nothing }
     {
         self.ended = self.hand.ending();
-        let next = Message::new(self.alloc);
+        let next = Message::new();
         self.producer
             .push_reserved(mem::replace(&mut self.hand, next));
     }

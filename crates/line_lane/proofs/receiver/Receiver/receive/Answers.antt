@@ -6,4 +6,4 @@ use Rattle.line_lane.proofs.receiver.Receiver.receive.Goals as goal
 
 pub invariant_of-self-2 : goal.invariant_of-self-2
 invariant_of-self-2 g c =
-    record { told = rw (c.pop_known.ensures.received.0) (sym (end_of-append (received c.is_empty.new.self) c.pop_known.result (ap end_of c.is_empty.ensures.looked.1 ∙ c.requires))) }
+    record { told = rw (c.pop.ensures.received) (sym (end_of-append (received c.is_empty.new.self) c.pop.new.hand (ap end_of c.is_empty.ensures.looked.1 ∙ c.requires))) }
