@@ -1,0 +1,43 @@
+-- What a font says of itself, as C gets it.
+-- This project's own; each value is that of `tfm_tables`.
+use Rattle.std.specs.Prelude.{ℕ, List, is_some, Bool, true, false}
+use Rattle.std.specs.Option.{option_map_or}
+use Rattle.tfm_words.specs.DesignSize.{design_size_of}
+use Rattle.tfm_words.specs.declared.table.Table.TheVariants.{LigKern, Kern, Param}
+use Rattle.tfm_tables.specs.declared.left_side.LeftSide.TheVariants.{Boundary}
+use Rattle.tfm_tables.specs.Font.{FontValue}
+use Rattle.tfm_tables.specs.Header.{check_sum_of}
+use Rattle.tfm_tables.specs.Measure.{parameter_of}
+use Rattle.tfm_tables.specs.Program.{program_of, right_code_of, start_of}
+use Rattle.tfm_tables.specs.Table.{entries_of}
+use Rattle.tfmset_c.specs.Opening.{size_or_zero}
+use Rattle.tfmset_c.specs.declared.font.TfmsetFont.{TfmsetFont}
+
+-- the code of the right boundary character, or 256 where the font has none
+unfoldable pub right_or_none : List ℕ → ℕ
+right_or_none words = option_map_or (λ code. code) (right_code_of (program_of words)) 256
+
+-- 1 for true and 0 for false
+abbrev pub flag : Bool → ℕ
+flag true = 1
+flag false = 0
+
+-- what a font says of itself
+unfoldable pub font_told : FontValue → TfmsetFont
+font_told font = record {
+  parameters = entries_of font.words Param;
+  kerns = entries_of font.words Kern;
+  instructions = entries_of font.words LigKern;
+  design_size = size_or_zero (design_size_of font.words);
+  size = font.size;
+  check_sum = check_sum_of font.words;
+  right_boundary = right_or_none font.words;
+  left_boundary = flag (is_some (start_of font.words Boundary));
+  slant = parameter_of font.words font.size 1;
+  space = parameter_of font.words font.size 2;
+  stretch = parameter_of font.words font.size 3;
+  shrink = parameter_of font.words font.size 4;
+  x_height = parameter_of font.words font.size 5;
+  quad = parameter_of font.words font.size 6;
+  extra_space = parameter_of font.words font.size 7;
+}

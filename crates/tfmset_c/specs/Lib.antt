@@ -1,0 +1,6 @@
+pub mod Version
+pub mod Opening
+pub mod Faults
+pub mod Fonts
+pub mod Characters
+pub mod Pairs

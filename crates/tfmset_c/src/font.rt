@@ -1,0 +1,113 @@
+ghost use Rattle.std.specs.Prelude.{◌≡◌, ◌≢◌, ◌≤◌, ◌<◌, ◌↔◌, Some, None, Ok, IsSome, is_some};
+ghost use Rattle.tfm_words.specs.DesignSize.{design_size_of};
+ghost use Rattle.tfm_tables.specs.Acceptance.{font_fault_of};
+ghost use Rattle.tfm_tables.specs.Font.{IsPastDesign};
+ghost use Rattle.tfm_tables.specs.Program.{start_of};
+ghost use Rattle.tfm_tables.specs.declared.left_side.LeftSide.TheVariants.{Boundary};
+ghost use Rattle.tfmset_c.specs.Fonts.{flag, font_told, right_or_none};
+ghost use Rattle.tfmset_c.specs.Opening.{IsNoSize, font_at};
+
+use crate::opening::{DONE, MOST_SIZE, RANGE, open};
+use std::alloc::Global;
+use tfm_tables::{Font, LeftSide};
+
+/// What a font says of itself; lengths are in scaled points.
+#[repr(C)]
+#[derive(Clone, Copy, Debug, PartialEq, Eq)]
+pub struct TfmsetFont {
+    /// How many parameters there are.
+    pub parameters: usize,
+    /// How many kerns.
+    pub kerns: usize,
+    /// How many instructions its lig/kern program has.
+    pub instructions: usize,
+    /// The design size.
+    pub design_size: u32,
+    /// The size that it is read at.
+    pub size: u32,
+    /// The check sum, as it stands in the file.
+    pub check_sum: u32,
+    /// The code of the right boundary character, or 256.
+    pub right_boundary: u32,
+    /// 1 where the left boundary has a program, else 0.
+    pub left_boundary: u32,
+    /// Parameter 1, in units of 2^-20; a parameter that isn't there is 0.
+    pub slant: i32,
+    /// Parameter 2: the width of a space.
+    pub space: i32,
+    /// Parameter 3.
+    pub stretch: i32,
+    /// Parameter 4.
+    pub shrink: i32,
+    /// Parameter 5.
+    pub x_height: i32,
+    /// Parameter 6.
+    pub quad: i32,
+    /// Parameter 7.
+    pub extra_space: i32,
+}
+
+#[tactic(auto, unfolding(crate::specs::Fonts::right_or_none))]
+fn right_boundary(font: &Font) -> u32
+    ensures { result ≡ right_or_none font.now.words }
+{
+    match font.right_boundary() {
+        Some(code) => u32::from(code),
+        None => 256,
+    }
+}
+
+fn left_boundary(font: &Font) -> u32
+    ensures { result ≡ flag (is_some (start_of font.now.words Boundary)) }
+{
+    match font.start(LeftSide::Boundary) {
+        Some(_) => 1,
+        None => 0,
+    }
+}
+
+#[tactic(auto, unfolding(crate::specs::Fonts::font_told))]
+fn tell(font: &Font) -> TfmsetFont
+    ensures { result ≡ font_told font.now }
+{
+    TfmsetFont {
+        parameters: font.params(),
+        kerns: font.kerns(),
+        instructions: font.steps(),
+        design_size: font.design().get(),
+        size: font.size().get(),
+        check_sum: font.check_sum(),
+        right_boundary: right_boundary(font),
+        left_boundary: left_boundary(font),
+        slant: font.param(1),
+        space: font.param(2),
+        stretch: font.param(3),
+        shrink: font.param(4),
+        x_height: font.param(5),
+        quad: font.param(6),
+        extra_space: font.param(7),
+    }
+}
+
+/// What a font says of itself, at a size in scaled points, or with 0 at its design size.
+#[unsafe(no_mangle)]
+pub extern "C" fn tfmset_font(alloc: Global, font: &[u8], size: u32, about: &mut TfmsetFont) -> u32
+    ensures answers { (result ≤ 4) × (result ≢ 3) }
+    ensures range { (result ≡ 4) ↔ IsNoSize size }
+    ensures refused { result ≡ 1 → IsSome (font_fault_of font.now) }
+    ensures memory { result ≡ 2 → IsPastDesign font.now }
+    ensures accepted { result ≡ 0 → font_fault_of font.now ≡ None }
+    ensures done { result ≡ 0 → about.new ≡ font_told (font_at font.now size) }
+    ensures kept { result ≢ 0 → about.new ≡ about.old }
+{
+    if size > MOST_SIZE {
+        return RANGE;
+    }
+    match open(alloc, font, size) {
+        Ok(font) => {
+            *about = tell(&font);
+            DONE
+        }
+        Err(denial) => denial.answer(),
+    }
+}
