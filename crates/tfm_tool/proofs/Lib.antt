@@ -2,3 +2,4 @@ pub mod FontTextLemmas
 pub mod StatusLemmas
 pub mod JobLemmas
 pub mod ListLemmas
+pub mod KeptLemmas

@@ -6,14 +6,14 @@ const VERSION: &str = "0.1.0";
 
 const ABOUT: &str = "Reads TeX font metric (TFM) files and sets lines with them";
 
-const AFTER_HELP: &str = "Examples:
-  tfmset counts cmr10.tfm   the counts and the design size of a font
-  tfmset list cmr10.tfm     all that a font holds
-  tfmset set cmr10.tfm text
+const AFTER_HELP: &str = "Examples, in the folder examples of the sources:
+  tfmset counts demo.tfm    the counts and the design size of a font
+  tfmset list demo.tfm      what a font holds
+  tfmset set demo.tfm lines.txt
                             the lines of a file, set with a font
-  tail -f log | tfmset stream cmr10.tfm
+  echo five | tfmset stream demo.tfm
                             the lines of standard input, as they come
-  tfmset each cmr10.tfm 1048576 text cmtt10.tfm 1048576 code
+  tfmset each demo.tfm 100 lines.txt demo.tfm 1048576 demo.txt
                             a font and a limit for each file
 
 Exit status:
@@ -21,49 +21,59 @@ Exit status:
   1  done, and some line was refused
   2  the command line is refused
   3  the font is refused
-  4  a file was not opened, or not read to its end
+  4  a font was not read, or a file was not opened or not read to its end
   5  memory, a thread or the output was refused";
 
 const COUNTS_ABOUT: &str = "Prints the twelve counts and the design size of a font";
 
-const COUNTS_AFTER_HELP: &str = "Example:
-  tfmset counts cmr10.tfm
+const COUNTS_AFTER_HELP: &str = "Example, in the folder examples of the sources:
+  tfmset counts demo.tfm
 
-Prints twelve lines, from `lf N` to `np N`, and `design N` in scaled points.";
+Prints twelve lines, from `lf N` to `np N`, and `design N` in scaled points.
 
-const LIST_ABOUT: &str = "Prints all that a font holds, a line each";
+Exit status: 0 done; 2 the command line is refused; 3 the font is refused; 4
+the font was not read; 5 memory or the output was refused.";
 
-const LIST_AFTER_HELP: &str = "Example:
-  tfmset list cmr10.tfm
+const LIST_ABOUT: &str = "Prints what a font holds, a line each";
+
+const LIST_AFTER_HELP: &str = "Example, in the folder examples of the sources:
+  tfmset list demo.tfm
 
 Prints the header, the boundaries, the characters with their measures, the
 instructions of the lig/kern program, the kerns and the parameters. Measures
-are in scaled points at the design size.";
+are in scaled points at the design size.
+
+Exit status: 0 done; 2 the command line is refused; 3 the font is refused; 4
+the font was not read; 5 memory or the output was refused.";
 
 const SET_ABOUT: &str = "Sets the lines of files with a font, and prints a record for each";
 
-const SET_AFTER_HELP: &str = "Examples:
-  tfmset set cmr10.tfm text
-  tfmset set --workers 4 --block 8 cmr10.tfm first second third
+const SET_AFTER_HELP: &str = "Examples, in the folder examples of the sources:
+  tfmset set demo.tfm lines.txt
+  tfmset set --workers 4 --block 8 demo.tfm lines.txt demo.txt
+  echo five | tfmset set demo.tfm /dev/stdin
 
-Reads FONT and the lines of each FILE, 1 to 64 of them, all at once. Prints
+Reads FONT and the lines of each FILE, 1 to 64 of them, all at once. As FILE
+/dev/stdin is standard input, and - is a file of that name. Prints
 for each file, in order, a record for each line and then a line on its end. A
 record has the width of its line, and its characters, kerns and spaces, in
 scaled points, or why the line was refused. Bytes are codes of the font,
 not Unicode; byte 32 is a space, and a carriage return is a code as any
-other. A line has up to 65535 bytes. The text is written when all is done.
+other. A line has up to 65535 bytes. Without --size the font is set at its
+design size; a size below 65536 is taken, and less than a point.
+The text is written when all is done.
 For records that come at once, or for much text, take `tfmset stream`.
 
 Exit status: 0 done; 1 done, and some line was refused; 2 the command line is
-refused, or there are more than 64 files; 3 the font is refused; 4 a file was
-not opened or not read to its end; 5 memory, a thread or the output was
-refused.";
+refused, or there are more than 64 files; 3 the font is refused; 4 the font
+was not read, or a file was not opened or not read to its end; 5 memory, a
+thread or the output was refused.";
 
 const STREAM_ABOUT: &str = "Sets lines as `set` does, and prints each record as it comes";
 
-const STREAM_AFTER_HELP: &str = "Examples:
-  tail -f log | tfmset stream cmr10.tfm
-  tfmset stream --workers 4 --block 8 cmr10.tfm first second third
+const STREAM_AFTER_HELP: &str = "Examples, in the folder examples of the sources:
+  echo five | tfmset stream demo.tfm
+  tfmset stream --workers 4 --block 8 demo.tfm lines.txt demo.txt
 
 Reads FONT and the lines of each FILE, up to 64 of them, all at once; without
 a FILE the lines of standard input, and then FONT can't be - as well. Prints
@@ -78,21 +88,21 @@ closes the pipe ends it, with status 5.
 
 Exit status: 0 done; 1 done, and some line was refused; 2 the command line is
 refused, there are more than 64 files, or font and text are both on standard
-input; 3 the font is refused; 4 a file was not opened or not read to its end;
-5 memory, a thread or the output was refused.";
+input; 3 the font is refused; 4 the font was not read, or a file was not
+opened or not read to its end; 5 memory, a thread or the output was refused.";
 
 const EACH_ABOUT: &str = "Sets the lines of files, each with a font and a limit of its own";
 
-const EACH_AFTER_HELP: &str = "Example:
-  tfmset each cmr10.tfm 1048576 text cmtt10.tfm 1048576 code
+const EACH_AFTER_HELP: &str = "Example, in the folder examples of the sources:
+  tfmset each demo.tfm 100 lines.txt demo.tfm 1048576 demo.txt
 
 The words come in threes: FONT, LIMIT, FILE. FONT is a TFM file (here - is
 a file of that name, and not standard input), LIMIT the steps that a line
 may take, 1 to 16777216, and FILE a file with lines; 1 to 64 threes. A size
-is that of all fonts. Prints what `tfmset set` prints of its files. Bytes
-are codes of the font, not Unicode; byte 32 is a space, and a carriage
-return is a code as any other. A line has up to 65535 bytes. The text is
-written when all is done.
+is that of all fonts, else each has its design size; below 65536 it is less
+than a point. Prints what `tfmset set` prints of its files. Bytes are codes
+of the font, not Unicode; byte 32 is a space, and a carriage return is a code
+as any other. A line has up to 65535 bytes. The text is written when all is done.
 
 Exit status: 0 done; 1 done, and some line was refused; 2 the command line is
 refused, or there are more than 64 threes; 3 a font is refused; 4 a font or a
@@ -110,7 +120,7 @@ const FILE_HELP: &str = "The files with the lines";
 
 const STREAM_FILE_HELP: &str = "The files with the lines; none is standard input";
 
-const SIZE_HELP: &str = "Scaled points, 1 to 134217727; else the design size";
+const SIZE_HELP: &str = "1 to 134217727 scaled points; 10pt = 655360";
 
 const LIMIT_HELP: &str = "Steps a line may take, 1 to 16777216";
 

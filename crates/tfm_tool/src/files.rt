@@ -1,20 +1,25 @@
-//! The files that a run asks for: fonts, which are read whole, and files with lines, which are opened.
-ghost use Rattle.std.specs.Prelude.{◌≡◌, ◌≢◌, codes, IfOk, IfSome, OnOk};
+//! The files that a run asks for: fonts, which are read to their end, and files with lines, which are opened.
+ghost use Rattle.std.specs.Prelude.{◌≡◌, ◌≢◌, ℕ, ◌++◌, List, codes, IfOk, IfSome, OnOk};
 ghost use Rattle.std.specs.Io.KnownBytes.{IsAtEnd};
+ghost use Rattle.tfm_tool.specs.Kept.{HaveSameFont, kept_of};
 
 use crate::ToolFault;
 use crate::exit::Failure;
 use crate::jobs::Job;
 use set_line::Terms;
 use set_run::ReaderSource;
-use std::alloc::Global;
+use std::alloc::{AllocError, Global};
 use std::fs;
 use std::io::{ErrorKind, Read};
 use std::rt::Files;
 use std::sync::Arc;
 
-/// A font file is read whole by at most this many reads.
+/// A font file is read to its end by at most this many reads.
 const MAX_READS: u32 = 1_048_576;
+
+/// As many bytes of a file are kept as a font can have: `4 * lf`, with `lf` below 2^15. What
+/// follows is read for the file's end alone.
+const MOST_KEPT: usize = 131_068;
 
 /// Each read asks for this many bytes.
 const READ_SIZE: usize = 4096;
@@ -28,26 +33,27 @@ pub(crate) enum ReadFault {
     OutOfMemory,
 }
 
-/// All the bytes of the font that a word names: `-` is `input`, any other word is a file.
+/// The bytes of the font that a word names, as many as a font can have: `-` is `input`, any other
+/// word is a file.
 pub(crate) fn font_bytes<R, I>(rt: &R, font: &str, input: &mut I) -> Result<Vec<u8>, ReadFault>
 where
     R: Files + AllocGlobal,
     I: Read,
     ensures bytes { IfOk result (λ bytes. font.now ≡ codes "-"
-        → IfSome (I.remaining input.old) (λ all. bytes.items ≡ all)) }
+        → IfSome (I.remaining input.old) (λ all. HaveSameFont bytes.items all)) }
     ensures end { OnOk result (font.now ≡ codes "-" → IsAtEnd (I.remaining input.new)) }
     ensures unread { font.now ≢ codes "-" → input.new ≡ input.old }
 {
     if font == "-" {
-        return all_bytes(rt.alloc(), input);
+        return kept_bytes(rt.alloc(), input);
     }
     font_file(rt, font)
 }
 
-/// The bytes that a reader has left, to its end.
-fn all_bytes<I: Read>(alloc: Global, input: &mut I) -> Result<Vec<u8>, ReadFault>
+/// The bytes that a reader has left, to its end, as many as a font can have.
+fn kept_bytes<I: Read>(alloc: Global, input: &mut I) -> Result<Vec<u8>, ReadFault>
     ensures bytes { IfOk result (λ bytes.
-        IfSome (I.remaining input.old) (λ all. bytes.items ≡ all)) }
+        IfSome (I.remaining input.old) (λ all. bytes.items ≡ kept_of all)) }
     ensures end { OnOk result (IsAtEnd (I.remaining input.new)) }
 {
     let mut bytes = Vec::new(alloc);
@@ -57,17 +63,25 @@ fn all_bytes<I: Read>(alloc: Global, input: &mut I) -> Result<Vec<u8>, ReadFault
         if count == 0 {
             return Ok(bytes);
         }
-        bytes
-            .extend_from_slice(&buffer[..count])
-            .map_err(|_| ReadFault::OutOfMemory)?;
+        keep(&mut bytes, &buffer[..count]).map_err(|_| ReadFault::OutOfMemory)?;
     }
     Err(ReadFault::NotRead)
 }
 
-/// All the bytes of the font file of this name.
+/// Keeps the next bytes of a file, if a font can have as many.
+fn keep(bytes: &mut Vec<u8>, next: &[u8]) -> Result<(), AllocError>
+    ensures { OnOk result ((read : List ℕ) → bytes.old.items ≡ kept_of read
+        → bytes.new.items ≡ kept_of (read ++ next.now)) }
+{
+    let room = MOST_KEPT.saturating_sub(bytes.len());
+    bytes.extend_from_slice(&next[..room.min(next.len())])?;
+    Ok(())
+}
+
+/// The bytes of the font file of this name, as many as a font can have.
 pub(crate) fn font_file<R: Files + AllocGlobal>(rt: &R, name: &str) -> Result<Vec<u8>, ReadFault> {
     let mut file = opened(rt, name)?;
-    all_bytes(rt.alloc(), &mut file)
+    kept_bytes(rt.alloc(), &mut file)
 }
 
 /// The file of this name, opened.

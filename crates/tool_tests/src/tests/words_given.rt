@@ -137,8 +137,8 @@ fn words_that_are_refused(rt: HostRuntime) -> Result<(), Fail> {
 }
 
 /// Words that ask for help or the version, and a part of what is printed.
-static HELP: [(&[&str], &str); 29] = [
-    (&["--help"], "  tfmset counts cmr10.tfm   "),
+static HELP: [(&[&str], &str); 33] = [
+    (&["--help"], "  tfmset counts demo.tfm    "),
     (&["-h"], "Exit status:\n  0  "),
     (&["help"], "\n  2  "),
     (&["--help"], "\n  3  "),
@@ -146,7 +146,7 @@ static HELP: [(&[&str], &str); 29] = [
     (&["--help"], "\n  5  "),
     (&["--help"], "Usage: tfmset <COMMAND>\n"),
     (&["counts", "--help"], "Usage: tfmset counts <FONT>\n"),
-    (&["counts", "-h"], "  tfmset counts cmr10.tfm\n"),
+    (&["counts", "-h"], "  tfmset counts demo.tfm\n"),
     (
         &["set", "--help"],
         "Usage: tfmset set [OPTIONS] <FONT> <FILE>...\n",
@@ -172,11 +172,15 @@ static HELP: [(&[&str], &str); 29] = [
         "closes the pipe ends it, with status 5.",
     ),
     (&["help", "stream"], "none is standard input"),
-    (&["--help"], "  tail -f log | tfmset stream cmr10.tfm\n"),
+    (&["--help"], "  echo five | tfmset stream demo.tfm\n"),
     (&["set", "--help"], "for much text, take `tfmset stream`"),
     (&["list", "--help"], "Usage: tfmset list <FONT>\n"),
-    (&["help", "list"], "  tfmset list cmr10.tfm\n"),
+    (&["help", "list"], "  tfmset list demo.tfm\n"),
     (&["help", "counts"], "standard input\n"),
+    (&["counts", "--help"], "\nthe font was not read; 5 "),
+    (&["list", "--help"], "\nthe font was not read; 5 "),
+    (&["set", "--help"], "/dev/stdin is standard input"),
+    (&["each", "--help"], "scaled points; 10pt = 655360\n"),
     (&["--version"], "tfmset 0.1.0\n"),
     (&["-V"], "tfmset 0.1.0\n"),
 ];
