@@ -35,7 +35,7 @@ extern "C" {
 
 /* The version of the library: 1,000,000 times the first number of "1.2.3", 1,000 times the second,
  * and the third. */
-#define TFMSET_VERSION 1000000u
+#define TFMSET_VERSION 1000u
 uint32_t tfmset_version(void);
 
 /* The first fault of a font. */

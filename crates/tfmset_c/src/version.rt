@@ -5,7 +5,7 @@ ghost use Rattle.tfmset_c.specs.Version.{version_number};
 /// second, and the third.
 #[unsafe(no_mangle)]
 pub extern "C" fn tfmset_version() -> u32
-    ensures { result ≡ version_number 1 0 0 }
+    ensures { result ≡ version_number 0 1 0 }
 {
-    1_000_000
+    1_000
 }
