@@ -54,15 +54,15 @@ const SET_AFTER_HELP: &str = "Examples, in the folder examples of the sources:
   echo five | tfmset set demo.tfm /dev/stdin
 
 Reads FONT and the lines of each FILE, 1 to 64 of them, all at once. As FILE
-/dev/stdin is standard input, and - is a file of that name. Prints
-for each file, in order, a record for each line and then a line on its end. A
-record has the width of its line, and its characters, kerns and spaces, in
-scaled points, or why the line was refused. Bytes are codes of the font,
-not Unicode; byte 32 is a space, and a carriage return is a code as any
-other. A line has up to 65535 bytes. Without --size the font is set at its
-design size; a size below 65536 is taken, and less than a point.
-The text is written when all is done.
-For records that come at once, or for much text, take `tfmset stream`.
+/dev/stdin is standard input, and - is a file of that name. Prints for each
+file, in order, a record for each line and then a line on its end. A record
+has the width of its line, and its characters, kerns and spaces, in scaled
+points, or why the line was refused. Bytes are codes of the font, not Unicode;
+byte 32 is a space, and a carriage return is a code as any other. A line has
+up to 65535 bytes. Without --size the font is set at its design size; a size
+below 65536 is taken, and less than a point.
+The text is written when all is done. For records that come at once,
+or for much text, take `tfmset stream`.
 
 Exit status: 0 done; 1 done, and some line was refused; 2 the command line is
 refused, or there are more than 64 files; 3 the font is refused; 4 the font
@@ -102,7 +102,8 @@ may take, 1 to 16777216, and FILE a file with lines; 1 to 64 threes. A size
 is that of all fonts, else each has its design size; below 65536 it is less
 than a point. Prints what `tfmset set` prints of its files. Bytes are codes
 of the font, not Unicode; byte 32 is a space, and a carriage return is a code
-as any other. A line has up to 65535 bytes. The text is written when all is done.
+as any other. A line has up to 65535 bytes. The text is written when all is
+done.
 
 Exit status: 0 done; 1 done, and some line was refused; 2 the command line is
 refused, or there are more than 64 threes; 3 a font is refused; 4 a font or a
