@@ -38,7 +38,7 @@ chain_step (suc n) program address step enough here =
 abbrev pub served_by : Step → ℕ → ℕ → Option ℕ
 served_by step code address = if nat_le step.skip 128 && (step.next == code) then Some address else None
 
--- where the chain ends, nothing serves
+-- if the chain ends, nothing serves
 address_past : (program : List Step) (address code : ℕ) → slice_get program address ≡ None → address_of program address code ≡ None
 unfolding address_of chain_from
 address_past program address code past = rw (chain_past (length program) program address past) refl

@@ -100,7 +100,7 @@ start_of_code words size code h =
     ∙ (get_or-map (λ (character : Character). character.start) (characters_of words size) code (character_of words size code) None (omega (arith, length-characters_of words size))
     ∙ ap (λ (character : Character). character.start) (entry_of_characters words size code (character_of words size code) h)))
 
--- and the boundary's behind them
+-- and the boundary's after them
 pub start_of_boundary : (words : List ℕ) (size : ℕ)
     → slice_get (starts_of (characters_of words size) (start_of words Boundary)) 256 ≡ Some (start_of words Boundary)
 unfolding starts_of

@@ -1,8 +1,12 @@
 pub mod ChainLemmas
 pub mod DecodedLemmas
+pub mod MeasureLemmas
 pub mod PairLemmas
 pub mod ProgramLemmas
 pub mod RangeLemmas
 pub mod ServingLemmas
+pub mod ScaledLemmas
 pub mod SoundLemmas
 pub mod TableLemmas
+pub mod NamedLemmas
+pub mod StartLemmas

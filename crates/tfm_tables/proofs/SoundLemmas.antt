@@ -1,19 +1,21 @@
 -- Where none of the faults of a font's tables holds, the tables are sound.
-use Rattle.std.proofs.Common.{◌≡◌, ℕ, zero, suc, ◌+◌, ◌⊎◌, inl, inr, subst, if◌then◌else◌, ◌<◌, ◌≤◌, Bool, true, false, not, ◌||◌, ◌&&◌, nat_lt, nat_le, ◌==◌, List, ◌++◌, Option, Some, None, arith, refl, sym, ◌∙◌, eq-eqb}
+use Rattle.std.proofs.Common.{◌≡◌, ℕ, zero, suc, ◌+◌, ◌-◌, ◌⊎◌, inl, inr, subst, if◌then◌else◌, ◌<◌, ◌≤◌, Bool, true, false, not, ◌||◌, ◌&&◌, nat_lt, nat_le, ◌==◌, List, ◌++◌, Option, Some, None, arith, refl, sym, ◌∙◌, eq-eqb}
 use Rattle.std.proofs.lemmas.Bool.{cases_lt, ltb-true, ltb-false, leb-true, leb-false, lt-ltb, le-leb}
 use Rattle.std.specs.List.{range_with_len, flat_map}
 use Rattle.std.specs.Option.{option_or}
-use Rattle.tfm_words.specs.declared.table.Table.TheVariants.{CharInfo, Width, Height, Depth, Italic, LigKern, Kern}
+use Rattle.tfm_words.specs.declared.table.Table.{Table}
+use Rattle.tfm_words.specs.declared.table.Table.TheVariants.{CharInfo, Width, Height, Depth, Italic, LigKern, Kern, Param}
 use Rattle.tfm_words.specs.Counts.{counts_of}
 use Rattle.tfm_words.specs.CountFaults.{first_fault}
 use Rattle.tfm_words.proofs.FirstFault.{AllPassed, first_fault-append, passed_of_none}
 use Rattle.tfm_tables.specs.declared.step.Step.{Step}
 use Rattle.tfm_tables.specs.declared.fault.FontFault.{FontFault}
-use Rattle.tfm_tables.specs.Table.{entries_of}
+use Rattle.tfm_tables.specs.Table.{entries_of, entry_at}
 use Rattle.tfm_tables.specs.Character.{exists, is_coded, char_info_of, width_index, height_index, depth_index, italic_index, tag_number, remainder_of}
 use Rattle.tfm_tables.specs.Program.{step_at, target_of}
-use Rattle.tfm_tables.specs.Acceptance.{table_faults, index_faults, start_faults, first_entry_faults, all_measure_faults, instruction_faults, step_faults, restart_faults, plain_faults, codes_of, is_right_code, kern_index_of}
-use Rattle.tfm_tables.specs.Sound.{HasSoundIndices, IsSoundStep, HasSoundTables}
+use Rattle.tfm_tables.specs.Acceptance.{table_faults, index_faults, start_faults, first_entry_faults, all_measure_faults, table_measure_faults, measure_faults, parameter_faults, is_measure, instruction_faults, step_faults, restart_faults, plain_faults, codes_of, is_right_code, kern_index_of}
+use Rattle.tfm_tables.specs.Sound.{HasSoundIndices, IsSoundStep, HasSoundTables, HasScalableMeasures, IsScalableEntry}
+use Rattle.tfm_tables.proofs.MeasureLemmas.{AreBytes, bytes-entry_at, scalable_word}
 
 -- ---- tests
 
@@ -91,7 +93,7 @@ row_of_code words rows e code is =
     let high = coded_high words code is in
     each_none rows (counts_of words).bc (entries_of words CharInfo) e code low (omega arith)
 
--- ---- what each kind of row says where it doesn't hold
+-- ---- what each kind of row says if it doesn't hold
 
 sound_indices : (words : List ℕ) (code : ℕ) → first_fault (index_faults words code) ≡ None → HasSoundIndices words code
 unfolding index_faults
@@ -139,11 +141,55 @@ sound_by_skip words i step false below e =
 sound_step : (words : List ℕ) (i : ℕ) (step : Step) → first_fault (step_faults words i step) ≡ None → IsSoundStep words i step
 sound_step words i step e = sound_by_skip words i step (nat_lt 128 step.skip) refl e
 
+-- ---- measures
+
+scalable_of : (words : List ℕ) (table : Table) (i : ℕ) → AreBytes words → not (is_measure (entry_at words table i)) ≡ false → IsScalableEntry words table i
+scalable_of words table i bytes passed =
+    scalable_word (entry_at words table i) (bytes-entry_at words table i bytes) (not_false (is_measure (entry_at words table i)) passed)
+
+scalable_table : (words : List ℕ) (table : Table) → AreBytes words → first_fault (table_measure_faults words table) ≡ None
+    → (i : ℕ) → i < entries_of words table → IsScalableEntry words table i
+unfolding table_measure_faults measure_faults
+scalable_table words table bytes e i within =
+    let p : AllPassed (measure_faults words table i) =
+    passed_of_none (measure_faults words table i) (each_none (measure_faults words table) 0 (entries_of words table) e i (omega arith) (omega arith)) in
+    scalable_of words table i bytes p.0
+
+scalable_parameter : (words : List ℕ) → AreBytes words → first_fault (flat_map (parameter_faults words) (range_with_len 2 (entries_of words Param - 1))) ≡ None
+    → (n : ℕ) → 2 ≤ n → n ≤ entries_of words Param → IsScalableEntry words Param (n - 1)
+unfolding parameter_faults
+scalable_parameter words bytes e n low high =
+    let p : AllPassed (parameter_faults words n) =
+    passed_of_none (parameter_faults words n) (each_none (parameter_faults words) 2 (entries_of words Param - 1) e n low (omega arith)) in
+    scalable_of words Param (n - 1) bytes p.0
+
+scalable_measures : (words : List ℕ) → AreBytes words → first_fault (all_measure_faults words) ≡ None → HasScalableMeasures words
+unfolding all_measure_faults
+scalable_measures words bytes e =
+    let widths = table_measure_faults words Width in
+    let heights = table_measure_faults words Height in
+    let depths = table_measure_faults words Depth in
+    let italics = table_measure_faults words Italic in
+    let kerns = table_measure_faults words Kern in
+    let parameters = flat_map (parameter_faults words) (range_with_len 2 (entries_of words Param - 1)) in
+    let to_kerns = front_none (widths ++ heights ++ depths ++ italics ++ kerns) parameters e in
+    let to_italics = front_none (widths ++ heights ++ depths ++ italics) kerns to_kerns in
+    let to_depths = front_none (widths ++ heights ++ depths) italics to_italics in
+    let to_heights = front_none (widths ++ heights) depths to_depths in
+    record {
+      widths = scalable_table words Width bytes (front_none widths heights to_heights);
+      heights = scalable_table words Height bytes (back_none widths heights to_heights);
+      depths = scalable_table words Depth bytes (back_none (widths ++ heights) depths to_depths);
+      italics = scalable_table words Italic bytes (back_none (widths ++ heights ++ depths) italics to_italics);
+      kerns = scalable_table words Kern bytes (back_none (widths ++ heights ++ depths ++ italics) kerns to_kerns);
+      parameters = scalable_parameter words bytes (back_none (widths ++ heights ++ depths ++ italics ++ kerns) parameters e);
+    }
+
 -- ---- the tables as a whole
 
-pub sound_of_accepted : (words : List ℕ) → first_fault (table_faults words) ≡ None → HasSoundTables words
+pub sound_of_accepted : (words : List ℕ) → AreBytes words → first_fault (table_faults words) ≡ None → HasSoundTables words
 unfolding table_faults instruction_faults
-sound_of_accepted words e =
+sound_of_accepted words bytes e =
     let indices = flat_map (index_faults words) (codes_of words) in
     let starts = flat_map (start_faults words) (codes_of words) in
     let measures = all_measure_faults words in
@@ -155,7 +201,6 @@ sound_of_accepted words e =
     record {
       indices = λ code is. sound_indices words code (row_of_code words (index_faults words) (front_none indices starts to_starts) code is);
       starts = λ code is tag. sound_start words code (row_of_code words (start_faults words) (back_none indices starts to_starts) code is) tag;
+      measures = scalable_measures words bytes (back_none (indices ++ starts ++ first_entry_faults words) measures to_measures);
       steps = λ i within. sound_step words i (step_at words i) (each_none (instruction_faults words) 0 (entries_of words LigKern) of_steps i (omega arith) (omega arith));
     }
-
-pub ruleset reading = (sound_of_accepted)

@@ -1,7 +1,7 @@
 -- When a font is accepted: the table of what can be wrong, in order, of which the first that holds is the fault.
 -- Above each list stands the rule; its rows are the breaches.
 -- Public source: tex.web, sections 565 to 575; the order, and what is said here of entry 0, are this project's own. What
--- lists of larger characters and recipes name isn't looked at: this project's own choice, where TeX refuses.
+-- lists of larger characters and recipes name isn't looked at: this project's own choice; TeX refuses.
 use Rattle.std.specs.Prelude.{ℕ, ◌+◌, ◌-◌, ◌*◌, ◌==◌, ◌&&◌, ◌||◌, nat_lt, nat_le, not, Bool, false, List, [], ◌∷◌, ◌++◌, take, slice_index, Option, Some, None, if◌then◌else◌, Result, Ok, Err}
 use Rattle.std.specs.List.{range_with_len, flat_map}
 use Rattle.std.specs.Option.{option_map_or}
@@ -123,12 +123,12 @@ table_faults words =
 abbrev pub table_fault_of : List ℕ → Option FontFault
 table_fault_of words = first_fault (table_faults words)
 
--- the faults of the tables stand behind that of the design size
+-- the faults of the tables stand after that of the design size
 abbrev pub after_design : List ℕ → Result ℕ DesignFault → Option FontFault
 after_design words (Err fault) = Some (Design fault)
 after_design words (Ok _) = table_fault_of words
 
--- and both behind those of the counts
+-- and both after those of the counts
 abbrev pub after_counts : List ℕ → Option CountFault → Option FontFault
 after_counts bytes (Some fault) = Some (Counts fault)
 after_counts bytes None = after_design (words_of bytes) (design_size_of (words_of bytes))

@@ -1,6 +1,6 @@
 -- What a char_info word says of a character code.
 -- Public source: tftopl.web, sections 11 and 12; tex.web, sections 543, 544 and 554.
-use Rattle.std.specs.Prelude.{ℕ, ℤ, pos, zero, suc, ◌-◌, ◌/◌, ◌%◌, ◌==◌, ◌&&◌, nat_le, not, Bool, List, slice_index, Option, Some, None, if◌then◌else◌}
+use Rattle.std.specs.Prelude.{◌≡◌, ℕ, ℤ, pos, zero, suc, ◌-◌, ◌/◌, ◌%◌, ◌==◌, ◌&&◌, nat_le, not, Bool, List, slice_index, Option, Some, None, if◌then◌else◌}
 use Rattle.std.specs.Option.{option_map_or}
 use Rattle.tfm_words.specs.declared.table.Table.TheVariants.{CharInfo, Width, Height, Depth, Italic}
 use Rattle.tfm_words.specs.Counts.{counts_of}
@@ -8,7 +8,7 @@ use Rattle.tfm_tables.specs.declared.tag.Tag.{Tag}
 use Rattle.tfm_tables.specs.declared.tag.Tag.TheVariants.{Plain, Lig, List as ListOf, Ext}
 use Rattle.tfm_tables.specs.declared.metrics.Metrics.{Metrics}
 use Rattle.tfm_tables.specs.Table.{entry_at}
-use Rattle.tfm_tables.specs.Measure.{measure_at}
+use Rattle.tfm_tables.specs.Measure.{measure_at, scaled_entry}
 
 -- the font has a char_info word for this code
 unfoldable pub is_coded : List ℕ → ℕ → Bool
@@ -42,7 +42,7 @@ tag_number info = slice_index info 2 % 4
 abbrev pub remainder_of : List ℕ → ℕ
 remainder_of info = slice_index info 3
 
--- a character exists where it has a char_info word whose width index isn't 0
+-- a character exists if it has a char_info word whose width index isn't 0
 unfoldable pub exists : List ℕ → ℕ → Bool
 exists words code = is_coded words code && not (width_index (char_info_of words code) == 0)
 
@@ -70,6 +70,14 @@ measures_of words size code = record {
   depth = measure_at words size Depth (depth_index (char_info_of words code));
   italic = measure_at words size Italic (italic_index (char_info_of words code));
 }
+
+-- each of these measures is the amount, at a size, of the entry that the code's char_info word names; and there is
+-- such an amount
+pub record AreScaled (words : List ℕ) (size code : ℕ) (metrics : Metrics) : Type 0 where
+  pub width : scaled_entry words size Width (width_index (char_info_of words code)) ≡ Some metrics.width
+  pub height : scaled_entry words size Height (height_index (char_info_of words code)) ≡ Some metrics.height
+  pub depth : scaled_entry words size Depth (depth_index (char_info_of words code)) ≡ Some metrics.depth
+  pub italic : scaled_entry words size Italic (italic_index (char_info_of words code)) ≡ Some metrics.italic
 
 -- the measures of a character that exists
 abbrev pub metrics_of : List ℕ → ℕ → ℕ → Option Metrics

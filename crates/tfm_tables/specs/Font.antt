@@ -1,7 +1,6 @@
 -- A font as contracts see it: its words and the size that it was read at; and what a reading answers.
 -- This project's own; acceptance and its faults are defined in Acceptance.
-use Rattle.std.specs.Prelude.{◌≡◌, ℕ, List, Option, Some, None, Ok, IsOk}
-use Rattle.tfm_words.specs.CountFaults.{count_fault_of}
+use Rattle.std.specs.Prelude.{◌≡◌, ℕ, List, Option, Some, None, Ok}
 use Rattle.tfm_words.specs.DesignSize.{design_size_of}
 use Rattle.tfm_tables.specs.declared.fault.FontFault.{FontFault}
 use Rattle.tfm_tables.specs.declared.fault.FontFault.TheVariants.{OutOfMemory}
@@ -23,12 +22,7 @@ pub record IsFontOf (bytes : List ℕ) (given : Option ℕ) (font : FontValue) :
   pub words : font.words ≡ words_of bytes
   pub size : HasSize font.words given font.size
 
--- want of memory comes only where the counts and the design size are without fault
-pub record IsPastDesign (bytes : List ℕ) : Type 0 where
-  pub counts : count_fault_of bytes ≡ None
-  pub design : IsOk (design_size_of (words_of bytes))
-
--- what a refusal of these bytes says: their first fault, or that memory was wanted
+-- what a refusal of these bytes says: their first fault; or, if they have none, that memory was refused
 abbrev pub IsRefusalOf : List ℕ → FontFault → Type 0
-IsRefusalOf bytes OutOfMemory = IsPastDesign bytes
+IsRefusalOf bytes OutOfMemory = font_fault_of bytes ≡ None
 IsRefusalOf bytes fault = font_fault_of bytes ≡ Some fault

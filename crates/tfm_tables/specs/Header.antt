@@ -22,7 +22,7 @@ coding_of words = if nat_lt (entries_of words Header) 12 then None else Some (te
 abbrev pub family_of : List ℕ → Option (List ℕ)
 family_of words = if nat_lt (entries_of words Header) 17 then None else Some (text_in 19 (drop 48 (table_of words Header)))
 
--- the font says that it is seven-bit safe where the highest bit of header[17]'s first byte is set
+-- the font says that it is seven-bit safe if the highest bit of header[17]'s first byte is set
 abbrev pub seven_bit_of : List ℕ → Option Bool
 seven_bit_of words = if nat_lt (entries_of words Header) 18 then None else Some (nat_le 128 (slice_index (entry_at words Header 17) 0))
 

@@ -8,12 +8,12 @@ use Rattle.tfm_tables.specs.declared.step.Step.{Step}
 use Rattle.tfm_tables.specs.declared.pairs.PairTable.{PairTable}
 use Rattle.tfm_tables.specs.Program.{address_of}
 
--- an address, or 65535 where there is none
+-- an address, or 65535 if there is none
 abbrev pub entry_for : Option ℕ → ℕ
 entry_for None = 65535
 entry_for (Some address) = address
 
--- the row of a left side, by code; where no program begins, no code has an address
+-- the row of a left side, by code; if no program begins, no code has an address
 unfoldable pub row_of : List Step → Option ℕ → List ℕ
 row_of program start = map (λ code. entry_for (option_and_then (λ at. address_of program at code) start)) (range_with_len 0 256)
 

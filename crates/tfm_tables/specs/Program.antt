@@ -28,16 +28,16 @@ program_of words = map (step_at words) (range_with_len 0 (entries_of words LigKe
 abbrev pub target_of : Step → ℕ
 target_of step = 256 * step.op + step.remainder
 
--- the right boundary character is named by the first instruction, where its skip is 255
+-- the right boundary character is named by the first instruction, if its skip is 255
 unfoldable pub right_code_of : List Step → Option ℕ
 right_code_of program = option_and_then (λ step. if step.skip == 255 then Some step.next else None) (slice_get program 0)
 
--- the left boundary's program is named by the last instruction, where its skip is 255, and begins right where
+-- the left boundary's program is named by the last instruction, if its skip is 255, and begins right where
 -- that one points, whatever stands there
 unfoldable pub left_start_of : List Step → Option ℕ
 left_start_of program = option_and_then (λ step. if step.skip == 255 then Some (target_of step) else None) (slice_get program (length program - 1))
 
--- a program begins at the address given; or, where the instruction there has a skip above 128, where that one points,
+-- a program begins at the address given; or, if the instruction there has a skip above 128, where that one points,
 -- whatever stands there
 unfoldable pub begin_at : List Step → ℕ → ℕ
 begin_at program first = option_map_or (λ step. if nat_lt 128 step.skip then target_of step else first) (slice_get program first) first

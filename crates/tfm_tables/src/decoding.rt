@@ -7,7 +7,7 @@ ghost use Rattle.tfm_tables.specs.Character.{is_coded, measures_of, metrics_of, 
 ghost use Rattle.tfm_tables.specs.Measure.{kern_at, measure_at, parameter_of};
 ghost use Rattle.tfm_tables.specs.Program.{begin_at, left_start_of, program_of, start_of, tag_start, target_of};
 ghost use Rattle.tfm_tables.specs.declared.left_side.LeftSide.TheVariants.{Char};
-ghost use Rattle.tfm_tables.specs.Sound.{HasSoundTables};
+ghost use Rattle.tfm_tables.specs.Sound.{HasSoundTables, IsScalableEntry};
 ghost use Rattle.tfm_tables.specs.Pairs.{IsTableOf};
 ghost use Rattle.tfm_tables.specs.Decoded.{AreWidthsOf, character_of, characters_of, kerns_of, parameters_of, starts_of};
 
@@ -19,21 +19,23 @@ use crate::{Metrics, Step, Tag};
 use std::alloc::{AllocError, Global};
 use tfm_words::{Counts, FixWord, Size, Table};
 
-/// Entry `i` of a table, scaled.
+/// Entry `i` of a table, scaled, which can be.
 #[tactic(auto, unfolding(crate::specs::Measure::measure_of))]
 fn measure(words: &[u8], counts: &Counts, size: Size, table: Table, i: usize) -> i32
     requires lawful { AreCountsOf words.now counts.now }
     requires within { i < entries_of words.now table }
+    requires scalable { IsScalableEntry words.now table i }
     ensures { result ≡ measure_at words.now size table i }
 {
     FixWord::of(entry(words, counts, table, i))
         .scaled(size)
-        .unwrap_or(0)
+        .unwrap()
 }
 
 #[tactic(auto, unfolding(crate::specs::Measure::kern_at))]
 fn kern(words: &[u8], counts: &Counts, size: Size, k: usize) -> i32
     requires lawful { AreCountsOf words.now counts.now }
+    requires sound { HasSoundTables words.now }
     requires within { k < entries_of words.now Kern }
     ensures { result ≡ kern_at words.now size k }
 {
@@ -43,6 +45,7 @@ fn kern(words: &[u8], counts: &Counts, size: Size, k: usize) -> i32
 #[tactic(auto, unfolding(crate::specs::Measure::parameter_of))]
 fn parameter(words: &[u8], counts: &Counts, size: Size, number: usize) -> i32
     requires lawful { AreCountsOf words.now counts.now }
+    requires sound { HasSoundTables words.now }
     requires within { (1 ≤ number) × (number ≤ entries_of words.now Param) }
     ensures { result ≡ parameter_of words.now size number }
 {
@@ -75,7 +78,8 @@ pub fn kerns(
     counts: &Counts,
     size: Size,
 ) -> Result<Vec<i32>, AllocError>
-    requires { AreCountsOf words.now counts.now }
+    requires lawful { AreCountsOf words.now counts.now }
+    requires sound { HasSoundTables words.now }
     ensures { IfOk result (λ v. v.items ≡ kerns_of words.now size) }
 {
     let entries = usize::from(counts.nk());
@@ -94,7 +98,8 @@ pub fn parameters(
     counts: &Counts,
     size: Size,
 ) -> Result<Vec<i32>, AllocError>
-    requires { AreCountsOf words.now counts.now }
+    requires lawful { AreCountsOf words.now counts.now }
+    requires sound { HasSoundTables words.now }
     ensures { IfOk result (λ v. v.items ≡ parameters_of words.now size) }
 {
     let entries = usize::from(counts.np());
@@ -236,7 +241,7 @@ fn width(metrics: Option<Metrics>) -> i32
     metrics.map_or(0, |metrics| metrics.width)
 }
 
-/// The width of each code, 0 where there is no character.
+/// The width of each code, 0 if there is no character.
 pub fn widths(characters: &[Character]) -> [i32; 256]
     requires { length characters.now ≡ 256 }
     ensures { (words : List ℕ) (size : ℕ) → characters.now ≡ characters_of words size → AreWidthsOf words size result }

@@ -47,7 +47,8 @@ pub enum FontFault {
     /// This entry is below -16 times the size, or 16 times it or more. The index of a parameter is
     /// its number.
     FixWordRange { table: Table, index: usize },
-    /// This part of an instruction names what isn't there.
+    /// This part of an instruction names what isn't there; the code to its right may also be that of the
+    /// right boundary character.
     Step { index: usize, part: Part },
     /// A growth was refused.
     OutOfMemory,

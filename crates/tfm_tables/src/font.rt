@@ -1,13 +1,13 @@
-ghost use Rattle.std.specs.Prelude.{◌≡◌, ◌<◌, length, IfOk, IfErr, IfSome, Ok};
+ghost use Rattle.std.specs.Prelude.{◌≡◌, ◌-◌, ◌<◌, ◌≤◌, length, IfOk, IfErr, IfSome, Ok, Some, true};
 ghost use Rattle.std.specs.Option.{option_map};
 ghost use Rattle.tfm_words.specs.Counts.{AreCountsOf};
 ghost use Rattle.tfm_words.specs.DesignSize.{design_size_of};
-ghost use Rattle.tfm_words.specs.declared.table.Table.TheVariants.{LigKern, Kern, Param};
+ghost use Rattle.tfm_words.specs.declared.table.Table.TheVariants.{Width, LigKern, Kern, Param};
 ghost use Rattle.tfm_tables.specs.Table.{entries_of};
 ghost use Rattle.tfm_tables.specs.Font.{IsFontOf, IsRefusalOf};
 ghost use Rattle.tfm_tables.specs.Header.{check_sum_of, coding_of, face_of, family_of, seven_bit_of};
-ghost use Rattle.tfm_tables.specs.Character.{character_width_of, exists as exists_in, metrics_of, tag_of};
-ghost use Rattle.tfm_tables.specs.Measure.{kern_at, parameter_of};
+ghost use Rattle.tfm_tables.specs.Character.{AreScaled, char_info_of, character_width_of, exists as exists_in, metrics_of, tag_of, width_index};
+ghost use Rattle.tfm_tables.specs.Measure.{kern_at, parameter_of, scaled_entry};
 ghost use Rattle.tfm_tables.specs.Program.{IsServing, address_between, program_of, right_code_of, start_of, step_at};
 ghost use Rattle.tfm_tables.specs.Decoded.{character_of};
 ghost use Rattle.tfm_tables.specs.Sound.{HasSoundTables, IsSoundStep};
@@ -52,9 +52,7 @@ impl Model for Font {
 
 impl Font {
     /// The font in a file, at `size`, else at its design size, which is checked in either case.
-    /// The error is the first fault in order, or want of memory, which is answered in place of no
-    /// fault of counts or design size.
-    #[tactic(auto, using(crate::proofs::SoundLemmas::reading))]
+    /// The error is the first fault in order; that memory was refused is answered in place of none.
     pub fn read(alloc: Global, bytes: &[u8], size: Option<Size>) -> Result<Font, FontFault>
         ensures ok { IfOk result (IsFontOf bytes.now size) }
         ensures fault { IfErr result (IsRefusalOf bytes.now) }
@@ -115,7 +113,8 @@ impl Font {
 
     #[tactic(auto, using(crate::proofs::DecodedLemmas::characters))]
     fn character(&self, code: u8) -> Character
-        ensures { result ≡ character_of self.now.words self.now.size code }
+        ensures value { result ≡ character_of self.now.words self.now.size code }
+        ensures scaled { IfSome result.metrics (AreScaled self.now.words self.now.size code) }
     {
         self.characters[usize::from(code)]
     }
@@ -128,23 +127,27 @@ impl Font {
         self.character(code).tag.is_some()
     }
 
-    /// The measures of a character; `None` where it doesn't exist.
+    /// The measures of a character; `None` if it doesn't exist. Each is what its entry is scaled to, never
+    /// a 0 in its place.
     #[tactic(auto, unfolding(crate::specs::Decoded::character_of))]
     pub fn metrics(&self, code: u8) -> Option<Metrics>
-        ensures { result ≡ metrics_of self.now.words self.now.size code }
+        ensures value { result ≡ metrics_of self.now.words self.now.size code }
+        ensures scaled { IfSome result (AreScaled self.now.words self.now.size code) }
     {
         self.character(code).metrics
     }
 
-    /// The width of a character, in scaled points; 0 for a code that doesn't exist. It is one look into
-    /// a table.
+    /// The width of a character, in scaled points: what its entry is scaled to; 0 for a code that doesn't
+    /// exist. It is one look into a table.
     pub fn width(&self, code: u8) -> i32
-        ensures { result ≡ character_width_of self.now.words self.now.size code }
+        ensures value { result ≡ character_width_of self.now.words self.now.size code }
+        ensures scaled { exists_in self.now.words code ≡ true →
+            scaled_entry self.now.words self.now.size Width (width_index (char_info_of self.now.words code)) ≡ Some result }
     {
         self.widths[usize::from(code)]
     }
 
-    /// The tag of a character; `None` where it doesn't exist.
+    /// The tag of a character; `None` if it doesn't exist.
     #[tactic(auto, unfolding(crate::specs::Decoded::character_of))]
     pub fn tag(&self, code: u8) -> Option<Tag>
         ensures { result ≡ tag_of self.now.words code }
@@ -153,11 +156,12 @@ impl Font {
     }
 
     /// The address at which the program of a left side begins, after one indirection for a
-    /// character and none for the boundary; `None` where there is no program, also for a code that
-    /// doesn't exist.
+    /// character and none for the boundary; `None` if there is no program, also for a code that
+    /// doesn't exist. What it answers is below `steps`.
     #[tactic(auto, unfolding(crate::specs::Decoded::character_of))]
     pub fn start(&self, left: LeftSide) -> Option<usize>
-        ensures { result ≡ start_of self.now.words left }
+        ensures value { result ≡ start_of self.now.words left }
+        ensures within { IfSome result (λ start. start < entries_of self.now.words LigKern) }
     {
         match left {
             LeftSide::Boundary => self.left,
@@ -167,7 +171,7 @@ impl Font {
 
     /// The address of the instruction for a left side and the code to its right: the first in the
     /// chain of the left side's program that is for this code and has a skip of at most 128. `None`
-    /// where there is none, also for a code that doesn't exist or has no program. It is one
+    /// if there is none, also for a code that doesn't exist or has no program. It is one
     /// look into a table. What it answers is below `steps`.
     #[tactic(auto, using(crate::proofs::ServingLemmas::served))]
     pub fn find(&self, left: LeftSide, code: u8) -> Option<usize>
@@ -195,7 +199,8 @@ impl Font {
         self.program.len()
     }
 
-    /// The instruction at an address. All that it names is there.
+    /// The instruction at an address. All that it names is there, but for the code of the right
+    /// boundary character, which needn't exist.
     #[tactic(auto, using(crate::proofs::ProgramLemmas::reads))]
     pub fn step(&self, i: usize) -> Step
         requires { i < entries_of self.now.words LigKern }
@@ -220,11 +225,12 @@ impl Font {
         self.kerns.len()
     }
 
-    /// Kern `k`, in scaled points.
-    #[tactic(auto, using(crate::proofs::DecodedLemmas::entries))]
+    /// Kern `k`, in scaled points: what its entry is scaled to, never a 0 in its place.
+    #[tactic(auto, using(crate::proofs::DecodedLemmas::entries, crate::proofs::ScaledLemmas::kern))]
     pub fn kern(&self, k: usize) -> i32
         requires { k < entries_of self.now.words Kern }
-        ensures { result ≡ kern_at self.now.words self.now.size k }
+        ensures value { result ≡ kern_at self.now.words self.now.size k }
+        ensures scaled { scaled_entry self.now.words self.now.size Kern k ≡ Some result }
     {
         self.kerns[k]
     }
@@ -238,10 +244,13 @@ impl Font {
     }
 
     /// Parameter `number`, from 1, in scaled points, but for the slant, number 1, which is a plain
-    /// number in units of 2^-20; 0 where there is no such parameter.
-    #[tactic(auto, using(crate::proofs::DecodedLemmas::parameters))]
+    /// number in units of 2^-20; 0 if there is no such parameter. Each but the slant is what its entry is
+    /// scaled to.
+    #[tactic(auto, using(crate::proofs::DecodedLemmas::parameters, crate::proofs::ScaledLemmas::parameter))]
     pub fn param(&self, number: usize) -> i32
-        ensures { result ≡ parameter_of self.now.words self.now.size number }
+        ensures value { result ≡ parameter_of self.now.words self.now.size number }
+        ensures scaled { 2 ≤ number → number ≤ entries_of self.now.words Param →
+            scaled_entry self.now.words self.now.size Param (number - 1) ≡ Some result }
     {
         if number == 0 {
             return 0;
@@ -252,9 +261,11 @@ impl Font {
         self.parameters[number - 1]
     }
 
-    /// The width of a space: parameter 2, in scaled points.
+    /// The width of a space: parameter 2, in scaled points; 0 if there is no such parameter.
     pub fn space(&self) -> i32
-        ensures { result ≡ parameter_of self.now.words self.now.size 2 }
+        ensures value { result ≡ parameter_of self.now.words self.now.size 2 }
+        ensures scaled { 2 ≤ entries_of self.now.words Param →
+            scaled_entry self.now.words self.now.size Param 1 ≡ Some result }
     {
         self.param(2)
     }
@@ -280,28 +291,28 @@ impl Font {
         header::check_sum(&self.words, &self.counts)
     }
 
-    /// The coding scheme; `None` where the header is too short for one.
+    /// The coding scheme; `None` if the header is too short for one.
     pub fn coding(&self) -> Option<&[u8]>
         ensures { option_map (λ text. text.now) result ≡ coding_of self.now.words }
     {
         header::coding(&self.words, &self.counts)
     }
 
-    /// The family; `None` where the header is too short for one.
+    /// The family; `None` if the header is too short for one.
     pub fn family(&self) -> Option<&[u8]>
         ensures { option_map (λ text. text.now) result ≡ family_of self.now.words }
     {
         header::family(&self.words, &self.counts)
     }
 
-    /// Whether the font says that it is seven-bit safe; `None` where the header is too short.
+    /// Whether the font says that it is seven-bit safe; `None` if the header is too short.
     pub fn seven_bit(&self) -> Option<bool>
         ensures { result ≡ seven_bit_of self.now.words }
     {
         header::seven_bit(&self.words, &self.counts)
     }
 
-    /// The face; `None` where the header is too short.
+    /// The face; `None` if the header is too short.
     pub fn face(&self) -> Option<u8>
         ensures { result ≡ face_of self.now.words }
     {

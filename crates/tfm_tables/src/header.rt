@@ -6,7 +6,7 @@ ghost use Rattle.tfm_tables.specs.Header.{check_sum_of, coding_of, face_of, fami
 use crate::tables::{bytes_of, entry};
 use tfm_words::{Counts, FixWord, Table};
 
-/// The text behind a length, which counts no more than `most`.
+/// The text after a length, which counts no more than `most`.
 fn text(bytes: &[u8], most: usize) -> &[u8]
     requires { most + 1 ≤ length bytes.now }
     ensures { result.now ≡ text_in most bytes.now }

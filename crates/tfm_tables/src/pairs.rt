@@ -70,7 +70,7 @@ fn walked_row(program: &[Step], start: Option<usize>) -> [u16; 256]
     row(&marks)
 }
 
-/// The row of a left side: that of one before it that begins at the same address, where there is one.
+/// The row of a left side: that of one before it that begins at the same address, if there is one.
 fn next_row(
     program: &[Step],
     starts: &[Option<usize>],

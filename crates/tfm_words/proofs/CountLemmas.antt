@@ -209,7 +209,7 @@ passed_of_lawful size c enough lawful long =
       ),
     )
 
--- counts are without fault exactly where they are lawful, and the bytes reach far enough
+-- counts are without fault exactly if they are lawful, and the bytes reach far enough
 pub accepted_is : (bytes : List ℕ) → first_fault (count_faults bytes) ≡ None → HasLawfulCounts bytes
 accepted_is bytes e =
     let all = lawful_of_passed (length bytes) (counts_of bytes) (passed_of_none (count_faults bytes) e) in
@@ -218,7 +218,7 @@ accepted_is bytes e =
 pub none_of_accepted : (bytes : List ℕ) → HasLawfulCounts bytes → first_fault (count_faults bytes) ≡ None
 none_of_accepted bytes h = none_of_passed (count_faults bytes) (passed_of_lawful (length bytes) (counts_of bytes) h.head h.lawful h.whole)
 
--- what a reading of the counts answers, where its fault is the first
+-- what a reading of the counts answers, if its fault is the first
 pub fault_is_not_accepted : (bytes : List ℕ) (f : CountFault) → first_fault (count_faults bytes) ≡ Some f → HasLawfulCounts bytes → ⊥
 fault_is_not_accepted bytes f e h = let none = none_of_accepted bytes h in cc
 

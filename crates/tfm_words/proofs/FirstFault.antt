@@ -1,4 +1,4 @@
--- The first fault of rows: over two lists of rows, and where there is none.
+-- The first fault of rows: over two lists of rows, and if there is none.
 use Rattle.std.proofs.Common.{◌≡◌, Bool, true, false, List, [], ◌∷◌, ◌++◌, None, refl}
 use Rattle.std.specs.List.{AllByRecursion}
 use Rattle.std.specs.Option.{option_or}

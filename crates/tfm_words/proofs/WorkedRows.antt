@@ -54,7 +54,7 @@ no_halving = refl
 abbrev file : List ℕ → List ℕ → List ℕ
 file counts words = flat_map (big_bytes 2) counts ++ flat_map (big_bytes 4) words
 
--- behind the counts of a font without characters: check sum, design size of 5 points, and entry 0 of four tables
+-- after the counts of a font without characters: check sum, design size of 5 points, and entry 0 of four tables
 abbrev words : List ℕ
 words = 0 ∷ 5242880 ∷ 0 ∷ 0 ∷ 0 ∷ 0 ∷ []
 

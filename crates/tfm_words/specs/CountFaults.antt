@@ -48,7 +48,7 @@ shape_faults c =
     ∷ (not (c.lf == whole_length c), LengthEquation)
     ∷ []
 
--- all that can be wrong with these counts at the head of so many bytes, in order
+-- all that can be wrong with these counts at the head of this many bytes, in order
 unfoldable pub faults_within : ℕ → Numbers → List (Bool × CountFault)
 faults_within byte_count c =
     (nat_lt byte_count 24, Truncated 24)
@@ -64,6 +64,6 @@ count_faults bytes = faults_within (length bytes) (counts_of bytes)
 abbrev pub count_fault_of : List ℕ → Option CountFault
 count_fault_of bytes = first_fault (count_faults bytes)
 
--- an answer that is the first fault of the rows, or no fault where none of them holds
+-- an answer that is the first fault of the rows, or no fault if none of them holds
 abbrev pub AnswersFirst : {T F : Type 0} → List (Bool × F) → Result T F → Type 0
 AnswersFirst rows answer = MatchResult answer (λ _. first_fault rows ≡ None) (λ fault. first_fault rows ≡ Some fault)

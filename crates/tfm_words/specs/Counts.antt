@@ -82,6 +82,6 @@ place_of Param = 9
 abbrev pub length_of : Numbers → Table → ℕ
 length_of c table = slice_index (lengths_of c) (place_of table)
 
--- the first word of a table: it stands behind the counts and the tables before it
+-- the first word of a table: it stands after the counts and the tables before it
 abbrev pub first_word_of : Numbers → Table → ℕ
 first_word_of c table = 6 + sum (take (place_of table) (lengths_of c))

@@ -25,11 +25,11 @@ halved size = size / 2 ^ halvings_of size
 abbrev pub beta_of : ℕ → ℕ
 beta_of size = 2 ^ (4 - halvings_of size)
 
--- a fix_word is scaled where its first byte is 0 or 255, which is from -2^24 to 2^24 - 1
+-- a fix_word is scaled if its first byte is 0 or 255, which is from -2^24 to 2^24 - 1
 abbrev pub is_scalable : ℤ → Bool
 is_scalable (pos n) = nat_lt n (2 ^ 24)
 is_scalable (negsuc n) = nat_lt n (2 ^ 24)
 
--- the fix_word w at a size, in scaled points; none where w is too large
+-- the fix_word w at a size, in scaled points; none if w is too large
 abbrev pub scaled_at : ℤ → ℕ → Option ℤ
 scaled_at w size = if is_scalable w then Some (floor_of (w *ℤ pos (halved size)) (65536 * beta_of size)) else None

@@ -29,7 +29,7 @@ impl Model for Counts {
 
 impl Counts {
     /// The counts in the first 24 bytes of a file, which has to hold all the words that they speak
-    /// of; what stands behind the first `lf` words is not looked at. The error is the first fault in
+    /// of; what stands after the first `lf` words is not looked at. The error is the first fault in
     /// order.
     pub fn read(bytes: &[u8]) -> Result<Self, CountFault>
         ensures accepted { IsOk result ↔ HasLawfulCounts bytes.now }

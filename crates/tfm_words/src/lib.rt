@@ -1,7 +1,7 @@
 //! The ground of a TeX Font Metric (TFM) file: its twelve counts, its words of four bytes, its
 //! fix_words and how they scale, and its design size.
 //!
-//! Nothing here allocates, and every call ends, whatever the bytes are, where its `requires` holds.
+//! Nothing here allocates, and every call ends, whatever the bytes are, if its `requires` holds.
 #![tactic(auto)]
 
 pub use count::Count;

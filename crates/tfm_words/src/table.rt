@@ -1,6 +1,6 @@
 use std::fmt;
 
-/// One of the ten tables behind the counts, in the file's order (tftopl.web, section 9).
+/// One of the ten tables after the counts, in the file's order (tftopl.web, section 9).
 #[derive(Clone, Copy, Debug, PartialEq, Eq, Hash)]
 pub enum Table {
     /// The check sum, the design size and what else the font says of itself.
