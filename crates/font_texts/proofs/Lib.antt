@@ -1,2 +1,4 @@
 pub mod CountsTextLemmas
 pub mod ListingLemmas
+pub mod TextLemmas
+pub mod LawLemmas

@@ -1,5 +1,6 @@
 ghost use Rattle.std.specs.Prelude.{◌≡◌, ◌<◌, ◌++◌, OnOk, false};
 ghost use Rattle.std.specs.Fmt.{digit_glyph};
+ghost use Rattle.font_texts.specs.AllListing.{hex_byte, hex_text};
 ghost use Rattle.font_texts.specs.ListingWords.{escaped, escaped_text};
 
 use itoa::{Buffer, Integer};
@@ -45,6 +46,23 @@ pub fn push_escaped_text(text: &mut Vec<u8>, bytes: &[u8]) -> Result<(), AllocEr
 {
     for byte in bytes {
         push_escaped(text, *byte)?;
+    }
+    Ok(())
+}
+
+#[tactic(auto, unfolding(crate::specs::AllListing::hex_byte))]
+fn push_hex_byte(text: &mut Vec<u8>, byte: u8) -> Result<(), AllocError>
+    ensures { OnOk result (text.new.items ≡ text.old.items ++ hex_byte byte) }
+{
+    text.extend_from_slice(&[hex_digit(byte / 16), hex_digit(byte % 16)])
+}
+
+/// Appends bytes, each as two hexadecimal digits.
+pub fn push_hex(text: &mut Vec<u8>, bytes: &[u8]) -> Result<(), AllocError>
+    ensures { OnOk result (text.new.items ≡ text.old.items ++ hex_text bytes.now) }
+{
+    for byte in bytes {
+        push_hex_byte(text, *byte)?;
     }
     Ok(())
 }

@@ -63,6 +63,13 @@ fn rows_of(counts: &Counts) -> [(&'static str, u16); 12]
     ]
 }
 
+/// Appends the lines of the twelve counts.
+pub fn push_counts(text: &mut Vec<u8>, counts: &Counts) -> Result<(), AllocError>
+    ensures { OnOk result (text.new.items ≡ text.old.items ++ count_rows_text (count_rows counts.now)) }
+{
+    push_rows(text, &rows_of(counts))
+}
+
 /// Appends a line for each name and its number.
 #[tactic(auto, using(crate::proofs::CountsTextLemmas::row_more))]
 fn push_rows(text: &mut Vec<u8>, rows: &[(&str, u16)]) -> Result<(), AllocError>

@@ -1,12 +1,21 @@
-//! The texts of a font: its counts and its design size, and a listing of all that it holds.
+//! The texts of a font: its counts and its design size, listings of what it holds, and whether it is accepted.
 #![tactic(auto)]
 
+pub use all_listing::list_all_text;
+pub use checking::{check_text, finding_text};
 pub use counts::counts_text;
 pub use fault::FontTextFault;
+pub use finding::Finding;
+pub use laws::listing_tells_font;
 pub use listing::list_text;
 
+mod all_listing;
 mod appending;
+mod checking;
 mod counts;
 mod fault;
+mod fault_words;
+mod finding;
+mod laws;
 mod listing;
 mod rows;

@@ -29,7 +29,7 @@ pub fn list_text<W: Write>(alloc: Global, font: &Font, out: &mut W) -> Result<()
 
 /// The listing of a font.
 #[tactic(auto, unfolding(crate::specs::Listing::listing_of))]
-fn text_of(alloc: Global, font: &Font) -> Result<Vec<u8>, AllocError>
+pub fn text_of(alloc: Global, font: &Font) -> Result<Vec<u8>, AllocError>
     ensures { IfOk result (λ text. text.items ≡ listing_of font.now) }
 {
     let mut text = Vec::new(alloc);

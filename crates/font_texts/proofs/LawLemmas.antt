@@ -1,0 +1,234 @@
+-- Equal listings of all are those of fonts with the same words.
+use Rattle.std.proofs.Common.{arith, ◌≡◌, ℕ, ◌+◌, ◌*◌, ◌^◌, ◌<◌, ◌≤◌, Bool, true, false, List, [], ◌∷◌, ◌++◌, ◌∙◌, Option, Some, None, length, map, not, take, drop, refl, ap, sym, subst}
+use Rattle.std.proofs.lemmas.Bool.{leb-false, ltb-false}
+use Rattle.std.proofs.lemmas.Bool.Decides.{nat_tests}
+use Rattle.std.proofs.lemmas.List.{append-nil, append_assoc, append_cancel_left, append_cancel_right, get_or-take, length-append, length-drop, length-take-le, take_all}
+use Rattle.std.proofs.lemmas.List.Elements.{All-drop, All-take}
+use Rattle.std.specs.Fmt.{decimal}
+use Rattle.std.specs.List.{range_with_len}
+use Rattle.std.specs.Result.{result_unwrap_or}
+use Rattle.std.specs.Prelude.{◌==◌, All, codes, nat_le, nat_lt, sum}
+use Rattle.tfm_words.specs.declared.count_fault.CountFault.{CountFault}
+use Rattle.tfm_words.specs.declared.count_fault.CountFault.TheVariants.{Truncated, CountRange, LengthEquation}
+use Rattle.tfm_words.specs.declared.count.Count.TheVariants.{Lf}
+use Rattle.tfm_words.specs.Counts.{counts_of, lengths_of, whole_length}
+use Rattle.tfm_words.specs.CountFaults.{count_fault_of, faults_within, first_fault, range_faults, shape_faults}
+use Rattle.tfm_words.specs.DesignSize.{design_size_of}
+use Rattle.tfm_words.specs.Word.{word_at}
+use Rattle.tfm_tables.specs.Acceptance.{after_counts, font_fault_of}
+use Rattle.tfm_tables.specs.Font.{FontValue}
+use Rattle.tfm_tables.specs.Header.{check_sum_of}
+use Rattle.font_texts.specs.AllListing.{all_listing_of, hex_text, recipe_rows, word_row, word_rows}
+use Rattle.font_texts.specs.CountsText.{count_rows, count_rows_text}
+use Rattle.font_texts.specs.Laws.{IsAccepted, ListingTellsFont, ListingTellsWords}
+use Rattle.font_texts.specs.Listing.{boundary_rows, char_rows, header_rows, kern_rows, listing_of, listing_row_of, listing_row_text, listing_rows_text, param_rows, size_rows, step_rows}
+use Rattle.font_texts.proofs.TextLemmas.{hex_equal, length-hex_text, numbers_equal, rows_equal, words_equal}
+
+-- ---- the words of an accepted font
+
+-- if no row holds, none of the first ones does
+none_before : {F : Type 0} (a b : List (Bool × F)) → first_fault (a ++ b) ≡ None → first_fault a ≡ None
+none_before [] b none = refl
+none_before ((true, f) ∷ a) b none = absurd (cc)
+none_before ((false, f) ∷ a) b none = none_before a b none
+
+-- nor of the others
+none_after : {F : Type 0} (a b : List (Bool × F)) → first_fault (a ++ b) ≡ None → first_fault b ≡ None
+none_after [] b none = none
+none_after ((true, f) ∷ a) b none = absurd (cc)
+none_after ((false, f) ∷ a) b none = none_after a b none
+
+-- nor the one at the head
+holds_not : {F : Type 0} (holds : Bool) (f : F) (rows : List (Bool × F)) → first_fault ((holds, f) ∷ rows) ≡ None → holds ≡ false
+holds_not false f rows none = refl
+holds_not true f rows none = absurd (cc)
+
+-- a font without a fault has none of its counts
+no_count_fault : (bytes : List ℕ) → font_fault_of bytes ≡ None → count_fault_of bytes ≡ None
+no_count_fault bytes none = by (count_fault_of bytes) none
+  where
+    by : (fault : Option CountFault) → after_counts bytes fault ≡ None → fault ≡ None
+    by None e = refl
+    by (Some fault) e = absurd (cc)
+
+-- lf is in range and no less than the counts need, and the file has so many words
+lawful : (bytes : List ℕ) → count_fault_of bytes ≡ None
+    → ((counts_of bytes).lf < 2 ^ 15) × (6 ≤ (counts_of bytes).lf) × (4 * (counts_of bytes).lf ≤ length bytes)
+unfolding faults_within range_faults shape_faults
+lawful bytes none =
+    let c = counts_of bytes in
+    let head = (nat_lt (length bytes) 24, Truncated 24) ∷ range_faults c in
+    let end = (nat_lt (length bytes) (4 * c.lf), Truncated (4 * c.lf)) ∷ [] in
+    let front = none_before (head ++ shape_faults c) end none in
+    let ranges = none_after ((nat_lt (length bytes) 24, Truncated 24) ∷ []) (range_faults c) (none_before head (shape_faults c) front) in
+    let shapes = none_after (take 7 (shape_faults c)) (drop 7 (shape_faults c)) (none_after head (shape_faults c) front) in
+    let small : nat_le (2 ^ 15) c.lf ≡ false = holds_not (nat_le (2 ^ 15) c.lf) (CountRange Lf) (drop 1 (range_faults c)) ranges in
+    let equation : not (c.lf == whole_length c) ≡ false = holds_not (not (c.lf == whole_length c)) LengthEquation [] shapes in
+    let reach : nat_lt (length bytes) (4 * c.lf) ≡ false =
+    holds_not (nat_lt (length bytes) (4 * c.lf)) (Truncated (4 * c.lf)) [] (none_after (head ++ shape_faults c) end none)
+    in (leb-false (2 ^ 15) c.lf small, at_least c.lf (sum (lengths_of c)) equation, ltb-false (length bytes) (4 * c.lf) reach)
+  where
+    at_least : (lf more : ℕ) → not (lf == 6 + more) ≡ false → 6 ≤ lf
+    at_least lf more equation = grind (arith, nat_tests)
+
+-- the first count is in the first two bytes
+same_lf : (bytes : List ℕ) (n : ℕ) → 2 ≤ n → (counts_of (take n bytes)).lf ≡ (counts_of bytes).lf
+unfolding counts_of
+same_lf bytes n long =
+    let first = get_or-take n bytes 0 0 (omega arith) in
+    let second = get_or-take n bytes 1 0 (omega arith) in
+    cc
+
+-- words as many as their counts say
+record AreWhole (words : List ℕ) : Type 0 where
+  pub small : (counts_of words).lf < 2 ^ 15
+  pub whole : length words ≡ 4 * (counts_of words).lf
+  pub bytes : All (λ byte. byte < 256) words
+
+-- those of an accepted font are
+whole : (font : FontValue) → IsAccepted font → AreWhole font.words
+whole font (bytes, size, small, read) =
+    let has = lawful bytes (no_count_fault bytes read.accepted) in
+    let lf = same_lf bytes (4 * (counts_of bytes).lf) (omega arith) in
+    subst AreWhole (sym read.words) (record {
+      small = omega arith;
+      whole = length-take-le (4 * (counts_of bytes).lf) bytes has.2 ∙ ap (λ n. 4 * n) (sym lf);
+      bytes = All-take (λ byte. byte < 256) (4 * (counts_of bytes).lf) bytes small;
+    })
+
+-- ---- the text
+
+-- parts that are grouped to the right
+grouped : (d r l e w : List ℕ) → ((((d ++ 10 ∷ []) ++ r) ++ l) ++ e) ++ w ≡ d ++ 10 ∷ (r ++ (l ++ (e ++ w)))
+grouped d r l e w = simp append_assoc
+
+-- what stands after the line of the first count
+abbrev after_lf : FontValue → List ℕ
+after_lf font =
+    count_rows_text (drop 1 (count_rows (counts_of font.words)))
+    ++ (listing_of font ++ (listing_rows_text (recipe_rows font) ++ listing_rows_text (word_rows font)))
+
+-- a listing of all begins with lf
+starts : (font : FontValue) → all_listing_of font ≡ 108 ∷ 102 ∷ 32 ∷ (decimal (counts_of font.words).lf ++ 10 ∷ after_lf font)
+unfolding all_listing_of count_rows
+starts font =
+    ap (λ t. 108 ∷ 102 ∷ 32 ∷ t)
+    (grouped (decimal (counts_of font.words).lf) (count_rows_text (drop 1 (count_rows (counts_of font.words)))) (listing_of font)
+    (listing_rows_text (recipe_rows font)) (listing_rows_text (word_rows font)))
+
+-- so it tells lf
+same_count : (font other : FontValue) → (counts_of font.words).lf < 2 ^ 15 → (counts_of other.words).lf < 2 ^ 15
+    → all_listing_of font ≡ all_listing_of other → (counts_of font.words).lf ≡ (counts_of other.words).lf
+same_count font other small few same =
+    numbers_equal (counts_of font.words).lf (counts_of other.words).lf (after_lf font) (after_lf other) (omega arith) (omega arith)
+    (ap (drop 3) (sym (starts font) ∙ same ∙ starts other))
+
+-- the same within a row
+row_grouped : (d h : List ℕ) → (d ++ 32 ∷ (h ++ [])) ++ 10 ∷ [] ≡ d ++ 32 ∷ (h ++ 10 ∷ [])
+row_grouped d h = simp (append_assoc, append-nil)
+
+-- the text of a word
+row_text : (words : List ℕ) (i : ℕ)
+    → listing_row_text (word_row words i) ≡ 119 ∷ 111 ∷ 114 ∷ 100 ∷ 32 ∷ (decimal i ++ 32 ∷ (hex_text (word_at words i) ++ 10 ∷ []))
+unfolding listing_row_text word_row
+row_text words i = ap (λ t. 119 ∷ 111 ∷ 114 ∷ 100 ∷ 32 ∷ t) (row_grouped (decimal i) (hex_text (word_at words i)))
+
+-- a word has four bytes
+length-word_at : (words : List ℕ) (n i : ℕ) → length words ≡ 4 * n → i < n → length (word_at words i) ≡ 4
+length-word_at words n i long below = length-take-le 4 (drop (4 * i) words) (omega (arith, length-drop (4 * i) words))
+
+-- rows of words differ in length only by their numbers
+length-row : (words : List ℕ) (n i : ℕ) → length words ≡ 4 * n → i < n
+    → length (listing_row_text (word_row words i)) ≡ 15 + length (decimal i)
+length-row words n i long below =
+    ap length (row_text words i)
+    ∙ (omega (
+      arith,
+      length-append (decimal i) (32 ∷ (hex_text (word_at words i) ++ 10 ∷ [])),
+      length-append (hex_text (word_at words i)) (10 ∷ []),
+      length-hex_text (word_at words i),
+      length-word_at words n i long below,
+    ))
+
+-- equal rows are those of equal words
+word_equal : (xs ys : List ℕ) (n i : ℕ) → All (λ byte. byte < 256) xs → All (λ byte. byte < 256) ys
+    → length xs ≡ 4 * n → length ys ≡ 4 * n → i < n → listing_row_text (word_row xs i) ≡ listing_row_text (word_row ys i) → word_at xs i ≡ word_at ys i
+word_equal xs ys n i small few long wide below same =
+    let x = word_at xs i in
+    let y = word_at ys i in
+    let rest = ap (drop 5) (sym (row_text xs i) ∙ same ∙ row_text ys i) in
+    let after = append_cancel_left (decimal i) (32 ∷ (hex_text x ++ 10 ∷ [])) (32 ∷ (hex_text y ++ 10 ∷ [])) rest in
+    hex_equal x y
+    (All-take (λ byte. byte < 256) 4 (drop (4 * i) xs) (All-drop (λ byte. byte < 256) (4 * i) xs small))
+    (All-take (λ byte. byte < 256) 4 (drop (4 * i) ys) (All-drop (λ byte. byte < 256) (4 * i) ys few))
+    (length-word_at xs n i long below ∙ sym (length-word_at ys n i wide below))
+    (append_cancel_right (hex_text x) (hex_text y) (10 ∷ []) (ap (drop 1) after))
+
+-- ---- the law
+
+-- lf is told first, so as many rows at the end are those of words, and each row tells its word
+pub listing_tells : (font : FontValue) (other : FontValue) → ListingTellsWords font other
+unfolding all_listing_of word_rows
+listing_tells font other accepted read same =
+    let own = whole font accepted in
+    let its = whole other read in
+    let lf = same_count font other own.small its.small same in
+    let n = (counts_of font.words).lf in
+    let before : FontValue → List ℕ =
+    λ f. (count_rows_text (count_rows (counts_of f.words)) ++ listing_of f) ++ listing_rows_text (recipe_rows f)
+    in let wide : length other.words ≡ 4 * n = its.whole ∙ ap (λ k. 4 * k) (sym lf) in
+    let rows = rows_equal (word_row font.words) (word_row other.words) n (before font) (before other)
+    (λ i below. length-row font.words n i own.whole below ∙ sym (length-row other.words n i wide below))
+    (same ∙ ap (λ k. before other ++ listing_rows_text (map (word_row other.words) (range_with_len 0 k))) (sym lf))
+    in let words = words_equal font.words other.words n
+    (λ i below. word_equal font.words other.words n i own.bytes its.bytes own.whole wide below (rows i below))
+    in sym (take_all (4 * n) font.words (omega arith)) ∙ words ∙ take_all (4 * n) other.words (omega arith)
+
+-- ---- the size
+
+-- what stands before the size hangs on the words alone
+abbrev before_size : List ℕ → List ℕ
+before_size words =
+    count_rows_text (count_rows (counts_of words))
+    ++ (listing_row_text (listing_row_of (codes "checksum") (decimal (check_sum_of words)))
+    ++ listing_row_text (listing_row_of (codes "design") (decimal (result_unwrap_or (design_size_of words) 0))))
+
+-- what stands after its line
+abbrev after_size : FontValue → List ℕ
+after_size font =
+    listing_rows_text (header_rows font ++ boundary_rows font ++ char_rows font ++ step_rows font ++ kern_rows font ++ param_rows font)
+    ++ (listing_rows_text (recipe_rows font) ++ listing_rows_text (word_rows font))
+
+-- parts around a number, grouped to the right
+size_grouped : (c t u d l e w : List ℕ)
+    → ((c ++ (t ++ (u ++ ((115 ∷ 105 ∷ 122 ∷ 101 ∷ 32 ∷ ((d ++ []) ++ 10 ∷ [])) ++ l)))) ++ e) ++ w ≡ (c ++ (t ++ u)) ++ 115 ∷ 105 ∷ 122 ∷ 101 ∷ 32 ∷ (d ++ 10 ∷ (l ++ (e ++ w)))
+size_grouped c t u d l e w = simp (append_assoc, append-nil)
+
+-- the line of the size in the listing of all
+sized : (font : FontValue)
+    → all_listing_of font ≡ before_size font.words ++ 115 ∷ 105 ∷ 122 ∷ 101 ∷ 32 ∷ (decimal font.size ++ 10 ∷ after_size font)
+unfolding all_listing_of listing_of listing_row_text size_rows
+sized font =
+    size_grouped (count_rows_text (count_rows (counts_of font.words)))
+    (listing_row_text (listing_row_of (codes "checksum") (decimal (check_sum_of font.words))))
+    (listing_row_text (listing_row_of (codes "design") (decimal (result_unwrap_or (design_size_of font.words) 0)))) (decimal font.size)
+    (listing_rows_text (header_rows font ++ boundary_rows font ++ char_rows font ++ step_rows font ++ kern_rows font ++ param_rows font))
+    (listing_rows_text (recipe_rows font)) (listing_rows_text (word_rows font))
+
+-- fonts of the same words and size
+same_font : (font other : FontValue) → font.words ≡ other.words → font.size ≡ other.size → font ≡ other
+same_font font other words size =
+    ap (λ (w : List ℕ). record font { words = w }) words ∙ ap (λ (s : ℕ). record other { size = s }) size
+
+-- the words tell what stands before the size, so the listing tells that too
+pub listing_tells_all : (font : FontValue) (other : FontValue) → ListingTellsFont font other
+listing_tells_all font other accepted read small few same =
+    let words = listing_tells font other accepted read same in
+    let tail : FontValue → List ℕ = λ f. 115 ∷ 105 ∷ 122 ∷ 101 ∷ 32 ∷ (decimal f.size ++ 10 ∷ after_size f) in
+    let both : before_size font.words ++ tail font ≡ before_size font.words ++ tail other =
+    sym (sized font) ∙ same ∙ sized other ∙ ap (λ w. before_size w ++ tail other) (sym words)
+    in let rest = append_cancel_left (before_size font.words) (tail font) (tail other) both in
+    same_font font other words
+    (numbers_equal font.size other.size (after_size font) (after_size other) (omega arith) (omega arith) (ap (drop 5) rest))
+
+pub ruleset laws = (listing_tells, listing_tells_all)

@@ -1,0 +1,161 @@
+//! The listing of all that the file of a font says.
+ghost use Rattle.std.specs.Prelude.{◌≡◌, ◌≢◌, ◌+◌, ◌*◌, ◌<◌, ◌≤◌, ◌++◌, ◌⊎◌, codes, length, map, take, Some, Ok, Err, IfOk, IfErr, OnOk};
+ghost use Rattle.std.specs.Io.KnownBytes.{Appends};
+ghost use Rattle.std.specs.List.{range_with_len};
+ghost use Rattle.tfm_words.specs.Counts.{AreCountsOf};
+ghost use Rattle.tfm_words.specs.declared.table.Table.TheVariants.{Exten};
+ghost use Rattle.tfm_tables.specs.declared.fault.FontFault.{FontFault as Refusal};
+ghost use Rattle.tfm_tables.specs.Acceptance.{font_fault_of};
+ghost use Rattle.tfm_tables.specs.Font.{FontValue, IsFontOf};
+ghost use Rattle.tfm_tables.specs.Table.{entries_of, table_of};
+ghost use Rattle.font_texts.specs.AllListing.{all_listing_of, piece_words, recipe_row, word_row};
+ghost use Rattle.font_texts.specs.Listing.{listing_row_text, listing_rows_text, spaced};
+
+use crate::appending::{push_hex, push_number};
+use crate::counts::push_counts;
+use crate::{FontTextFault, listing};
+use std::alloc::{AllocError, Global};
+use std::io::Write;
+use tfm_tables::{Font, FontFault};
+use tfm_words::{Counts, Size, Table, word_at};
+
+/// Reads a font at a size, else at its design size, and writes its listing with all that its file says,
+/// in one piece: the twelve counts, the listing, the recipes, and each word.
+pub fn list_all_text<W: Write>(
+    alloc: Global,
+    bytes: &[u8],
+    size: Option<Size>,
+    out: &mut W,
+) -> Result<(), FontTextFault>
+    ensures text { OnOk result ((f : FontValue) × IsFontOf bytes.now size f
+        × Appends (W.contents out.old) (W.contents out.new) (all_listing_of f)) }
+    ensures font { (f : Refusal) → result ≡ Err (FontTextFault.Font f) → font_fault_of bytes.now ≡ Some f }
+    ensures refused { (f : Refusal) → font_fault_of bytes.now ≡ Some f
+        → result ≡ Err (FontTextFault.Font f) }
+    ensures untouched { IfErr result (λ fault. fault ≢ FontTextFault.Write → out.new ≡ out.old) }
+{
+    let (counts, font) = accepted(alloc, bytes, size)?;
+    let words = &bytes[..4 * usize::from(counts.lf())];
+    let text = text_of(alloc, words, &counts, &font).map_err(|_| FontTextFault::OutOfMemory)?;
+    out.write_all(text.as_slice())
+        .map_err(|_| FontTextFault::Write)
+}
+
+/// The counts of these bytes and the font in them, at a size.
+fn accepted(
+    alloc: Global,
+    bytes: &[u8],
+    size: Option<Size>,
+) -> Result<(Counts, Font), FontTextFault>
+    ensures counts { IfOk result (λ read. AreCountsOf bytes.now read.0) }
+    ensures reach { IfOk result (λ read. AreCountsOf (take (4 * read.0.lf) bytes.now) read.0) }
+    ensures ok { IfOk result (λ read. IsFontOf bytes.now size read.1) }
+    ensures font { (f : Refusal) → result ≡ Err (FontTextFault.Font f) → font_fault_of bytes.now ≡ Some f }
+    ensures refused { (f : Refusal) → font_fault_of bytes.now ≡ Some f
+        → result ≡ Err (FontTextFault.Font f) }
+    ensures write { result ≢ Err FontTextFault.Write }
+{
+    let counts = match Counts::read(bytes) {
+        Ok(counts) => counts,
+        Err(fault) => return Err(FontTextFault::Font(FontFault::Counts(fault))),
+    };
+    match Font::read(alloc, bytes, size) {
+        Ok(font) => Ok((counts, font)),
+        Err(FontFault::OutOfMemory) => Err(FontTextFault::OutOfMemory),
+        Err(fault) => Err(FontTextFault::Font(fault)),
+    }
+}
+
+/// The listing of all that these words say, which are those of the font.
+#[tactic(auto, unfolding(crate::specs::AllListing::all_listing_of, crate::specs::AllListing::recipe_rows, crate::specs::AllListing::word_rows))]
+fn text_of(alloc: Global, words: &[u8], counts: &Counts, font: &Font) -> Result<Vec<u8>, AllocError>
+    requires counts { AreCountsOf words.now counts.now }
+    requires words { font.now.words ≡ words.now }
+    ensures { IfOk result (λ text. text.items ≡ all_listing_of font.now) }
+{
+    let listing = listing::text_of(alloc, font)?;
+    let mut text = Vec::new(alloc);
+    push_counts(&mut text, counts)?;
+    text.extend_from_slice(listing.as_slice())?;
+    push_recipes(&mut text, words, counts)?;
+    push_words(&mut text, words, usize::from(counts.lf()))?;
+    Ok(text)
+}
+
+/// Appends the lines of the recipes.
+fn push_recipes(text: &mut Vec<u8>, words: &[u8], counts: &Counts) -> Result<(), AllocError>
+    requires { AreCountsOf words.now counts.now }
+    ensures { OnOk result (text.new.items ≡ text.old.items
+        ++ listing_rows_text (map (recipe_row (table_of words.now Exten)) (range_with_len 0 (entries_of words.now Exten)))) }
+{
+    let recipes = recipes_of(words, counts);
+    push_recipe_rows(text, recipes, recipes.len() / 4)
+}
+
+/// The bytes of the recipes.
+#[tactic(auto, unfolding(tfm_tables::specs::Table::table_of))]
+fn recipes_of<'a>(words: &'a [u8], counts: &Counts) -> &'a [u8]
+    requires { AreCountsOf words.now counts.now }
+    ensures bytes { result.now ≡ table_of words.now Exten }
+    ensures whole { length result.now ≡ 4 * entries_of words.now Exten }
+{
+    let (first, count) = counts.table(Table::Exten);
+    let rest = &words[4 * first..];
+    &rest[..4 * count]
+}
+
+#[tactic(auto, using(crate::proofs::ListingLemmas::more))]
+fn push_recipe_rows(text: &mut Vec<u8>, recipes: &[u8], count: usize) -> Result<(), AllocError>
+    requires { 4 * count ≤ length recipes.now }
+    ensures { OnOk result (text.new.items ≡ text.old.items
+        ++ listing_rows_text (map (recipe_row recipes.now) (range_with_len 0 count))) }
+{
+    for i in 0..count {
+        push_recipe(text, recipes, i)?;
+    }
+    Ok(())
+}
+
+#[tactic(auto, unfolding(crate::specs::Listing::listing_row_text, crate::specs::AllListing::recipe_row))]
+fn push_recipe(text: &mut Vec<u8>, recipes: &[u8], i: usize) -> Result<(), AllocError>
+    requires { 4 * i + 4 ≤ length recipes.now }
+    ensures { OnOk result (text.new.items ≡ text.old.items ++ listing_row_text (recipe_row recipes.now i)) }
+{
+    push_number(text, b"recipe ", i)?;
+    push_pieces(text, word_at(recipes, i))?;
+    text.extend_from_slice(b"\n")
+}
+
+#[tactic(auto, unfolding(crate::specs::AllListing::piece_words))]
+fn push_pieces(text: &mut Vec<u8>, recipe: [u8; 4]) -> Result<(), AllocError>
+    ensures { OnOk result (text.new.items ≡ text.old.items ++ spaced (piece_words recipe)) }
+{
+    push_number(text, b" top ", recipe[0])?;
+    push_number(text, b" mid ", recipe[1])?;
+    push_number(text, b" bot ", recipe[2])?;
+    push_number(text, b" rep ", recipe[3])
+}
+
+/// Appends the lines of so many words.
+#[tactic(auto, using(crate::proofs::ListingLemmas::more))]
+fn push_words(text: &mut Vec<u8>, words: &[u8], count: usize) -> Result<(), AllocError>
+    requires { 4 * count ≤ length words.now }
+    ensures { OnOk result (text.new.items ≡ text.old.items
+        ++ listing_rows_text (map (word_row words.now) (range_with_len 0 count))) }
+{
+    for i in 0..count {
+        push_word(text, words, i)?;
+    }
+    Ok(())
+}
+
+#[tactic(auto, unfolding(crate::specs::Listing::listing_row_text, crate::specs::AllListing::word_row))]
+fn push_word(text: &mut Vec<u8>, words: &[u8], i: usize) -> Result<(), AllocError>
+    requires { 4 * i + 4 ≤ length words.now }
+    ensures { OnOk result (text.new.items ≡ text.old.items ++ listing_row_text (word_row words.now i)) }
+{
+    push_number(text, b"word ", i)?;
+    text.extend_from_slice(b" ")?;
+    push_hex(text, &word_at(words, i))?;
+    text.extend_from_slice(b"\n")
+}

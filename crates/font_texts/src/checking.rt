@@ -1,0 +1,88 @@
+ghost use Rattle.std.specs.Prelude.{◌≡◌, ◌++◌, ◌⊎◌, IfOk, IfErr, OnOk};
+ghost use Rattle.std.specs.Io.KnownBytes.{Appends};
+ghost use Rattle.font_texts.specs.Findings.{finding_line, finding_of, finding_words};
+
+use crate::appending::push_escaped_text;
+use crate::fault_words::push_fault;
+use crate::{Finding, FontTextFault};
+use std::alloc::{AllocError, Global};
+use std::io::Write;
+use tfm_tables::{Font, FontFault};
+use tfm_words::Size;
+
+/// Reads a font at a size, else at its design size, and writes a line, in one piece: the name that it is
+/// given, and whether it is accepted or by which fault it is refused. That is the same at every size.
+pub fn check_text<W: Write>(
+    alloc: Global,
+    name: &str,
+    bytes: &[u8],
+    size: Option<Size>,
+    out: &mut W,
+) -> Result<Finding, FontTextFault>
+    ensures text { OnOk result
+        (Appends (W.contents out.old) (W.contents out.new) (finding_line (name.now, finding_of bytes.now))) }
+    ensures found { IfOk result (λ finding. finding ≡ finding_of bytes.now) }
+    ensures fault { IfErr result (λ fault.
+        ((fault ≡ FontTextFault.OutOfMemory) × (out.new ≡ out.old))
+        ⊎ (fault ≡ FontTextFault.Write)) }
+{
+    let finding = found(alloc, bytes, size).map_err(|_| FontTextFault::OutOfMemory)?;
+    finding_text(alloc, name, finding, out)?;
+    Ok(finding)
+}
+
+/// Writes the line of a font with this name, in one piece.
+pub fn finding_text<W: Write>(
+    alloc: Global,
+    name: &str,
+    finding: Finding,
+    out: &mut W,
+) -> Result<(), FontTextFault>
+    ensures text { OnOk result
+        (Appends (W.contents out.old) (W.contents out.new) (finding_line (name.now, finding))) }
+    ensures fault { IfErr result (λ fault.
+        ((fault ≡ FontTextFault.OutOfMemory) × (out.new ≡ out.old))
+        ⊎ (fault ≡ FontTextFault.Write)) }
+{
+    let text = line_of(alloc, name, finding).map_err(|_| FontTextFault::OutOfMemory)?;
+    out.write_all(text.as_slice())
+        .map_err(|_| FontTextFault::Write)
+}
+
+/// What a look at these bytes finds.
+fn found(alloc: Global, bytes: &[u8], size: Option<Size>) -> Result<Finding, AllocError>
+    ensures { IfOk result (λ finding. finding ≡ finding_of bytes.now) }
+{
+    match Font::read(alloc, bytes, size) {
+        Ok(_) => Ok(Finding::Accepted),
+        Err(FontFault::OutOfMemory) => Err(AllocError),
+        Err(fault) => Ok(Finding::Refused(fault)),
+    }
+}
+
+/// The line of a font.
+#[tactic(auto, unfolding(crate::specs::Findings::finding_line))]
+fn line_of(alloc: Global, name: &str, finding: Finding) -> Result<Vec<u8>, AllocError>
+    ensures { IfOk result (λ text. text.items ≡ finding_line (name.now, finding)) }
+{
+    let mut text = Vec::new(alloc);
+    push_escaped_text(&mut text, name.as_bytes())?;
+    text.extend_from_slice(b": ")?;
+    push_finding(&mut text, finding)?;
+    text.extend_from_slice(b"\n")?;
+    Ok(text)
+}
+
+#[tactic(auto, unfolding(crate::specs::Findings::finding_words))]
+fn push_finding(text: &mut Vec<u8>, finding: Finding) -> Result<(), AllocError>
+    ensures { OnOk result (text.new.items ≡ text.old.items ++ finding_words finding) }
+{
+    match finding {
+        Finding::Accepted => text.extend_from_slice(b"accepted"),
+        Finding::Refused(fault) => {
+            text.extend_from_slice(b"refused: ")?;
+            push_fault(text, fault)
+        }
+        Finding::NotRead => text.extend_from_slice(b"not read"),
+    }
+}
