@@ -3,6 +3,7 @@ mod damage;
 mod faults;
 mod faulty;
 mod faulty_programs;
+mod findings;
 mod finds;
 mod headers;
 mod listings;

@@ -26,7 +26,7 @@ const DESIGN: usize = 28;
 const TEXT: &str =
     "lf 12\nlh 2\nbc 1\nec 0\nnw 1\nnh 1\nnd 1\nni 1\nnl 0\nnk 0\nne 0\nnp 0\ndesign 327680\n";
 
-/// The text stands behind what was there.
+/// The text stands after what was there.
 fn is_whole(out: &[u8]) -> bool {
     out.strip_prefix(b"before\n") == Some(TEXT.as_bytes())
 }

@@ -29,7 +29,7 @@ fn answers<R: Abort + AllocGlobal>(
     Ok(())
 }
 
-/// A file that was cut is truncated, and so many bytes are needed.
+/// A file that was cut is truncated, and this many bytes are needed.
 pub fn is_truncated<R: Abort + AllocGlobal>(rt: &R, file: &[u8], need: usize) {
     let truncated = FontFault::Counts(CountFault::Truncated { need });
     let len = file.len();

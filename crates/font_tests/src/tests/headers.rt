@@ -31,7 +31,7 @@ fn texts_in(font: &Font) -> [bool; 4] {
     ]
 }
 
-/// Words of the header behind the first two, and what such a header has.
+/// Words of the header after the first two, and what such a header has.
 static LENGTHS: [(usize, [bool; 4]); 7] = [
     (0, [false, false, false, false]),
     (9, [false, false, false, false]),
@@ -64,7 +64,7 @@ fn letters_of(length: u8, letters: &[u8; 39]) -> [u8; 64] {
     texts
 }
 
-/// The text is there, and is so many of these letters.
+/// The text is there, and is this many of these letters.
 fn begins(letters: &[u8], length: usize, text: Option<&[u8]>) -> bool {
     match letters.get(..length) {
         Some(wanted) => is_text(text, wanted),

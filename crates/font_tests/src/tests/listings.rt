@@ -1,10 +1,11 @@
-use font_texts::{FontTextFault, list_text};
+use font_texts::{FontTextFault, list_all_text, list_text};
 use std::alloc::{AllocError, Global};
 use std::io;
 use std::io::Write;
 use std::process::Abort;
 use std::test::Fail;
-use tfm_tables::Font;
+use tfm_tables::{Font, FontFault};
+use tfm_words::CountFault;
 
 /// The characters a, b and c at 10 points, with these three counts (lf, nl and nk), char_info words,
 /// instructions and kerns.
@@ -184,6 +185,89 @@ fn boundaries_and_tags_are_listed(rt: HostRuntime) -> Result<(), Fail> {
         &[[0, 0, 0x80, 0]],
     )?;
     lists(&rt, &bytes, BOUNDARIES)
+}
+
+/// One character, whose recipe is number 1 of two, at 10 points.
+static RECIPES: [[u8; 4]; 18] = [
+    [0, 17, 0, 2], // lf, lh
+    [0, 65, 0, 65], // bc, ec
+    [0, 2, 0, 1], // nw, nh
+    [0, 1, 0, 1], // nd, ni
+    [0, 0, 0, 0], // nl, nk
+    [0, 2, 0, 1], // ne, np
+    [0x44, 0x45, 0xAF, 0x0F], // the check sum
+    [0, 0xA0, 0, 0], // 10 points
+    [1, 0, 3, 1], // A: width 1, recipe 1
+    [0, 0, 0, 0], // width 0
+    [0, 0x08, 0, 0], // width 1
+    [0, 0, 0, 0], // height 0
+    [0, 0, 0, 0], // depth 0
+    [0, 0, 0, 0], // italic 0
+    [0, 0, 0, 65], // recipe 0
+    [48, 60, 58, 255], // recipe 1
+    [0, 0x10, 0, 0], // the slant
+    [1, 2, 3, 4], // behind the font
+];
+
+static ALL: &[u8] = b"lf 17\n\
+    lh 2\n\
+    bc 65\n\
+    ec 65\n\
+    nw 2\n\
+    nh 1\n\
+    nd 1\n\
+    ni 1\n\
+    nl 0\n\
+    nk 0\n\
+    ne 2\n\
+    np 1\n\
+    checksum 1145417487\n\
+    design 655360\n\
+    size 655360\n\
+    right none\n\
+    left none\n\
+    char 65 width 327680 height 0 depth 0 italic 0 tag ext 1\n\
+    param 1 1048576\n\
+    recipe 0 top 0 mid 0 bot 0 rep 65\n\
+    recipe 1 top 48 mid 60 bot 58 rep 255\n\
+    word 0 00110002\n\
+    word 1 00410041\n\
+    word 2 00020001\n\
+    word 3 00010001\n\
+    word 4 00000000\n\
+    word 5 00020001\n\
+    word 6 4445af0f\n\
+    word 7 00a00000\n\
+    word 8 01000301\n\
+    word 9 00000000\n\
+    word 10 00080000\n\
+    word 11 00000000\n\
+    word 12 00000000\n\
+    word 13 00000000\n\
+    word 14 00000041\n\
+    word 15 303c3aff\n\
+    word 16 00100000\n";
+
+#[test]
+fn all_of_a_font_is_listed(rt: HostRuntime) -> Result<(), Fail> {
+    let mut bytes = Vec::new(rt.alloc());
+    push_words(&mut bytes, &RECIPES)?;
+    let mut out = Vec::new(rt.alloc());
+    assert!(rt; list_all_text(rt.alloc(), &bytes, None, &mut out).is_ok());
+    assert_eq!(rt; out.as_slice(), ALL);
+    let cut = FontFault::Counts(CountFault::Truncated { need: 68 });
+    let told = list_all_text(rt.alloc(), &bytes[..bytes.len().min(67)], None, &mut out);
+    assert!(rt; matches!(&told, Err(FontTextFault::Font(fault)) if *fault == cut));
+    assert_eq!(rt; out.as_slice(), ALL);
+    for room in [0, 1, 300] {
+        let mut out = Failing { room };
+        let told = list_all_text(rt.alloc(), &bytes, None, &mut out);
+        assert!(rt;
+            matches!(told, Err(FontTextFault::Write)),
+            "after {room} bytes"
+        );
+    }
+    Ok(())
 }
 
 /// Operations, and the line of the first step.

@@ -42,7 +42,7 @@ fn the_largest_file(rt: HostRuntime) -> Result<(), Fail> {
 
 /// With memory enough the font is read. The kit's option `--fail-alloc` refuses one request: the
 /// first two make the file, and the next ones are the reading's own. A refused one of these is told
-/// as want of memory, and the text that is printed says which it was.
+/// as refused memory, and the text that is printed says which it was.
 #[test]
 fn refused_memory(rt: HostRuntime) -> Result<(), Fail> {
     let Ok(file) = RIGHT_BOUNDARY.file(rt.alloc()) else {

@@ -91,7 +91,7 @@ fn is_wide<R: Abort>(rt: &R, font: &Font, code: u8, width: i32) {
     assert_eq!(rt; font.metrics(code), Some(wide(width)), "{code} at {size}");
 }
 
-/// The font has this size where `given` was asked for, and the plain font's design size.
+/// The font has this size if `given` was asked for, and the plain font's design size.
 fn is_sized<R: Abort>(rt: &R, font: &Font, given: Option<u32>, size: u32) {
     assert_eq!(rt; font.size().get(), size, "{given:?}");
     assert_eq!(rt; font.design().get(), 655_360, "{given:?}");

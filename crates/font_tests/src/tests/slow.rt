@@ -92,7 +92,7 @@ fn list_tables(list: &mut Conditions, counts: [u16; 12]) {
     list.next_of_counts(ne > 256, CountFault::TooManyRecipes);
 }
 
-/// The conditions of the length, in a file of so many bytes.
+/// The conditions of the length, in a file of this many bytes.
 fn list_lengths(list: &mut Conditions, counts: [u16; 12], bytes: usize) {
     let [lf, lh, bc, ec, nw, nh, nd, ni, nl, nk, ne, np] = counts;
     let mut length = 6 + u32::from(ec) + 1;
@@ -149,7 +149,7 @@ fn parts_of(bytes: &[u8]) -> Result<Parts<'_>, FontFault> {
 }
 
 impl Parts<'_> {
-    /// The char_info word of a code, where it has one.
+    /// The char_info word of a code, if it has one.
     fn info(&self, code: u8) -> Option<[u8; 4]> {
         let place = usize::from(code).checked_sub(usize::from(self.bc))?;
         self.char_info.get(place).copied()

@@ -1,0 +1,232 @@
+use font_texts::{Finding, FontTextFault, check_text, finding_text};
+use std::io;
+use std::io::Write;
+use std::process::Abort;
+use std::test::Fail;
+use tfm_tables::{FontFault, Part};
+use tfm_words::{Count, CountFault, DesignFault, Size, Table};
+
+/// The font without characters, of 5 points.
+static NO_CHARACTERS: [u8; 48] = [
+    0, 12, 0, 2, // lf, lh
+    0, 1, 0, 0, // bc, ec
+    0, 1, 0, 1, // nw, nh
+    0, 1, 0, 1, // nd, ni
+    0, 0, 0, 0, // nl, nk
+    0, 0, 0, 0, // ne, np
+    0, 0, 0, 0, // the check sum
+    0, 0x50, 0, 0, // the design size
+    0, 0, 0, 0, // width 0
+    0, 0, 0, 0, // height 0
+    0, 0, 0, 0, // depth 0
+    0, 0, 0, 0, // italic correction 0
+];
+
+/// A look at these bytes under this name finds this, and its line stands behind what was there.
+fn checks<R: Abort + AllocGlobal>(
+    rt: &R,
+    name: &str,
+    bytes: &[u8],
+    wanted: Finding,
+    line: &str,
+) -> Result<(), Fail> {
+    for size in [None, Size::new(1), Size::new(134_217_727)] {
+        let mut out = Vec::from_slice(rt.alloc(), b"before\n")?;
+        let found = check_text(rt.alloc(), name, bytes, size, &mut out);
+        assert!(rt;
+            matches!(&found, Ok(finding) if *finding == wanted),
+            "{line}"
+        );
+        assert!(rt;
+            out.strip_prefix(b"before\n") == Some(line.as_bytes()),
+            "{line}"
+        );
+    }
+    Ok(())
+}
+
+#[test]
+fn a_font_is_accepted_or_refused_by_its_first_fault(rt: HostRuntime) -> Result<(), Fail> {
+    let cut = FontFault::Counts(CountFault::Truncated { need: 48 });
+    checks(
+        &rt,
+        "a.tfm",
+        &NO_CHARACTERS,
+        Finding::Accepted,
+        "a.tfm: accepted\n",
+    )?;
+    checks(
+        &rt,
+        "",
+        &NO_CHARACTERS[..47],
+        Finding::Refused(cut),
+        ": refused: 8 truncated, 48 bytes needed\n",
+    )?;
+    let mut first = NO_CHARACTERS;
+    first[47] = 1;
+    checks(
+        &rt,
+        "b\n: accepted",
+        &first,
+        Finding::Refused(FontFault::FirstNotZero(Table::Italic)),
+        "b\\x0a: accepted: refused: 12 table italic, first entry\n",
+    )
+}
+
+/// A fault, and its words.
+type Told = (FontFault, &'static str);
+
+static COUNTS: [Told; 8] = [
+    (
+        FontFault::Counts(CountFault::Truncated { need: 24 }),
+        "1 truncated, 24 bytes needed",
+    ),
+    (
+        FontFault::Counts(CountFault::CountRange(Count::Nh)),
+        "2 count nh out of range",
+    ),
+    (
+        FontFault::Counts(CountFault::CharRange),
+        "3 character range",
+    ),
+    (
+        FontFault::Counts(CountFault::HeaderShort),
+        "4 header too short",
+    ),
+    (
+        FontFault::Counts(CountFault::EmptyTable(Table::Italic)),
+        "5 table italic is empty",
+    ),
+    (
+        FontFault::Counts(CountFault::TooManyRecipes),
+        "6 more than 256 recipes",
+    ),
+    (
+        FontFault::Counts(CountFault::LengthEquation),
+        "7 length equation",
+    ),
+    (
+        FontFault::Counts(CountFault::Truncated { need: 131_068 }),
+        "8 truncated, 131068 bytes needed",
+    ),
+];
+
+static TABLES: [Told; 11] = [
+    (FontFault::Design(DesignFault::DesignSize), "9 design size"),
+    (
+        FontFault::CharIndex {
+            code: 255,
+            table: Table::Height,
+        },
+        "10 character 255, table height",
+    ),
+    (FontFault::LigStart(0), "11 character 0, program start"),
+    (
+        FontFault::FirstNotZero(Table::Depth),
+        "12 table depth, first entry",
+    ),
+    (
+        FontFault::FixWordRange {
+            table: Table::Param,
+            index: 32_000,
+        },
+        "13 table param, entry 32000",
+    ),
+    (
+        FontFault::Step {
+            index: 0,
+            part: Part::Restart,
+        },
+        "14 instruction 0, restart",
+    ),
+    (
+        FontFault::Step {
+            index: 10,
+            part: Part::Next,
+        },
+        "14 instruction 10, next",
+    ),
+    (
+        FontFault::Step {
+            index: 200,
+            part: Part::Ligature,
+        },
+        "14 instruction 200, ligature",
+    ),
+    (
+        FontFault::Step {
+            index: 3_000,
+            part: Part::Kern,
+        },
+        "14 instruction 3000, kern",
+    ),
+    (
+        FontFault::Step {
+            index: 32_000,
+            part: Part::Skip,
+        },
+        "14 instruction 32000, skip",
+    ),
+    (FontFault::OutOfMemory, "15 out of memory"),
+];
+
+/// The line of a finding under the name `x`.
+fn line<R: Abort + AllocGlobal>(rt: &R, finding: Finding) -> Result<String, Fail> {
+    let mut out = Vec::new(rt.alloc());
+    assert!(rt; finding_text(rt.alloc(), "x", finding, &mut out).is_ok());
+    Ok(String::from_utf8(out)?)
+}
+
+#[test]
+fn each_finding_has_its_words(rt: HostRuntime) -> Result<(), Fail> {
+    let unread = line(&rt, Finding::NotRead)?;
+    assert!(rt; unread.as_str() == "x: not read\n");
+    for faults in [COUNTS.as_slice(), TABLES.as_slice()] {
+        for (fault, words) in faults {
+            let told = line(&rt, Finding::Refused(*fault))?;
+            let wanted = format!(in rt.alloc(); "x: refused: {words}\n")?;
+            assert!(rt; told.as_str() == wanted.as_str(), "{words}");
+        }
+    }
+    Ok(())
+}
+
+/// A writer that takes some bytes, and then fails.
+#[derive(Drop)]
+struct Failing {
+    room: usize,
+}
+
+impl Write for Failing {
+    fn write(&mut self, buf: &[u8]) -> io::Result<usize> {
+        if self.room == 0 {
+            return Err(io::Error::from(io::ErrorKind::StorageFull));
+        }
+        let taken = buf.len().min(self.room);
+        self.room -= taken;
+        Ok(taken)
+    }
+
+    fn flush(&mut self) -> io::Result<()> {
+        Ok(())
+    }
+}
+
+#[test]
+fn a_finding_whose_write_fails_is_told(rt: HostRuntime) -> Result<(), Fail> {
+    for room in [0, 1, 11] {
+        let mut out = Failing { room };
+        let told = check_text(rt.alloc(), "x", &NO_CHARACTERS, None, &mut out);
+        assert!(rt;
+            matches!(told, Err(FontTextFault::Write)),
+            "after {room} bytes"
+        );
+        let mut out = Failing { room };
+        let told = finding_text(rt.alloc(), "x", Finding::NotRead, &mut out);
+        assert!(rt;
+            matches!(told, Err(FontTextFault::Write)),
+            "after {room} bytes"
+        );
+    }
+    Ok(())
+}
