@@ -94,7 +94,7 @@ find_only p from (suc count) k low high here before = by (nat_lt from k) refl (�
     by true below rest = let fails : p from ≡ false = before from (ltb-true from k below) in rw fails (rest (ltb-true from k below))
     by false above rest = let same : from ≡ k = omega (arith, ltb-false from k above) in rw same (rw here refl)
 
--- where none passes, none is found
+-- if none passes, none is found
 find_none : (p : ℕ → Bool) (from count : ℕ) → ((k : ℕ) → from ≤ k → k < from + count → p k ≡ false) → find p (range_with_len from count) ≡ None
 find_none p from zero never = refl
 find_none p from (suc count) never =

@@ -23,7 +23,7 @@ at done current ahead = record { elements = done ++ of_symbol current ∷ map of
 
 -- ---- one step
 
--- what a splice does behind what is done
+-- what a splice does after what is done
 spliced_at : (done : List Element) (current next : Symbol) (rest : List Symbol) (splice : Splice) (sent : List Element) (current' : Symbol) (ahead' : List Symbol)
     → splice.elements ++ map of_symbol rest ≡ sent ++ of_symbol current' ∷ map of_symbol ahead' → splice.pass ≡ length sent
     → spliced (at done current (next ∷ rest)) splice ≡ at (done ++ sent) current' ahead'
@@ -132,7 +132,7 @@ option_map-none (Some items) = refl
 abbrev pub settled : FontValue → ℕ → Configuration → Option (List Item)
 settled font n c = option_and_then (final_items font) (after_steps font n c)
 
--- what so many steps lead to is what is done and what is still to come
+-- what this many steps lead to is what is done and what is still to come
 pub settled_at : (font : FontValue) (n : ℕ) (done : List Element) (current : Symbol) (ahead : List Symbol)
     → settled font n (at done current ahead) ≡ option_map (λ items. items_of font done ++ items) (finish font n current ahead)
 unfolding after_steps finish turn_of

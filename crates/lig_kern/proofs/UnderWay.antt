@@ -103,7 +103,7 @@ under_way_next font run right before used current current' next (x ∷ rest) ahe
 
 -- ---- along a run
 
--- under way between two plain steps: whether the right boundary stands behind the run or not
+-- under way between two plain steps: whether the right boundary stands after the run or not
 abbrev pub IsGliding : FontValue → List ℕ → List Item → ℕ → Symbol → List ℕ → List Item → Type 0
 IsGliding font run before used current rest out =
     (right stands : Bool) → stands ≡ (right && is_some (right_code_of (program_of font.words)))
@@ -123,7 +123,7 @@ glide_next font run before used current after rest code more out out' way is tur
     subst (λ rest. IsUnderWay font run right before used current (symbols_ahead [] rest stands) out) is (way right stands e) in
     under_way_next font run right before used current after (Char code) (Char code ∷ symbols) symbols out out' here refl (turned symbols) front
 
--- the same where what is left of the run is told by a place
+-- the same if what is left of the run is told by a place
 pub glide_at : (font : FontValue) (run : List ℕ) (before : List Item) (used further : ℕ) (current after : Symbol) (out out' : List Item)
     → IsGliding font run before used current (drop used run) out → used < length run → further ≡ used + 1
     → ((symbols : List Symbol) → HasTurned (turn_of font current (Char (get_or run used 0) ∷ symbols)) after symbols out out') → StaysInFront out out'
@@ -158,7 +158,7 @@ is_result font run right before used limit current [] out after way last within 
 pub rest_whole : (xs : List ℕ) (n : ℕ) → take (length xs - n) (drop n xs) ≡ drop n xs
 rest_whole xs n = ap (λ k. take k (drop n xs)) (sym (length-drop n xs)) ∙ take-length (drop n xs)
 
--- nothing is left of the run, and no boundary stands behind it
+-- nothing is left of the run, and no boundary stands after it
 pub ends_here : (font : FontValue) (run : List ℕ) (right : Bool) (before : List Item) (used limit : ℕ) (current : Symbol) (stands : Bool) (rest : List ℕ) (out after : List Item)
     → IsUnderWay font run right before used current (symbols_ahead [] rest stands) out → length rest ≡ 0 → stands ≡ false → used ≤ limit
     → after ≡ out ++ items_of font (of_symbol current ∷ []) → IsAppendedResult font run right limit before after used

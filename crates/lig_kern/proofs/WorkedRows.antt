@@ -50,7 +50,7 @@ ligature_font op = font_of (
     ++ (0 ∷ 98 ∷ op ∷ 99 ∷ 128 ∷ 99 ∷ 128 ∷ 0 ∷ 128 ∷ 98 ∷ 128 ∷ 1 ∷ [])
     ++ back ++ ahead ++ parameters)
 
--- the right boundary character is 124, which doesn't exist: behind a it becomes b, behind b comes a kern ahead; between a and
+-- the right boundary character is 124, which doesn't exist: after a it becomes b, after b comes a kern ahead; between a and
 -- b stands a kern back
 abbrev right_boundary_font : FontValue
 right_boundary_font = font_of (

@@ -32,7 +32,7 @@ stays false one = []
 abbrev pub put_in : ℕ → Bool → Bool → Symbol → Symbol → List Symbol
 put_in code keep_left keep_right current next = stays keep_left current ++ Char code ∷ stays keep_right next
 
--- a step between two symbols with some more behind them
+-- a step between two symbols with some more after them
 abbrev pub turn_by : FontValue → Option Action → Symbol → Symbol → List Symbol → Turn
 turn_by font None current next rest = record { sent = items_of font (of_symbol current ∷ []); current = next; ahead = rest }
 turn_by font (Some (Kern amount)) current next rest =
@@ -43,7 +43,7 @@ turn_by font (Some (Lig code keep_left keep_right pass)) current next rest = rec
   ahead = drop (pass + 1) (put_in code keep_left keep_right current next) ++ rest;
 }
 
--- a step from the current symbol; nothing where none is ahead of it
+-- a step from the current symbol; nothing if none is ahead of it
 unfoldable pub turn_of : FontValue → Symbol → List Symbol → Turn
 turn_of font current [] = record { sent = []; current = current; ahead = [] }
 turn_of font current (next ∷ rest) = turn_by font (action_between font current next) current next rest
@@ -54,7 +54,7 @@ pub record HasTurned (turn : Turn) (symbol : Symbol) (symbols : List Symbol) (be
   pub ahead : symbols ≡ turn.ahead
   pub sent : after ≡ before ++ turn.sent
 
--- the items that are still to come, where just so many more steps lead to the end
+-- the items that are still to come, if just this many more steps lead to the end
 unfoldable pub finish : FontValue → ℕ → Symbol → List Symbol → Option (List Item)
 finish font zero current [] = Some (items_of font (of_symbol current ∷ []))
 finish font zero current (next ∷ rest) = None
@@ -63,12 +63,12 @@ finish font (suc n) current (next ∷ rest) =
     option_map (λ items. (turn_of font current (next ∷ rest)).sent ++ items)
     (finish font n (turn_of font current (next ∷ rest)).current (turn_of font current (next ∷ rest)).ahead)
 
--- after so many steps of a run: no fewer led to the end, and what is still to come, behind what was sent out, is the result
+-- after this many steps of a run: no fewer led to the end, and what is still to come, after what was sent out, is the result
 pub record IsUnderWay (font : FontValue) (run : List ℕ) (right : Bool) (before : List Item) (used : ℕ) (current : Symbol) (ahead : List Symbol) (out : List Item) : Type 0 where
   pub not_before : (n : ℕ) → n < used → result_after font run right n ≡ None
   pub onward : (n m : ℕ) → m ≡ used + n → option_map (λ items. before ++ items) (result_after font run right m) ≡ option_map (λ items. out ++ items) (finish font n current ahead)
   pub front : StaysInFront before out
 
--- what comes of a run within a limit: its result was appended, after so many steps, or it has none
+-- what becomes of a run within a limit: its result was appended, after this many steps, or it has none
 abbrev pub EndsAfter : FontValue → List ℕ → Bool → ℕ → List Item → List Item → Option ℕ → Type 0
 EndsAfter font run right limit before after steps = MatchOption steps (HasNoResultWithin font run right limit) (IsAppendedResult font run right limit before after)

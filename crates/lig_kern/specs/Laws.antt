@@ -13,7 +13,7 @@ use Rattle.lig_kern.specs.Result.{Setting, IsResultOf, HasNoResultWithin, result
 abbrev pub HasOneResult : FontValue → List ℕ → Bool → Type 0
 HasOneResult font run right = (a b : Setting) → IsResultOf font run right a → IsResultOf font run right b → a ≡ b
 
--- the result within a limit is the result, where that takes no more steps than the limit; else there is none
+-- the result within a limit is the result, if that takes no more steps than the limit; else there is none
 pub record FindsResult (font : FontValue) (run : List ℕ) (right : Bool) (limit : ℕ) : Type 0 where
   pub found : (setting : Setting) → IsResultOf font run right setting → setting.steps ≤ limit → result_of font run right limit ≡ Some setting
   pub is_result : (setting : Setting) → result_of font run right limit ≡ Some setting → IsResultOf font run right setting × (setting.steps ≤ limit)
@@ -29,7 +29,7 @@ HasNoMatches font symbols =
 abbrev pub plain_items : FontValue → List ℕ → List Item
 plain_items font run = map (λ code. CharItem code (character_width font code)) run
 
--- a run in which nothing matches is set as itself, with one step for each character and one more where the right boundary
+-- a run in which nothing matches is set as itself, with one step for each character and one more if the right boundary
 -- stands after it
 abbrev pub SetsAsItself : FontValue → List ℕ → Bool → Type 0
 SetsAsItself font run right =

@@ -23,7 +23,7 @@ left_side_of (Char code) = Some (CharOnLeft code)
 left_side_of Right = None
 
 -- the code of a symbol as the right one of two; the left boundary has none, and the right boundary that of the right
--- boundary character, where the font has one
+-- boundary character, if the font has one
 abbrev pub code_of : List ℕ → Symbol → Option ℕ
 code_of words Left = None
 code_of words (Char code) = Some code
@@ -79,6 +79,6 @@ action_of font step =
     then Kern (kern_at font.words font.size (kern_index_of step))
     else ligature_by (operation_of step.op) step.remainder
 
--- what a font's program does between two neighbours, where it does something
+-- what a font's program does between two neighbours, if it does something
 unfoldable pub action_between : FontValue → Symbol → Symbol → Option Action
 action_between font left right = option_map (λ address. action_of font (step_at font.words address)) (match_of font.words left right)

@@ -7,7 +7,7 @@ use Rattle.tfm_tables.specs.Font.{FontValue}
 use Rattle.lig_kern.specs.declared.item.Item.{Item}
 use Rattle.lig_kern.specs.Rewriting.{opening, after_steps, final_items}
 
--- the items of a run, where just so many steps lead from the opening configuration to a final one
+-- the items of a run, if just this many steps lead from the opening configuration to a final one
 unfoldable pub result_after : FontValue → List ℕ → Bool → ℕ → Option (List Item)
 result_after font run right n = option_and_then (final_items font) (after_steps font n (opening font run right))
 
@@ -20,20 +20,20 @@ pub record Setting : Type 0 where
 abbrev pub IsResultOf : FontValue → List ℕ → Bool → Setting → Type 0
 IsResultOf font run right setting = result_after font run right setting.steps ≡ Some setting.items
 
--- a run has no result within so many steps
+-- a run has no result within this many steps
 abbrev pub HasNoResultWithin : FontValue → List ℕ → Bool → ℕ → Type 0
 HasNoResultWithin font run right limit = (n : ℕ) → n ≤ limit → result_after font run right n ≡ None
 
--- the result with a number of steps, where there is one
+-- the result with a number of steps, if there is one
 abbrev pub setting_after : FontValue → List ℕ → Bool → ℕ → Option Setting
 setting_after font run right n = option_map (λ items. record { steps = n; items = items }) (result_after font run right n)
 
--- the result of a run, where it has one within so many steps
+-- the result of a run, if it has one within this many steps
 unfoldable pub result_of : FontValue → List ℕ → Bool → ℕ → Option Setting
 result_of font run right limit =
     option_and_then (setting_after font run right) (find (λ n. is_some (result_after font run right n)) (range_with_len 0 (limit + 1)))
 
--- a setting of a run within so many steps, whose items were appended to a list
+-- a setting of a run within this many steps, whose items were appended to a list
 pub record IsAppendedResult (font : FontValue) (run : List ℕ) (right : Bool) (limit : ℕ) (before after : List Item) (steps : ℕ) : Type 0 where
   pub items : List Item
   pub result : IsResultOf font run right (record { steps = steps; items = items })

@@ -25,7 +25,7 @@ pub record Configuration : Type 0 where
   pub elements : List Element
   pub cursor : ℕ
 
--- the right boundary stands after a run where that is asked for and the font has a right boundary character
+-- the right boundary stands after a run if that is asked for and the font has a right boundary character
 unfoldable pub right_end : FontValue → Bool → List Symbol
 right_end font right = if right then option_map_or (λ _. Right ∷ []) (right_code_of (program_of font.words)) [] else []
 
@@ -68,19 +68,19 @@ spliced c splice = record {
   cursor = c.cursor + splice.pass;
 }
 
--- the configuration that one step leads to; there is none where the current element is the last
+-- the configuration that one step leads to; there is none if the current element is the last
 unfoldable pub step_from : FontValue → Configuration → Option Configuration
 step_from font c =
     option_and_then
     (λ current. option_map (λ next. spliced c (splice_by (action_at font current next) current next)) (slice_get c.elements (c.cursor + 1)))
     (slice_get c.elements c.cursor)
 
--- the configuration that so many steps lead to, where that many can be made
+-- the configuration that this many steps lead to, if that many can be made
 unfoldable pub after_steps : FontValue → ℕ → Configuration → Option Configuration
 after_steps font zero c = Some c
 after_steps font (suc n) c = option_and_then (after_steps font n) (step_from font c)
 
--- a configuration is final where the current element is the last
+-- a configuration is final if the current element is the last
 abbrev pub is_final : Configuration → Bool
 is_final c = c.cursor + 1 == length c.elements
 

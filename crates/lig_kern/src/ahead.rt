@@ -41,7 +41,7 @@ impl<'a> Ahead<'a> {
         }
     }
 
-    /// The next symbol, where there is one.
+    /// The next symbol, if there is one.
     #[tactic(auto, unfolding(crate::specs::Ahead::symbols_ahead))]
     pub fn first(&self) -> Option<Symbol>
         ensures { result ≡ slice_get self.now 0 }

@@ -9,7 +9,7 @@ pub fn one_result()
     ensures { (font : FontValue) (run : List ℕ) (right : Bool) → HasOneResult font run right }
 {}
 
-/// The result within a limit is the run's result, where that takes no more steps than the limit.
+/// The result within a limit is the run's result, if that takes no more steps than the limit.
 #[tactic(auto, using(crate::proofs::LawLemmas::laws))]
 pub fn result_within_limit()
     ensures { (font : FontValue) (run : List ℕ) (right : Bool) (limit : ℕ)

@@ -46,7 +46,7 @@ fn action(font: &Font, address: usize) -> Action
 }
 
 /// What a font's program does between two neighbours: the action of the first instruction of the left
-/// one's program that is for the right one. `None` where there is none, and where the first is the
+/// one's program that is for the right one. `None` if there is none, and if the first is the
 /// right boundary, the second the left one, or the second the right one and the font has no right
 /// boundary character.
 #[tactic(auto, unfolding(crate::specs::Matching::action_between, crate::specs::Matching::match_of))]

@@ -28,7 +28,7 @@ fn send(font: &Font, symbol: Symbol, out: &mut Vec<Item>) -> Result<(), AllocErr
     Ok(())
 }
 
-/// Sends the left one of two symbols out, where a ligature keeps it and passes it.
+/// Sends the left one of two symbols out, if a ligature keeps it and passes it.
 #[tactic(auto, using(crate::proofs::UnderWay::fronts), unfolding(crate::specs::Rewriting::items_of))]
 fn send_kept(font: &Font, keep: bool, symbol: Symbol, out: &mut Vec<Item>) -> Result<(), AllocError>
     ensures front { StaysInFront out.old.items out.new.items }
@@ -91,9 +91,9 @@ fn step(
     }
 }
 
-/// One step between the current symbol and a character ahead of it, where the step passes just that
+/// One step between the current symbol and a character ahead of it, if the step passes just that
 /// character: nothing matches, a kern comes between, or a ligature stands for both. The code that is
-/// current then; `None`, with nothing done, where another operation matches.
+/// current then; `None`, with nothing done, if another operation matches.
 #[tactic(auto, using(crate::proofs::UnderWay::fronts))]
 fn plain_step(
     font: &Font,
@@ -176,7 +176,7 @@ fn right_stands(font: &Font, right: bool) -> bool
 }
 
 /// Steps on until the current symbol is the last one, and sends that out: how many steps were taken by
-/// then, with those before, or `None` where so many as there may be lead to no end.
+/// then, with those before, or `None` if as many as there may be lead to no end.
 #[tactic(auto, using(crate::proofs::UnderWay::ends))]
 fn go_on(
     font: &Font,
@@ -208,7 +208,7 @@ fn go_on(
 }
 
 /// Steps until the current symbol is the last one, and sends that out: how many steps it took, or
-/// `None` where so many steps lead to no end.
+/// `None` if this many steps lead to no end.
 #[tactic(auto, using(crate::proofs::UnderWay::fronts))]
 fn run_steps(
     font: &Font,
@@ -232,10 +232,10 @@ fn run_steps(
 }
 
 /// Sets one run of character codes. The left boundary stands before it, and the right boundary after
-/// it where `right` is true and the font has a right boundary character. Appends its characters and
+/// it if `right` is true and the font has a right boundary character. Appends its characters and
 /// kerns to `out`, which gives the memory too, and answers how many steps it took: one for each
-/// ligature, kern and plain advance. The error is `TooManySteps`, only where no final list is reached
-/// within `steps_left` steps, or want of memory, which may come in place of either other answer;
+/// ligature, kern and plain advance. The error is `TooManySteps`, only if no final list is reached
+/// within `steps_left` steps, or refused memory, which may come in place of either other answer;
 /// `out` is then as before. Any run is set: an empty one is its boundaries alone, and a code that
 /// doesn't exist counts with width 0 (The METAFONTbook, Appendix F).
 pub fn set_word(

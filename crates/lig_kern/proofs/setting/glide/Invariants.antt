@@ -1,4 +1,4 @@
--- under way with the rest of the run ahead, whether the right boundary stands behind it or not
+-- under way with the rest of the run ahead, whether the right boundary stands after it or not
 use Rattle.std.proofs.Common.{drop}
 use Rattle.lig_kern.specs.declared.symbol.Symbol.TheVariants.{Char}
 use Rattle.lig_kern.specs.Result.{StaysInFront}
