@@ -1,6 +1,7 @@
 pub mod AnswerLemmas
 pub mod LineLemmas
 pub mod OnwardLemmas
+pub mod PieceLemmas
 pub mod PlaceLemmas
 pub mod ReadyLemmas
 pub mod RecordLemmas

@@ -1,4 +1,4 @@
--- Portions, set one behind the other.
+-- Portions, set one after the other.
 use Rattle.std.proofs.Common.{◌≡◌, ℕ, suc, zero, ◌+◌, ◌-◌, ◌*◌, ◌<◌, ◌≤◌, Bool, true, false, List, [], ◌∷◌, ◌++◌, length, map, take, drop, Option, Some, None, arith, refl, ap, sym, subst, ◌∙◌, append_assoc, append-nil, length-append, length-drop}
 use Rattle.std.specs.Prelude.{not, filter, nat_le, slice_index, Result, IfOk, if◌then◌else◌}
 use Rattle.std.specs.declared.alloc.AllocError.{AllocError}
@@ -19,7 +19,7 @@ use Rattle.set_line.specs.Pieces.{Portion, space, skipped, is_space, is_missing,
 use Rattle.set_line.specs.Answer.{setting_of, within_limit, all_of, together, setting_of_portions}
 use Rattle.set_line.specs.Onward.{setting, added, onward, Reaches}
 
--- ---- one behind the other
+-- ---- one after the other
 
 -- the limit is kept, or it isn't
 within_limit-kept : (limit : ℕ) (s : Setting) → s.steps ≤ limit → within_limit limit s ≡ Some s
@@ -211,7 +211,7 @@ cut_at_piece policy font line piece behind rest at code is front back cut =
 
 -- ---- a portion and what follows it
 
--- what a portion makes of what there is, with an item behind it and the rest to come
+-- what a portion makes of what there is, with an item after it and the rest to come
 pub part_then : (font : FontValue) (limit used steps : ℕ) (before middle after : List Item) (whole front rest : List Portion) (portion : Portion) (item : Item)
     → whole ≡ front ++ portion ∷ rest → onward font limit (setting used before) front ≡ Some (setting steps middle) → steps ≤ limit
     → setting_of font limit portion ≡ Some (setting 0 (item ∷ [])) → after ≡ middle ++ item ∷ []

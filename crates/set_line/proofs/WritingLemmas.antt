@@ -30,7 +30,7 @@ minus_amount (negsuc n) e = refl
 
 pub ruleset numbers = (code_is_short, size_is_short, plain_amount, minus_amount)
 
--- the texts from one item on are its text and those behind it
+-- the texts from one item on are its text and those after it
 pub texts_from : (items : List Item) (i : ℕ) (item : Item) → i < length items → get_or items i item ≡ item
     → flat_map item_text (drop i items) ≡ item_text item ++ flat_map item_text (drop (i + 1) items)
 texts_from items i item within is =
@@ -39,7 +39,7 @@ texts_from items i item within is =
 
 pub ruleset items = (texts_from, append_assoc)
 
--- what was copied to a place, seen from some way into it: the rest of the copy, and what stood behind it
+-- what was copied to a place, seen from some way into it: the rest of the copy, and what stood after it
 pub copy_seen_from : (a k s : ℕ) (xs ys : List ℕ) → a + k ≤ length xs → length ys ≡ k → s ≤ k
     → drop (a + s) (put_mid a k xs ys) ≡ drop s ys ++ drop (a + k) xs
 copy_seen_from a k s xs ys within long few =

@@ -34,7 +34,7 @@ is_neither font byte = not (is_space byte) && is_missing font byte
 abbrev pub first_missing : FontValue → List ℕ → Option ℕ
 first_missing font line = position (is_neither font) line
 
--- the refusal for a missing character, where these aren't skipped
+-- the refusal for a missing character, if these aren't skipped
 abbrev pub missing_in : Policy → FontValue → List ℕ → Option LineRefusal
 missing_in Refuse font line = option_map (λ i. Missing i (slice_index line i)) (first_missing font line)
 missing_in Skip font line = None
@@ -49,13 +49,13 @@ refusal_of terms line = if nat_lt 65535 (length line) then Some (TooLong (length
 abbrev pub plain_setting : Item → Option Setting
 plain_setting item = Some (record { steps = 0; items = item ∷ [] })
 
--- what a portion of a line is set as, where it is a run that has a result within the limit, or no run
+-- what a portion of a line is set as, if it is a run that has a result within the limit, or no run
 unfoldable pub setting_of : FontValue → ℕ → Portion → Option Setting
 setting_of font limit (run codes right) = result_of font codes right limit
 setting_of font limit space = plain_setting (Space (parameter_of font.words font.size 2))
 setting_of font limit (skipped code) = plain_setting (Skipped code)
 
--- all of the settings, where none is wanting
+-- all of the settings, if none is missing
 abbrev pub all_of : List (Option Setting) → Option (List Setting)
 all_of [] = Some []
 all_of (setting ∷ settings) = option_and_then (λ one. option_map (λ more. one ∷ more) (all_of settings)) setting
@@ -68,8 +68,8 @@ together settings = record { steps = sum_by (λ setting. setting.steps) settings
 abbrev pub within_limit : ℕ → Setting → Option Setting
 within_limit limit setting = if nat_le setting.steps limit then Some setting else None
 
--- what portions are set as, where every run has a result, and these together have no more steps than the limit; a run that
--- alone has more is looked for in vain within it
+-- what portions are set as, if every run has a result, and these together have no more steps than the limit; a run that
+-- alone has more isn't found within it
 unfoldable pub setting_of_portions : FontValue → ℕ → List Portion → Option Setting
 setting_of_portions font limit portions =
     option_and_then (λ settings. within_limit limit (together settings)) (all_of (map (setting_of font limit) portions))

@@ -5,5 +5,6 @@ pub mod Answer
 pub mod Stops
 pub mod Onward
 pub mod Ready
+pub mod JsonRecord
 pub mod Record
 pub mod Lines

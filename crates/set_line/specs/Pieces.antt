@@ -1,7 +1,7 @@
 -- What a line is cut into: pieces at each space, and parts of a piece at each byte that is no character.
 -- This project's own.
-use Rattle.std.specs.Prelude.{ℕ, ◌==◌, not, Bool, true, false, List, [], ◌∷◌, ◌++◌, filter}
-use Rattle.std.specs.List.{slice_split}
+use Rattle.std.specs.Prelude.{⊤, ◌≡◌, ℕ, ◌==◌, ◌<◌, ◌&&◌, ◌||◌, not, Bool, true, false, List, [], ◌∷◌, ◌++◌, filter, flat_map, length}
+use Rattle.std.specs.List.{list_any, slice_split}
 use Rattle.tfm_tables.specs.Font.{FontValue}
 use Rattle.tfm_tables.specs.Character.{exists}
 use Rattle.set_line.specs.declared.policy.Policy.{Policy}
@@ -38,7 +38,7 @@ parts_with [] gaps = []
 parts_with (part ∷ parts) [] = run_of part true
 parts_with (part ∷ parts) (gap ∷ gaps) = run_of part false ++ skipped gap ∷ parts_with parts gaps
 
--- a piece: one run; or, where bytes are skipped, its parts between the bytes that are no characters, and these in their
+-- a piece: one run; or, if bytes are skipped, its parts between the bytes that are no characters, and these in their
 -- places
 unfoldable pub portions_of_piece : Policy → FontValue → List ℕ → List Portion
 portions_of_piece Refuse font piece = run_of piece true
@@ -54,3 +54,48 @@ portions_of_pieces policy font (piece ∷ next ∷ pieces) =
 -- the portions of a line, in order
 unfoldable pub portions_of : Policy → FontValue → List ℕ → List Portion
 portions_of policy font line = portions_of_pieces policy font (pieces_of line)
+
+-- ---- laws of the cutting
+
+-- the bytes that a portion stands for: those of a run, byte 32 for a space, and the byte that was skipped
+abbrev pub bytes_of : Portion → List ℕ
+bytes_of (run codes right) = codes
+bytes_of space = 32 ∷ []
+bytes_of (skipped code) = code ∷ []
+
+-- the bytes of all portions in order are the line: no byte is lost, swapped or doubled
+abbrev pub AreWhole : Policy → FontValue → List ℕ → Type 0
+AreWhole policy font line = flat_map bytes_of (portions_of policy font line) ≡ line
+
+-- whether a byte is skipped: it is neither a space nor a character, and such bytes are skipped
+abbrev pub is_skipped : Policy → FontValue → ℕ → Bool
+is_skipped Refuse font byte = false
+is_skipped Skip font byte = not (is_space byte) && is_missing font byte
+
+-- a portion is cut no further: a run has at least one byte, none of them a space or a byte that is skipped, and what was skipped
+-- is such a byte
+abbrev pub IsUncut : Policy → FontValue → Portion → Type 0
+IsUncut policy font (run codes right) = (0 < length codes) × (list_any (λ byte. is_space byte || is_skipped policy font byte) codes ≡ false)
+IsUncut policy font space = ⊤
+IsUncut policy font (skipped code) = is_skipped policy font code ≡ true
+
+-- the same of all of some portions
+abbrev pub AreUncut : Policy → FontValue → List Portion → Type 0
+AreUncut policy font [] = ⊤
+AreUncut policy font (portion ∷ portions) = IsUncut policy font portion × AreUncut policy font portions
+
+-- the right boundary may stand after a run if a space or nothing follows it, and not if a skipped byte does; no run follows a run
+abbrev pub AreBounded : List Portion → Type 0
+AreBounded [] = ⊤
+AreBounded (run codes right ∷ []) = right ≡ true
+AreBounded (run codes right ∷ space ∷ portions) = (right ≡ true) × AreBounded portions
+AreBounded (run codes right ∷ skipped code ∷ portions) = (right ≡ false) × AreBounded portions
+AreBounded (run codes right ∷ run more also ∷ portions) = ⊥
+AreBounded (space ∷ portions) = AreBounded portions
+AreBounded (skipped code ∷ portions) = AreBounded portions
+
+-- no other portions have these bytes, are cut no further and are bounded so
+abbrev pub AreTheOnly : Policy → FontValue → List ℕ → Type 0
+AreTheOnly policy font line =
+    (portions : List Portion) → flat_map bytes_of portions ≡ line → AreUncut policy font portions → AreBounded portions
+    → portions ≡ portions_of policy font line

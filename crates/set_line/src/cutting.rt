@@ -5,8 +5,8 @@ ghost use Rattle.set_line.specs.Lines.{lines_of};
 use crate::{Line, OutOfMemory};
 use std::alloc::{AllocError, Global};
 
-/// The lines of a text: what stands between its line feeds. What stands behind the last one is a line
-/// where it isn't empty.
+/// The lines of a text: what stands between its line feeds. What stands after the last one is a line
+/// if it isn't empty.
 pub fn lines(alloc: Global, bytes: &[u8]) -> Result<Vec<Line>, OutOfMemory>
     ensures { IfOk result (λ lines. lines.items ≡ lines_of bytes.now) }
 {

@@ -1,4 +1,4 @@
-//! The portions of a line, set one behind the other.
+//! The portions of a line, set one after the other.
 ghost use Rattle.std.specs.Prelude.{◌≡◌, ◌+◌, ◌≤◌, [], ◌∷◌, ◌++◌, true, false, length, IfOk, IfSome, MatchOption, OnErr, OnOk};
 ghost use Rattle.std.specs.List.{position_or_len};
 ghost use Rattle.std.specs.Option.{option_map_or};
@@ -65,8 +65,8 @@ fn stop_or_end(terms: &Terms, bytes: &[u8]) -> usize
     bytes.len()
 }
 
-/// The part before the first missing character, that character, and what stands behind it; `None`
-/// where no character is missing.
+/// The part before the first missing character, that character, and what stands after it; `None`
+/// if no character is missing.
 fn cut_part<'a>(font: &Font, piece: &'a [u8]) -> Option<(&'a [u8], u8, &'a [u8])>
     ensures shorter { IfSome result (λ cut.
         length cut.0.now + length cut.2.now + 1 ≡ length piece.now) }
@@ -85,7 +85,7 @@ fn cut_part<'a>(font: &Font, piece: &'a [u8]) -> Option<(&'a [u8], u8, &'a [u8])
 #[derive(Drop)]
 struct Refused;
 
-/// The piece before the first space, and what stands behind that; `None` where there is no space. Where a
+/// The piece before the first space, and what stands after that; `None` if there is no space. If a
 /// byte before that is refused there is no piece.
 fn cut_piece<'a>(terms: &Terms, line: &'a [u8]) -> Result<Option<(&'a [u8], &'a [u8])>, Refused>
     ensures shorter { IfOk result (λ cut. IfSome cut (λ cut.
@@ -109,7 +109,7 @@ fn cut_piece<'a>(terms: &Terms, line: &'a [u8]) -> Result<Option<(&'a [u8], &'a 
     }
 }
 
-/// Sets a run behind what there is, unless it is empty: the steps so far, or `None` where the limit
+/// Sets a run after what there is, unless it is empty: the steps so far, or `None` if the limit
 /// isn't kept.
 fn set_run(
     font: &Font,
@@ -203,7 +203,7 @@ fn push_space(terms: &Terms, items: &mut Vec<Item>) -> Result<(), AllocError>
     Ok(())
 }
 
-/// Sets a line's pieces, with a space between neighbours: the steps, or `None` where a byte is refused or
+/// Sets a line's pieces, with a space between neighbours: the steps, or `None` if a byte is refused or
 /// the limit isn't kept.
 pub(crate) fn set_portions(
     terms: &Terms,

@@ -9,7 +9,7 @@ use crate::writing::write_made;
 use lig_kern::Item;
 use tfm_tables::Font;
 
-/// So many bytes are copied, however short the text is: a number that the processor copies at once.
+/// This many bytes are copied, however short the text is: a number that the processor copies at once.
 const BYTES: usize = 24;
 
 /// Copies bytes as one value, which takes no test.
@@ -111,7 +111,7 @@ impl ReadyTexts {
         }
     }
 
-    /// The text of an item, where it is ready.
+    /// The text of an item, if it is ready.
     pub fn of(&self, item: &Item) -> Option<&ReadyText>
         ensures { IfSome result (λ made. drop made.now.start made.now.bytes ≡ item_text item.now) }
     {

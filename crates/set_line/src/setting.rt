@@ -13,7 +13,7 @@ use tfm_tables::Font;
 /// A line of more bytes isn't set.
 const MOST_BYTES: usize = 65_535;
 
-/// The first byte that is neither a space nor a character, where the terms refuse such a byte.
+/// The first byte that is neither a space nor a character, if the terms refuse such a byte.
 fn missing(font: &Font, policy: Policy, line: &[u8]) -> Option<LineRefusal>
     ensures { result ≡ missing_in policy font.now line.now }
 {
@@ -26,7 +26,7 @@ fn missing(font: &Font, policy: Policy, line: &[u8]) -> Option<LineRefusal>
 }
 
 /// Sets a line that isn't too long, into a list with room for as many items as lines mostly have, which
-/// the answer holds as it is: `None` where a byte is refused or the limit isn't kept.
+/// the answer holds as it is: `None` if a byte is refused or the limit isn't kept.
 fn set_items(alloc: Global, terms: &Terms, line: &[u8]) -> Result<Option<Outcome>, AllocError>
     requires { length line.now ≤ 65535 }
     ensures { IfOk result (λ outcome. MatchOption outcome
@@ -79,7 +79,7 @@ fn outcome(alloc: Global, terms: &Terms, line: &[u8]) -> Result<Outcome, AllocEr
     }
 }
 
-/// Sets a line: the answer that the definitions give it with these terms. Where memory is wanted the
+/// Sets a line: the answer that the definitions give it with these terms. If memory is refused the
 /// line is handed back; a line that is too long, or has a missing character that the terms refuse,
 /// gets its refusal also then.
 pub fn set(alloc: Global, terms: Arc<Terms>, line: Line) -> Result<Answer, (Line, OutOfMemory)>

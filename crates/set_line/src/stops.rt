@@ -5,7 +5,7 @@ ghost use Rattle.set_line.specs.Stops.{AreStops, is_stop as is_stop_in};
 use crate::Policy;
 use tfm_tables::Font;
 
-/// Whether a piece ends at a byte: at a space, and where missing characters are refused at each of them.
+/// Whether a piece ends at a byte: at a space, and if missing characters are refused at each of them.
 fn is_stop(font: &Font, policy: Policy, byte: u8) -> bool
     ensures { result ≡ is_stop_in policy font.now byte }
 {

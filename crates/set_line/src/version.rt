@@ -5,4 +5,6 @@ pub enum Version {
     One,
     /// Also how many steps it took.
     Two,
+    /// What version two tells, as a JSON object.
+    Json,
 }

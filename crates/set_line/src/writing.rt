@@ -8,10 +8,10 @@ use crate::ready::ReadyTexts;
 use itoa::write_digits;
 use lig_kern::Item;
 
-/// The text of an item has at most so many bytes.
+/// The text of an item has at most this many bytes.
 pub(crate) const ITEM_BYTES: usize = 17;
 
-/// A ready text is copied with so many bytes before it, at most, when it is as long as any.
+/// A ready text is copied with this many bytes before it, at most, when it is as long as any.
 pub(crate) const BYTES_BEFORE: usize = 7;
 
 /// Writes a byte before `end`.
