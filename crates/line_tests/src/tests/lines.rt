@@ -3,6 +3,7 @@ mod feeds;
 mod hostile;
 mod memory;
 mod numbers;
+mod objects;
 mod parts;
 mod readers;
 mod records;

@@ -118,7 +118,7 @@ pub fn refuses<R: Abort + AllocGlobal>(
     has_records(rt, case, terms, line, (&text, &text))
 }
 
-/// The line is refused with one step less than it takes, where that is a limit.
+/// The line is refused with one step less than it takes, if that is a limit.
 pub fn refuses_with_one_step_less<R: Abort + AllocGlobal>(
     rt: &R,
     case: &str,
@@ -162,7 +162,7 @@ pub fn sets_row<R: Abort + AllocGlobal>(
     Ok(())
 }
 
-/// A line of this byte, so many times, is set without a step, as so many of this item.
+/// A line of this byte, this many times, is set without a step, as this many of this item.
 pub fn sets_many<R: Abort + AllocGlobal>(
     rt: &R,
     case: &str,

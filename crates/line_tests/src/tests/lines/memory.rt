@@ -1,6 +1,6 @@
 //! Refused memory. With memory enough the lines are set, recorded and cut. The kit's option
 //! `--fail-alloc` refuses one request: the first ones make what is handed in, and the next ones are
-//! the call's own. A refused one of these is told as want of memory, what was handed in is as
+//! the call's own. A refused one of these is told as refused memory, what was handed in is as
 //! before, and the same call then succeeds. The text that is printed says which it was.
 use super::answers::refusal_of;
 use super::samples::{endless, ligature};
@@ -38,7 +38,7 @@ const SPACE: Item = Item::Space(218_453);
 
 const SKIPPED: Item = Item::Skipped(100);
 
-/// Terms with a font, and a line; `None` where memory was refused.
+/// Terms with a font, and a line; `None` if memory was refused.
 fn ready(
     alloc: Global,
     file: Result<Vec<u8>, AllocError>,
@@ -86,7 +86,7 @@ fn sets_again<R: Abort + AllocGlobal>(
     }
 }
 
-/// Sets a line: the right answer, or want of memory and the line handed back.
+/// Sets a line: the right answer, or refused memory and the line handed back.
 fn sets_or_refuses<R: Abort + AllocGlobal + Print>(
     rt: &R,
     bytes: &[u8],
@@ -216,7 +216,10 @@ const EARLIER: &[u8] = b"1 end complete 0\n";
 
 const RECORD: &[u8] = b"2:1 set 962560 steps 4 c97=327680 k-40960 c99=491520 k20480 c98=163840\n";
 
-/// An answer, and earlier text; `None` where memory was refused.
+const OBJECT: &[u8] = b"{\"source\":2,\"line\":1,\"width\":962560,\"steps\":4,\"items\":[\
+[\"c\",97,327680],[\"k\",-40960],[\"c\",99,491520],[\"k\",20480],[\"c\",98,163840]]}\n";
+
+/// An answer, and earlier text; `None` if memory was refused.
 fn answered(alloc: Global) -> Option<(Answer, Vec<u8>)> {
     let (terms, line) = ready_to_set(alloc, b"ab")?;
     let answer = set(alloc, terms, line).ok()?;
@@ -224,26 +227,41 @@ fn answered(alloc: Global) -> Option<(Answer, Vec<u8>)> {
     Some((answer, out))
 }
 
-#[test]
-fn a_refused_request_of_a_record(rt: HostRuntime) -> Result<(), Fail> {
+/// The record in this version is these bytes; where memory is refused, it leaves the text as it was.
+fn records<R: Abort + AllocGlobal + Print>(
+    rt: &R,
+    version: Version,
+    bytes: &[u8],
+) -> Result<(), Fail> {
     let Some((answer, mut out)) = answered(rt.alloc()) else {
         return Ok(println!(rt; "refused before the record")?);
     };
-    let told = match record(2, 1, &answer, Version::Two, &mut out) {
+    let told = match record(2, 1, &answer, version, &mut out) {
         Ok(()) => "recorded",
         Err(OutOfMemory) => {
             assert_eq!(rt; out.as_slice(), EARLIER);
-            record(2, 1, &answer, Version::Two, &mut out)?;
+            record(2, 1, &answer, version, &mut out)?;
             "out of memory, and recorded again"
         }
     };
     assert!(rt; out.starts_with(EARLIER));
-    assert!(rt; out.ends_with(RECORD));
-    assert_eq!(rt; out.len(), EARLIER.len().saturating_add(RECORD.len()));
+    assert!(rt; out.ends_with(bytes));
+    assert_eq!(rt; out.len(), EARLIER.len().saturating_add(bytes.len()));
     Ok(println!(rt; "{told}")?)
 }
 
-/// The text is cut into its three lines; `None` where memory was refused.
+#[test]
+fn a_refused_request_of_a_record(rt: HostRuntime) -> Result<(), Fail> {
+    records(&rt, Version::Two, RECORD)
+}
+
+/// The text grows again and again, and so memory may be refused after a part of the object.
+#[test]
+fn a_refused_request_of_an_object(rt: HostRuntime) -> Result<(), Fail> {
+    records(&rt, Version::Json, OBJECT)
+}
+
+/// The text is cut into its three lines; `None` if memory was refused.
 fn cuts<R: Abort + AllocGlobal>(rt: &R) -> Option<()> {
     let found = lines(rt.alloc(), b"ab\n\nc").ok()?;
     assert_eq!(rt; found.len(), 3);

@@ -1,4 +1,4 @@
-//! Records with other numbers of source and place, and behind other text.
+//! Records with other numbers of source and place, and after other text.
 use super::answers::{LIMIT, answer_to, terms_of};
 use super::samples::{endless, plain};
 use set_line::{Answer, Limit, Policy, Terms, Version, record};
@@ -37,7 +37,7 @@ static ENDLESS: [Numbered; 2] = [
     (1, 2, "a", "1:2 set 327680 c97=327680\n"),
 ];
 
-/// The records are these, one behind the other.
+/// The records are these, one after the other.
 fn has_numbered_records<R: Abort + AllocGlobal>(
     rt: &R,
     terms: &Arc<Terms>,

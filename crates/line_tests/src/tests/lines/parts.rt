@@ -51,7 +51,7 @@ impl Sample {
         Ok(file)
     }
 
-    /// The counts of a font of so many words, with so many characters and instructions.
+    /// The counts of a font of this many words, with this many characters and instructions.
     fn counts(&self, lf: u16, characters: u16, steps: u16) -> [u16; 12] {
         let lh = count(self.texts.len()).wrapping_add(2);
         let ec = characters.wrapping_add(self.first).wrapping_sub(1);

@@ -13,7 +13,7 @@ fn steps_of(limit: Option<Limit>) -> Option<u32> {
     Some(limit.get())
 }
 
-/// A number of steps, and the limit's where it is one.
+/// A number of steps, and the limit's if it is one.
 static STEPS: [(u32, Option<u32>); 7] = [
     (0, None),
     (16_777_217, None),
@@ -83,7 +83,7 @@ fn setting_of(answer: &Answer) -> Option<(&[Item], i64, u32)> {
     }
 }
 
-/// The items of `d a`, where d is skipped.
+/// The items of `d a`, if d is skipped.
 static D_A: [Item; 3] = [
     Item::Skipped(100),
     Item::Space(218_453),

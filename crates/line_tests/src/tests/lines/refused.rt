@@ -42,7 +42,7 @@ static TOO_LONG: [(&str, usize, &str); 4] = [
     ("a", 1_048_575, "too-long 1048575"),
 ];
 
-/// A line of this byte, so many times, is refused so.
+/// A line of this byte, this many times, is refused so.
 fn refuses_long<R: Abort + AllocGlobal>(
     rt: &R,
     terms: &Arc<Terms>,

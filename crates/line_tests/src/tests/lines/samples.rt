@@ -52,7 +52,7 @@ pub fn ligature(alloc: Global, op: u8) -> Result<Vec<u8>, AllocError> {
     PLAIN.file(alloc, &[from(A, 0), B, from(C, 2)], &ligature_program(op))
 }
 
-/// The same behind a header with a coding scheme, a family and a face.
+/// The same after a header with a coding scheme, a family and a face.
 pub fn ligature_with_long_header(alloc: Global, op: u8) -> Result<Vec<u8>, AllocError> {
     Sample {
         texts: &TEXTS,

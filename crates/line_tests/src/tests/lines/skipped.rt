@@ -5,7 +5,7 @@ use set_line::Policy;
 use std::process::Abort;
 use std::test::Fail;
 
-/// The lines are set so where missing characters are skipped, and refused with one step less.
+/// The lines are set so if missing characters are skipped, and refused with one step less.
 fn skips_each<R: Abort + AllocGlobal>(
     rt: &R,
     case: &str,

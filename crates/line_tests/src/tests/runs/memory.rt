@@ -1,6 +1,6 @@
 //! Refused memory. With memory enough the words are set. The kit's option `--fail-alloc` refuses
 //! one request: the first ones make the font and the list, and the next ones are the word's own. A
-//! refused one of these is told as want of memory, the list is then as before, and the text that is
+//! refused one of these is told as refused memory, the list is then as before, and the text that is
 //! printed says which it was.
 use super::samples::{endless, ligature};
 use lig_kern::{Item, WordFault, set_word};
@@ -27,7 +27,7 @@ const SET: [Item; 5] = [
     },
 ];
 
-/// Sets a word behind what stands in the list: the right answer, or want of memory and the list as
+/// Sets a word after what stands in the list: the right answer, or refused memory and the list as
 /// before.
 fn sets_or_refuses<R: Abort + AllocGlobal + Print>(rt: &R, earlier: &[Item]) -> Result<(), Fail> {
     let Ok(font) = ligature(rt.alloc(), 3) else {

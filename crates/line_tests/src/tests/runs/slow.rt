@@ -119,7 +119,7 @@ impl Configuration {
         })
     }
 
-    /// One step; `None` where the current element is the last one.
+    /// One step; `None` if the current element is the last one.
     fn step(&self, alloc: Global, font: &Font) -> Result<Option<Configuration>, AllocError> {
         let (before, rest) = self.elements.split_at(self.cursor.min(self.elements.len()));
         let [left, right, after @ ..] = rest else {
@@ -151,7 +151,7 @@ impl Configuration {
     }
 }
 
-/// A word's items and steps, where these are at most so many.
+/// A word's items and steps, if these are at most this many.
 pub fn slow_set(
     alloc: Global,
     font: &Font,
