@@ -27,7 +27,7 @@ module _ {T : Type 0} where
   held_count (Some item ∷ places) zero (suc b) c e = ap suc (held_count places zero b c (grind (arith, e)))
   held_count (Some item ∷ places) (suc a) b c e = absurd (grind (arith, e))
 
-  -- an item in the place behind the others
+  -- an item in the place after the others
   behind : (places : List (Option T)) (a b c i : ℕ) (item : T) → i ≡ a + b → taken_places places ≡ filled a b (suc c)
       → (taken_places (slice_set places i (Some item)) ≡ filled a (suc b) c) × (held (slice_set places i (Some item)) ≡ held places ++ item ∷ [])
   behind [] zero zero c i item at e = absurd (grind (arith, e))

@@ -1,4 +1,4 @@
--- Lines and their answers, one behind the other.
+-- Lines and their answers, one after the other.
 use Rattle.std.proofs.Common.{arith, ◌≡◌, ℕ, suc, ◌+◌, ◌-◌, ◌≤◌, List, [], ◌∷◌, ◌++◌, length, take, drop, min, refl, ap, sym, ◌∙◌, length-append, length-take, zero}
 use Rattle.std.proofs.lemmas.List.{take-append-le, map-append}
 use Rattle.std.proofs.Math.Seq.{take-add, take-append_seam}
@@ -11,7 +11,7 @@ pub length-answers_of : (terms : TermsValue) (lines : List (List ℕ)) → lengt
 length-answers_of terms [] = refl
 length-answers_of terms (line ∷ lines) = ap suc (length-answers_of terms lines)
 
--- the rest behind the first of a rest
+-- the rest after the first of a rest
 pub drop_next : (n : ℕ) (lines rest : List (List ℕ)) (line : List ℕ) → drop n lines ≡ line ∷ rest → drop (n + 1) lines ≡ rest
 drop_next zero [] rest line e = absurd (grind (arith, e))
 drop_next (suc n) [] rest line e = absurd (grind (arith, e))

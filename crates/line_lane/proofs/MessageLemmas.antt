@@ -1,10 +1,10 @@
--- Messages that came one behind the other.
+-- Messages that came one after the other.
 use Rattle.std.proofs.Common.{arith, ◌≡◌, true, List, [], ◌∷◌, ◌++◌, Option, Some, None, refl, ap, sym, ◌∙◌, append-nil}
 use Rattle.std.specs.Prelude.{is_some}
 use Rattle.line_lane.specs.Messages.{MessageValue, first_end, items_of, end_of, are_none, stand_behind, ends_last}
 
 module _ {E : Type 0} where
-  -- two ends are none only where both are
+  -- two ends are none only if both are
   pub ends_none : (first later : Option E) → first_end first later ≡ None → (first ≡ None) × (later ≡ None)
   ends_none None later none = (refl, none)
   ends_none (Some end) later none = absurd (grind (arith, none))
@@ -14,7 +14,7 @@ module _ {E : Type 0} where
   first_end-none (Some end) = refl
 
 module _ {T E : Type 0} where
-  -- behind messages without an end the end is that of the next
+  -- after messages without an end the end is that of the next
   pub end_of-append : (messages : List (MessageValue T E)) (next : MessageValue T E) → end_of messages ≡ None
       → end_of (messages ++ next ∷ []) ≡ next.ending
   end_of-append [] next unended = first_end-none next.ending
@@ -22,7 +22,7 @@ module _ {T E : Type 0} where
       let none = ends_none message.ending (end_of messages) unended in
       rw none.0 (end_of-append messages next none.1)
 
-  -- behind messages without an end one more may come
+  -- after messages without an end one more may come
   pub ends_last-append : (messages : List (MessageValue T E)) (next : MessageValue T E) → end_of messages ≡ None
       → ends_last (messages ++ next ∷ []) ≡ true
   ends_last-append [] next unended = alone next.ending
@@ -48,14 +48,14 @@ module _ {T E : Type 0} where
   none_behind_next None messages more end last closed further = further last closed
   none_behind_next (Some first) messages more end last closed further = rest_none messages more last
 
-  -- behind messages with an end there are none
+  -- after messages with an end there are none
   pub none_behind : (messages more : List (MessageValue T E)) (end : E) → ends_last (messages ++ more) ≡ true
       → end_of messages ≡ Some end → more ≡ []
   none_behind [] more end last closed = absurd (grind (arith, closed))
   none_behind (message ∷ messages) more end last closed =
       none_behind_next message.ending messages more end last closed (λ l c. none_behind messages more end l c)
 
-  -- where an end came, all that was sent came
+  -- if an end came, all that was sent came
   pub met_whole : (came more all : List (MessageValue T E)) → came ++ more ≡ all → ends_last all ≡ true → is_some (end_of came) ≡ true
       → (items_of came ≡ items_of all) × (end_of came ≡ end_of all)
   met_whole came more all e last closed = by (end_of came) refl closed

@@ -155,7 +155,7 @@ not_given_up (Some Complete) end made other = refl
 not_given_up (Some (SourceFailed fault)) end made other = refl
 not_given_up (Some GaveUp) end made other = absurd (other (given_up-end (Some GaveUp) end refl made))
 
--- it is made only behind that of the source
+-- it is made only after that of the source
 end_with-source : (lines : List (List ℕ)) (source : Option SourceEnd) (end : LaneEnd) → end_with lines source ≡ Some end → is_some source ≡ true
 end_with-source [] (Some source) end e = refl
 end_with-source [] None end e = absurd (grind (arith, e))

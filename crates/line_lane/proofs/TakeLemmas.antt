@@ -1,4 +1,4 @@
--- Answers that come out, one behind the other.
+-- Answers that come out, one after the other.
 use Rattle.std.proofs.Common.{arith, ◌≡◌, ◌-◌, Bool, true, false, List, [], ◌∷◌, ◌++◌, length, take, Option, refl, ap, sym, ◌∙◌, append_assoc}
 use Rattle.std.specs.Prelude.{is_some}
 use Rattle.set_line.specs.Answer.{AnswerValue}
@@ -6,7 +6,7 @@ use Rattle.line_lane.specs.Takes.{TakesFrom}
 use Rattle.line_lane.specs.declared.ending.LaneEnd.{LaneEnd}
 use Rattle.line_lane.proofs.LaneLemmas.{taken_front}
 
--- what was taken, where some answers of all are held
+-- what was taken, if some answers of all are held
 abbrev taken_of : List AnswerValue → List AnswerValue → List AnswerValue
 taken_of all held = take (length all - length held) all
 

@@ -56,7 +56,7 @@ IsFed f line g =
     × (open_lines g ≡ (if stays_open f then open_lines f ++ line ∷ [] else []))
     × (pushes g ≡ (if stays_open f then pushes f else pushes f + 1))
 
--- a line comes back as closed from a closed feeder; from another for want of room, only where the block would be full with it
+-- a line comes back as closed from a closed feeder; from another for lack of room, only if the block would be full with it
 abbrev pub IsRefusal : Option SourceEnd → ℕ → List (List ℕ) → List ℕ → OfferFault → Type 0
 IsRefusal (Some end) block lines line (Closed back) = back ≡ line
 IsRefusal (Some end) block lines line (NoRoom back) = ⊥
@@ -118,7 +118,7 @@ SameSetter s t = SameReceiver s.receiver t.receiver × SameSender s.sender t.sen
 abbrev pub SameTaker : Taker → Taker → Type 0
 SameTaker s t = SameReceiver s.receiver t.receiver
 
--- each ring has places for so many messages
+-- each ring has places for this many messages
 abbrev pub HasPlaces : ℕ → Feeder → Setter → Taker → Type 0
 HasPlaces places f s t =
     (producer_capacity f.sender.producer ≡ places) × (consumer_capacity s.receiver.consumer ≡ places)

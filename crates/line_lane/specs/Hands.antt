@@ -53,7 +53,7 @@ abbrev pub taker_state : AnswerReceiver → Bool → TakerState
 taker_state receiver ended =
     record { taken = items_taken receiver; held = receiver.hand.items; ending = end_received receiver; ended = ended }
 
--- the answers taken and those held are all that were received; it has ended only with none held, behind an end
+-- the answers taken and those held are all that were received; it has ended only with none held, after an end
 abbrev pub IsAllReceived : AnswerReceiver → Bool → Type 0
 IsAllReceived receiver ended =
     (items_taken receiver ++ receiver.hand.items ≡ items_received receiver)

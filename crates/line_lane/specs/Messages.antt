@@ -3,7 +3,7 @@
 use Rattle.std.specs.Prelude.{Bool, true, false, List, [], ◌∷◌, flat_map, Option, Some, None, refl}
 use Rattle.std.specs.Coded.{Coded, code_by, coded×, coded_list, coded_option}
 
--- a message has items, and perhaps an end, which stands behind them
+-- a message has items, and perhaps an end, which stands after them
 pub record MessageValue (T E : Type 0) : Type 0 where
   pub items : List T
   pub ending : Option E
@@ -38,7 +38,7 @@ module _ {T E : Type 0} where
   end_of [] = None
   end_of (message ∷ messages) = first_end message.ending (end_of messages)
 
-  -- whether no message stands behind one with this end; behind one without, what is said of the others
+  -- whether no message stands after one with this end; after one without, what is said of the others
   abbrev pub stand_behind : Option E → List (MessageValue T E) → Bool → Bool
   stand_behind (Some end) messages otherwise = are_none messages
   stand_behind None messages otherwise = otherwise

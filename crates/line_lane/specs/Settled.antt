@@ -16,7 +16,7 @@ use Rattle.line_lane.specs.declared.ending.LaneEnd.TheVariants.{GaveUp}
 abbrev pub is_over : Feeder → Setter → Taker → Bool
 is_over f s t = is_some (feeder_end f) && (is_done (state_of s) && (hands_of t).ended)
 
--- a lane that is over with this end: the one that was taken. It is that of a lane given up exactly where the setter made that;
+-- a lane that is over with this end: the one that was taken. It is that of a lane given up exactly if the setter made that;
 -- else it is that of the feeder, and what was taken are the answers of all lines that were fed
 abbrev pub IsSettled : Feeder → Setter → Taker → LaneEnd → Type 0
 IsSettled f s t end =
@@ -35,7 +35,7 @@ pub record AreAsBefore (f : Feeder) (s : Setter) (t : Taker) (g : Feeder) (u : S
   pub taker : SameTaker t v
   pub hands : hands_of v ≡ hands_of t
 
--- ends that have looked at each other: on each ring what was received is the first of what was sent, and all of it behind an end
+-- ends that have looked at each other: on each ring what was received is the first of what was sent, and all of it after an end
 pub record HaveMet (f : Feeder) (s : Setter) (t : Taker) : Type 0 where
   pub first_lines : IsFirstOf (state_of s).seen (items_sent f.sender)
   pub all_lines : is_some (state_of s).source ≡ true → (state_of s).seen ≡ items_sent f.sender

@@ -7,7 +7,7 @@ use Rattle.line_lane.specs.declared.ending.LaneEnd.{LaneEnd}
 use Rattle.line_lane.specs.declared.took.Took.{Took}
 use Rattle.line_lane.specs.declared.took.Took.TheVariants.{Nothing, Answer, End}
 
--- the answers given out, those still held, the end behind them where that was received, and whether the end was given out
+-- the answers given out, those still held, the end after them if that was received, and whether the end was given out
 pub record TakerState : Type 0 where
   pub taken : List AnswerValue
   pub held : List AnswerValue
@@ -18,12 +18,12 @@ pub record TakerState : Type 0 where
 abbrev pub empty_handed : TakerState
 empty_handed = record { taken = []; held = []; ending = None; ended = false }
 
--- an answer comes out of those held; where none is held it comes out of a message, which is received only before the end
+-- an answer comes out of those held; if none is held it comes out of a message, which is received only before the end
 abbrev pub TakesFrom : List AnswerValue → AnswerValue → TakerState → TakerState → Type 0
 TakesFrom (first ∷ rest) answer s t = (answer ≡ first) × (t.held ≡ rest) × (t.ending ≡ s.ending)
 TakesFrom [] answer s t = (s.ending ≡ None) × (length t.held < 8)
 
--- an end comes out where no answer is held: the one that was received. It comes again and again, and changes nothing then
+-- an end comes out if no answer is held: the one that was received. It comes again and again, and changes nothing then
 abbrev pub TakesEnd : LaneEnd → TakerState → TakerState → Type 0
 TakesEnd end s t =
     (s.held ≡ [])
@@ -31,7 +31,7 @@ TakesEnd end s t =
     × (t ≡ record { taken = s.taken; held = []; ending = Some end; ended = true })
     × (s.ended ≡ true → t ≡ s)
 
--- a take: nothing, only where no answer and no end is in hand; an answer, which is right for its terms and line; or the end
+-- a take: nothing, only if no answer and no end is in hand; an answer, which is right for its terms and line; or the end
 abbrev pub Takes : TakerState → Took → TakerState → Type 0
 Takes s Nothing t = (t ≡ s) × (s.held ≡ []) × (s.ending ≡ None) × (s.ended ≡ false)
 Takes s (Answer answer) t =

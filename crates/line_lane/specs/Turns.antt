@@ -12,7 +12,7 @@ use Rattle.line_lane.specs.declared.ending.LaneEnd.TheVariants.{Complete, Source
 use Rattle.line_lane.specs.declared.turn.Turn.{Turn}
 use Rattle.line_lane.specs.declared.turn.Turn.TheVariants.{Idle, Moved, Blocked, Done}
 
--- terms; the lines seen, and the source's end where that was seen; of these lines the ones in hand; the answers given, and
+-- terms; the lines seen, and the source's end if that was seen; of these lines the ones in hand; the answers given, and
 -- those in hand; whether the answers in hand, with their end, are a message ready to be sent; and the end that the setter
 -- made, in hand or sent; and how many messages it has received and sent
 pub record SetterState : Type 0 where
@@ -54,12 +54,12 @@ end_with (line ∷ lines) source = None
 abbrev pub after_send : SetterState → SetterState
 after_send s = record s { given = s.given ++ s.answers; answers = []; ready = false; pushed = s.pushed + 1 }
 
--- the first line in hand is set; with the last one the answers are ready, and the end where one was seen
+-- the first line in hand is set; with the last one the answers are ready, and the end if one was seen
 abbrev pub after_set : SetterState → List ℕ → List (List ℕ) → SetterState
 after_set s line rest =
     record s { lines = rest; answers = s.answers ++ answer_of s.terms line ∷ []; ready = are_none rest; made = end_with rest s.source }
 
--- a message is seen: its lines are in hand, and where it has none the message to be sent is ready
+-- a message is seen: its lines are in hand, and if it has none the message to be sent is ready
 abbrev pub after_message : SetterState → MessageValue (List ℕ) SourceEnd → SetterState
 after_message s m =
     record s { seen = s.seen ++ m.items; source = m.ending; lines = m.items; ready = are_none m.items; made = end_with m.items m.ending; popped = s.popped + 1 }
@@ -78,7 +78,7 @@ given_up s = if is_some s.made then s else record s { lines = []; ready = true; 
 
 -- ---- turns
 
--- a move where no message is ready: a line is set, or where there is none a message of up to eight lines is seen, which
+-- a move if no message is ready: a line is set, or if there is none a message of up to eight lines is seen, which
 -- needs that the source's end wasn't
 abbrev pub MovesOn : List (List ℕ) → SetterState → SetterState → Type 0
 MovesOn (line ∷ rest) s t = t ≡ after_set s line rest
@@ -89,7 +89,7 @@ abbrev pub Moves : Bool → SetterState → SetterState → Type 0
 Moves true s t = t ≡ after_send s
 Moves false s t = MovesOn s.lines s t
 
--- a turn: done exactly where nothing remains; blocked only with a ready message; idle only with none and no line in hand,
+-- a turn: done exactly if nothing remains; blocked only with a ready message; idle only with none and no line in hand,
 -- before the source's end; else a move
 abbrev pub Turns : SetterState → Turn → SetterState → Type 0
 Turns s Done t = (t ≡ s) × (is_done s ≡ true)

@@ -51,7 +51,7 @@ impl Feeder {
         Ok(())
     }
 
-    /// Sends the open block, where it has lines: false, and nothing changes, where no room for it was
+    /// Sends the open block, if it has lines: false, and nothing changes, if no room for it was
     /// seen.
     pub fn flush(&mut self) -> bool
         ensures lane { SameFeeder self.old self.new }
@@ -72,7 +72,7 @@ impl Feeder {
     }
 
     /// Closes the feeder: the open block is sent, with this end last. False, and nothing changes,
-    /// where no room for it was seen. On a closed feeder the first end stands.
+    /// if no room for it was seen. On a closed feeder the first end stands.
     pub fn close(&mut self, end: SourceEnd) -> bool
         ensures lane { SameFeeder self.old self.new }
         ensures fed { fed self.new ≡ fed self.old }

@@ -7,7 +7,7 @@ use crate::receiver::Receiver;
 use crate::sender::Sender;
 
 /// Lets the ends of one ring look at each other. Nothing is sent or received. What was received is the
-/// first of what was sent, and all of it behind an end.
+/// first of what was sent, and all of it after an end.
 pub(crate) fn meet<T: Drop, E: Copy>(sender: &mut Sender<T, E>, receiver: &mut Receiver<T, E>)
     requires { IsPair sender.old.producer receiver.old.consumer }
     ensures sender { IsSenderAsBefore sender.old sender.new }

@@ -8,7 +8,7 @@ use std::marker::Model;
 /// How many items a message has room for.
 const ROOM: usize = 8;
 
-/// Up to eight items, and perhaps an end behind them. The items stand side by side, from the place
+/// Up to eight items, and perhaps an end after them. The items stand side by side, from the place
 /// `first` on; all other places are empty.
 #[derive(Drop)]
 pub(crate) struct Message<T, E> {
@@ -52,7 +52,7 @@ impl<T: Drop, E: Copy> Message<T, E> {
         self.count
     }
 
-    /// Its end, where it has one.
+    /// Its end, if it has one.
     pub fn ending(&self) -> Option<E>
         ensures { result ≡ self.now.ending }
     {

@@ -13,7 +13,7 @@ use set_line::{OutOfMemory, Terms};
 use std::alloc::Global;
 use std::sync::Arc;
 
-/// Opens a lane with these terms: two rings with places for so many messages each, and blocks of so
+/// Opens a lane with these terms: two rings with places for this many messages each, and blocks of this
 /// many lines. Memory is taken for the rings' places alone.
 pub fn open(
     alloc: Global,

@@ -52,7 +52,7 @@ impl<T: Drop, E: Copy> Receiver<T, E> {
         }
     }
 
-    /// Receives a message into the hand: false, and nothing changes, where none was seen.
+    /// Receives a message into the hand: false, and nothing changes, if none was seen.
     pub fn receive(&mut self) -> bool
         requires { end_received self.old ≡ None }
         ensures same { SameReceiver self.old self.new }

@@ -41,7 +41,7 @@ impl<T: Drop, E: Copy> Sender<T, E> {
         }
     }
 
-    /// Whether there is room for a message: false where none was seen.
+    /// Whether there is room for a message: false if none was seen.
     pub fn has_room(&mut self) -> bool
         ensures same { SameSender self.old self.new }
         ensures sent { sent self.new.producer ≡ sent self.old.producer }

@@ -35,7 +35,7 @@ fn lane_end(end: SourceEnd) -> LaneEnd
     }
 }
 
-/// Whether no line is left to be set. The answers get their end then, where the lines have one.
+/// Whether no line is left to be set. The answers get their end then, if the lines have one.
 fn finish(lines: &Message<Line, SourceEnd>, answers: &mut Message<Answer, LaneEnd>) -> bool
     ensures ready { result ≡ are_none lines.now.items }
     ensures items { answers.new.items ≡ answers.old.items }
@@ -77,7 +77,7 @@ impl Setter {
         self.receiver.hand.ending().is_some() && self.has_made_end() && !self.ready
     }
 
-    /// Sends the ready message, where room for it is seen.
+    /// Sends the ready message, if room for it is seen.
     fn send(&mut self) -> Turn
         requires { self.old.ready ≡ true }
         ensures lane { SameSetter self.old self.new }
@@ -91,7 +91,7 @@ impl Setter {
         Turn::Moved
     }
 
-    /// Sets the first line in hand. Where memory is wanted it stays in hand.
+    /// Sets the first line in hand. If memory is refused it stays in hand.
     fn set_first(&mut self) -> Result<Turn, OutOfMemory>
         requires ready { self.old.ready ≡ false }
         requires lines { are_none (state_of self.old).lines ≡ false }
@@ -117,7 +117,7 @@ impl Setter {
         }
     }
 
-    /// Receives a message, where one is seen. A setter that gave up drops its lines.
+    /// Receives a message, if one is seen. A setter that gave up drops its lines.
     fn receive(&mut self) -> Turn
         requires ready { self.old.ready ≡ false }
         requires lines { (state_of self.old).lines ≡ [] }
@@ -138,10 +138,10 @@ impl Setter {
         Turn::Moved
     }
 
-    /// Does the first of these that applies: `Done`, where nothing remains to be done; a ready message
-    /// is sent, or `Blocked` where no room for it is seen; the first line in hand is set; a message is
-    /// received, or `Idle` where none is seen. Once all lines of a message are set, their answers, with
-    /// the end where it had one, are the ready message. Where memory is wanted, the line stays in hand
+    /// Does the first of these that applies: `Done`, if nothing remains to be done; a ready message
+    /// is sent, or `Blocked` if no room for it is seen; the first line in hand is set; a message is
+    /// received, or `Idle` if none is seen. Once all lines of a message are set, their answers, with
+    /// the end if it had one, are the ready message. If memory is refused, the line stays in hand
     /// and nothing changes: a later turn tries it again.
     #[tactic(auto, using(crate::proofs::TurnLemmas::turns_kept))]
     pub fn turn(&mut self) -> Result<Turn, OutOfMemory>

@@ -44,7 +44,7 @@ fn look(feeder: &mut Feeder, setter: &mut Setter, taker: &mut Taker)
     meet(&mut setter.sender, &mut taker.receiver);
 }
 
-/// Settles a lane, whose three ends come from one `open`. A lane is over where the feeder is closed,
+/// Settles a lane, whose three ends come from one `open`. A lane is over if the feeder is closed,
 /// the setter is done, and the taker gave out the end, which is answered; else the ends come back as
 /// they were. In any case the answers taken are those of the first of the lines fed; of a lane that is
 /// over and wasn't given up they are the answers of all. An end that the taker gave out, other than

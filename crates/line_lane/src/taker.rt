@@ -36,7 +36,7 @@ impl Taker {
     }
 
     /// Takes the next answer, or the end once all answers were taken, which comes again then; or
-    /// nothing, where no message was seen.
+    /// nothing, if no message was seen.
     pub fn take(&mut self) -> Took
         ensures lane { SameTaker self.old self.new }
         ensures took { Takes (hands_of self.old) result (hands_of self.new) }

@@ -13,17 +13,17 @@ static NUMBERS: [(usize, bool, bool); 8] = [
     (usize::MAX, false, false),
 ];
 
-/// What a capacity of so many messages tells.
+/// What a capacity of this many messages tells.
 fn messages_of(messages: usize) -> Option<usize> {
     Some(Capacity::new(messages)?.get())
 }
 
-/// What a block of so many lines tells.
+/// What a block of this many lines tells.
 fn lines_of(lines: usize) -> Option<usize> {
     Some(Block::new(lines)?.get())
 }
 
-/// The number itself where it is one, else nothing.
+/// The number itself if it is one, else nothing.
 fn wanted(number: usize, is_one: bool) -> Option<usize> {
     if is_one { Some(number) } else { None }
 }

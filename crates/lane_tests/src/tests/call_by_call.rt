@@ -54,7 +54,7 @@ const ONE_LINE_A_MESSAGE: [Step; 19] = [
     DONE,
 ];
 
-/// Where the setter is done, giving up changes nothing.
+/// If the setter is done, giving up changes nothing.
 const GIVEN_UP_LATE: [Step; 2] = [GiveUp, DONE];
 
 const EIGHT_LINES_A_MESSAGE: [Step; 18] = [

@@ -17,7 +17,7 @@ pub struct Lane {
 }
 
 impl Lane {
-    /// A lane with places for so many messages and blocks of so many lines; `None` where memory was
+    /// A lane with places for this many messages and blocks of this many lines; `None` if memory was
     /// refused.
     pub fn open(alloc: Global, terms: Arc<Terms>, capacity: usize, block: usize) -> Option<Lane> {
         let (capacity, block) = sizes(capacity, block)?;
@@ -47,7 +47,7 @@ impl Lane {
         }
     }
 
-    /// The lane's end, where it is over.
+    /// The lane's end, if it is over.
     pub fn end(self) -> Option<LaneEnd> {
         self.settle().ok()
     }

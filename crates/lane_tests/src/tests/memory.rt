@@ -1,6 +1,6 @@
 //! Refused memory. With memory enough a lane is opened, and its lines are set. The kit's option
 //! `--fail-alloc` refuses one request: the first ones make what is handed in, and the next ones are
-//! the call's own. A refused one of these is told as want of memory. An opening then succeeds when
+//! the call's own. A refused one of these is told as refused memory. An opening then succeeds when
 //! it is made again, and a line that was in hand is set by the next turn. The text that is printed
 //! says which it was.
 use super::lane::Lane;
@@ -18,7 +18,7 @@ fn opens(alloc: Global, terms: Arc<Terms>) -> bool {
     Lane::open(alloc, terms, 2, 2).is_some()
 }
 
-/// Opens a lane with these terms, again where memory was refused, and says what became of it.
+/// Opens a lane with these terms, again if memory was refused, and says what became of it.
 fn told_of_opening<R: Abort + AllocGlobal>(rt: &R, terms: Arc<Terms>) -> &'static str {
     let again = terms.clone().expect(rt, "memory");
     if opens(rt.alloc(), terms) {
@@ -37,7 +37,7 @@ fn a_refused_request_of_an_opening(rt: HostRuntime) -> Result<(), Fail> {
     Ok(println!(rt; "{told}")?)
 }
 
-/// Feeds a line of a and b; `None` where memory was refused, or it isn't accepted.
+/// Feeds a line of a and b; `None` if memory was refused, or it isn't accepted.
 fn feed(alloc: Global, lane: &mut Lane) -> Option<()> {
     lane.feeder.offer(line(alloc, "ab")?).ok()
 }
@@ -52,7 +52,7 @@ fn fill(alloc: Global, lane: &mut Lane) -> bool {
     lane.feeder.close(SourceEnd::Complete)
 }
 
-/// A closed lane with two lines in its first message, and one in the next; `None` where memory was
+/// A closed lane with two lines in its first message, and one in the next; `None` if memory was
 /// refused.
 fn ready(alloc: Global) -> Option<Lane> {
     let mut lane = Lane::open(alloc, ligature(alloc)?, 2, 2)?;
@@ -63,7 +63,7 @@ fn ready(alloc: Global) -> Option<Lane> {
     }
 }
 
-/// The setter's turns where no memory is refused.
+/// The setter's turns if no memory is refused.
 static TURNS: [Turn; 8] = [
     Turn::Moved, // two lines are received
     Turn::Moved, // one is set
@@ -75,7 +75,7 @@ static TURNS: [Turn; 8] = [
     Turn::Done,
 ];
 
-/// Takes this turn, again where memory was refused. Whether it was.
+/// Takes this turn, again if memory was refused. Whether it was.
 fn takes_turn<R: Abort>(rt: &R, lane: &mut Lane, wanted: Turn) -> bool {
     let turn = lane.setter.turn();
     if turn == Err(OutOfMemory) {

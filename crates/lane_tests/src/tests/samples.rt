@@ -37,7 +37,7 @@ static LIGATURE: [u32; 25] = [
     0x0005_5555, // the space, a third of the size: 218,453
 ];
 
-/// Terms with the font of these words, at its design size; `None` where memory was refused.
+/// Terms with the font of these words, at its design size; `None` if memory was refused.
 fn terms(alloc: Global, words: &[u32]) -> Option<Arc<Terms>> {
     let mut file = Vec::with_capacity(alloc, 100).ok()?;
     for word in words {
@@ -48,23 +48,23 @@ fn terms(alloc: Global, words: &[u32]) -> Option<Arc<Terms>> {
     Arc::new(alloc, terms).ok()
 }
 
-/// Terms with the plain font; `None` where memory was refused.
+/// Terms with the plain font; `None` if memory was refused.
 pub fn plain(alloc: Global) -> Option<Arc<Terms>> {
     terms(alloc, &PLAIN)
 }
 
-/// Terms with the font with programs; `None` where memory was refused.
+/// Terms with the font with programs; `None` if memory was refused.
 pub fn ligature(alloc: Global) -> Option<Arc<Terms>> {
     terms(alloc, &LIGATURE)
 }
 
-/// A line of this text; `None` where memory was refused.
+/// A line of this text; `None` if memory was refused.
 pub fn line(alloc: Global, text: &str) -> Option<Line> {
     let bytes = Vec::from_slice(alloc, text.as_bytes()).ok()?;
     Some(Line::new(bytes))
 }
 
-/// The capacity and the block of a lane, where they are in range.
+/// The capacity and the block of a lane, if they are in range.
 pub fn sizes(capacity: usize, block: usize) -> Option<(Capacity, Block)> {
     Some((Capacity::new(capacity)?, Block::new(block)?))
 }

@@ -89,7 +89,7 @@ fn answers<R: Abort + AllocGlobal>(rt: &R, lane: &mut Lane, step: Step) -> bool 
     }
 }
 
-/// Settles the lane where the step says so; `None` where it is over then.
+/// Settles the lane if the step says so; `None` if it is over then.
 fn stays(lane: Lane, step: Step) -> Option<Lane> {
     if matches!(step, Step::Stay) {
         lane.settle().err()

@@ -1,5 +1,5 @@
 //! A caller that holds two lanes. Their ends go through lists, and what comes out of each lane is
-//! proved to be the answers of its own lines, by the contracts of the calls alone. Where memory is
+//! proved to be the answers of its own lines, by the contracts of the calls alone. If memory is
 //! refused, or there is too little room, it stops.
 ghost use Rattle.std.specs.Prelude.{◌≡◌, [], ◌∷◌, ◌++◌};
 ghost use Rattle.std.specs.Arc.{arc_value};
@@ -24,7 +24,7 @@ fn feed_all<R: Abort>(rt: &R, feeder: &mut Feeder, lines: Vec<Line>)
     assert!(rt; feeder.close(SourceEnd::Complete), "room");
 }
 
-/// Takes so many turns.
+/// Takes this many turns.
 fn take_turns<R: Abort>(rt: &R, setter: &mut Setter, turns: u32)
     ensures lane { SameSetter setter.old setter.new }
     ensures terms { (state_of setter.new).terms ≡ (state_of setter.old).terms }
