@@ -82,7 +82,7 @@ answers_ended lane other events end =
     none true answers = append-nil answers
     none false answers = append-nil answers
 
--- what stands at a place, whatever is said where none is
+-- what stands at a place, whatever is said if none is
 get_or_any : (xs : List (List AnswerValue)) (i : ℕ) (d e : List AnswerValue) → i < length xs → get_or xs i d ≡ get_or xs i e
 get_or_any [] i d e below = absurd (omega (arith, below))
 get_or_any (x ∷ xs) zero d e below = refl

@@ -24,7 +24,7 @@ rest_too : {X : Type 0} (P : X → Type 0) (x : X) (xs : List X) → All P (x �
 rest_too P x xs all k d below = all (suc k) d (omega (arith, below))
 
 module _ {S : Type 0} where
-  -- where every lane is complete, each source has all its answers
+  -- if every lane is complete, each source has all its answers
   pub answered : (to_come : S → Option (List (List ℕ))) (failed : S → Option SourceFault) (sources : List (S × Arc TermsValue Global))
       (reports : List (LaneReport S)) → AreReported to_come failed sources reports → All (λ lane. lane.end ≡ Complete) reports
       → AreAnswered to_come sources reports
@@ -69,6 +69,7 @@ module _ {S : Type 0} where
       λ answers end source. record {
         terms = arc_value s.1;
         before = to_come s.0;
+        failed = failed s.0;
         answers = answers;
         end = end;
         after = to_come source;

@@ -1,5 +1,5 @@
 -- What a lane that has ended says of its source.
-use Rattle.std.proofs.Common.{rules, arith, ◌≡◌, ℕ, ◌≤◌, List, length, take, Option, Some, None, Bool, true, false, refl, ap, sym, subst, ◌∙◌}
+use Rattle.std.proofs.Common.{rules, arith, ◌≡◌, ◌⊎◌, inl, inr, ℕ, ◌≤◌, List, [], ◌∷◌, length, take, Option, Some, None, Bool, true, false, refl, ap, sym, subst, ◌∙◌}
 use Rattle.std.proofs.lemmas.List.{length-map, length-take, take-take, take-map}
 use Rattle.std.specs.Prelude.{min, is_some}
 use Rattle.std.specs.Arc.{arc_value}
@@ -21,7 +21,7 @@ use Rattle.line_lane.specs.declared.ending.SourceEnd.{SourceEnd}
 use Rattle.line_lane.specs.declared.ending.SourceEnd.TheVariants.{Complete as SourceComplete, Failed}
 use Rattle.line_lane.specs.declared.ending.LaneEnd.{LaneEnd}
 use Rattle.line_lane.specs.declared.ending.LaneEnd.TheVariants.{Complete, SourceFailed, GaveUp}
-use Rattle.set_run.specs.Given.{AreFirst, AreAll, EndsWith, AreFed, HandsBack}
+use Rattle.set_run.specs.Given.{AreFirst, AreAll, EndsWith, HandsBack, IsFedFrom}
 use Rattle.set_run.specs.Reports.{AreFirstAnswers, AreAllAnswers, IsClosed}
 use Rattle.set_run.specs.Lanes.{IsFresh, IsFinished}
 use Rattle.set_run.specs.Events.{LaneEvent, answers_among, lane_events}
@@ -29,6 +29,7 @@ use Rattle.set_run.specs.Collecting.{IsToldFirst}
 use Rattle.set_run.specs.declared.source_thread.Feeding.{Feeding}
 use Rattle.set_run.specs.declared.lane_taker.LaneTaker.{LaneTaker}
 use Rattle.set_run.specs.declared.run_end.ClosedLane.{ClosedLane}
+use Rattle.set_run.proofs.GivenLemmas.{given_more}
 
 -- the first part of a first part
 first_of_first : {T : Type 0} (given lines : List T) (n : ℕ) → given ≡ take (length given) lines → n ≤ length given → take n given ≡ take n lines
@@ -37,13 +38,23 @@ first_of_first given lines n first few = ap (take n) first ∙ take-take n (leng
 few : (n m : ℕ) → n ≡ min n m → n ≤ m
 few n m e = omega (arith, e)
 
+-- there are no more answers than lines that were given
+no_more : (terms : TermsValue) (answers : List AnswerValue) (given : List (List ℕ)) → pipeline terms given answers → length answers ≤ length given
+no_more terms answers given line =
+    let n = length answers in
+    let long : n ≡ min n (length given) = ap length line ∙ length-map (take n given) (answer_of terms) ∙ length-take n given in
+    few n (length given) long
+
+-- a list without an item
+none_of : {T : Type 0} (xs : List T) (n : ℕ) → length xs ≤ n → n ≡ 0 → xs ≡ []
+none_of [] n short none = refl
+none_of (x ∷ xs) n short none = absurd (omega (arith, short, none))
+
 -- answers of the first of the lines that were given are those of the first that were to come
 answers_first : (terms : TermsValue) (answers : List AnswerValue) (given : List (List ℕ)) (before : Option (List (List ℕ)))
     → AreFirst given before → pipeline terms given answers → AreFirstAnswers terms answers before
 answers_first terms answers given (Some lines) first line =
-    let n = length answers in
-    let long : n ≡ min n (length given) = ap length line ∙ length-map (take n given) (answer_of terms) ∙ length-take n given in
-    line ∙ ap (answers_of terms) (first_of_first given lines n first (few n (length given) long))
+    line ∙ ap (answers_of terms) (first_of_first given lines (length answers) first (no_more terms answers given line))
 answers_first terms answers given None first line = (take (length answers) given, line)
 
 -- the answers of all lines that were given
@@ -67,6 +78,30 @@ failed_lane : (given : List (List ℕ)) (source : Option SourceEnd) (end : LaneE
 failed_lane given None end before after fails fault is ends failed = absurd (search rules)
 failed_lane given (Some SourceComplete) end before after fails fault is ends failed = absurd (search rules)
 failed_lane given (Some (Failed other)) end before after fails fault is ends failed = ends ∙ search rules
+
+-- a lane that is complete ended with a source that hasn't failed
+unfailed_lane : (given : List (List ℕ)) (source : Option SourceEnd) (before after : Option (List (List ℕ))) (fails : Option SourceFault)
+    → option_map lane_end_of source ≡ Some Complete → EndsWith source given before after fails → fails ≡ None
+unfailed_lane given None before after fails is ends = absurd (search rules)
+unfailed_lane given (Some SourceComplete) before after fails is ends = ends.0
+unfailed_lane given (Some (Failed fault)) before after fails is ends = absurd (search rules)
+
+abbrev end_of_fault : SourceFault → Option SourceFault → LaneEnd
+end_of_fault other (Some fault) = SourceFailed fault
+end_of_fault other None = SourceFailed other
+
+-- a lane whose source has this fault ended with it, or was given up
+fault_or_up : (given : List (List ℕ)) (source : Option SourceEnd) (end : LaneEnd) (before after : Option (List (List ℕ)))
+    (fails : Option SourceFault) (fault : SourceFault) → fails ≡ Some fault
+    → ((end ≡ GaveUp → ⊥) → option_map lane_end_of source ≡ Some end) → EndsWith source given before after fails
+    → (end ≡ SourceFailed fault) ⊎ (end ≡ GaveUp)
+fault_or_up given source GaveUp before after fails fault has is ends = inr refl
+fault_or_up given source Complete before after fails fault has is ends =
+    let none : fails ≡ None = unfailed_lane given source before after fails (is (λ no. absurd (search rules))) ends in
+    let both : None ≡ Some fault = sym none ∙ has in absurd (search rules)
+fault_or_up given source (SourceFailed other) before after fails fault has is ends =
+    let own : fails ≡ Some other = failed_lane given source (SourceFailed other) before after fails other (is (λ no. absurd (search rules))) ends refl in
+    inl (ap (end_of_fault fault) (sym own ∙ has))
 
 -- a lane that is over with an end that isn't that of one given up
 going_end : (f : Feeder) (s : Setter) (t : Taker) (end : LaneEnd) → IsSettled f s t end → (end ≡ GaveUp → ⊥)
@@ -97,9 +132,10 @@ module _ {S : Type 0} where
   closed_of to_come failed source start back s t first last lane told from fresh same handed finished came =
       let terms = arc_value source.1 in let answers = answers_among told in let given = fed back.feeder in
       let own : (state_of t).terms ≡ terms = grind (rules, fresh, same) in
-      let was : AreFed (feeder_end back.feeder) given (to_come source.0) (to_come lane.source) (failed lane.source) =
-      subst (λ x. AreFed (feeder_end back.feeder) given (to_come source.0) (to_come x) (failed x)) (sym finished.0)
-      (subst (λ x. AreFed (feeder_end back.feeder) given (to_come x) (to_come back.source) (failed back.source)) from (handed.1 fresh.1 fresh.2))
+      let was : IsFedFrom (feeder_end back.feeder) given (to_come source.0) (to_come lane.source) (failed source.0) (failed lane.source) =
+      subst (λ x. IsFedFrom (feeder_end back.feeder) given (to_come source.0) (to_come x) (failed source.0) (failed x)) (sym finished.0)
+      (subst (λ x. IsFedFrom (feeder_end back.feeder) given (to_come x) (to_come back.source) (failed x) (failed back.source)) from
+      (handed.1 fresh.1 fresh.2))
       in let line : pipeline terms given answers =
       pipeline_first terms given answers (taken last.taker) came.1 (subst (λ x. pipeline x given (taken last.taker)) own finished.2)
       in let over : (end : LaneEnd) → lane.end ≡ Some end → (end ≡ GaveUp → ⊥)
@@ -113,14 +149,23 @@ module _ {S : Type 0} where
       in (
         came.0 ∙ ap (lane_events answers) (sym finished.1),
         (
-          answers_first terms answers given (to_come source.0) was.0 line,
+          answers_first terms answers given (to_come source.0) was.lines.0 line,
           (λ is.
               let facts = over Complete is (λ no. absurd (search rules)) in
               complete_lane terms answers given (feeder_end back.feeder) Complete (to_come source.0) (to_come lane.source) (failed lane.source) facts.0
-              was.1 facts.1 refl),
+              was.lines.1 facts.1 refl),
           (λ fault is.
               let facts = over (SourceFailed fault) is (λ no. absurd (search rules)) in
               failed_lane given (feeder_end back.feeder) (SourceFailed fault) (to_come source.0) (to_come lane.source) (failed lane.source) fault facts.0
-              was.1 refl),
+              was.lines.1 refl),
+          (λ none. given_more (length answers) (length given) (to_come source.0) (to_come lane.source) (no_more terms answers given line) (was.left none)),
+          (λ fault had.
+              let own = was.stays fault had in (
+                own.1,
+                none_of answers (length given) (no_more terms answers given line) (ap length own.0),
+                (λ end is.
+                    fault_or_up given (feeder_end back.feeder) end (to_come source.0) (to_come lane.source) (failed lane.source) fault own.1
+                    (λ going. (over end is going).0) was.lines.1),
+              )),
         ),
       )

@@ -1,4 +1,5 @@
 pub mod FeedLemmas
+pub mod GivenLemmas
 pub mod ReadingLemmas
 pub mod Zips
 pub mod SameEnds

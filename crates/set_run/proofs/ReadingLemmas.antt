@@ -18,14 +18,14 @@ use Rattle.set_run.specs.Reading.{MovesLine, fault_of, lines_to_come}
 
 -- ---- the bytes in the buffer
 
--- where no line feed is found, there is none
+-- if no line feed is found, there is none
 pub none_found : (bytes : List ℕ) → position (λ byte. byte == 10) bytes ≡ None → HasNoFeed bytes
 none_found bytes none = λ k d within is.
     let far : length bytes ≤ position_or_len (λ byte. byte == 10) bytes = grind (arith, nat_tests) in
     let fails : (get_or bytes k d == 10) ≡ false = fails_before_first (λ byte. byte == 10) bytes k d (omega arith) in
     grind (arith, nat_tests)
 
--- where one is found, it stands behind bytes that are none
+-- if one is found, it stands after bytes that are none
 pub found : (bytes : List ℕ) (at : ℕ) → position (λ byte. byte == 10) bytes ≡ Some at → HasNoFeed (take at bytes) × (bytes ≡ take at bytes ++ 10 ∷ drop (at + 1) bytes)
 found bytes at here = (none, split)
   where
@@ -56,7 +56,7 @@ in_hand : (items buffer view : List ℕ) (start end : ℕ) → drop start (take 
 in_hand items buffer view start end same read =
     ap (λ xs. take (end - start) (drop start xs)) read ∙ between_is items start end ∙ same
 
--- the bytes up to the line feed were moved behind the line, and the rest stays in the buffer
+-- the bytes up to the line feed were moved after the line, and the rest stays in the buffer
 pub moves_to_feed : (items buffer view line longer : List ℕ) (start end at : ℕ) → drop start (take end items) ≡ view
     → buffer ≡ items → position (λ byte. byte == 10) (take (end - start) (drop start buffer)) ≡ Some at
     → longer ≡ line ++ take at (take (end - start) (drop start buffer))
@@ -76,7 +76,7 @@ moves_to_feed items buffer view line longer start end at same read here appended
     whole : view ≡ take at view ++ 10 ∷ drop (start + (at + 1)) (take end items)
     whole = (found view at at_first).1 ∙ ap (λ xs. take at view ++ 10 ∷ xs) rest
 
--- all bytes were moved behind the line
+-- all bytes were moved after the line
 pub moves_all : (items buffer view line longer : List ℕ) (start end : ℕ) → drop start (take end items) ≡ view
     → buffer ≡ items → position (λ byte. byte == 10) (take (end - start) (drop start buffer)) ≡ None
     → longer ≡ line ++ take (end - start) (drop start buffer)

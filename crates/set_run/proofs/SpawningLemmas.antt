@@ -1,7 +1,7 @@
 -- A level of a run: its lane begins, the levels below come back, and its lane ends.
 use Rattle.std.proofs.Common.{rules, arith, ◌≡◌, ℕ, ◌+◌, ◌%◌, zero, suc, Bool, true, false, List, [], ◌∷◌, ◌++◌, length, get_or, Option, None, refl, ap, sym, subst, ◌∙◌}
 use Rattle.std.proofs.lemmas.List.{length-append}
-use Rattle.std.specs.Prelude.{set, All, IfSome, IsSome, IsTrue, is_none}
+use Rattle.std.specs.Prelude.{set, All, IsSome, IsTrue, is_none}
 use Rattle.std.specs.List.{AllZip}
 use Rattle.std.specs.Arc.{arc_value}
 use Rattle.std.specs.declared.sync.Arc.{Arc}

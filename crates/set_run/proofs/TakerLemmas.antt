@@ -18,7 +18,7 @@ use Rattle.set_run.proofs.EventLemmas.{answered_more, answers_back, ended_more, 
 pub whole_first : {T : Type 0} (xs : List T) → IsFirstOf xs xs
 whole_first xs = sym (take-length xs)
 
--- where all came, the first came
+-- if all came, the first came
 pub told_first : (told : List LaneEvent) (t : LaneTaker) → IsTold told t → IsToldFirst told t
 told_first told t (all, end) =
     let back : answers_among told ≡ taken t.taker = ap answers_among all ∙ answers_back (taken t.taker) t.end in (

@@ -4,7 +4,7 @@ use Rattle.std.specs.Prelude.{set, MatchOption}
 use Rattle.line_lane.specs.declared.setter.Setter.{Setter}
 use Rattle.set_run.specs.Workers.{HasOneMore}
 
--- what stands at a place, whatever is said where none is
+-- what stands at a place, whatever is said if none is
 at_place : (workers : List (List Setter)) (i : ℕ) (worker : List Setter) → i < length workers → worker ≡ get_or workers i worker → get_or workers i [] ≡ worker
 at_place [] i worker below at = absurd (omega (arith, below))
 at_place (h ∷ hs) zero worker below at = sym at

@@ -1,4 +1,4 @@
--- Takers, and what came of their lanes among the events that a collector was given.
+-- Takers, and what was given of their lanes among the events that a collector was given.
 -- This project's own.
 use Rattle.std.specs.Prelude.{◌≡◌, ◌≤◌, ℕ, ◌+◌, Bool, true, false, List, [], ◌∷◌, length, None, is_some}
 use Rattle.line_lane.specs.Rings.{IsFirstOf}
@@ -14,18 +14,18 @@ SameLane a b = SameTaker a.taker b.taker
 abbrev pub IsFreshTaker : LaneTaker → Type 0
 IsFreshTaker t = (taken t.taker ≡ []) × (taker_end t.taker ≡ None) × (t.end ≡ None)
 
--- all that was taken of a lane came of it
+-- all that was taken of a lane was given of it
 abbrev pub IsTold : List LaneEvent → LaneTaker → Type 0
 IsTold told t = (told ≡ lane_events (taken t.taker) t.end) × (t.end ≡ taker_end t.taker)
 
--- the first of the answers that were taken came of it; and all of them, where it has ended
+-- the first of the answers that were taken were given of it; and all of them, if it has ended
 abbrev pub IsToldFirst : List LaneEvent → LaneTaker → Type 0
 IsToldFirst told t =
     (told ≡ lane_events (answers_among told) t.end)
     × IsFirstOf (answers_among told) (taken t.taker)
     × (is_some t.end ≡ true → (answers_among told ≡ taken t.taker) × (t.end ≡ taker_end t.taker))
 
--- `IsTold` where nothing was refused, else `IsToldFirst`
+-- `IsTold` if nothing was refused, else `IsToldFirst`
 abbrev pub IsToldBy : Bool → List LaneEvent → LaneTaker → Type 0
 IsToldBy true told t = IsTold told t
 IsToldBy false told t = IsToldFirst told t
@@ -35,11 +35,11 @@ abbrev pub AllLanes : (List LaneEvent → LaneTaker → Type 0) → ℕ → List
 AllLanes P last events [] = Unit {0}
 AllLanes P last events (t ∷ ts) = P (of_lane (last + length ts) events) t × AllLanes P last events ts
 
--- nothing more came of other lanes than this one
+-- nothing more was given of other lanes than this one
 abbrev pub SameOthers : ℕ → List Event → List Event → Type 0
 SameOthers lane before after = (other : ℕ) → (other ≡ lane → ⊥) → of_lane other after ≡ of_lane other before
 
--- nothing more came of lanes from this number on
+-- nothing more was given of lanes from this number on
 abbrev pub SameFrom : ℕ → List Event → List Event → Type 0
 SameFrom lanes before after = (other : ℕ) → lanes ≤ other → of_lane other after ≡ of_lane other before
 

@@ -4,21 +4,21 @@ use Rattle.std.specs.Prelude.{ℕ, ◌==◌, Bool, true, false, List, [], ◌∷
 use Rattle.set_line.specs.Answer.{AnswerValue}
 use Rattle.line_lane.specs.declared.ending.LaneEnd.{LaneEnd}
 
--- what came of a lane: its next answer, or its end
+-- what is given of a lane: its next answer, or its end
 pub data LaneEvent : Type 0 where
   Answered : AnswerValue → LaneEvent
   Ended : LaneEnd → LaneEvent
 
--- an event: the number of a lane, and what came of it
+-- an event: the number of a lane, and what is given of it
 abbrev pub Event : Type 0
 Event = ℕ × LaneEvent
 
--- what came of one lane, in order
+-- what was given of one lane, in order
 abbrev pub of_lane : ℕ → List Event → List LaneEvent
 of_lane lane [] = []
 of_lane lane (event ∷ events) = if event.0 == lane then event.1 ∷ of_lane lane events else of_lane lane events
 
--- the answers among what came of a lane
+-- the answers among what was given of a lane
 abbrev pub answers_among : List LaneEvent → List AnswerValue
 answers_among [] = []
 answers_among (Answered answer ∷ events) = answer ∷ answers_among events
@@ -28,7 +28,7 @@ answers_among (Ended end ∷ events) = answers_among events
 abbrev pub answers_in : ℕ → List Event → List AnswerValue
 answers_in lane events = answers_among (of_lane lane events)
 
--- what comes of a lane with these answers: each of them, in order, and behind them its end, where it has one
+-- what is given of a lane with these answers: each of them, in order, and after them its end, if it has one
 abbrev pub lane_events : List AnswerValue → Option LaneEnd → List LaneEvent
 lane_events [] None = []
 lane_events [] (Some end) = Ended end ∷ []

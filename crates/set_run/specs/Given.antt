@@ -5,6 +5,7 @@ use Rattle.line_lane.specs.Ends.{fed, feeder_end, SameFeeder}
 use Rattle.line_lane.specs.declared.ending.SourceEnd.{SourceEnd}
 use Rattle.line_lane.specs.declared.ending.SourceEnd.TheVariants.{Complete, Failed}
 use Rattle.line_lane.specs.declared.fault.SourceFault.{SourceFault}
+use Rattle.set_run.specs.Sources.{HasGiven}
 use Rattle.set_run.specs.declared.source_thread.Feeding.{Feeding}
 
 -- these lines were given, and the rest of those to come remain; of a source that doesn't tell its lines nothing is said
@@ -23,7 +24,7 @@ abbrev pub AreAll : List (List ℕ) → Option (List (List ℕ)) → Option (Lis
 AreAll given (Some lines) after = (given ≡ lines) × (after ≡ Some [])
 AreAll given None after = ⊤
 
--- how a source's lines end: with none to come from a source that hasn't failed, or with the fault that it has met; where the
+-- how a source's lines end: with none to come from a source that hasn't failed, or with the fault that it has met; if the
 -- run is stopped nothing is said
 abbrev pub EndsWith : Option SourceEnd → List (List ℕ) → Option (List (List ℕ)) → Option (List (List ℕ)) → Option SourceFault → Type 0
 EndsWith (Some Complete) given before after fails = (fails ≡ None) × AreAll given before after
@@ -34,12 +35,22 @@ EndsWith None given before after fails = ⊤
 abbrev pub AreFed : Option SourceEnd → List (List ℕ) → Option (List (List ℕ)) → Option (List (List ℕ)) → Option SourceFault → Type 0
 AreFed end given before after fails = AreFirst given before × EndsWith end given before after fails
 
+-- a source that had failed before has given nothing since, and keeps its fault
+abbrev pub StaysFailed : Option SourceFault → List (List ℕ) → Option SourceFault → Type 0
+StaysFailed failed given fails = (fault : SourceFault) → failed ≡ Some fault → (given ≡ []) × (fails ≡ Some fault)
+
+-- the same lines, and what is left of their source, unless it has failed; lines, the source before and after
+pub record IsFedFrom (end : Option SourceEnd) (given : List (List ℕ)) (before after : Option (List (List ℕ))) (failed fails : Option SourceFault) : Type 0 where
+  pub lines : AreFed end given before after fails
+  pub left : fails ≡ None → HasGiven (length given) before after
+  pub stays : StaysFailed failed given fails
+
 module _ {S : Type 0} where
-  -- a source and its feeder, as a thread hands them back: it is the same lane's, and where nothing had been fed, what was fed
+  -- a source and its feeder, as a thread hands them back: it is the same lane's, and if nothing had been fed, what was fed
   -- are the source's lines, and its end is theirs
   abbrev pub HandsBack :
       (S → Option (List (List ℕ))) → (S → Option SourceFault) → Feeding S → Feeding S → Type 0
   HandsBack to_come failed a b =
       SameFeeder a.feeder b.feeder
       × (fed a.feeder ≡ [] → feeder_end a.feeder ≡ None
-      → AreFed (feeder_end b.feeder) (fed b.feeder) (to_come a.source) (to_come b.source) (failed b.source))
+      → IsFedFrom (feeder_end b.feeder) (fed b.feeder) (to_come a.source) (to_come b.source) (failed a.source) (failed b.source))

@@ -43,7 +43,7 @@ module _ {S : Type 0} where
       × pipeline (state_of setter).terms (fed feeding.feeder) (taken lane.taker)
       × ((end : LaneEnd) → taker_end lane.taker ≡ Some end → (end ≡ GaveUp → ⊥) → IsSettled feeding.feeder setter lane.taker end)
 
-  -- a lane begins: its setter is given to a worker, its taker stands behind those of the other lanes, and its feeder beside the source
+  -- a lane begins: its setter is given to a worker, its taker stands after those of the other lanes, and its feeder beside the source
   abbrev pub Begins : ℕ → S × Arc TermsValue Global → Feeding S → Held → Held → Type 0
   Begins worker source feeding before after =
       (feeding.source ≡ source.0)

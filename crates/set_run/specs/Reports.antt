@@ -1,6 +1,6 @@
 -- What a run reports of a source.
 -- This project's own.
-use Rattle.std.specs.Prelude.{◌≡◌, ◌≤◌, ℕ, ◌+◌, List, [], ◌∷◌, length, take, All, Option, Some, None, IsSome, IfSome}
+use Rattle.std.specs.Prelude.{◌≡◌, ◌≤◌, ℕ, ◌+◌, ◌⊎◌, List, [], ◌∷◌, length, take, All, Option, Some, None, IsSome, IfSome}
 use Rattle.std.specs.List.{AllZip}
 use Rattle.std.specs.Arc.{arc_value}
 use Rattle.std.specs.declared.sync.Arc.{Arc}
@@ -10,8 +10,9 @@ use Rattle.set_line.specs.Answer.{AnswerValue}
 use Rattle.line_lane.specs.Lane.{answers_of}
 use Rattle.line_lane.specs.declared.fault.SourceFault.{SourceFault}
 use Rattle.line_lane.specs.declared.ending.LaneEnd.{LaneEnd}
-use Rattle.line_lane.specs.declared.ending.LaneEnd.TheVariants.{Complete, SourceFailed}
+use Rattle.line_lane.specs.declared.ending.LaneEnd.TheVariants.{Complete, SourceFailed, GaveUp}
 use Rattle.set_run.specs.Events.{Event, answers_in, lane_events, of_lane}
+use Rattle.set_run.specs.Sources.{HasGiven}
 use Rattle.set_run.specs.declared.report.LaneReport.{LaneReport}
 use Rattle.set_run.specs.declared.run_end.ClosedLane.{ClosedLane}
 use Rattle.set_run.specs.declared.run_end.RunEnd.{RunEnd}
@@ -27,23 +28,36 @@ abbrev pub AreAllAnswers : TermsValue → List AnswerValue → Option (List (Lis
 AreAllAnswers terms answers (Some lines) after = (answers ≡ answers_of terms lines) × (after ≡ Some [])
 AreAllAnswers terms answers None after = (lines : List (List ℕ)) × (answers ≡ answers_of terms lines)
 
--- a lane as it was seen from outside: its terms; the lines that its source told at the call; its answers, and its end where it
--- has one; and of the source as it was handed back, the lines that it tells and its fault
+-- a lane as it was seen from outside: its terms; the lines that its source told at the call, and its fault, if it had failed;
+-- its answers, and its end if it has one; and of the source as it was handed back, the lines that it tells and its fault
 pub record LaneSeen : Type 0 where
   pub terms : TermsValue
   pub before : Option (List (List ℕ))
+  pub failed : Option SourceFault
   pub answers : List AnswerValue
   pub end : Option LaneEnd
   pub after : Option (List (List ℕ))
   pub fails : Option SourceFault
 
+-- a lane whose source had failed with this fault has no answers, and its end, if it has one and wasn't given up, is this fault;
+-- the source keeps it
+abbrev pub HadFailed : SourceFault → LaneSeen → Type 0
+HadFailed fault lane =
+    (lane.fails ≡ Some fault)
+    × (lane.answers ≡ [])
+    × ((end : LaneEnd) → lane.end ≡ Some end → (end ≡ SourceFailed fault) ⊎ (end ≡ GaveUp))
+
 -- what holds of a lane: it has the answers of the first of its source's lines; one that is complete has all of them, and its
--- source hasn't failed; and the source of one that ended with its fault has that fault
+-- source hasn't failed; the source of one that ended with its fault has that fault; whatever the end, a source that hasn't
+-- failed has given the first of its lines, as many as have answers or more, and tells the rest; and what holds of a source that
+-- had failed at the call
 abbrev pub IsTrueToSource : LaneSeen → Type 0
 IsTrueToSource lane =
     AreFirstAnswers lane.terms lane.answers lane.before
     × (lane.end ≡ Some Complete → (lane.fails ≡ None) × AreAllAnswers lane.terms lane.answers lane.before lane.after)
     × ((fault : SourceFault) → lane.end ≡ Some (SourceFailed fault) → lane.fails ≡ Some fault)
+    × (lane.fails ≡ None → HasGiven (length lane.answers) lane.before lane.after)
+    × ((fault : SourceFault) → lane.failed ≡ Some fault → HadFailed fault lane)
 
 module _ {S : Type 0} where
   -- the same, of a source, its terms, and the report of its lane
@@ -53,6 +67,7 @@ module _ {S : Type 0} where
       IsTrueToSource (record {
         terms = terms;
         before = to_come source;
+        failed = failed source;
         answers = report.answers;
         end = Some report.end;
         after = to_come report.source;
@@ -77,13 +92,14 @@ module _ {S : Type 0} where
       IsTrueToSource (record {
         terms = terms;
         before = to_come source;
+        failed = failed source;
         answers = answers;
         end = lane.end;
         after = to_come lane.source;
         fails = failed lane.source;
       })
 
-  -- the lanes of sources, of which the first has this number: what came of each of them are its answers and then its end, if it has
+  -- the lanes of sources, of which the first has this number: what was given of each of them are its answers and then its end, if it has
   -- one, and it is true to its source
   abbrev pub AreClosed :
       (S → Option (List (List ℕ))) → (S → Option SourceFault) → List Event → ℕ → List (S × Arc TermsValue Global) → List (ClosedLane S) → Type 0
@@ -95,12 +111,12 @@ module _ {S : Type 0} where
       × IsClosed to_come failed (arc_value source.1) source.0 (answers_in number events) lane
       × AreClosed to_come failed events (number + 1) sources lanes
 
--- nothing came of a lane that there isn't
+-- nothing was given of a lane that there isn't
 abbrev pub HasNoOthers : List Event → ℕ → Type 0
 HasNoOthers events lanes = (lane : ℕ) → lanes ≤ lane → of_lane lane events ≡ []
 
 module _ {S C : Type 0} where
-  -- what a collector was given in a run over these sources, where it had been given nothing: the events of their lanes and no others
+  -- what a collector was given in a run over these sources, if it had been given nothing: the events of their lanes and no others
   abbrev pub IsCollected :
       (S → Option (List (List ℕ))) → (S → Option SourceFault) → (C → List Event → Type 0) → List (S × Arc TermsValue Global) → RunEnd S → C → C → Type 0
   IsCollected to_come failed given sources run before after =
@@ -108,7 +124,7 @@ module _ {S C : Type 0} where
       → (events : List Event) × given after events × AreClosed to_come failed events 0 sources run.lanes.items × HasNoOthers events (length sources)
 
 module _ {S : Type 0} where
-  -- where no refusal is told, each lane has ended
+  -- if no refusal is told, each lane has ended
   abbrev pub IsWhole : RunEnd S → Type 0
   IsWhole run = run.refusal ≡ None → All (λ lane. IsSome lane.end) run.lanes.items
 

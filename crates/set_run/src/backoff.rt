@@ -1,7 +1,7 @@
 use std::hint;
 use std::time::Duration;
 
-/// How many looks in vain only let a moment pass.
+/// How many looks without result only let a moment pass.
 const LOOKS: u32 = 14;
 
 /// The moments become longer up to this look.
@@ -13,10 +13,10 @@ const LEAST_SLEEP: u64 = 1;
 /// How long in the end, when nobody wakes it: so a silent source costs next to nothing.
 const MOST_SLEEP: u64 = 50;
 
-/// After so many sleeps they become no longer.
+/// After this many sleeps they become no longer.
 const DOUBLINGS: u32 = 6;
 
-/// Looks in vain, one after the other.
+/// Looks without result, one after the other.
 #[derive(Drop)]
 pub(crate) struct Backoff {
     looks: u32,
@@ -31,7 +31,7 @@ impl Backoff {
         }
     }
 
-    /// A look wasn't in vain.
+    /// A look had a result.
     pub fn renew(&mut self) {
         self.looks = 0;
         self.sleeps = 0;

@@ -1,4 +1,4 @@
-/// What came of looks or turns.
+/// What looks or turns brought.
 #[derive(Clone, Copy, Debug, PartialEq, Eq)]
 pub(crate) enum Came {
     /// Nothing is left to be done.

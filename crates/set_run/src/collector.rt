@@ -17,7 +17,7 @@ pub enum Refusal {
     Output,
 }
 
-/// A collector is given each answer of a run as it comes, and the end of each lane behind its answers.
+/// A collector is given each answer of a run as it comes, and the end of each lane after its answers.
 /// Lanes have the numbers of their sources, from 0. Within a lane answers come in order; which lane is
 /// next isn't said. The thread that called the run makes all these calls.
 ///
@@ -44,7 +44,7 @@ pub trait Collector {
         ensures given { Gets given self.old (lane, Answered answer) (is_ok result) self.new }
         ensures refused { refused self.new (result_err result) };
 
-    /// A lane has ended so: nothing more comes of it. An end that is refused wasn't given.
+    /// A lane has ended so: nothing more follows. An end that is refused wasn't given.
     fn end(&mut self, lane: usize, end: LaneEnd) -> Result<(), Refusal>
         requires lane { lane < lanes self.old }
         requires willing { refused self.old None }

@@ -72,7 +72,7 @@ fn push<S: Drop>(closed: &mut Vec<ClosedLane<S>>, lane: ClosedLane<S>)
     }
 }
 
-/// A lane ends: it is settled, and stands behind the others.
+/// A lane ends: it is settled, and stands after the others.
 pub(crate) fn end<S: Drop>(
     number: usize,
     feeding: Feeding<S>,

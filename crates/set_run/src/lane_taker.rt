@@ -44,7 +44,7 @@ impl LaneTaker {
         }
     }
 
-    /// Takes what is there, at most so many answers.
+    /// Takes what is there, at most this many answers.
     pub fn take_some<C: Collector>(
         &mut self,
         lane: usize,

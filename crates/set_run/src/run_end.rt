@@ -7,7 +7,7 @@ use line_lane::LaneEnd;
 pub struct ClosedLane<S> {
     /// The source, as its thread handed it back.
     pub source: S,
-    /// How its lane ended; `None` where the collector wasn't given its end, as it refused that or
+    /// How its lane ended; `None` if the collector wasn't given its end, as it refused that or
     /// something before it.
     pub end: Option<LaneEnd>,
 }

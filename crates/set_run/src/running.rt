@@ -1,5 +1,5 @@
 //! A run whose answers are kept.
-ghost use Rattle.std.specs.Prelude.{All, ◌≡◌, ◌++◌, ◌∷◌, [], ◌<◌, ◌≤◌, ◌⊎◌, Err, IfOk, IfErr, IsSome, get_or, length, vec_len};
+ghost use Rattle.std.specs.Prelude.{All, ◌≡◌, ◌++◌, ◌∷◌, [], ◌<◌, ◌≤◌, ◌⊎◌, Err, IfOk, IfErr, IsSome, MatchResult, get_or, length, vec_len};
 ghost use Rattle.set_run.specs.declared.run_fault.RunFault.TheVariants.{TooManySources, OutOfMemory as NoMemory, Thread};
 ghost use Rattle.line_lane.specs.declared.ending.LaneEnd.TheVariants.{Complete};
 ghost use Rattle.set_run.specs.Reports.{AreAnswered, AreReported, AreReportsOf};
@@ -49,7 +49,8 @@ fn reports_of<S: Drop>(
 /// A lane whose setter is refused memory is given up, and the others go on. Faults:
 /// `TooManySources`, which is looked for first; `OutOfMemory`, if memory was refused to this
 /// thread; `Thread`, if a thread was refused. After a fault all threads that were started have
-/// been joined, and sources and answers are gone.
+/// been joined, and sources and answers are gone. Without sources the report is empty, and there is
+/// no fault but `OutOfMemory`.
 #[tactic(auto, using(crate::proofs::FinishedLemmas::answered))]
 pub fn run<R: Threads + Wait + Sync, S: LineSource + Send + Drop, G: Gate + Sync>(
     rt: &R,
@@ -61,6 +62,8 @@ pub fn run<R: Threads + Wait + Sync, S: LineSource + Send + Drop, G: Gate + Sync
     ensures lanes { IfOk result (λ report. AreReported S.to_come S.failed sources.items report) }
     ensures finished { IfOk result (λ report. All (λ lane. lane.end ≡ Complete) report
         → AreAnswered S.to_come sources.items report) }
+    ensures none { vec_len sources ≡ 0
+        → MatchResult result (λ report. report ≡ []) (λ fault. fault ≡ NoMemory) }
     ensures many { 64 < vec_len sources → result ≡ Err TooManySources }
     ensures few { vec_len sources ≤ 64
         → IfErr result (λ fault. (fault ≡ NoMemory) ⊎ (fault ≡ Thread)) }

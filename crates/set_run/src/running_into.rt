@@ -1,5 +1,5 @@
 //! A run over a collector.
-ghost use Rattle.std.specs.Prelude.{◌≡◌, ◌+◌, ◌<◌, ◌≤◌, ◌⊎◌, [], None, Err, IfOk, IfErr, vec_capacity, vec_len};
+ghost use Rattle.std.specs.Prelude.{◌≡◌, ◌+◌, ◌<◌, ◌≤◌, ◌⊎◌, [], None, Err, IfOk, IfErr, IsOk, vec_capacity, vec_len};
 ghost use Rattle.set_run.specs.declared.run_fault.RunFault.TheVariants.{TooManySources, OutOfMemory as NoMemory, Thread};
 ghost use Rattle.set_run.specs.Gathering.{Gathers};
 ghost use Rattle.set_run.specs.Reports.{IsCollected, IsWhole};
@@ -22,7 +22,8 @@ pub const MOST_SOURCES: usize = 64;
 
 /// As many workers without setters as there are to be threads that set lines.
 fn empty_workers(alloc: Global, threads: usize) -> Result<Vec<Worker>, AllocError>
-    ensures { IfOk result (λ workers. vec_len workers ≡ threads) }
+    ensures made { IfOk result (λ workers. vec_len workers ≡ threads) }
+    ensures none { threads ≡ 0 → IsOk result }
 {
     let mut workers = Vec::new(alloc);
     for made in 0..threads {
@@ -54,6 +55,7 @@ fn run_threads<
     requires room { vec_len sources ≤ vec_capacity closed }
     ensures gathered { IfOk result (λ back. Gathers S.to_come S.failed C.lanes C.given C.refused
         sources.items [] collector back.0.items back.1) }
+    ensures begun { vec_len sources ≡ 0 → vec_len workers ≡ 0 → IsOk result }
     ensures unbegun { IfErr result (λ unbegun. unbegun.collector ≡ collector) }
 {
     let signals = Signals::new(plan, workers.len());
@@ -70,6 +72,7 @@ fn run_threads<
             requires room { vec_len sources ≤ vec_capacity closed }
             ensures gathered { IfOk result (λ back. Gathers S.to_come S.failed C.lanes C.given C.refused
                 sources.items lanes.items collector back.0.items back.1) }
+            ensures begun { vec_len sources ≡ 0 → vec_len workers ≡ 0 → IsOk result }
             ensures unbegun { IfErr result (λ unbegun. unbegun.collector ≡ collector) }
         {
             let (closed, _, collected) = start_sources(
@@ -84,15 +87,15 @@ fn run_threads<
 /// come: a lane and a thread for each source, as many threads that set lines as the plan says, at most,
 /// and this thread to collect. It may wait: for its threads, for a source and for the gate.
 ///
-/// The collector comes back. Where the run ended, it was given the answers of the first lines of each
-/// source, in order, and behind them the lane's end, where that has one: the answers of all lines, where
-/// it is `Complete`. Where the collector refused something it isn't called any more, and the threads are
+/// The collector comes back. If the run ended, it was given the answers of the first lines of each
+/// source, in order, and after them the lane's end, if that has one: the answers of all lines, if
+/// it is `Complete`. If the collector refused something it isn't called any more, and the threads are
 /// stopped and joined; a source that is inside a read can't be stopped, so the run ends once none is.
 ///
 /// A lane whose setter is refused memory is given up, and the others go on. Faults:
 /// `TooManySources`, which is looked for first; `OutOfMemory`, if memory was refused to this thread;
 /// `Thread`, if a thread was refused. After a fault all threads that were started have been joined, the
-/// sources are gone, and the collector wasn't called.
+/// sources are gone, and the collector wasn't called. Without sources there is no fault.
 pub fn run_into<
     R: Threads + Wait + Sync,
     S: LineSource + Send + Drop,
@@ -114,6 +117,7 @@ pub fn run_into<
     ensures refused { IfOk result.1 (λ run. C.refused result.0 run.refusal) }
     ensures lanes { C.lanes result.0 ≡ C.lanes collector }
     ensures fault { IfErr result.1 (λ fault. result.0 ≡ collector) }
+    ensures none { vec_len sources ≡ 0 → IsOk result.1 }
     ensures many { 64 < vec_len sources → result.1 ≡ Err TooManySources }
     ensures few { vec_len sources ≤ 64
         → IfErr result.1 (λ fault. (fault ≡ NoMemory) ⊎ (fault ≡ Thread)) }

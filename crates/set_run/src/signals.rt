@@ -60,7 +60,7 @@ pub(crate) struct Signals {
 }
 
 impl Signals {
-    /// Those of a run of this plan, with so many threads that set lines.
+    /// Those of a run of this plan, with this many threads that set lines.
     pub fn new(plan: &Plan, threads: usize) -> Self {
         let half = (plan.capacity.get() / 2).max(1);
         let block = plan.block.get();
@@ -77,12 +77,12 @@ impl Signals {
         }
     }
 
-    /// How many lines half a ring has places for: before so many it isn't worth while to wake a thread.
+    /// How many lines half a ring has places for: before this many it isn't worth while to wake a thread.
     pub fn lines(&self) -> usize {
         self.lines
     }
 
-    /// How many moves a setter makes of so many lines.
+    /// How many moves a setter makes of this many lines.
     pub fn moves(&self) -> usize {
         self.moves
     }
@@ -121,7 +121,7 @@ impl Signals {
         self.source(lane).sleep(rt, backoff);
     }
 
-    /// A worker has moved lines of a lane. So many of its lanes have lower numbers.
+    /// A worker has moved lines of a lane. This many of its lanes have lower numbers.
     pub fn lines_set(&self, number: usize, lower: usize) {
         let lane = number.wrapping_add(lower.wrapping_mul(self.threads));
         self.source(lane).ring();
@@ -135,7 +135,7 @@ impl Signals {
         }
     }
 
-    /// This came of the collecting thread's look at a lane.
+    /// What the collecting thread's look at a lane brought.
     pub fn answers_taken(&self, lane: usize, came: Came) {
         if came == Came::Moved {
             self.worker_of(lane).ring();

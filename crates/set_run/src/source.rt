@@ -13,7 +13,7 @@ pub trait LineSource {
 
     ghost failed: { Self → Option Fault };
 
-    /// The next line; `None` where none is to come, now and later; or a fault, once and for all.
+    /// The next line; `None` if none is to come, now and later; or a fault, once and for all.
     fn next_line(&mut self) -> Result<Option<Line>, SourceFault>
         ensures { Reads (to_come self.old) (failed self.old) result (to_come self.new) (failed self.new) };
 

@@ -1,8 +1,9 @@
 //! The thread of a source: it feeds the source's lines to its lane.
-ghost use Rattle.std.specs.Prelude.{◌≡◌, ◌++◌, ◌∷◌, [], None, Some, IsTrue, if◌then◌else◌};
+ghost use Rattle.std.specs.Prelude.{◌≡◌, ◌++◌, ◌∷◌, [], None, Some, IsTrue, length, if◌then◌else◌};
 ghost use Rattle.line_lane.specs.Ends.{SameFeeder, fed, feeder_end};
 ghost use Rattle.line_lane.specs.Messages.{first_end};
-ghost use Rattle.set_run.specs.Given.{AreFed, HandsBack};
+ghost use Rattle.set_run.specs.Given.{AreFed, HandsBack, StaysFailed};
+ghost use Rattle.set_run.specs.Sources.{HasGiven};
 
 use crate::backoff::Backoff;
 use crate::signals::Signals;
@@ -28,7 +29,7 @@ impl<S: LineSource> Promise<Feeding<S>> for FedFrom<S> {
     ghost kept_by = { λ p r. HandsBack S.to_come S.failed p.0.value r };
 }
 
-/// Feeds a line, as soon as there is room for it; false where the run is stopped.
+/// Feeds a line, as soon as there is room for it; false if the run is stopped.
 fn offer<R: Wait>(rt: &R, signals: &Signals, number: usize, feeder: &mut Feeder, line: Line) -> bool
     ensures lane { SameFeeder feeder.old feeder.new }
     ensures end { feeder_end feeder.new ≡ feeder_end feeder.old }
@@ -50,7 +51,7 @@ fn offer<R: Wait>(rt: &R, signals: &Signals, number: usize, feeder: &mut Feeder,
     unreachable!()
 }
 
-/// Closes the feeder, as soon as there is room for its end; false where the run is stopped.
+/// Closes the feeder, as soon as there is room for its end; false if the run is stopped.
 fn close<R: Wait>(
     rt: &R,
     signals: &Signals,
@@ -86,7 +87,7 @@ fn tell(signals: &Signals, number: usize, unheard: usize, is_ready: bool) -> usi
     }
 }
 
-/// Feeds a source's lines, each after the one before it was accepted. How they end; `None` where the
+/// Feeds a source's lines, each after the one before it was accepted. How they end; `None` if the
 /// run is stopped.
 fn feed_lines<R: Wait, S: LineSource>(
     rt: &R,
@@ -99,6 +100,10 @@ fn feed_lines<R: Wait, S: LineSource>(
     ensures open { feeder_end feeder.new ≡ feeder_end feeder.old }
     ensures fed { fed feeder.old ≡ [] →
         AreFed result (fed feeder.new) (S.to_come source.old) (S.to_come source.new) (S.failed source.new) }
+    ensures left { fed feeder.old ≡ [] → S.failed source.new ≡ None
+        → HasGiven (length (fed feeder.new)) (S.to_come source.old) (S.to_come source.new) }
+    ensures failed { fed feeder.old ≡ []
+        → StaysFailed (S.failed source.old) (fed feeder.new) (S.failed source.new) }
 {
     let mut unheard = 0;
     for _ in rt.forever() {

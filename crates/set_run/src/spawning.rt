@@ -1,6 +1,6 @@
 //! The threads of a run. Each level starts one, goes on to the level below, and joins it: so what a
 //! thread promises stands beside what it was given.
-ghost use Rattle.std.specs.Prelude.{◌≡◌, ◌+◌, ◌<◌, ◌≤◌, ◌++◌, ◌∷◌, [], None, vec_capacity, vec_len, IfErr, IfOk};
+ghost use Rattle.std.specs.Prelude.{◌≡◌, ◌+◌, ◌<◌, ◌≤◌, ◌++◌, ◌∷◌, [], None, vec_capacity, vec_len, IfErr, IfOk, IsOk};
 ghost use Rattle.std.specs.List.{AllZip};
 ghost use Rattle.line_lane.specs.Ends.{SameSetter};
 ghost use Rattle.set_run.specs.Gathering.{Collects, Gathers};
@@ -43,7 +43,7 @@ fn put_back(workers: &mut Vec<Worker>, worker: Worker)
     }
 }
 
-/// A thread for each worker, from the last one on; then the answers are collected, and where the
+/// A thread for each worker, from the last one on; then the answers are collected, and if the
 /// collector refused something the run is stopped. From then on nothing can be refused any more.
 pub(crate) fn start_workers<'s, E, R: Threads + Wait + Sync, G: Gate + Sync, C: Collector + Drop>(
     scope: &'s Scope<'s, E>,
@@ -59,6 +59,7 @@ pub(crate) fn start_workers<'s, E, R: Threads + Wait + Sync, G: Gate + Sync, C: 
     ensures workers { IfOk result (λ back. AllZip (AllZip SameSetter) workers.items back.0.items) }
     ensures room { IfOk result (λ back. vec_capacity workers ≤ vec_capacity back.0) }
     ensures collected { IfOk result (λ back. Collects C.lanes C.given C.refused lanes.items collector back.1) }
+    ensures begun { vec_len workers ≡ 0 → IsOk result }
     ensures unbegun { IfErr result (λ unbegun. unbegun.collector ≡ collector) }
 {
     let mut workers = workers;
@@ -117,6 +118,7 @@ pub(crate) fn start_sources<
     ensures room { IfOk result (λ back. vec_capacity closed ≤ vec_capacity back.0) }
     ensures gathered { IfOk result (λ back. Gathers S.to_come S.failed C.lanes C.given C.refused
         sources.items lanes.items collector back.0.items back.2) }
+    ensures begun { vec_len sources ≡ 0 → vec_len workers ≡ 0 → IsOk result }
     ensures unbegun { IfErr result (λ unbegun. unbegun.collector ≡ collector) }
 {
     let (mut sources, mut workers, mut lanes) = (sources, workers, lanes);

@@ -42,7 +42,7 @@ fn turn(setter: &mut Setter) -> Turn
     }
 }
 
-/// The turns of a lane, up to one that doesn't move, and at most so many.
+/// The turns of a lane, up to one that doesn't move, and at most this many.
 fn take_turns(setter: &mut Setter, most: usize) -> Came
     ensures { SameSetter setter.old setter.new }
 {
@@ -79,7 +79,7 @@ impl Worker {
         self.setters.pop()
     }
 
-    /// The turns of all lanes, one lane after the other; done at once where the run is stopped. The last
+    /// The turns of all lanes, one lane after the other; done at once if the run is stopped. The last
     /// lane has the number of the worker, and the numbers of the others come after it.
     pub fn go_round(&mut self, signals: &Signals, number: usize) -> Came
         ensures { AllZip SameSetter self.old self.new }

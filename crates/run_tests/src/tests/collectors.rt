@@ -112,7 +112,7 @@ fn agrees<R: Abort>(rt: &R, case: u32, got: &Refuses, i: usize, lane: &ClosedLan
     );
 }
 
-/// A run whose collector refuses after so many events, or at its first wait.
+/// A run whose collector refuses after this many events, or at its first wait.
 fn stops<R: Threads + Wait + Clock + Abort + AllocGlobal + Sync>(
     rt: &R,
     taken: u32,

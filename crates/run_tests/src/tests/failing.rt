@@ -16,7 +16,7 @@ use std::vec;
 /// More reads than any text takes here.
 const ALL: usize = 2_000_000;
 
-/// A source that gives its lines and then meets a fault, where it has one.
+/// A source that gives its lines and then meets a fault, if it has one.
 #[derive(Drop)]
 struct Frail {
     lines: vec::IntoIter<Line>,
@@ -25,7 +25,7 @@ struct Frail {
 }
 
 impl Frail {
-    /// A source of these lines; `None` where memory was refused.
+    /// A source of these lines; `None` if memory was refused.
     fn new(alloc: Global, texts: &[&str], fault: Option<SourceFault>) -> Option<Frail> {
         let mut lines = Vec::new(alloc);
         for text in texts {
@@ -72,7 +72,7 @@ fn two<S: Drop>(alloc: Global, first: S, second: S) -> Option<Vec<(S, Arc<Terms>
     Some(sources)
 }
 
-/// A source of `ab` and `c` that fails so, and one of `a`; `None` where memory was refused.
+/// A source of `ab` and `c` that fails so, and one of `a`; `None` if memory was refused.
 fn frail_and_good(alloc: Global, fault: SourceFault) -> Option<Vec<(Frail, Arc<Terms>)>> {
     let frail = Frail::new(alloc, &["ab", "c"], Some(fault))?;
     let good = Frail::new(alloc, &["a"], None)?;
@@ -101,7 +101,7 @@ static FAULTS: [(SourceFault, &str, &str); 3] = [
     ),
 ];
 
-/// The lines before this fault are answered in blocks of so many.
+/// The lines before this fault are answered in blocks of this many.
 fn answers_before<R: Threads + Wait + Clock + Abort + AllocGlobal + Sync>(
     rt: &R,
     (fault, word, wanted): (SourceFault, &str, &str),
@@ -130,7 +130,7 @@ const TWO_READERS: &str = "\
 2 end complete 1
 ";
 
-/// A reader of `ab` and `c` that fails at its second read, and one of `a`; `None` where memory was
+/// A reader of `ab` and `c` that fails at its second read, and one of `a`; `None` if memory was
 /// refused.
 fn two_readers(
     alloc: Global,

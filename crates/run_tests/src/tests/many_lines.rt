@@ -17,7 +17,7 @@ const LINES: usize = 2_000;
 /// What the lines are, in turn.
 static TEXTS: [&str; 7] = ["ab", "", "acb", "ab abc", "ad", "  ", "cbacb a"];
 
-/// The line of a source at this place; `None` where memory was refused.
+/// The line of a source at this place; `None` if memory was refused.
 fn line_at(alloc: Global, source: usize, place: usize) -> Option<Line> {
     let kind = source.wrapping_add(place) % 7;
     let text = TEXTS.get(kind)?;
@@ -25,7 +25,7 @@ fn line_at(alloc: Global, source: usize, place: usize) -> Option<Line> {
     Some(Line::new(bytes))
 }
 
-/// All sources; `None` where memory was refused.
+/// All sources; `None` if memory was refused.
 fn sources_of(alloc: Global, terms: &Arc<Terms>) -> Option<Vec<(ListSource, Arc<Terms>)>> {
     let mut sources = Vec::with_capacity(alloc, SOURCES).ok()?;
     for source in 0..SOURCES {
@@ -36,7 +36,7 @@ fn sources_of(alloc: Global, terms: &Arc<Terms>) -> Option<Vec<(ListSource, Arc<
     Some(sources)
 }
 
-/// The lines of a source; `None` where memory was refused.
+/// The lines of a source; `None` if memory was refused.
 fn lines_of(alloc: Global, source: usize) -> Option<ListSource> {
     let mut lines = Vec::with_capacity(alloc, LINES).ok()?;
     for place in 0..LINES {
@@ -66,7 +66,7 @@ fn are_equal(one: &Answer, other: &Answer) -> bool {
     outcomes && one.line().bytes() == other.line().bytes()
 }
 
-/// The line of a source at this place, set alone; `None` where memory was refused.
+/// The line of a source at this place, set alone; `None` if memory was refused.
 fn answer_at(alloc: Global, terms: &Arc<Terms>, source: usize, place: usize) -> Option<Answer> {
     let line = line_at(alloc, source, place)?;
     set(alloc, terms.clone().ok()?, line).ok()
@@ -89,7 +89,7 @@ fn are_right<R: Abort + AllocGlobal>(
     Ok(())
 }
 
-/// All lines are set by so many threads, in blocks of so many.
+/// All lines are set by this many threads, in blocks of this many.
 fn sets_all<R: Threads + Wait + Clock + Abort + AllocGlobal + Sync>(
     rt: &R,
     threads: usize,

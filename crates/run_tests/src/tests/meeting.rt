@@ -22,7 +22,7 @@ pub enum Held {
     /// Each setter's thread, until its source was asked twice; the second one's until the first
     /// source was asked for all of its five lines and for one more.
     Setters,
-    /// The collector, until each source was asked so many times.
+    /// The collector, until each source was asked this many times.
     Collector(u64),
 }
 
@@ -186,7 +186,7 @@ pub struct Guest<'a> {
 }
 
 impl<'a> Guest<'a> {
-    /// A source of so many lines `ab`; `None` where memory was refused.
+    /// A source of this many lines `ab`; `None` if memory was refused.
     pub fn new(
         alloc: Global,
         meeting: &'a Meeting,

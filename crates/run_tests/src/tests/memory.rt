@@ -48,7 +48,7 @@ fn is_right(source: u32, place: u32, answer: &Answer) -> bool {
     }
 }
 
-/// The answers of a lane are its first ones, and all where the lane is complete. Whether it is.
+/// The answers of a lane are its first ones, and all if the lane is complete. Whether it is.
 fn is_complete<R: Abort>(rt: &R, source: u32, lane: &LaneReport<ListSource>) -> bool {
     let mut place = 0u32;
     for answer in lane.answers.as_slice() {

@@ -12,7 +12,7 @@ use std::test::Fail;
 use std::thread::Threads;
 use std::time::Clock;
 
-/// A hundred lines; `None` where memory was refused.
+/// A hundred lines; `None` if memory was refused.
 fn hundred(alloc: Global) -> Option<ListSource> {
     let mut lines = Vec::with_capacity(alloc, 100).ok()?;
     for place in 1..101u32 {
@@ -30,7 +30,7 @@ fn line_at(alloc: Global, place: u32) -> Option<Line> {
     }
 }
 
-/// Appends a source with these terms; `None` where memory was refused.
+/// Appends a source with these terms; `None` if memory was refused.
 fn push(
     sources: &mut Vec<(ListSource, Arc<Terms>)>,
     source: ListSource,
@@ -39,7 +39,7 @@ fn push(
     sources.push((source, terms.clone().ok()?)).ok()
 }
 
-/// A source without lines, one with one line, and one with a hundred; `None` where memory was refused.
+/// A source without lines, one with one line, and one with a hundred; `None` if memory was refused.
 pub fn three_sources(alloc: Global) -> Option<Vec<(ListSource, Arc<Terms>)>> {
     let terms = plain(alloc)?;
     let mut sources = Vec::with_capacity(alloc, 3).ok()?;
@@ -77,7 +77,7 @@ fn three_sources_are_reported_in_order(rt: HostRuntime) -> Result<(), Fail> {
     Ok(())
 }
 
-/// Sources of so many lines are all answered.
+/// Sources of this many lines are all answered.
 fn takes<R: Threads + Wait + Clock + Abort + AllocGlobal + Sync>(
     rt: &R,
     counts: &[usize],
@@ -117,7 +117,7 @@ static THREADS: [(usize, u64); 4] = [(1, 0x1), (2, 0x11), (3, 0x111), (16, 0x1_1
 /// How many lines each of five sources has.
 static FIVE: [usize; 5] = [1, 2, 3, 4, 5];
 
-/// Five sources are set by so many threads. Each thread enters the gate once.
+/// Five sources are set by this many threads. Each thread enters the gate once.
 fn sets_five<R: Threads + Wait + Clock + Abort + AllocGlobal + Sync>(
     rt: &R,
     (threads, entered): (usize, u64),

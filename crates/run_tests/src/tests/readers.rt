@@ -47,7 +47,7 @@ static TEXTS: [(&str, &[&str]); 8] = [
     ("a \r\nbcabc\nabca\n", &["a \r", "bcabc", "abca"]),
 ];
 
-/// A text is cut into these lines where a read gives so many bytes.
+/// A text is cut into these lines if a read gives this many bytes.
 fn is_cut_by<R: Abort + AllocGlobal>(
     rt: &R,
     text: &str,
@@ -96,7 +96,7 @@ fn long_text<R: AllocGlobal>(rt: &R) -> Result<Vec<u8>, Fail> {
     Ok(text)
 }
 
-/// A reader that gives so many bytes a read has the 300 lines of a text.
+/// A reader that gives this many bytes a read has the 300 lines of a text.
 fn has_lines<R: Abort + AllocGlobal>(rt: &R, text: &[u8], step: usize) -> Result<(), Fail> {
     let asked = Asked::new();
     let case = format!(in rt.alloc(); "step {step}")?;
@@ -120,7 +120,7 @@ fn a_reader_has_the_lines_that_its_bytes_have(rt: HostRuntime) -> Result<(), Fai
     Ok(())
 }
 
-/// How many reads were made behind each line of `ab`, `c`, `b` and at the end, by the bytes of a read.
+/// How many reads were made after each line of `ab`, `c`, `b` and at the end, by the bytes of a read.
 static READS: [(usize, [u32; 4]); 4] = [
     (1, [3, 5, 7, 7]),
     (2, [2, 3, 4, 4]),
@@ -128,12 +128,12 @@ static READS: [(usize, [u32; 4]); 4] = [
     (4096, [1, 1, 2, 2]),
 ];
 
-/// So many reads were made, each for 4,096 bytes.
+/// This many reads were made, each for 4,096 bytes.
 fn was_read<R: Abort>(rt: &R, asked: &Asked, reads: u32, step: usize) {
     assert_eq!(rt; asked.counts(), (reads, 0), "step {step}");
 }
 
-/// So many reads are made behind each line and at the end, where a read gives so many bytes.
+/// This many reads are made after each line and at the end, if a read gives this many bytes.
 fn is_read_by<R: Abort + AllocGlobal>(rt: &R, step: usize, wanted: &[u32; 4]) -> Result<(), Fail> {
     let asked = Asked::new();
     let reader = Trickle::new(b"ab\nc\nb", step, ALL, &asked);
@@ -165,7 +165,7 @@ static LONG: [(usize, bool, bool); 4] = [
     (1_048_576, false, false),
 ];
 
-/// So many bytes, a read each, and a line feed where one follows, are a line or not.
+/// This many bytes, a read each, and a line feed if one follows, are a line or not.
 fn is_long<R: Abort + AllocGlobal>(
     rt: &R,
     count: usize,
@@ -204,7 +204,7 @@ static BEFORE: [usize; 7] = [0, 0, 0, 1, 1, 2, 2];
 
 static AB_C_B: [&str; 3] = ["ab", "c", "b"];
 
-/// Where the reads behind so many fail, so many lines come first.
+/// If the reads after this many fail, this many lines come first.
 fn fails_behind<R: Abort + AllocGlobal>(
     rt: &R,
     good_reads: usize,

@@ -49,7 +49,7 @@ pub fn text_of<S>(alloc: Global, report: &Report<S>) -> Result<String, Fail> {
     Ok(String::from_utf8(text)?)
 }
 
-/// The run of these sources has this report. It is finished where all ends are complete.
+/// The run of these sources has this report. It is finished if all ends are complete.
 pub fn reports<R: Threads + Wait + Clock + Abort + AllocGlobal + Sync, S: LineSource + Send + Drop>(
     rt: &R,
     case: &str,
@@ -61,7 +61,7 @@ pub fn reports<R: Threads + Wait + Clock + Abort + AllocGlobal + Sync, S: LineSo
     says(rt, case, &report, wanted)
 }
 
-/// A report has this text. It is finished where all ends are complete.
+/// A report has this text. It is finished if all ends are complete.
 fn says<R: Abort + AllocGlobal, S>(
     rt: &R,
     case: &str,
@@ -74,7 +74,7 @@ fn says<R: Abort + AllocGlobal, S>(
     Ok(())
 }
 
-/// The report is finished, and is that of lines `ab` in the plain font, so many of each source.
+/// The report is finished, and is that of lines `ab` in the plain font, this many of each source.
 pub fn says_ab<R: Abort + AllocGlobal, S>(
     rt: &R,
     case: &str,
@@ -85,7 +85,7 @@ pub fn says_ab<R: Abort + AllocGlobal, S>(
     says(rt, case, report, (&wanted, true))
 }
 
-/// Sources of lines `ab` in the plain font, so many each.
+/// Sources of lines `ab` in the plain font, this many each.
 pub fn sources_of_ab(
     alloc: Global,
     counts: &[usize],
@@ -99,13 +99,13 @@ pub fn sources_of_ab(
     Ok(sources)
 }
 
-/// A source of so many lines `ab`.
+/// A source of this many lines `ab`.
 fn source_of_ab(alloc: Global, count: usize) -> Result<ListSource, Fail> {
     let texts = vec![in alloc; "ab"; count]?;
     Ok(source_of(alloc, &texts).ok_or("out of memory")?)
 }
 
-/// The report of lines `ab` in the plain font, so many of each source.
+/// The report of lines `ab` in the plain font, this many of each source.
 pub fn text_of_ab(alloc: Global, counts: &[usize]) -> Result<String, Fail> {
     let mut text = String::new(alloc);
     let mut source = 0u64;
@@ -116,7 +116,7 @@ pub fn text_of_ab(alloc: Global, counts: &[usize]) -> Result<String, Fail> {
     Ok(text)
 }
 
-/// Appends the report of a source of so many lines `ab`.
+/// Appends the report of a source of this many lines `ab`.
 fn push_ab(alloc: Global, source: u64, count: usize, text: &mut String) -> Result<(), Fail> {
     let mut place = 0u64;
     for _ in 0..count {

@@ -65,7 +65,7 @@ pub const ENDLESS: [u32; 21] = [
 /// The limit on steps that most terms have.
 pub const LIMIT: u32 = 1_048_576;
 
-/// Terms with the font of these words, at its design size; `None` where memory was refused.
+/// Terms with the font of these words, at its design size; `None` if memory was refused.
 pub fn terms_of(alloc: Global, words: &[u32], limit: u32) -> Option<Arc<Terms>> {
     let mut file = Vec::with_capacity(alloc, 100).ok()?;
     for word in words {
@@ -76,18 +76,18 @@ pub fn terms_of(alloc: Global, words: &[u32], limit: u32) -> Option<Arc<Terms>> 
     Arc::new(alloc, terms).ok()
 }
 
-/// Terms with the plain font; `None` where memory was refused.
+/// Terms with the plain font; `None` if memory was refused.
 pub fn plain(alloc: Global) -> Option<Arc<Terms>> {
     terms_of(alloc, &PLAIN, LIMIT)
 }
 
-/// A line of this text; `None` where memory was refused.
+/// A line of this text; `None` if memory was refused.
 pub fn line(alloc: Global, text: &str) -> Option<Line> {
     let bytes = Vec::from_slice(alloc, text.as_bytes()).ok()?;
     Some(Line::new(bytes))
 }
 
-/// A source of these lines; `None` where memory was refused.
+/// A source of these lines; `None` if memory was refused.
 pub fn source_of(alloc: Global, texts: &[&str]) -> Option<ListSource> {
     let mut lines = Vec::with_capacity(alloc, texts.len()).ok()?;
     for text in texts {
@@ -96,7 +96,7 @@ pub fn source_of(alloc: Global, texts: &[&str]) -> Option<ListSource> {
     Some(ListSource::new(lines))
 }
 
-/// A plan with rings for so many messages of so many lines, and so many threads that set them.
+/// A plan with rings for this many messages of this many lines, and this many threads that set them.
 pub fn plan(capacity: usize, block: usize, workers: usize) -> Result<Plan, &'static str> {
     plan_of(capacity, block, workers).ok_or("a plan out of range")
 }

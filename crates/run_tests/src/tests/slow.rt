@@ -8,7 +8,7 @@ use std::sync::Arc;
 use std::thread;
 use std::time::{Clock, Duration};
 
-/// A source that gives the line `ab` so many times, each after a pause.
+/// A source that gives the line `ab` this many times, each after a pause.
 #[derive(Drop)]
 pub struct Slow<'a, R> {
     rt: &'a R,
@@ -46,14 +46,14 @@ impl<R: Clock> LineSource for Slow<'_, R> {
     }
 }
 
-/// Sleeps for so many microseconds.
+/// Sleeps for this many microseconds.
 fn rest<R: Clock>(rt: &R, micros: u64) {
     if micros > 0 {
         thread::sleep(rt, Duration::from_micros(micros));
     }
 }
 
-/// So many sources of so many lines, with a pause before each; `None` where memory was refused.
+/// This many sources of this many lines, with a pause before each; `None` if memory was refused.
 pub fn sources<'a, R: Clock>(
     rt: &'a R,
     alloc: Global,
@@ -90,7 +90,7 @@ impl<R: Clock> Gate for Late<'_, R> {
     }
 }
 
-/// Takes so many answers, each after a pause, and refuses what comes then.
+/// Takes this many answers, each after a pause, and refuses what comes then.
 #[derive(Drop)]
 pub struct Patient<'a, R> {
     pub rt: &'a R,

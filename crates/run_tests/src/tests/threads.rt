@@ -11,7 +11,7 @@ use std::test::Fail;
 use std::thread::Threads;
 use std::time::Clock;
 
-/// Two sources of a meeting, of so many lines each.
+/// Two sources of a meeting, of this many lines each.
 fn guests<'a>(
     alloc: Global,
     meeting: &'a Meeting,

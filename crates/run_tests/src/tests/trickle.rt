@@ -39,7 +39,7 @@ pub struct Trickle<'a> {
 }
 
 impl<'a> Trickle<'a> {
-    /// A reader that gives so many bytes at a time, and fails once its good reads are used up.
+    /// A reader that gives this many bytes at a time, and fails once its good reads are used up.
     pub fn new(bytes: &'a [u8], step: usize, good_reads: usize, asked: &'a Asked) -> Trickle<'a> {
         Trickle {
             bytes,

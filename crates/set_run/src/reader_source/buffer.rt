@@ -76,7 +76,7 @@ impl Buffer {
         first_feed(&self.space[self.start..self.end]).is_some()
     }
 
-    /// Moves its bytes behind `line`: those up to a line feed, which is dropped, else all. Answers
+    /// Moves its bytes after `line`: those up to a line feed, which is dropped, else all. Answers
     /// whether there was a line feed.
     pub(crate) fn move_line(&mut self, line: &mut Vec<u8>) -> Result<bool, SourceFault>
         ensures { IfOk result (λ ended.

@@ -13,9 +13,9 @@ const MAX_READS: u32 = 1_048_576;
 /// The bytes up to a line feed, or to the end.
 #[derive(Drop)]
 pub(crate) enum RawLine {
-    /// A line feed stood behind these.
+    /// A line feed stood after these.
     Ended(Vec<u8>),
-    /// The end stood behind these.
+    /// The end stood after these.
     Last(Vec<u8>),
 }
 

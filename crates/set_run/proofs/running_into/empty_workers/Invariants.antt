@@ -1,4 +1,4 @@
--- so many workers were made
+-- this many workers were made
 use Rattle.std.specs.Prelude.{◌≡◌, vec_len}
 use Rattle.set_run.proofs.running_into.empty_workers.Given as goal
 

@@ -1,4 +1,4 @@
--- so many empty lists were made
+-- this many empty lists were made
 use Rattle.std.proofs.Common.{◌≡◌, [], replicate}
 use Rattle.set_run.proofs.answer_lists.AnswerLists.new.Given as goal
 
