@@ -1,0 +1,18 @@
+-- What is told of a line: its width, or why it has none.
+-- This project's own.
+use Rattle.std.specs.Prelude.{ℕ, ℤ, List, Result, Ok, Err}
+use Rattle.tfm_tables.specs.Font.{FontValue}
+use Rattle.set_line.specs.declared.policy.Policy.{Policy}
+use Rattle.set_line.specs.declared.outcome.LineRefusal.{LineRefusal}
+use Rattle.set_line.specs.declared.outcome.Outcome.{Outcome}
+use Rattle.set_line.specs.declared.outcome.Outcome.TheVariants.{Set, Refused}
+use Rattle.set_line.specs.Answer.{outcome_of}
+
+-- the width of what was set, or the refusal
+abbrev pub told_of : Outcome → Result ℤ LineRefusal
+told_of (Set items width steps) = Ok width
+told_of (Refused refusal) = Err refusal
+
+-- the width of a line, or its refusal, with a font, a limit on the steps and a policy
+abbrev pub width_told : FontValue → ℕ → Policy → List ℕ → Result ℤ LineRefusal
+width_told font limit policy line = told_of (outcome_of (record { font = font; limit = limit; policy = policy }) line)
