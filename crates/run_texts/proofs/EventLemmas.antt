@@ -59,13 +59,13 @@ lines_more source version before count (Ended e ∷ events) event is =
 -- the lines of a lane with these answers
 pub lines_of_lane : (source : ℕ) (version : Version) (before place count : ℕ) (answers : List AnswerValue) (end : Option LaneEnd)
     → place ≡ before + 1 → count ≡ before + length answers
-    → event_lines source version before (lane_events answers end) ≡ record_lines source place version answers ++ end_lines source end count
+    → event_lines source version before (lane_events answers end) ≡ record_lines source place version answers ++ end_lines source version end count
 lines_of_lane source version before place count [] None at is = refl
 lines_of_lane source version before place count [] (Some end) at is =
-    let same : before ≡ count = omega arith in ap (λ n. end_lines source (Some end) n) same
+    let same : before ≡ count = omega arith in ap (λ n. end_lines source version (Some end) n) same
 lines_of_lane source version before place count (answer ∷ answers) end at is =
     ap (λ t. event_line source version before (Answered answer) ∷ t) (lines_of_lane source version (before + 1) (place + 1) count answers end (omega arith) (omega arith))
-    ∙ ap (λ n. record_text source n answer.outcome version ∷ (record_lines source (place + 1) version answers ++ end_lines source end count)) (sym at)
+    ∙ ap (λ n. record_text source n answer.outcome version ∷ (record_lines source (place + 1) version answers ++ end_lines source version end count)) (sym at)
 
 -- lines, joined
 joined_more : (lines : List (List ℕ)) (line : List ℕ) → concat (lines ++ line ∷ []) ≡ concat lines ++ line
@@ -89,4 +89,4 @@ records_joined source place version (answer ∷ answers) last =
 
 pub lane_joined : (source : ℕ) (version : Version) (answers : List AnswerValue) (end : LaneEnd)
     → concat (lane_lines source version answers (Some end)) ≡ lane_text source version answers (why_of end)
-lane_joined source version answers end = records_joined source 1 version answers (end_text source (why_of end) (length answers))
+lane_joined source version answers end = records_joined source 1 version answers (end_text source version (why_of end) (length answers))

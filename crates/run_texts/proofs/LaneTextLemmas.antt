@@ -1,9 +1,7 @@
 -- What is kept of lanes, event by event.
-use Rattle.std.proofs.Common.{◌≡◌, inl, inr, ℕ, zero, suc, ◌+◌, ◌<◌, Bool, true, false, if◌then◌else◌, ◌==◌, List, [], ◌∷◌, ◌++◌, length, get_or, count_by, arith, refl, ap, sym, ◌∙◌, append_assoc, append-nil}
+use Rattle.std.proofs.Common.{◌≡◌, ℕ, zero, suc, ◌+◌, ◌<◌, List, [], ◌∷◌, ◌++◌, length, get_or, count_by, arith, refl, ap, sym, ◌∙◌}
 use Rattle.std.specs.Prelude.{Result, Ok, Err, OnOk, OnErr, is_ok}
 use Rattle.std.proofs.Math.ListN.{set}
-use Rattle.std.proofs.lemmas.Bool.{eq-eqb}
-use Rattle.std.proofs.lemmas.Bool.Decides.{eqb_tells}
 use Rattle.std.proofs.lemmas.List.{length-set, set-get_or}
 use Rattle.std.proofs.lemmas.List.Sums.{sum_by-append}
 use Rattle.std.proofs.Math.Bool.{cond}
@@ -32,8 +30,8 @@ with_answer version source answer old = record {
   refused = old.refused + count_by is_refused (answer ∷ []);
 }
 
-abbrev pub with_end : ℕ → LaneEnd → LaneTextValue → LaneTextValue
-with_end source end old = record { text = old.text ++ end_text source (why_of end) old.answers; answers = old.answers; refused = old.refused }
+abbrev pub with_end : Version → ℕ → LaneEnd → LaneTextValue → LaneTextValue
+with_end version source end old = record { text = old.text ++ end_text source version (why_of end) old.answers; answers = old.answers; refused = old.refused }
 
 pub length_more : {T : Type 0} (xs : List T) (x : T) → length (xs ++ x ∷ []) ≡ length xs + 1
 length_more [] x = refl
@@ -49,9 +47,9 @@ kept_answered version source events answer old new was is =
     (sym (ap (count_by is_refused) (among_answered events answer) ∙ sum_by-append (λ a. cond (is_refused a) 1 0) (answers_among events) (answer ∷ [])))
 
 kept_ended : (version : Version) (source : ℕ) (events : List LaneEvent) (end : LaneEnd) (old new : LaneTextValue)
-    → old ≡ kept_of version source events → new ≡ with_end source end old → new ≡ kept_of version source (events ++ Ended end ∷ [])
+    → old ≡ kept_of version source events → new ≡ with_end version source end old → new ≡ kept_of version source (events ++ Ended end ∷ [])
 kept_ended version source events end old new was is =
-    is ∙ ap (with_end source end) was
+    is ∙ ap (with_end version source end) was
     ∙ same_lane _ _ _ _ _ _
     (sym (text_more source version events (Ended end)))
     (sym (ap length (among_ended events end)))
@@ -134,14 +132,15 @@ module _ {C : Type 0} (version_of : C → Version) (lanes_of : C → List LaneTe
   pub gets_end : (before after : C) (lane : ℕ) (end : LaneEnd) (r : Result (Unit {0}) Refusal) (old new : LaneTextValue)
       → lane < length (lanes_of before) → old ≡ get_or (lanes_of before) lane old → version_of after ≡ version_of before
       → lanes_of after ≡ set (lanes_of before) lane new
-      → OnOk r (new ≡ with_end (lane + 1) end old) → OnErr r (new ≡ old)
+      → OnOk r (new ≡ with_end (version_of before) (lane + 1) end old) → OnErr r (new ≡ old)
       → Gets Given before (lane, Ended end) (is_ok r) after
   gets_end before after lane end (Ok u) old new within at same becomes ok err = λ events given. (
     same ∙ given.0,
     ap length becomes ∙ length-set (lanes_of before) lane new ∙ given.1,
     rw becomes (kept_set version events 0 lane lane (lanes_of before) (Ended end) new (omega arith) within
         (kept_ended version (lane + 1) (of_lane lane events) end old new
-        (at ∙ kept_at version events 0 lane lane (lanes_of before) old (omega arith) within given.2) ok)
+        (at ∙ kept_at version events 0 lane lane (lanes_of before) old (omega arith) within given.2)
+        (ok ∙ ap (λ v. with_end v (lane + 1) end old) given.0))
         given.2),
   )
   gets_end before after lane end (Err e) old new within at same becomes ok err = λ events given. (

@@ -1,28 +1,22 @@
 -- The reports of a run whose texts were kept, and their text.
-use Rattle.std.proofs.Common.{◌≡◌, ℕ, ◌+◌, ◌-◌, ◌^◌, Bool, false, ◌||◌, List, [], ◌∷◌, ◌++◌, length, count_by, min, sum_by, flat_map, All, Option, Some, None, arith, refl, ap, sym, subst, ◌∙◌, append_assoc, append-nil}
+use Rattle.std.proofs.Common.{◌≡◌, ℕ, ◌+◌, ◌-◌, ◌^◌, List, [], ◌∷◌, ◌++◌, length, count_by, min, sum_by, flat_map, All, Option, Some, None, arith, refl, ap, sym, subst, ◌∙◌}
 use Rattle.std.proofs.lemmas.List.Sums.{sum_by-cons}
-use Rattle.std.proofs.lemmas.Bool.{false≢true}
 use Rattle.std.proofs.lemmas.List.Elements.{All-head, All-tail}
 use Rattle.std.specs.Prelude.{IsSome}
 use Rattle.std.specs.List.{concat}
-use Rattle.std.specs.Option.{option_map_or}
-use Rattle.std.specs.Arc.{arc_value}
 use Rattle.std.specs.declared.sync.Arc.{Arc}
 use Rattle.std.specs.declared.alloc.Global.{Global}
 use Rattle.std.specs.Io.KnownBytes.{Appends}
 use Rattle.set_line.specs.declared.version.Version.{Version}
 use Rattle.set_line.specs.Terms.{TermsValue}
-use Rattle.set_line.specs.Answer.{AnswerValue}
-use Rattle.set_line.specs.Record.{record_text}
 use Rattle.line_lane.specs.declared.fault.SourceFault.{SourceFault}
 use Rattle.line_lane.specs.declared.ending.LaneEnd.{LaneEnd}
-use Rattle.line_lane.specs.declared.ending.LaneEnd.TheVariants.{Complete}
 use Rattle.set_run.specs.Events.{Event, LaneEvent, answers_among, answers_in, lane_events, of_lane}
-use Rattle.set_run.specs.Reports.{AreClosed, AreReported, IsCollected, IsTrueToSource, IsWhole}
+use Rattle.set_run.specs.Reports.{AreClosed, AreReported, IsCollected, IsWhole}
 use Rattle.set_run.specs.declared.report.LaneReport.{LaneReport}
 use Rattle.set_run.specs.declared.run_end.ClosedLane.{ClosedLane}
 use Rattle.set_run.specs.declared.run_end.RunEnd.{RunEnd}
-use Rattle.run_texts.specs.RunText.{end_text, head_text, is_refused, lane_text, records_from, why_of}
+use Rattle.run_texts.specs.RunText.{head_text, is_refused, lane_text, why_of}
 use Rattle.run_texts.specs.LaneText.{AreKept, LaneTextValue, event_lines}
 use Rattle.run_texts.specs.ReportText.{is_unread, is_wanting, lanes_text, summary_of_lanes}
 use Rattle.run_texts.specs.Setting.{IsWritten}

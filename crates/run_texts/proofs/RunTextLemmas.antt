@@ -17,7 +17,7 @@ appends_more (Some xs) None w'' a b first second = absurd first
 appends_more (Some xs) (Some ys) None a b first second = absurd second
 appends_more (Some xs) (Some ys) (Some zs) a b first second = second ∙ ap (λ t. t ++ b) first ∙ append_assoc xs a b
 
--- a block that is full, behind those before it, and nothing in the one that is begun
+-- a block that is full, after those before it, and nothing in the one that is begun
 pub joined_more : (blocks blocks' : List (List ℕ)) (last last' : List ℕ) → blocks' ≡ blocks ++ last ∷ [] → last' ≡ [] → concat blocks' ++ last' ≡ concat blocks ++ last
 joined_more blocks blocks' last last' more empty =
     ap (λ bs. concat bs ++ last') more

@@ -1,5 +1,5 @@
 -- Lines and counts of what came, event by event.
-use Rattle.std.proofs.Common.{◌≡◌, ℕ, zero, suc, ◌+◌, ◌<◌, Bool, true, false, if◌then◌else◌, ◌==◌, List, [], ◌∷◌, ◌++◌, length, get_or, Option, Some, None, arith, refl, ap, sym, subst, ◌∙◌, append_assoc, append-nil, count_by, inl, inr, length-append}
+use Rattle.std.proofs.Common.{◌≡◌, ℕ, zero, suc, ◌+◌, ◌<◌, false, if◌then◌else◌, ◌==◌, List, [], ◌∷◌, ◌++◌, length, get_or, arith, refl, ap, sym, subst, ◌∙◌, append_assoc, append-nil, count_by, inl, inr, length-append}
 use Rattle.std.proofs.Math.ListN.{set}
 use Rattle.std.proofs.Math.Bool.{cond}
 use Rattle.std.proofs.lemmas.Bool.{eq-eqb}
@@ -7,11 +7,10 @@ use Rattle.std.proofs.lemmas.Bool.Decides.{eqb_tells}
 use Rattle.std.proofs.lemmas.List.Sums.{sum_by-append}
 use Rattle.set_line.specs.declared.version.Version.{Version}
 use Rattle.set_line.specs.Answer.{AnswerValue}
-use Rattle.set_line.specs.Record.{record_text}
 use Rattle.line_lane.specs.declared.ending.LaneEnd.{LaneEnd}
-use Rattle.set_run.specs.Events.{Event, LaneEvent, Answered, Ended, answers_among, answers_in, of_lane, lane_events}
+use Rattle.set_run.specs.Events.{Event, LaneEvent, Answered, Ended, answers_among, answers_in, of_lane}
 use Rattle.run_texts.specs.RunText.{is_refused}
-use Rattle.run_texts.specs.Streaming.{SourceLine, end_lines, merged_text, of_source, record_lines}
+use Rattle.run_texts.specs.Streaming.{SourceLine, merged_text, of_source}
 use Rattle.run_texts.specs.LaneText.{event_line, event_lines}
 use Rattle.run_texts.specs.StreamState.{AreCounts, AreLinesOf, IsCountOf}
 use Rattle.run_texts.specs.declared.lane_count.LaneCount.{LaneCount}

@@ -1,33 +1,29 @@
 -- The reports of a run whose lines were written as they came.
-use Rattle.std.proofs.Common.{◌≡◌, ℕ, zero, suc, ◌+◌, ◌-◌, ◌^◌, ◌≤◌, Bool, true, false, cond, ◌==◌, ◌||◌, List, [], ◌∷◌, ◌++◌, length, count_by, min, sum_by, All, Option, Some, None, inl, inr, arith, refl, ap, sym, subst, ◌∙◌, append_assoc, append-nil}
+use Rattle.std.proofs.Common.{◌≡◌, ℕ, zero, suc, ◌+◌, ◌-◌, ◌^◌, ◌≤◌, Bool, true, false, cond, ◌==◌, List, [], ◌∷◌, ◌++◌, length, count_by, min, sum_by, All, Option, Some, None, inl, inr, arith, refl, ap, sym, subst, ◌∙◌, append-nil}
 use Rattle.std.proofs.lemmas.List.{length-map}
 use Rattle.std.proofs.lemmas.List.Elements.{All-cons, All-head, All-nil, All-tail}
 use Rattle.std.proofs.lemmas.List.Sums.{sum_by-cons}
 use Rattle.std.proofs.lemmas.Bool.{eq-eqb}
 use Rattle.std.proofs.lemmas.Bool.Decides.{leb_tells}
 use Rattle.std.specs.Prelude.{IsSome, Result, Ok, Err, IfOk, OnOk}
-use Rattle.std.specs.List.{concat, list_any}
-use Rattle.std.specs.Option.{option_map_or}
+use Rattle.std.specs.List.{concat}
 use Rattle.std.specs.Arc.{arc_value}
 use Rattle.std.specs.declared.sync.Arc.{Arc}
 use Rattle.std.specs.declared.alloc.Global.{Global}
 use Rattle.std.specs.Io.KnownBytes.{Appends}
 use Rattle.set_line.specs.declared.version.Version.{Version}
 use Rattle.set_line.specs.Terms.{TermsValue}
-use Rattle.set_line.specs.Answer.{AnswerValue}
-use Rattle.set_line.specs.Record.{record_text}
 use Rattle.line_lane.specs.declared.fault.SourceFault.{SourceFault}
 use Rattle.line_lane.specs.declared.ending.LaneEnd.{LaneEnd}
-use Rattle.line_lane.specs.declared.ending.LaneEnd.TheVariants.{Complete}
 use Rattle.set_run.specs.Events.{Event, answers_in, lane_events, of_lane}
-use Rattle.set_run.specs.Reports.{AreClosed, AreReported, HasNoOthers, IsTrueToSource, IsWhole}
+use Rattle.set_run.specs.Reports.{AreClosed, AreReported, HasNoOthers, IsWhole}
 use Rattle.set_run.specs.declared.report.LaneReport.{LaneReport}
 use Rattle.set_run.specs.declared.run_end.ClosedLane.{ClosedLane}
 use Rattle.set_run.specs.declared.run_end.RunEnd.{RunEnd}
 use Rattle.run_texts.specs.declared.fault.ToolFault.{ToolFault}
-use Rattle.run_texts.specs.RunText.{end_text, head_text, is_refused, lane_text, records_from, why_of}
+use Rattle.run_texts.specs.RunText.{head_text, is_refused}
 use Rattle.run_texts.specs.ReportText.{is_unread, is_wanting, summary_of_lanes, summary_of_run}
-use Rattle.run_texts.specs.Streaming.{AreOfSources, HaveCome, HaveLines, IsCutAtLine, IsCutShort, IsPartOfMerge, IsStreamed, SourceLine, lane_lines, merged_text, of_source, record_lines, with_own_terms}
+use Rattle.run_texts.specs.Streaming.{AreOfSources, HaveCome, HaveLines, IsCutAtLine, IsCutShort, IsPartOfMerge, IsStreamed, SourceLine, lane_lines, merged_text, of_source, with_own_terms}
 use Rattle.run_texts.specs.StreamState.{AreCounts, AreLinesOf, AreOut, MovesOut, StreamStart}
 use Rattle.run_texts.specs.LaneText.{event_lines}
 use Rattle.run_texts.specs.declared.lane_count.LaneCount.{LaneCount}

@@ -93,18 +93,18 @@ taken start name version counts w b b' events lane answer count new within at mo
 pub ended : (start : StreamStart) (name : ℕ) (version : Version) (counts : List LaneCount) (w : Option (List ℕ)) (b b' : List ℕ) (events : List Event)
     (lane : ℕ) (end : LaneEnd) (count : LaneCount)
     → lane < length counts → count ≡ get_or counts lane count
-    → b' ≡ b ++ end_text (lane + 1) (why_of end) count.answers
+    → b' ≡ b ++ end_text (lane + 1) version (why_of end) count.answers
     → StandsSo start name version counts w b events → StandsSo start name version counts w b' (events ++ (lane, Ended end) ∷ [])
 ended start name version counts w b b' events lane end count within at more (named, form, lanes, are, out) =
     let was : IsCountOf count (answers_in lane events) =
     subst (λ n. IsCountOf n (answers_in lane events)) (sym at) (counts_at events 0 lane lane counts count (omega arith) within are) in
-    let line : end_text (lane + 1) (why_of end) count.answers ≡ event_line (lane + 1) start.version (length (answers_in lane events)) (Ended end) =
-    ap (end_text (lane + 1) (why_of end)) was.0 in
+    let line : end_text (lane + 1) version (why_of end) count.answers ≡ event_line (lane + 1) start.version (length (answers_in lane events)) (Ended end) =
+    ap (end_text (lane + 1) version (why_of end)) was.0 ∙ ap (λ v. end_text (lane + 1) v (why_of end) (length (answers_in lane events))) form in
     let same : set counts lane count ≡ counts = ap (set counts lane) at ∙ set-get_or counts lane count in (
       named,
       form,
       lanes,
       subst (AreCounts (events ++ (lane, Ended end) ∷ []) 0) same
           (counts_set events 0 lane lane counts (Ended end) count (omega arith) within (count_ended count lane events end was) are),
-      out_more start.version events start.before w b b' lane (Ended end) (end_text (lane + 1) (why_of end) count.answers) line more out,
+      out_more start.version events start.before w b b' lane (Ended end) (end_text (lane + 1) version (why_of end) count.answers) line more out,
     )

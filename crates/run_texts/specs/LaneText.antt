@@ -13,12 +13,12 @@ pub record LaneTextValue : Type 0 where
   pub answers : ℕ
   pub refused : ℕ
 
--- the line of what came of a source behind so many answers
+-- the line of an event of a source after this many answers
 abbrev pub event_line : ℕ → Version → ℕ → LaneEvent → List ℕ
 event_line source version answers (Answered answer) = record_text source (answers + 1) answer.outcome version
-event_line source version answers (Ended end) = end_text source (why_of end) answers
+event_line source version answers (Ended end) = end_text source version (why_of end) answers
 
--- the lines of what came of a source behind so many answers
+-- the lines of the events of a source after this many answers
 abbrev pub event_lines : ℕ → Version → ℕ → List LaneEvent → List (List ℕ)
 event_lines source version answers [] = []
 event_lines source version answers (Answered answer ∷ events) =
@@ -34,7 +34,7 @@ kept_of version source events = record {
   refused = count_by is_refused (answers_among events);
 }
 
--- what is kept of lanes, of which the first has this number, is what came of them
+-- what is kept of lanes, of which the first has this number, is what was given of them
 abbrev pub AreKept : Version → List Event → ℕ → List LaneTextValue → Type 0
 AreKept version events number [] = Unit {0}
 AreKept version events number (lane ∷ lanes) =

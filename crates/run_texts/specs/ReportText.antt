@@ -43,7 +43,7 @@ module _ {S : Type 0} where
   abbrev pub refused_in : List (LaneReport S) → ℕ
   refused_in lanes = min (2 ^ 64 - 1) (sum_by (λ lane. count_by is_refused lane.answers) lanes)
 
-  -- what came of a run, in short
+  -- how a run went, in short
   abbrev pub summary_of_run : List (LaneReport S) → Summary
   summary_of_run lanes = record {
     refused = refused_in lanes;
@@ -51,7 +51,7 @@ module _ {S : Type 0} where
     memory = list_any (λ lane. is_wanting lane.end) lanes;
   }
 
-  -- the same of lanes that were closed, of which so many lines were refused
+  -- the same of lanes that were closed, of which this many lines were refused
   abbrev pub summary_of_lanes : ℕ → List (ClosedLane S) → Summary
   summary_of_lanes refused lanes = record {
     refused = min (2 ^ 64 - 1) refused;

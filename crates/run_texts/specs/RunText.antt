@@ -2,7 +2,7 @@
 -- This project's own.
 use Rattle.std.specs.Prelude.{ℕ, ◌+◌, List, [], ◌∷◌, ◌++◌, length, codes, decimal, Bool, true, false}
 use Rattle.set_line.specs.declared.version.Version.{Version}
-use Rattle.set_line.specs.declared.version.Version.TheVariants.{One, Two}
+use Rattle.set_line.specs.declared.version.Version.TheVariants.{One, Two, Json}
 use Rattle.set_line.specs.declared.outcome.Outcome.{Outcome}
 use Rattle.set_line.specs.declared.outcome.Outcome.TheVariants.{Set, Refused}
 use Rattle.set_line.specs.Answer.{AnswerValue}
@@ -25,18 +25,29 @@ why_of (SourceFailed OutOfMemory) = codes "memory"
 why_of (SourceFailed ReadBound) = codes "bound"
 why_of GaveUp = codes "gave-up"
 
--- the end line: the source, why it ended, and how many answers it has
-unfoldable pub end_text : ℕ → List ℕ → ℕ → List ℕ
-end_text source why count = decimal source ++ codes " end " ++ why ++ codes " " ++ decimal count ++ codes "\n"
+-- the end line in words: the source, why it ended, and how many answers it has
+unfoldable pub words_end : ℕ → List ℕ → ℕ → List ℕ
+words_end source why count = decimal source ++ codes " end " ++ why ++ codes " " ++ decimal count ++ codes "\n"
 
--- what version two of the records begins with
+-- the same as a JSON object
+unfoldable pub json_end : ℕ → List ℕ → ℕ → List ℕ
+json_end source why count = codes "{\"source\":" ++ decimal source ++ codes ",\"end\":\"" ++ why ++ codes "\",\"lines\":" ++ decimal count ++ codes "}\n"
+
+-- the end line
+unfoldable pub end_text : ℕ → Version → List ℕ → ℕ → List ℕ
+end_text source One why count = words_end source why count
+end_text source Two why count = words_end source why count
+end_text source Json why count = json_end source why count
+
+-- what the text begins with, in version two alone
 abbrev pub head_text : Version → List ℕ
 head_text One = []
 head_text Two = codes "records 2\n"
+head_text Json = []
 
 -- the records and the end line of a source
 abbrev pub lane_text : ℕ → Version → List AnswerValue → List ℕ → List ℕ
-lane_text source version answers why = records_from source 1 version answers ++ end_text source why (length answers)
+lane_text source version answers why = records_from source 1 version answers ++ end_text source version why (length answers)
 
 -- whether an outcome is a refusal
 abbrev pub is_refused_outcome : Outcome → Bool

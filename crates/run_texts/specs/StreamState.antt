@@ -17,7 +17,7 @@ AreLinesOf version events lines =
     (of_source 0 lines ≡ [])
     × ((lane : ℕ) → of_source (lane + 1) lines ≡ event_lines (lane + 1) version 0 (of_lane lane events))
 
--- a lane has so many answers, and of these so many refusals
+-- a lane has this many answers, and of these this many refusals
 abbrev pub IsCountOf : LaneCount → List AnswerValue → Type 0
 IsCountOf count answers = (count.answers ≡ length answers) × (count.refused ≡ count_by is_refused answers)
 

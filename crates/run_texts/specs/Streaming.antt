@@ -23,14 +23,14 @@ record_lines source place version [] = []
 record_lines source place version (answer ∷ answers) =
     record_text source place answer.outcome version ∷ record_lines source (place + 1) version answers
 
--- the end line of a source with so many answers, where it has ended
-abbrev pub end_lines : ℕ → Option LaneEnd → ℕ → List (List ℕ)
-end_lines source None answers = []
-end_lines source (Some end) answers = end_text source (why_of end) answers ∷ []
+-- the end line of a source with this many answers, if it has ended
+abbrev pub end_lines : ℕ → Version → Option LaneEnd → ℕ → List (List ℕ)
+end_lines source version None answers = []
+end_lines source version (Some end) answers = end_text source version (why_of end) answers ∷ []
 
--- the lines of a source: the record of each of its answers, and behind them its end line, where it has ended
+-- the lines of a source: the record of each of its answers, and after them its end line, if it has ended
 abbrev pub lane_lines : ℕ → Version → List AnswerValue → Option LaneEnd → List (List ℕ)
-lane_lines source version answers end = record_lines source 1 version answers ++ end_lines source end (length answers)
+lane_lines source version answers end = record_lines source 1 version answers ++ end_lines source version end (length answers)
 
 -- a line of a text, together with the number of its source
 abbrev pub SourceLine : Type 0
@@ -46,7 +46,7 @@ abbrev pub merged_text : List SourceLine → List ℕ
 merged_text [] = []
 merged_text (line ∷ lines) = line.1 ++ merged_text lines
 
--- each of the lines is of one of so many sources, which are numbered from 1
+-- each of the lines is of one of this many sources, which are numbered from 1
 abbrev pub AreOfSources : ℕ → List SourceLine → Type 0
 AreOfSources sources lines = All (λ line. (1 ≤ line.0) × (line.0 ≤ sources)) lines
 
@@ -64,7 +64,7 @@ module _ {S : Type 0} where
   abbrev pub IsMerge : Version → List (LaneReport S) → List SourceLine → Type 0
   IsMerge version reports lines = HaveLines 1 version reports lines × AreOfSources (length reports) lines
 
-  -- what the version begins with was written, and behind it such lines
+  -- what the version begins with was written, and after it such lines
   abbrev pub IsStreamed : Version → List (LaneReport S) → Option (List ℕ) → Option (List ℕ) → Type 0
   IsStreamed version reports before after =
       (lines : List SourceLine) × IsMerge version reports lines × Appends before after (head_text version ++ merged_text lines)

@@ -16,10 +16,10 @@ use std::io::Write;
 use std::marker::Model;
 use std::mem;
 
-/// A block with so many bytes takes no more records.
+/// A block with this many bytes takes no more records.
 const FULL: usize = 65_536;
 
-/// A block has room for so many bytes at once: more than it needs, mostly, for its last record.
+/// A block has room for this many bytes at once: more than it needs, mostly, for its last record.
 const ROOM: usize = 73_728;
 
 /// The text of a lane, in blocks of which the last one is being filled.
@@ -92,7 +92,7 @@ impl LaneText {
         }
     }
 
-    /// Begins a block where the last one is full.
+    /// Begins a block if the last one is full.
     fn make_room(&mut self) -> Result<(), Refusal>
         ensures as_before { self.new ≡ self.old }
         ensures refusal { IfErr result (λ refusal. refusal ≡ NoMemory) }
@@ -121,17 +121,17 @@ impl LaneText {
     }
 
     /// Appends its end line.
-    pub fn end(&mut self, lane: usize, end: LaneEnd) -> Result<(), Refusal>
+    pub fn end(&mut self, lane: usize, end: LaneEnd, version: Version) -> Result<(), Refusal>
         requires { lane + 1 < 2 ^ 64 }
         ensures ended { OnOk result (self.new ≡ record {
-          text = self.old.text ++ end_text (lane + 1) (why_of end) self.old.answers;
+          text = self.old.text ++ end_text (lane + 1) version (why_of end) self.old.answers;
           answers = self.old.answers;
           refused = self.old.refused;
         }) }
         ensures as_before { OnErr result (self.new ≡ self.old) }
         ensures refusal { IfErr result (λ refusal. refusal ≡ NoMemory) }
     {
-        self.count.push_end(lane, end, &mut self.last)
+        self.count.push_end(lane, end, version, &mut self.last)
     }
 
     /// Writes the text, and gives its memory back.

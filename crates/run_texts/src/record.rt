@@ -2,7 +2,7 @@
 ghost use Rattle.std.specs.Prelude.{◌≡◌, ◌+◌, ◌<◌, ◌^◌, ◌++◌, [], ◌∷◌, count_by, IfErr, OnErr, OnOk};
 ghost use Rattle.set_line.specs.Record.{record_text};
 ghost use Rattle.set_run.specs.declared.collector.Refusal.TheVariants.{OutOfMemory as NoMemory};
-ghost use Rattle.run_texts.specs.RunText.{end_text, head_text, is_refused, why_of};
+ghost use Rattle.run_texts.specs.RunText.{end_text, head_text, is_refused, json_end, why_of, words_end};
 
 use crate::lane_count::LaneCount;
 use itoa::Buffer;
@@ -32,23 +32,41 @@ pub(crate) fn push_head(version: Version, text: &mut Vec<u8>) -> Result<(), Refu
     ensures refusal { IfErr result (λ refusal. refusal ≡ NoMemory) }
 {
     match version {
-        Version::One => Ok(()),
+        Version::One | Version::Json => Ok(()),
         Version::Two => text
             .extend_from_slice(b"records 2\n")
             .map_err(|_| Refusal::OutOfMemory),
     }
 }
 
-/// Appends the end line of a source that has so many answers.
+/// Appends the end line of a source that has this many answers.
 #[tactic(auto, unfolding(crate::specs::RunText::end_text))]
 fn push_end_line(
+    source: u64,
+    version: Version,
+    end: LaneEnd,
+    answers: u64,
+    text: &mut Vec<u8>,
+) -> Result<(), AllocError>
+    ensures { OnOk result (text.new.items
+        ≡ text.old.items ++ end_text source version (why_of end) answers) }
+{
+    match version {
+        Version::One | Version::Two => push_words_end(source, end, answers, text),
+        Version::Json => push_json_end(source, end, answers, text),
+    }
+}
+
+/// Appends an end line in words.
+#[tactic(auto, unfolding(crate::specs::RunText::words_end))]
+fn push_words_end(
     source: u64,
     end: LaneEnd,
     answers: u64,
     text: &mut Vec<u8>,
 ) -> Result<(), AllocError>
     ensures { OnOk result (text.new.items
-        ≡ text.old.items ++ end_text source (why_of end) answers) }
+        ≡ text.old.items ++ words_end source (why_of end) answers) }
 {
     let mut digits = Buffer::new();
     text.extend_from_slice(digits.format(source).as_bytes())?;
@@ -57,6 +75,27 @@ fn push_end_line(
     text.extend_from_slice(b" ")?;
     text.extend_from_slice(digits.format(answers).as_bytes())?;
     text.extend_from_slice(b"\n")
+}
+
+/// Appends an end line as a JSON object.
+#[tactic(auto, unfolding(crate::specs::RunText::json_end))]
+fn push_json_end(
+    source: u64,
+    end: LaneEnd,
+    answers: u64,
+    text: &mut Vec<u8>,
+) -> Result<(), AllocError>
+    ensures { OnOk result (text.new.items
+        ≡ text.old.items ++ json_end source (why_of end) answers) }
+{
+    let mut digits = Buffer::new();
+    text.extend_from_slice(b"{\"source\":")?;
+    text.extend_from_slice(digits.format(source).as_bytes())?;
+    text.extend_from_slice(b",\"end\":\"")?;
+    text.extend_from_slice(why(end))?;
+    text.extend_from_slice(b"\",\"lines\":")?;
+    text.extend_from_slice(digits.format(answers).as_bytes())?;
+    text.extend_from_slice(b"}\n")
 }
 
 impl LaneCount {
@@ -102,15 +141,21 @@ impl LaneCount {
     }
 
     /// Appends the lane's end line.
-    pub fn push_end(&self, lane: usize, end: LaneEnd, text: &mut Vec<u8>) -> Result<(), Refusal>
+    pub fn push_end(
+        &self,
+        lane: usize,
+        end: LaneEnd,
+        version: Version,
+        text: &mut Vec<u8>,
+    ) -> Result<(), Refusal>
         requires { lane + 1 < 2 ^ 64 }
         ensures text { OnOk result (text.new.items ≡ text.old.items
-            ++ end_text (lane + 1) (why_of end) self.now.answers) }
+            ++ end_text (lane + 1) version (why_of end) self.now.answers) }
         ensures as_before { OnErr result (text.new.items ≡ text.old.items) }
         ensures refusal { IfErr result (λ refusal. refusal ≡ NoMemory) }
     {
         let mut line = Vec::new(*text.allocator());
-        push_end_line(lane as u64 + 1, end, self.answers, &mut line).map_err(
+        push_end_line(lane as u64 + 1, version, end, self.answers, &mut line).map_err(
             |_| Refusal::OutOfMemory,
         )?;
         text.extend_from_slice(line.as_slice())

@@ -1,4 +1,4 @@
-//! What came of a run, in short.
+//! How a run went, in short.
 ghost use Rattle.std.specs.Prelude.{◌≡◌, ℕ, false, min, ◌-◌, ◌^◌, sum_by};
 ghost use Rattle.std.specs.List.{list_any};
 ghost use Rattle.std.specs.Option.{option_map_or};
@@ -60,7 +60,7 @@ fn some_wanting<S>(lanes: &[ClosedLane<S>]) -> bool
     some
 }
 
-/// The summary of a run with so many refused lines, whose lanes ended so.
+/// The summary of a run with this many refused lines, whose lanes ended so.
 pub(crate) fn summary_of<S>(refused: u64, lanes: &[ClosedLane<S>]) -> Summary
     ensures { (lines : ℕ) → refused ≡ min (2 ^ 64 - 1) lines
         → result ≡ summary_of_lanes lines lanes.now }

@@ -53,7 +53,7 @@ fn write_lanes<W: Write>(lanes: Vec<LaneText>, out: &mut W) -> Result<(), Refusa
 }
 
 impl<K: Kept> RunTexts<K> {
-    /// No text yet of any of so many lanes.
+    /// No text yet of any of this many lanes.
     pub fn new(alloc: Global, count: usize, version: Version) -> Result<Self, AllocError>
         ensures version { IfOk result (λ texts. texts.version ≡ version) }
         ensures lanes { IfOk result (λ texts. length texts.lanes.items ≡ count) }
@@ -70,7 +70,7 @@ impl<K: Kept> RunTexts<K> {
         })
     }
 
-    /// Writes them, behind what their version begins with.
+    /// Writes them, after what their version begins with.
     #[tactic(auto, using(crate::proofs::RunTextLemmas::appends_more))]
     pub fn write<W: Write>(self, alloc: Global, out: &mut W) -> Result<(), Refusal>
         ensures written { OnOk result (Appends (W.contents out.old) (W.contents out.new)
@@ -101,7 +101,7 @@ impl<K: Kept> Collector for RunTexts<K> {
     }
 
     fn end(&mut self, lane: usize, end: LaneEnd) -> Result<(), Refusal> {
-        self.lanes[lane].end(lane, end)
+        self.lanes[lane].end(lane, end, self.version)
     }
 
     fn about_to_wait(&mut self) -> Result<(), Refusal> {

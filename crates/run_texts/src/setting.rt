@@ -117,7 +117,7 @@ pub fn accepted(alloc: Global, bytes: &[u8], size: Option<Size>) -> Result<Font,
     ensures ok { IfOk result (IsFontOf bytes.now size) }
     ensures font { (f : Refusal) → result ≡ Err (ToolFault.Font f) → font_fault_of bytes.now ≡ Some f }
     ensures refused { (f : Refusal) → font_fault_of bytes.now ≡ Some f
-        → (result ≡ Err (ToolFault.Font f)) ⊎ (result ≡ Err ToolFault.OutOfMemory) }
+        → result ≡ Err (ToolFault.Font f) }
     ensures fault { IfErr result (λ fault. (fault ≡ ToolFault.OutOfMemory)
         ⊎ ((f : Refusal) × (fault ≡ ToolFault.Font f))) }
 {
@@ -160,7 +160,7 @@ pub(crate) fn with_font<S: Drop>(
     ensures count { IfOk result (λ pairs. vec_len pairs ≡ vec_len sources) }
     ensures font { (f : Refusal) → result ≡ Err (ToolFault.Font f) → font_fault_of font.now ≡ Some f }
     ensures refused { (f : Refusal) → font_fault_of font.now ≡ Some f
-        → (result ≡ Err (ToolFault.Font f)) ⊎ (result ≡ Err ToolFault.OutOfMemory) }
+        → result ≡ Err (ToolFault.Font f) }
     ensures fault { IfErr result (λ fault. (fault ≡ ToolFault.OutOfMemory)
         ⊎ ((f : Refusal) × (fault ≡ ToolFault.Font f))) }
 {
@@ -205,7 +205,7 @@ where
     ensures font { (fault : Refusal) → result ≡ Err (ToolFault.Font fault)
         → (font_fault_of font.now ≡ Some fault) × (out.new ≡ out.old) }
     ensures refused { (fault : Refusal) → font_fault_of font.now ≡ Some fault
-        → (result ≡ Err (ToolFault.Font fault)) ⊎ (result ≡ Err ToolFault.OutOfMemory) }
+        → result ≡ Err (ToolFault.Font fault) }
     ensures many { 64 < vec_len sources → (result ≡ Err (ToolFault.Run TooManySources))
         ⊎ (result ≡ Err ToolFault.OutOfMemory)
         ⊎ ((fault : Refusal) × (result ≡ Err (ToolFault.Font fault))) }

@@ -13,10 +13,10 @@ use set_run::Refusal;
 use std::alloc::{AllocError, Global};
 use std::io::{ErrorKind, Write};
 
-/// A block with so many bytes is written before anything is appended.
+/// A block with this many bytes is written before anything is appended.
 const FULL: usize = 65_536;
 
-/// A block has room for so many: more than it needs, mostly, for its last line.
+/// A block has room for this many: more than it needs, mostly, for its last line.
 const ROOM: usize = 73_728;
 
 /// The lines of a run: those that wait in a block, and the writer to which they go.
@@ -28,7 +28,7 @@ pub(crate) struct Stream<'a, W> {
     pub version: Version,
 }
 
-/// Writes once. How many bytes that took: none where it was interrupted. `None` where they are refused.
+/// Writes once. How many bytes that took: none if it was interrupted. `None` if they are refused.
 #[tactic(auto, using(crate::proofs::StreamLemmas::appends))]
 fn write_once<W: Write>(bytes: &[u8], out: &mut W) -> Option<usize>
     ensures took { IfSome result (λ count. (count ≤ length bytes.now)
@@ -92,7 +92,7 @@ pub(crate) fn first_block(alloc: Global, version: Version) -> Result<Vec<u8>, Re
     Ok(block)
 }
 
-/// Counts of so many lanes without answers.
+/// Counts of this many lanes without answers.
 pub(crate) fn no_answers(alloc: Global, lanes: usize) -> Result<Vec<LaneCount>, AllocError>
     ensures lanes { IfOk result (λ counts. length counts.items ≡ lanes) }
     ensures none { IfOk result (λ counts. AreCounts [] 0 counts.items) }
@@ -117,7 +117,7 @@ impl<W: Write> Stream<'_, W> {
         write_block(&mut self.block, &mut *self.out)
     }
 
-    /// Writes the block where it is full.
+    /// Writes the block if it is full.
     fn make_room(&mut self) -> Result<(), Refusal>
         ensures lanes { length self.new.counts.items ≡ length self.old.counts.items }
         ensures given { (start : StreamStart)
@@ -161,7 +161,7 @@ impl<W: Write> Stream<'_, W> {
             Err(refusal) => return Err(refusal),
         }
         let count = self.counts[lane];
-        match count.push_end(lane, end, &mut self.block) {
+        match count.push_end(lane, end, self.version, &mut self.block) {
             Ok(()) => (),
             Err(refusal) => return Err(refusal),
         }

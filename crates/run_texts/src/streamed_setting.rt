@@ -52,7 +52,7 @@ where
     ensures font { (fault : FontRefusal) → result ≡ Err (ToolFault.Font fault)
         → (font_fault_of font.now ≡ Some fault) × (out.new ≡ out.old) }
     ensures refused { (fault : FontRefusal) → font_fault_of font.now ≡ Some fault
-        → (result ≡ Err (ToolFault.Font fault)) ⊎ (result ≡ Err ToolFault.OutOfMemory) }
+        → result ≡ Err (ToolFault.Font fault) }
     ensures many { 64 < vec_len sources → (result ≡ Err (ToolFault.Run TooManySources))
         ⊎ (result ≡ Err ToolFault.OutOfMemory)
         ⊎ ((fault : FontRefusal) × (result ≡ Err (ToolFault.Font fault))) }

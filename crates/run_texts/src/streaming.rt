@@ -102,7 +102,7 @@ where
     (begun.stream, ran)
 }
 
-/// Writes what waits, and tells what came of a run with this end. Where memory was refused, the lines
+/// Writes what waits, and tells how a run with this end went. If memory was refused, the lines
 /// before that are written, too.
 fn finish<W: Write, S>(
     block: &mut Vec<u8>,
@@ -134,8 +134,8 @@ fn finish<W: Write, S>(
 }
 
 /// Sets the lines of all sources, each with its terms, in one run, and writes the record of each answer
-/// as it comes: first the records of any source, in the order of its lines, and behind its last record
-/// its end line. Nothing was written where `Run` is answered. After `Write` the text that was written may
+/// as it comes: first the records of any source, in the order of its lines, and after its last record
+/// its end line. Nothing was written if `Run` is answered. After `Write` the text that was written may
 /// end within a line; after `OutOfMemory` it doesn't. It never answers `Font`.
 pub fn stream_each<R, S, G, W>(
     rt: &R,

@@ -1,7 +1,7 @@
 ghost use Rattle.std.specs.Prelude.{◌≡◌};
 ghost use Rattle.run_texts.specs.Endings.{summary_status};
 
-/// What came of setting lines, in short.
+/// How setting lines went, in short.
 #[derive(Clone, Copy, Debug, PartialEq, Eq, Hash)]
 pub struct Summary {
     /// How many lines were refused.

@@ -1,4 +1,4 @@
--- so many lanes without answers
+-- this many lanes without answers
 use Rattle.std.proofs.Common.{◌≡◌, [], length}
 use Rattle.run_texts.specs.StreamState.{AreCounts}
 use Rattle.run_texts.proofs.stream.no_answers.Given as goal

@@ -1,4 +1,4 @@
--- so many lanes, of which nothing came yet
+-- this many lanes, of which nothing came yet
 use Rattle.std.proofs.Common.{◌≡◌, [], length}
 use Rattle.run_texts.specs.LaneText.{AreKept}
 use Rattle.run_texts.proofs.run_text.RunTexts.new.Given as goal
