@@ -3,3 +3,8 @@ pub mod StatusLemmas
 pub mod JobLemmas
 pub mod ListLemmas
 pub mod KeptLemmas
+pub mod CheckingLemmas
+pub mod NamedLemmas
+pub mod SourceLemmas
+pub mod KnownLemmas
+pub mod ReaderLemmas

@@ -1,7 +1,7 @@
 -- Lemmas on the statuses of failures.
 use Rattle.std.proofs.Common.{[], ◌∷◌, Contains, lit<, refl}
 use Rattle.tfm_tool.specs.declared.exit.Failure.{Failure}
-use Rattle.tfm_tool.specs.declared.exit.Failure.TheVariants.{Usage, NotInThrees, TooManyFiles, LimitRange, FontAndText, NotRead, FontNotRead, FontRefused, FileNotOpened, FileNotEnded, Tool}
+use Rattle.tfm_tool.specs.declared.exit.Failure.TheVariants.{Usage, NotInThrees, TooManyFiles, LimitRange, FontAndText, TwoFonts, NotRead, FontNotRead, SomeFontNotRead, FontRefused, FileNotOpened, FileNotEnded, Tool}
 use Rattle.run_texts.specs.declared.fault.ToolFault.TheVariants.{Font, Run, OutOfMemory, Write}
 use Rattle.set_run.specs.declared.run_fault.RunFault.TheVariants.{TooManySources, OutOfMemory as RunOutOfMemory, Thread}
 use Rattle.tfm_tool.specs.Status.{status_of}
@@ -17,9 +17,11 @@ status_listed NotInThrees = (2, lit< tt, refl)
 status_listed TooManyFiles = (2, lit< tt, refl)
 status_listed (LimitRange _) = (2, lit< tt, refl)
 status_listed FontAndText = (2, lit< tt, refl)
+status_listed TwoFonts = (2, lit< tt, refl)
 status_listed (FontRefused _ _) = (3, lit< tt, refl)
 status_listed NotRead = (4, lit< tt, refl)
 status_listed (FontNotRead _) = (4, lit< tt, refl)
+status_listed SomeFontNotRead = (4, lit< tt, refl)
 status_listed (FileNotOpened _) = (4, lit< tt, refl)
 status_listed FileNotEnded = (4, lit< tt, refl)
 status_listed (Tool OutOfMemory) = (5, lit< tt, refl)

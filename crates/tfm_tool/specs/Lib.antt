@@ -1,3 +1,7 @@
 pub mod Status
+pub mod Named
+pub mod Told
 pub mod Runs
 pub mod Kept
+pub mod Checking
+pub mod Requests

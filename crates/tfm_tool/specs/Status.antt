@@ -1,8 +1,8 @@
 -- The status that the program ends with, by what went wrong.
 -- The table is this project's own; 2 for a command line that is refused is common use.
-use Rattle.std.specs.Prelude.{ℕ, ◌==◌, ◌||◌, Bool}
+use Rattle.std.specs.Prelude.{◌≡◌, ℕ, ◌==◌, ◌||◌, Bool, true, false, Result, MatchResult}
 use Rattle.tfm_tool.specs.declared.exit.Failure.{Failure}
-use Rattle.tfm_tool.specs.declared.exit.Failure.TheVariants.{Usage, NotInThrees, TooManyFiles, LimitRange, FontAndText, NotRead, FontNotRead, FontRefused, FileNotOpened, FileNotEnded, Tool}
+use Rattle.tfm_tool.specs.declared.exit.Failure.TheVariants.{Usage, NotInThrees, TooManyFiles, LimitRange, FontAndText, TwoFonts, NotRead, FontNotRead, SomeFontNotRead, FontRefused, FileNotOpened, FileNotEnded, Tool}
 use Rattle.run_texts.specs.declared.fault.ToolFault.{ToolFault}
 use Rattle.run_texts.specs.declared.fault.ToolFault.TheVariants.{Font, Run, OutOfMemory, Write}
 use Rattle.set_run.specs.declared.run_fault.RunFault.TheVariants.{TooManySources, OutOfMemory as RunOutOfMemory, Thread}
@@ -25,9 +25,11 @@ status_of NotInThrees = 2
 status_of TooManyFiles = 2
 status_of (LimitRange _) = 2
 status_of FontAndText = 2
+status_of TwoFonts = 2
 status_of (FontRefused _ _) = 3
 status_of NotRead = 4
 status_of (FontNotRead _) = 4
+status_of SomeFontNotRead = 4
 status_of (FileNotOpened _) = 4
 status_of FileNotEnded = 4
 status_of (Tool fault) = text_status_of fault
@@ -40,3 +42,13 @@ failure_of NoRoom = Tool OutOfMemory
 -- whether a failure comes with nothing written before it: the command line or a font is refused
 abbrev pub is_before_output : Failure → Bool
 is_before_output failure = (status_of failure == 2) || (status_of failure == 3)
+
+-- whether a failure comes after the whole text was written: some file or font was not read
+abbrev pub is_after_text : Failure → Bool
+is_after_text FileNotEnded = true
+is_after_text SomeFontNotRead = true
+is_after_text _ = false
+
+-- what holds of the status that a request ends with, if its whole text was written
+abbrev pub AfterText : Result ℕ Failure → (ℕ → Type 0) → Type 0
+AfterText result P = MatchResult result P (λ failure. is_after_text failure ≡ true → P (status_of failure))

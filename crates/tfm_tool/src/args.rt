@@ -11,11 +11,21 @@ use tfm_words::Size;
 
 /// What the arguments ask for.
 #[derive(Drop)]
-pub(crate) enum Request<'a> {
-    /// The counts of the font of this name.
-    Counts { font: &'a str },
-    /// All that the font of this name holds.
-    List { font: &'a str },
+pub enum Request<'a> {
+    /// The counts of a font.
+    Counts {
+        /// The font's name.
+        font: &'a str,
+    },
+    /// What a font holds, at its design size.
+    List {
+        /// The font's name.
+        font: &'a str,
+        /// With all that its file says.
+        all: bool,
+    },
+    /// Which fonts are accepted.
+    Check(Checking<'a>),
     /// The lines of files, set with one font.
     Set(Setting<'a>),
     /// The lines of files or of standard input, set with one font, with their records as they come.
@@ -26,31 +36,50 @@ pub(crate) enum Request<'a> {
 
 /// How a run is laid out, and what is printed of it.
 #[derive(Clone, Copy)]
-pub(crate) struct Layout {
+pub struct Layout {
+    /// The size of all fonts; without it each has its design size.
     pub size: Option<Size>,
+    /// What is done with missing characters.
     pub policy: Policy,
+    /// The threads and the rings.
     pub plan: Plan,
+    /// The form of the records.
     pub version: Version,
 }
 
-/// A font, a limit, and the files with the lines; for `stream` no file is standard input.
+/// Fonts to look at.
 #[derive(Drop)]
-pub(crate) struct Setting<'a> {
+pub struct Checking<'a> {
+    /// Their names, of which one may be `-`, standard input.
+    pub fonts: Vec<&'a str>,
+    /// The size of all; without it each has its design size.
+    pub size: Option<Size>,
+}
+
+/// Lines to be set with one font.
+#[derive(Drop)]
+pub struct Setting<'a> {
+    /// The font's name; `-` is standard input.
     pub font: &'a str,
+    /// How many steps a line may take.
     pub limit: Limit,
+    /// The files with the lines; for `stream` no file is standard input.
     pub files: Vec<&'a str>,
+    /// How the run is laid out.
     pub layout: Layout,
 }
 
-/// The jobs of `each`, as they were given: a font, a limit and a file, again and again.
+/// The jobs of `each`.
 #[derive(Drop)]
-pub(crate) struct Jobs<'a> {
+pub struct Jobs<'a> {
+    /// As they were given: a font, a limit and a file, again and again.
     pub words: Vec<&'a str>,
+    /// How the run is laid out.
     pub layout: Layout,
 }
 
 /// Reads the words after the program's name. The error is also how help and the version come.
-pub(crate) fn requested<'a, S: AsStr>(alloc: Global, words: &'a [S]) -> Result<Request<'a>, Error> {
+pub fn requested<'a, S: AsStr>(alloc: Global, words: &'a [S]) -> Result<Request<'a>, Error> {
     let mut command = tfmset_command(alloc)?;
     match read_by(alloc, &mut command, words)? {
         Some(request) => Ok(request),
@@ -73,6 +102,9 @@ fn given<'a>(alloc: Global, matches: &ArgMatches<'a>) -> Result<Option<Request<'
     if let Some(request) = given_font(matches) {
         return Ok(Some(request));
     }
+    if let Some(checking) = given_checking(alloc, matches)? {
+        return Ok(Some(Request::Check(checking)));
+    }
     if let Some(setting) = given_setting(alloc, matches, "set")? {
         return Ok(Some(Request::Set(setting)));
     }
@@ -93,7 +125,24 @@ fn given_font<'a>(matches: &ArgMatches<'a>) -> Option<Request<'a>> {
     }
     let matches = matches.subcommand_matches("list")?;
     let font = matches.get_str("FONT")?;
-    Some(Request::List { font })
+    let all = matches.get_flag("all");
+    Some(Request::List { font, all })
+}
+
+/// What `check` asks for.
+fn given_checking<'a>(
+    alloc: Global,
+    matches: &ArgMatches<'a>,
+) -> Result<Option<Checking<'a>>, AllocError> {
+    let Some(matches) = matches.subcommand_matches("check") else {
+        return Ok(None);
+    };
+    let Some(fonts) = matches.get_strs("FONT") else {
+        return Ok(None);
+    };
+    let fonts = Vec::from_slice(alloc, fonts)?;
+    let size = asked_size(matches);
+    Ok(Some(Checking { fonts, size }))
 }
 
 /// What `set` or `stream` asks for.
@@ -149,7 +198,7 @@ fn asked_jobs<'b, 'a>(matches: &'b ArgMatches<'a>) -> Option<(&'b [&'a str], Lay
 
 fn asked_layout<'a>(matches: &ArgMatches<'a>) -> Option<Layout> {
     Some(Layout {
-        size: matches.get_one::<u32>("size").and_then(Size::new),
+        size: asked_size(matches),
         policy: match matches.get_str("missing")? {
             "skip" => Policy::Skip,
             _ => Policy::Refuse,
@@ -161,9 +210,14 @@ fn asked_layout<'a>(matches: &ArgMatches<'a>) -> Option<Layout> {
         },
         version: match matches.get_str("record")? {
             "2" => Version::Two,
+            "json" => Version::Json,
             _ => Version::One,
         },
     })
+}
+
+fn asked_size<'a>(matches: &ArgMatches<'a>) -> Option<Size> {
+    matches.get_one::<u32>("size").and_then(Size::new)
 }
 
 fn number<'a>(matches: &ArgMatches<'a>, name: &str) -> Option<usize> {

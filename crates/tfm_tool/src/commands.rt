@@ -1,5 +1,5 @@
 //! The command line, as `clap` reads it, and its help.
-use clap::{Arg, Command, value_parser};
+use clap::{Arg, ArgAction, Command, value_parser};
 use std::alloc::{AllocError, Global};
 
 const VERSION: &str = "0.1.0";
@@ -9,6 +9,7 @@ const ABOUT: &str = "Reads TeX font metric (TFM) files and sets lines with them"
 const AFTER_HELP: &str = "Examples, in the folder examples of the sources:
   tfmset counts demo.tfm    the counts and the design size of a font
   tfmset list demo.tfm      what a font holds
+  tfmset check demo.tfm     whether a font is accepted
   tfmset set demo.tfm lines.txt
                             the lines of a file, set with a font
   echo five | tfmset stream demo.tfm
@@ -18,7 +19,7 @@ const AFTER_HELP: &str = "Examples, in the folder examples of the sources:
 
 Exit status:
   0  done; also help and the version
-  1  done, and some line was refused
+  1  done, and some line, or of `check` some font, was refused
   2  the command line is refused
   3  the font is refused
   4  a font was not read, or a file was not opened or not read to its end
@@ -41,10 +42,24 @@ const LIST_AFTER_HELP: &str = "Example, in the folder examples of the sources:
 
 Prints the header, the boundaries, the characters with their measures, the
 instructions of the lig/kern program, the kerns and the parameters. Measures
-are in scaled points at the design size.
+are in scaled points at the design size. With --all the twelve counts stand
+before, and the recipes and each word of the file, in hexadecimal, behind.
 
 Exit status: 0 done; 2 the command line is refused; 3 the font is refused; 4
 the font was not read; 5 memory or the output was refused.";
+
+const CHECK_ABOUT: &str = "Says which fonts are accepted, a line each";
+
+const CHECK_AFTER_HELP: &str = "Example, in the folder of the sources:
+  tfmset check examples/demo.tfm
+
+Reads each FONT in order, and prints `NAME: accepted`, or `NAME: refused: `
+with its first fault, or `NAME: not read`. It goes on after a font that isn't
+accepted. Of the FONTs one may be -. No fault depends on the size.
+
+Exit status: 0 all are accepted; 1 some font is refused; 2 the command line is
+refused, or two fonts are on standard input; 4 some font was not read; 5
+memory or the output was refused. The highest that applies is told.";
 
 const SET_ABOUT: &str = "Sets the lines of files with a font, and prints a record for each";
 
@@ -127,15 +142,20 @@ const LIMIT_HELP: &str = "Steps a line may take, 1 to 16777216";
 
 const MISSING_HELP: &str = "Missing characters: refuse or skip";
 
-const RECORD_HELP: &str = "Form of the records, 1 or 2; 2 has the steps";
+const RECORD_HELP: &str = "Records in form 1, 2 or json; 1 has no steps";
+
+const ALL_HELP: &str = "Also the counts, the recipes and each word of the file";
 
 const FONT_HELP: &str = "A TFM file, or - for standard input";
+
+const FONTS_HELP: &str = "TFM files; one may be - for standard input";
 
 /// The whole command.
 pub(crate) fn tfmset_command<'a>(alloc: Global) -> Result<Command<'a>, AllocError> {
     let command = bare_command(alloc)?;
     let command = with(command, counts_command(alloc))?;
     let command = with(command, list_command(alloc))?;
+    let command = with(command, check_command(alloc))?;
     let command = with(command, set_command(alloc))?;
     let command = with(command, stream_command(alloc))?;
     with(command, each_command(alloc))
@@ -173,7 +193,23 @@ fn list_command<'a>(alloc: Global) -> Result<Command<'a>, AllocError> {
     Command::new(alloc, "list")
         .about(LIST_ABOUT)
         .after_help(LIST_AFTER_HELP)
+        .arg(all_option(alloc))?
         .arg(font_argument(alloc))
+}
+
+fn all_option<'a>(alloc: Global) -> Arg<'a> {
+    Arg::new(alloc, "all")
+        .long("all")
+        .help(ALL_HELP)
+        .action(ArgAction::SetTrue)
+}
+
+fn check_command<'a>(alloc: Global) -> Result<Command<'a>, AllocError> {
+    Command::new(alloc, "check")
+        .about(CHECK_ABOUT)
+        .after_help(CHECK_AFTER_HELP)
+        .arg(number_option(alloc, "size", SIZE_HELP, 134_217_727))?
+        .arg(many(alloc, "FONT", FONTS_HELP).required(true))
 }
 
 fn font_argument<'a>(alloc: Global) -> Arg<'a> {
@@ -223,7 +259,12 @@ fn run_options<'a>(alloc: Global, command: Command<'a>) -> Result<Command<'a>, A
     let command = with_argument(command, capacity)?;
     let block = number_option(alloc, "block", BLOCK_HELP, 8).default_value("1");
     let command = with_argument(command, block)?;
-    let record = choice_option(alloc, ["record", "V", RECORD_HELP], &["1", "2"], "1");
+    let record = choice_option(
+        alloc,
+        ["record", "V", RECORD_HELP],
+        &["1", "2", "json"],
+        "1",
+    );
     with_argument(command, record)
 }
 

@@ -11,7 +11,7 @@ use thiserror::Error;
 /// Why the program ends with a status from 2 on. Its message is all that goes to the standard
 /// error.
 #[derive(Debug, Drop, Error)]
-pub(crate) enum Failure {
+pub enum Failure {
     /// The words are refused.
     #[error("{0}")]
     Usage(clap::Error),
@@ -27,12 +27,18 @@ pub(crate) enum Failure {
     /// A font and a text of `stream`, both on standard input.
     #[error("tfmset: font and text both on standard input\n")]
     FontAndText,
+    /// Two fonts of `check`, both on standard input.
+    #[error("tfmset: two fonts on standard input\n")]
+    TwoFonts,
     /// The font's bytes were not read.
     #[error("tfmset: font not read\n")]
     NotRead,
     /// The bytes of a font of `each` were not read; from 1.
     #[error("tfmset: font {0} not read\n")]
     FontNotRead(usize),
+    /// The bytes of some font of `check` were not read; the text was written.
+    #[error("tfmset: some font was not read\n")]
+    SomeFontNotRead,
     /// A font of `each` is refused; from 1.
     #[error("tfmset: font {number} refused: {fault}\n", fault = Numbered(fault))]
     FontRefused {
@@ -60,9 +66,9 @@ impl Failure {
         match self {
             Failure::Usage(_) => 2,
             Failure::NotInThrees | Failure::TooManyFiles | Failure::LimitRange(_) => 2,
-            Failure::FontAndText => 2,
+            Failure::FontAndText | Failure::TwoFonts => 2,
             Failure::Tool(ToolFault::Font(_)) | Failure::FontRefused { .. } => 3,
-            Failure::NotRead | Failure::FontNotRead(_) => 4,
+            Failure::NotRead | Failure::FontNotRead(_) | Failure::SomeFontNotRead => 4,
             Failure::FileNotOpened(_) | Failure::FileNotEnded => 4,
             Failure::Tool(ToolFault::Run(RunFault::TooManySources)) => 2,
             Failure::Tool(ToolFault::Run(RunFault::OutOfMemory | RunFault::Thread)) => 5,

@@ -1,17 +1,18 @@
 //! The files that a run asks for: fonts, which are read to their end, and files with lines, which are opened.
-ghost use Rattle.std.specs.Prelude.{◌≡◌, ◌≢◌, ℕ, ◌++◌, List, codes, IfOk, IfSome, OnOk};
+ghost use Rattle.std.specs.Prelude.{◌≡◌, ◌≢◌, ℕ, ◌++◌, List, Some, false, codes, IfErr, IfOk, IfSome, OnOk};
 ghost use Rattle.std.specs.Io.KnownBytes.{IsAtEnd};
 ghost use Rattle.tfm_tool.specs.Kept.{HaveSameFont, kept_of};
+ghost use Rattle.tfm_tool.specs.Named.{file_bytes_of, font_bytes_of};
+ghost use Rattle.tfm_tool.specs.Status.{is_after_text};
+ghost use Rattle.tfm_tool.specs.Told.{AreSourcesOf, IsSourceOf, all_told_by, told_by};
 
-use crate::ToolFault;
 use crate::exit::Failure;
 use crate::jobs::Job;
+use crate::{Opens, ToolFault};
 use set_line::Terms;
-use set_run::ReaderSource;
+use set_run::{LineSource, ReaderSource};
 use std::alloc::{AllocError, Global};
-use std::fs;
 use std::io::{ErrorKind, Read};
-use std::rt::Files;
 use std::sync::Arc;
 
 /// A font file is read to its end by at most this many reads.
@@ -35,19 +36,25 @@ pub(crate) enum ReadFault {
 
 /// The bytes of the font that a word names, as many as a font can have: `-` is `input`, any other
 /// word is a file.
-pub(crate) fn font_bytes<R, I>(rt: &R, font: &str, input: &mut I) -> Result<Vec<u8>, ReadFault>
+pub(crate) fn font_bytes<F, I>(
+    alloc: Global,
+    files: &F,
+    font: &str,
+    input: &mut I,
+) -> Result<Vec<u8>, ReadFault>
 where
-    R: Files + AllocGlobal,
+    F: Opens,
     I: Read,
-    ensures bytes { IfOk result (λ bytes. font.now ≡ codes "-"
-        → IfSome (I.remaining input.old) (λ all. HaveSameFont bytes.items all)) }
+    ensures bytes { IfOk result (λ bytes. IfSome
+        (font_bytes_of (F.known files.now) (I.remaining input.old) font.now)
+        (λ all. HaveSameFont bytes.items all)) }
     ensures end { OnOk result (font.now ≡ codes "-" → IsAtEnd (I.remaining input.new)) }
     ensures unread { font.now ≢ codes "-" → input.new ≡ input.old }
 {
     if font == "-" {
-        return kept_bytes(rt.alloc(), input);
+        return kept_bytes(alloc, input);
     }
-    font_file(rt, font)
+    font_file(alloc, files, font)
 }
 
 /// The bytes that a reader has left, to its end, as many as a font can have.
@@ -79,40 +86,62 @@ fn keep(bytes: &mut Vec<u8>, next: &[u8]) -> Result<(), AllocError>
 }
 
 /// The bytes of the font file of this name, as many as a font can have.
-pub(crate) fn font_file<R: Files + AllocGlobal>(rt: &R, name: &str) -> Result<Vec<u8>, ReadFault> {
-    let mut file = opened(rt, name)?;
-    kept_bytes(rt.alloc(), &mut file)
+pub(crate) fn font_file<F: Opens>(
+    alloc: Global,
+    files: &F,
+    name: &str,
+) -> Result<Vec<u8>, ReadFault>
+    ensures { IfOk result (λ bytes.
+        IfSome (F.known files.now name.now) (λ all. bytes.items ≡ kept_of all)) }
+{
+    let mut file = opened(files, name)?;
+    kept_bytes(alloc, &mut file)
 }
 
 /// The file of this name, opened.
-fn opened<R: Files>(rt: &R, name: &str) -> Result<R::File, ReadFault> {
-    fs::open(rt, name).map_err(|error| match error.kind() {
+fn opened<F: Opens>(files: &F, name: &str) -> Result<F::File, ReadFault>
+    ensures { IfOk result (λ file. IfSome (F.known files.now name.now)
+        (λ all. F.File.remaining file ≡ Some all)) }
+{
+    files.open(name).map_err(|error| match error.kind() {
         ErrorKind::OutOfMemory => ReadFault::OutOfMemory,
         _ => ReadFault::NotRead,
     })
 }
 
 /// The file of this name and number, opened as a source of lines.
-fn open_file<R: Files + AllocGlobal>(
-    rt: &R,
+fn open_file<F: Opens>(
+    alloc: Global,
+    files: &F,
     number: usize,
     name: &str,
-) -> Result<ReaderSource<R::File>, Failure> {
-    match opened(rt, name) {
-        Ok(file) => Ok(ReaderSource::new(rt.alloc(), file)),
+) -> Result<ReaderSource<F::File>, Failure>
+    ensures source { IfOk result (λ source. IsSourceOf (F.known files.now name.now)
+        (told_by ⟦<ReaderSource<F::File> as LineSource>⟧.to_come
+        ⟦<ReaderSource<F::File> as LineSource>⟧.failed source)) }
+    ensures fault { IfErr result (λ failure. is_after_text failure ≡ false) }
+{
+    match opened(files, name) {
+        Ok(file) => Ok(ReaderSource::new(alloc, file)),
         Err(ReadFault::NotRead) => Err(Failure::FileNotOpened(number)),
         Err(ReadFault::OutOfMemory) => Err(Failure::Tool(ToolFault::OutOfMemory)),
     }
 }
 
 /// The files of these names, opened in order.
-pub(crate) fn open_files<R: Files + AllocGlobal>(
-    rt: &R,
+pub(crate) fn open_files<F: Opens>(
+    alloc: Global,
+    files: &F,
     names: &[&str],
-) -> Result<Vec<ReaderSource<R::File>>, Failure> {
-    let mut sources = Vec::new(rt.alloc());
+) -> Result<Vec<ReaderSource<F::File>>, Failure>
+    ensures sources { IfOk result (λ sources. AreSourcesOf (file_bytes_of (F.known files.now) names.now)
+        (all_told_by ⟦<ReaderSource<F::File> as LineSource>⟧.to_come
+        ⟦<ReaderSource<F::File> as LineSource>⟧.failed sources.items)) }
+    ensures fault { IfErr result (λ failure. is_after_text failure ≡ false) }
+{
+    let mut sources = Vec::new(alloc);
     for name in names {
-        let source = open_file(rt, sources.len() + 1, name)?;
+        let source = open_file(alloc, files, sources.len() + 1, name)?;
         sources
             .push(source)
             .map_err(|_| Failure::Tool(ToolFault::OutOfMemory))?;
@@ -121,14 +150,17 @@ pub(crate) fn open_files<R: Files + AllocGlobal>(
 }
 
 /// The files of all jobs, opened in order, each with its terms.
-pub(crate) fn open_each<R: Files + AllocGlobal>(
-    rt: &R,
+pub(crate) fn open_each<F: Opens>(
+    alloc: Global,
+    files: &F,
     jobs: &[Job<'_>],
     terms: Vec<Arc<Terms>>,
-) -> Result<Vec<(ReaderSource<R::File>, Arc<Terms>)>, Failure> {
-    let mut sources = Vec::new(rt.alloc());
+) -> Result<Vec<(ReaderSource<F::File>, Arc<Terms>)>, Failure>
+    ensures { IfErr result (λ failure. is_after_text failure ≡ false) }
+{
+    let mut sources = Vec::new(alloc);
     for (job, terms) in jobs.iter().zip(terms) {
-        let source = open_file(rt, sources.len() + 1, job.file)?;
+        let source = open_file(alloc, files, sources.len() + 1, job.file)?;
         sources
             .push((source, terms))
             .map_err(|_| Failure::Tool(ToolFault::OutOfMemory))?;

@@ -1,10 +1,12 @@
 //! The jobs of `each`: a font, a limit and a file, again and again.
 
-ghost use Rattle.std.specs.Prelude.{IfOk};
+ghost use Rattle.std.specs.Prelude.{◌≡◌, false, IfErr, IfOk};
 ghost use Rattle.std.specs.Arc.{arc_value};
 ghost use Rattle.std.specs.List.{AllZip};
 ghost use Rattle.tfm_tool.specs.Runs.{AreTermsOf};
+ghost use Rattle.tfm_tool.specs.Status.{is_after_text};
 
+use crate::Opens;
 use crate::args::Layout;
 use crate::exit::Failure;
 use crate::files::{ReadFault, font_file};
@@ -12,7 +14,6 @@ use run_texts::{ToolFault, accepted};
 use set_line::{Limit, Terms};
 use set_run::MOST_SOURCES;
 use std::alloc::Global;
-use std::rt::Files;
 use std::sync::Arc;
 
 /// A font, a limit, and a file with lines.
@@ -32,7 +33,9 @@ fn limit_of(word: &str) -> Option<Limit> {
 }
 
 /// The jobs that these words ask for, whose limits are all looked at.
-pub(crate) fn jobs<'a>(alloc: Global, words: &[&'a str]) -> Result<Vec<Job<'a>>, Failure> {
+pub(crate) fn jobs<'a>(alloc: Global, words: &[&'a str]) -> Result<Vec<Job<'a>>, Failure>
+    ensures { IfErr result (λ failure. is_after_text failure ≡ false) }
+{
     if words.len() % 3 != 0 {
         return Err(Failure::NotInThrees);
     }
@@ -55,22 +58,24 @@ pub(crate) fn jobs<'a>(alloc: Global, words: &[&'a str]) -> Result<Vec<Job<'a>>,
 }
 
 /// The terms that a job asks for.
-fn terms_of<R: Files + AllocGlobal>(
-    rt: &R,
+fn terms_of<F: Opens>(
+    alloc: Global,
+    files: &F,
     number: usize,
     job: &Job<'_>,
     layout: &Layout,
 ) -> Result<Arc<Terms>, Failure>
-    ensures { IfOk result (λ terms.
-        AreTermsOf layout.now.size job.now.limit layout.now.policy (arc_value terms)) }
+    ensures terms { IfOk result (λ terms. AreTermsOf
+        layout.now.size job.now.limit layout.now.policy (arc_value terms)) }
+    ensures fault { IfErr result (λ failure. is_after_text failure ≡ false) }
 {
-    let bytes = match font_file(rt, job.font) {
+    let bytes = match font_file(alloc, files, job.font) {
         Ok(bytes) => bytes,
         Err(ReadFault::NotRead) => return Err(Failure::FontNotRead(number)),
         Err(ReadFault::OutOfMemory) => return Err(Failure::Tool(ToolFault::OutOfMemory)),
     };
-    match accepted(rt.alloc(), bytes.as_slice(), layout.size) {
-        Ok(font) => Arc::new(rt.alloc(), Terms::new(font, job.limit, layout.policy)).map_err(
+    match accepted(alloc, bytes.as_slice(), layout.size) {
+        Ok(font) => Arc::new(alloc, Terms::new(font, job.limit, layout.policy)).map_err(
             |_| Failure::Tool(ToolFault::OutOfMemory),
         ),
         Err(ToolFault::Font(fault)) => Err(Failure::FontRefused { number, fault }),
@@ -79,17 +84,19 @@ fn terms_of<R: Files + AllocGlobal>(
 }
 
 /// The terms of all jobs: each font is read before any file is opened.
-pub(crate) fn all_terms<R: Files + AllocGlobal>(
-    rt: &R,
+pub(crate) fn all_terms<F: Opens>(
+    alloc: Global,
+    files: &F,
     jobs: &[Job<'_>],
     layout: &Layout,
 ) -> Result<Vec<Arc<Terms>>, Failure>
-    ensures { IfOk result (λ all. AllZip (λ job terms.
-        AreTermsOf layout.now.size job.limit layout.now.policy (arc_value terms)) jobs.now all.items) }
+    ensures terms { IfOk result (λ all. AllZip (λ job terms. AreTermsOf
+        layout.now.size job.limit layout.now.policy (arc_value terms)) jobs.now all.items) }
+    ensures fault { IfErr result (λ failure. is_after_text failure ≡ false) }
 {
-    let mut all = Vec::new(rt.alloc());
+    let mut all = Vec::new(alloc);
     for job in jobs {
-        let terms = terms_of(rt, all.len() + 1, job, layout)?;
+        let terms = terms_of(alloc, files, all.len() + 1, job, layout)?;
         all.push(terms)
             .map_err(|_| Failure::Tool(ToolFault::OutOfMemory))?;
     }

@@ -1,18 +1,19 @@
-ghost use Rattle.std.specs.Prelude.{◌≡◌, ◌≢◌, true, [], ◌∷◌, codes, Contains, Err, None, Some, IfErr, IfOk, IfSome, OnOk};
+ghost use Rattle.std.specs.Prelude.{◌≡◌, ◌≢◌, true, [], ◌∷◌, Contains, None, IfErr, IfOk, OnOk};
 ghost use Rattle.std.specs.Io.KnownBytes.{Appends, Keeps};
 ghost use Rattle.std.specs.IoError.{error_kind};
-ghost use Rattle.font_texts.specs.CountsText.{counts_text_of};
-ghost use Rattle.font_texts.specs.Listing.{listing_of};
 ghost use Rattle.tfm_tables.specs.Font.{FontValue, IsFontOf};
-ghost use Rattle.tfm_tool.specs.Status.{is_before_output, status_of};
+ghost use Rattle.tfm_tool.specs.Requests.{CountsAreTold, IsDone, IsListed, list_text_of};
+ghost use Rattle.tfm_tool.specs.Status.{AfterText, is_before_output, status_of};
 
 use crate::args::{Request, requested};
+use crate::checking::check;
 use crate::exit::Failure;
 use crate::files::font_bytes;
 use crate::runs::{set_files, set_jobs, stream};
-use crate::{counts_text, list_text};
+use crate::{Disk, Opens, counts_text, list_all_text, list_text};
 use clap::error::ErrorKind as WordsKind;
 use run_texts::{ToolFault, accepted};
+use std::alloc::Global;
 use std::convert::AsStr;
 use std::io;
 use std::io::{ErrorKind, Read, Write};
@@ -26,8 +27,8 @@ use std::time::Clock;
 /// other word is the name of a file.
 ///
 /// What went wrong goes to `err`: one line, or the text of `clap` if the words are refused. The
-/// status is 0 after the whole text, help or the version, 1 if some line was refused, and 2 to 5 by
-/// what went wrong.
+/// status is 0 after the whole text, help or the version, 1 if some line was refused, or a font of
+/// `check`, and 2 to 5 by what went wrong.
 pub fn tool<R, S, I, O, E>(rt: &R, words: &[S], input: &mut I, out: &mut O, err: &mut E) -> u8
 where
     R: Files + AllocGlobal + Threads + Wait + Clock + Sync,
@@ -73,46 +74,106 @@ where
     ensures untouched { IfErr result (λ failure. is_before_output failure ≡ true → out.new ≡ out.old) }
 {
     match requested(rt.alloc(), words) {
-        Ok(Request::Counts { font }) => counts(rt, font, input, out)?,
-        Ok(Request::List { font }) => list(rt, font, input, out)?,
-        Ok(Request::Set(setting)) => return set_files(rt, &setting, input, out),
-        Ok(Request::Stream(setting)) => return stream(rt, &setting, input, out),
-        Ok(Request::Each(jobs)) => return set_jobs(rt, jobs, out),
-        Err(error) => show(error, out)?,
+        Ok(request) => perform(rt, &Disk::new(rt), &request, input, out),
+        Err(error) => {
+            show(error, out)?;
+            Ok(0)
+        }
     }
-    Ok(0)
+}
+
+/// Does what a request asks for, with the files that `files` opens: the status if nothing went wrong.
+/// The font `-` is read from `input`, as are the lines of `stream` if it names no file.
+pub fn perform<R, F, I, O>(
+    rt: &R,
+    files: &F,
+    request: &Request<'_>,
+    input: &mut I,
+    out: &mut O,
+) -> Result<u8, Failure>
+where
+    R: AllocGlobal + Threads + Wait + Clock + Sync,
+    F: Opens,
+    I: Read + Send,
+    O: Write,
+    ensures text { AfterText result (IsDone (F.known files.now) (I.remaining input.old)
+        (O.contents out.old) (O.contents out.new) request.now) }
+    ensures status { IfOk result (λ status. Contains (0 ∷ 1 ∷ []) status) }
+    ensures untouched { IfErr result (λ failure. is_before_output failure ≡ true → out.new ≡ out.old) }
+{
+    match request {
+        Request::Counts { font } => counts(rt.alloc(), files, font, input, out),
+        Request::List { font, all } => list(rt.alloc(), files, font, *all, input, out),
+        Request::Check(asked) => check(rt.alloc(), files, asked, input, out),
+        Request::Set(setting) => set_files(rt, files, setting, input, out),
+        Request::Stream(setting) => stream(rt, files, setting, input, out),
+        Request::Each(jobs) => set_jobs(rt, files, jobs, out),
+    }
 }
 
 /// The counts of the font of this name.
-fn counts<R, I, O>(rt: &R, font: &str, input: &mut I, out: &mut O) -> Result<(), Failure>
+#[tactic(auto, using(crate::proofs::KnownLemmas::unread_before))]
+fn counts<F, I, O>(
+    alloc: Global,
+    files: &F,
+    font: &str,
+    input: &mut I,
+    out: &mut O,
+) -> Result<u8, Failure>
 where
-    R: Files + AllocGlobal,
+    F: Opens,
     I: Read,
     O: Write,
-    ensures text { OnOk result (font.now ≡ codes "-" → IfSome (I.remaining input.old)
-        (λ all. Appends (O.contents out.old) (O.contents out.new) (counts_text_of all))) }
+    ensures text { AfterText result (CountsAreTold (F.known files.now) (I.remaining input.old)
+        (O.contents out.old) (O.contents out.new) font.now) }
+    ensures status { IfOk result (λ status. status ≡ 0) }
     ensures untouched { IfErr result (λ failure. is_before_output failure ≡ true → out.new ≡ out.old) }
 {
-    let bytes = font_bytes(rt, font, input)?;
-    counts_text(rt.alloc(), bytes.as_slice(), out)?;
-    Ok(())
+    let bytes = font_bytes(alloc, files, font, input)?;
+    counts_text(alloc, bytes.as_slice(), out)?;
+    Ok(0)
 }
 
-/// All that the font of this name holds, at its design size.
-fn list<R, I, O>(rt: &R, font: &str, input: &mut I, out: &mut O) -> Result<(), Failure>
+/// What the font of this name holds at its design size, or with all that its file says.
+#[tactic(auto, using(crate::proofs::KnownLemmas::unread_before))]
+fn list<F, I, O>(
+    alloc: Global,
+    files: &F,
+    font: &str,
+    all: bool,
+    input: &mut I,
+    out: &mut O,
+) -> Result<u8, Failure>
 where
-    R: Files + AllocGlobal,
+    F: Opens,
     I: Read,
     O: Write,
-    ensures text { OnOk result (font.now ≡ codes "-" → IfSome (I.remaining input.old)
-        (λ all. (f : FontValue) × IsFontOf all None f
-        × Appends (O.contents out.old) (O.contents out.new) (listing_of f))) }
+    ensures text { AfterText result (IsListed (F.known files.now) (I.remaining input.old)
+        (O.contents out.old) (O.contents out.new) font.now all) }
+    ensures status { IfOk result (λ status. status ≡ 0) }
     ensures untouched { IfErr result (λ failure. is_before_output failure ≡ true → out.new ≡ out.old) }
 {
-    let bytes = font_bytes(rt, font, input)?;
-    let font = accepted(rt.alloc(), bytes.as_slice(), None)?;
-    list_text(rt.alloc(), &font, out)?;
-    Ok(())
+    let bytes = font_bytes(alloc, files, font, input)?;
+    list_bytes(alloc, bytes.as_slice(), all, out)?;
+    Ok(0)
+}
+
+/// What the font in these bytes holds at its design size, or with all that its file says.
+fn list_bytes<O: Write>(
+    alloc: Global,
+    bytes: &[u8],
+    all: bool,
+    out: &mut O,
+) -> Result<(), ToolFault>
+    ensures text { OnOk result ((f : FontValue) × IsFontOf bytes.now None f
+        × Appends (O.contents out.old) (O.contents out.new) (list_text_of all f)) }
+    ensures untouched { IfErr result (λ fault. fault ≢ ToolFault.Write → out.new ≡ out.old) }
+{
+    if all {
+        return list_all_text(alloc, bytes, None, out);
+    }
+    let font = accepted(alloc, bytes, None)?;
+    list_text(alloc, &font, out)
 }
 
 /// Help and the version are an answer; any other error is why there is none.

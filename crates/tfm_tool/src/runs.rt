@@ -1,72 +1,100 @@
 //! The subcommands `set`, `stream` and `each`: what each reads and opens, its run, and the status.
-ghost use Rattle.std.specs.Prelude.{◌≡◌, ◌⊎◌, true, false, [], ◌∷◌, codes, Contains, Err, Some, IfErr, IfOk};
+ghost use Rattle.std.specs.Prelude.{◌≡◌, ◌≢◌, ◌⊎◌, true, false, [], ◌∷◌, codes, Contains, Err, Some, IfErr, IfOk, IfSome};
 ghost use Rattle.tfm_tables.specs.declared.fault.FontFault.{FontFault as Refusal};
 ghost use Rattle.tfm_tables.specs.Acceptance.{font_fault_of};
 ghost use Rattle.tfm_tables.specs.Font.{FontValue, IsFontOf};
 ghost use Rattle.std.specs.Io.KnownBytes.{Keeps};
+ghost use Rattle.tfm_tool.specs.Kept.{HaveSameFont};
+ghost use Rattle.tfm_tool.specs.Named.{file_bytes_of, font_bytes_of};
+ghost use Rattle.tfm_tool.specs.Requests.{IsSet, IsSetAsItComes, IsSetFrom};
 ghost use Rattle.tfm_tool.specs.Runs.{IsPrinted, IsPrintedAsItComes};
+ghost use Rattle.tfm_tool.specs.Told.{AreSourcesOf, all_told_by};
 ghost use Rattle.tfm_tool.specs.declared.exit.Failure.TheVariants.{FontAndText, Tool};
-ghost use Rattle.tfm_tool.specs.Status.{is_before_output, status_of};
+ghost use Rattle.tfm_tool.specs.Status.{AfterText, is_after_text, is_before_output, status_of};
 ghost use Rattle.run_texts.specs.Endings.{summary_status};
 
+use crate::Opens;
 use crate::args::{Jobs, Setting};
 use crate::exit::Failure;
 use crate::files::{font_bytes, open_each, open_files};
 use crate::jobs::{all_terms, jobs};
 use run_texts::{Summary, ToolFault, accepted, set_each, set_text, status, stream_text};
 use set_run::{LineSource, MOST_SOURCES, NoGate, ReaderSource};
+use std::alloc::Global;
 use std::io::{Read, Write};
-use std::rt::Files;
 use std::sync::Wait;
 use std::thread::Threads;
 use std::time::Clock;
 
 /// The bytes of the font that a setting names, which is accepted at its size.
-fn accepted_bytes<R, I>(rt: &R, setting: &Setting<'_>, input: &mut I) -> Result<Vec<u8>, Failure>
+#[tactic(auto, using(crate::proofs::KnownLemmas::unread_before))]
+fn accepted_bytes<F, I>(
+    alloc: Global,
+    files: &F,
+    setting: &Setting<'_>,
+    input: &mut I,
+) -> Result<Vec<u8>, Failure>
 where
-    R: Files + AllocGlobal,
+    F: Opens,
     I: Read,
+    ensures bytes { IfOk result (λ bytes. IfSome
+        (font_bytes_of (F.known files.now) (I.remaining input.old) setting.now.font.now)
+        (λ all. HaveSameFont bytes.items all)) }
+    ensures unread { setting.now.font.now ≢ codes "-" → input.new ≡ input.old }
+    ensures fault { IfErr result (λ failure. is_after_text failure ≡ false) }
 {
-    let bytes = font_bytes(rt, setting.font, input)?;
-    accepted(rt.alloc(), bytes.as_slice(), setting.layout.size)?;
+    let bytes = font_bytes(alloc, files, setting.font, input)?;
+    accepted(alloc, bytes.as_slice(), setting.layout.size)?;
     Ok(bytes)
 }
 
 /// The font and the files of a setting. The font is looked at before any file is opened.
-fn font_and_files<R, I>(
-    rt: &R,
+fn font_and_files<F, I>(
+    alloc: Global,
+    files: &F,
     setting: &Setting<'_>,
     input: &mut I,
-) -> Result<(Vec<u8>, Vec<ReaderSource<R::File>>), Failure>
+) -> Result<(Vec<u8>, Vec<ReaderSource<F::File>>), Failure>
 where
-    R: Files + AllocGlobal,
+    F: Opens,
     I: Read,
+    ensures font { IfOk result (λ both. IfSome
+        (font_bytes_of (F.known files.now) (I.remaining input.old) setting.now.font.now)
+        (λ all. HaveSameFont both.0.items all)) }
+    ensures files { IfOk result (λ both. AreSourcesOf
+        (file_bytes_of (F.known files.now) setting.now.files.items)
+        (all_told_by ⟦<ReaderSource<F::File> as LineSource>⟧.to_come
+        ⟦<ReaderSource<F::File> as LineSource>⟧.failed both.1.items)) }
+    ensures fault { IfErr result (λ failure. is_after_text failure ≡ false) }
 {
     if setting.files.len() > MOST_SOURCES {
         return Err(Failure::TooManyFiles);
     }
-    let font = accepted_bytes(rt, setting, input)?;
-    let files = open_files(rt, setting.files.as_slice())?;
-    Ok((font, files))
+    let font = accepted_bytes(alloc, files, setting, input)?;
+    let sources = open_files(alloc, files, setting.files.as_slice())?;
+    Ok((font, sources))
 }
 
 /// The lines of files, set with one font: the status that the records lead to.
-pub(crate) fn set_files<R, I, O>(
+pub(crate) fn set_files<R, F, I, O>(
     rt: &R,
+    files: &F,
     setting: &Setting<'_>,
     input: &mut I,
     out: &mut O,
 ) -> Result<u8, Failure>
 where
-    R: Files + AllocGlobal + Threads + Wait + Clock + Sync,
-    R::File: Send,
+    R: AllocGlobal + Threads + Wait + Clock + Sync,
+    F: Opens,
     I: Read,
     O: Write,
+    ensures text { AfterText result (IsSet (F.known files.now) (I.remaining input.old)
+        (O.contents out.old) (O.contents out.new) setting.now) }
     ensures status { IfOk result (λ status. Contains (0 ∷ 1 ∷ []) status) }
     ensures untouched { IfErr result (λ failure. is_before_output failure ≡ true → out.new ≡ out.old) }
 {
-    let (font, files) = font_and_files(rt, setting, input)?;
-    set_sources(rt, setting, font.as_slice(), files, out)
+    let (font, sources) = font_and_files(rt.alloc(), files, setting, input)?;
+    set_sources(rt, setting, font.as_slice(), sources, out)
 }
 
 /// The lines of these sources, set with the font in these bytes.
@@ -81,7 +109,7 @@ where
     R: AllocGlobal + Threads + Wait + Clock + Sync,
     S: LineSource + Send + Drop,
     O: Write,
-    ensures text { IfOk result (λ status. (f : FontValue)
+    ensures text { AfterText result (λ status. (f : FontValue)
         × IsFontOf font.now setting.now.layout.size f
         × IsPrinted S.to_come S.failed
         (record { font = f; limit = setting.now.limit; policy = setting.now.layout.policy })
@@ -108,51 +136,73 @@ where
 
 /// The lines of files, or of standard input if there are none, set with one font, with their records
 /// as they come: the status that the records lead to.
-pub(crate) fn stream<R, I, O>(
+pub(crate) fn stream<R, F, I, O>(
     rt: &R,
+    files: &F,
     setting: &Setting<'_>,
     input: &mut I,
     out: &mut O,
 ) -> Result<u8, Failure>
 where
-    R: Files + AllocGlobal + Threads + Wait + Clock + Sync,
-    R::File: Send,
+    R: AllocGlobal + Threads + Wait + Clock + Sync,
+    F: Opens,
     I: Read + Send,
     O: Write,
+    ensures text { AfterText result (IsSetAsItComes (F.known files.now) (I.remaining input.old)
+        (O.contents out.old) (O.contents out.new) setting.now) }
     ensures status { IfOk result (λ status. Contains (0 ∷ 1 ∷ []) status) }
     ensures untouched { IfErr result (λ failure. is_before_output failure ≡ true → out.new ≡ out.old) }
 {
     if setting.files.is_empty() {
-        return stream_input(rt, setting, input, out);
+        return stream_input(rt, files, setting, input, out);
     }
-    let (font, files) = font_and_files(rt, setting, input)?;
-    stream_sources(rt, setting, font.as_slice(), files, out)
+    let (font, sources) = font_and_files(rt.alloc(), files, setting, input)?;
+    stream_sources(rt, setting, font.as_slice(), sources, out)
+}
+
+/// Standard input as the one source of lines.
+fn input_source<'a, I: Read>(
+    alloc: Global,
+    input: &'a mut I,
+) -> Result<Vec<ReaderSource<&'a mut I>>, Failure>
+    ensures source { IfOk result (λ sources. AreSourcesOf (I.remaining input.old ∷ [])
+        (all_told_by ⟦<ReaderSource<&'a mut I> as LineSource>⟧.to_come
+        ⟦<ReaderSource<&'a mut I> as LineSource>⟧.failed sources.items)) }
+    ensures fault { IfErr result (λ failure. is_after_text failure ≡ false) }
+    ensures status { IfErr result (λ failure. is_before_output failure ≡ false) }
+{
+    let mut sources = Vec::new(alloc);
+    sources
+        .push(ReaderSource::new(alloc, input))
+        .map_err(|_| Failure::Tool(ToolFault::OutOfMemory))?;
+    Ok(sources)
 }
 
 /// The lines of standard input, set with a font that is a file.
-fn stream_input<R, I, O>(
+fn stream_input<R, F, I, O>(
     rt: &R,
+    files: &F,
     setting: &Setting<'_>,
     input: &mut I,
     out: &mut O,
 ) -> Result<u8, Failure>
 where
-    R: Files + AllocGlobal + Threads + Wait + Clock + Sync,
+    R: AllocGlobal + Threads + Wait + Clock + Sync,
+    F: Opens,
     I: Read + Send,
     O: Write,
     ensures both { setting.now.font.now ≡ codes "-"
         → (result ≡ Err FontAndText) × (input.new ≡ input.old) × (out.new ≡ out.old) }
+    ensures text { AfterText result (IsSetFrom (F.known files.now) (I.remaining input.old)
+        (O.contents out.old) (O.contents out.new) (I.remaining input.old ∷ []) setting.now) }
     ensures status { IfOk result (λ status. Contains (0 ∷ 1 ∷ []) status) }
     ensures untouched { IfErr result (λ failure. is_before_output failure ≡ true → out.new ≡ out.old) }
 {
     if setting.font == "-" {
         return Err(Failure::FontAndText);
     }
-    let font = accepted_bytes(rt, setting, input)?;
-    let mut sources = Vec::new(rt.alloc());
-    sources
-        .push(ReaderSource::new(rt.alloc(), input))
-        .map_err(|_| Failure::Tool(ToolFault::OutOfMemory))?;
+    let font = accepted_bytes(rt.alloc(), files, setting, input)?;
+    let sources = input_source(rt.alloc(), input)?;
     stream_sources(rt, setting, font.as_slice(), sources, out)
 }
 
@@ -168,13 +218,13 @@ where
     R: AllocGlobal + Threads + Wait + Clock + Sync,
     S: LineSource + Send + Drop,
     O: Write,
-    ensures text { IfOk result (λ status. (f : FontValue)
+    ensures text { AfterText result (λ status. (f : FontValue)
         × IsFontOf font.now setting.now.layout.size f
         × IsPrintedAsItComes S.to_come S.failed
         (record { font = f; limit = setting.now.limit; policy = setting.now.layout.policy })
         setting.now.layout.version sources.items (O.contents out.old) (O.contents out.new) status) }
     ensures refused { (fault : Refusal) → font_fault_of font.now ≡ Some fault
-        → (result ≡ Err (Tool (ToolFault.Font fault))) ⊎ (result ≡ Err (Tool ToolFault.OutOfMemory)) }
+        → result ≡ Err (Tool (ToolFault.Font fault)) }
     ensures status { IfOk result (λ status. Contains (0 ∷ 1 ∷ []) status) }
     ensures untouched { IfErr result (λ failure. is_before_output failure ≡ true → out.new ≡ out.old) }
 {
@@ -197,22 +247,27 @@ where
 
 /// The lines of files, each set with a font and a limit of its own: the status that the records lead
 /// to. All fonts are read before any file is opened.
-pub(crate) fn set_jobs<R, O>(rt: &R, asked: Jobs<'_>, out: &mut O) -> Result<u8, Failure>
+pub(crate) fn set_jobs<R, F, O>(
+    rt: &R,
+    files: &F,
+    asked: &Jobs<'_>,
+    out: &mut O,
+) -> Result<u8, Failure>
 where
-    R: Files + AllocGlobal + Threads + Wait + Clock + Sync,
-    R::File: Send,
+    R: AllocGlobal + Threads + Wait + Clock + Sync,
+    F: Opens,
     O: Write,
     ensures status { IfOk result (λ status. Contains (0 ∷ 1 ∷ []) status) }
     ensures untouched { IfErr result (λ failure. is_before_output failure ≡ true → out.new ≡ out.old) }
 {
     let layout = asked.layout;
     let jobs = jobs(rt.alloc(), asked.words.as_slice())?;
-    let terms = all_terms(rt, jobs.as_slice(), &layout)?;
-    let files = open_each(rt, jobs.as_slice(), terms)?;
+    let terms = all_terms(rt.alloc(), files, jobs.as_slice(), &layout)?;
+    let sources = open_each(rt.alloc(), files, jobs.as_slice(), terms)?;
     let summary = set_each(
         rt,
         rt.alloc(),
-        files,
+        sources,
         layout.plan,
         layout.version,
         &NoGate,
@@ -224,7 +279,7 @@ where
 /// The status after a text that was written, once all of it is out; 4 and 5 are told as faults.
 fn finish<O: Write>(summary: &Summary, out: &mut O) -> Result<u8, Failure>
     ensures status { IfOk result (λ status. Contains (0 ∷ 1 ∷ []) status) }
-    ensures worst { IfOk result (λ status. status ≡ summary_status summary.now) }
+    ensures worst { AfterText result (λ status. status ≡ summary_status summary.now) }
     ensures kept { Keeps (O.contents out.old) (O.contents out.new) }
     ensures told { IfErr result (λ failure. is_before_output failure ≡ false) }
     ensures status_told { IfErr result (λ failure. (failure ≡ Tool ToolFault.Write)

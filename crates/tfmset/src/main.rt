@@ -6,7 +6,7 @@ use std::process::ExitCode;
 use std::{env, io};
 use tfm_tool::{tool, words_refused};
 
-/// The words behind the program's name.
+/// The words after the program's name.
 fn words_of<R: Env + AllocGlobal>(rt: &R) -> io::Result<Vec<String>> {
     Ok(env::args(rt)?.skip(1).collect(rt.alloc())?)
 }

@@ -1,6 +1,5 @@
 //! A stream whose source gives a line only once the record of the line before was written, as a program
 //! does that asks for one line after another at the other end of two pipes.
-use super::listings::plain;
 use super::*;
 use line_lane::{Block, Capacity};
 use set_line::{Limit, Policy, Version};
@@ -99,7 +98,6 @@ fn each_record_is_written_before_the_next_line_is_there(rt: HostRuntime) -> Resu
             written: &written,
         },
     ))?;
-    let font = plain(alloc)?;
     let limit = Limit::new(100).ok_or("a limit")?;
     let plan = one_by_one().ok_or("a plan")?;
     let none = Summary {
@@ -110,7 +108,7 @@ fn each_record_is_written_before_the_next_line_is_there(rt: HostRuntime) -> Resu
     let told = stream_text(
         &rt,
         alloc,
-        &font,
+        &PLAIN,
         None,
         limit,
         Policy::Refuse,

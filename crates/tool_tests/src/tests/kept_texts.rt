@@ -1,5 +1,4 @@
 //! The texts of lanes, kept while answers come, in blocks.
-use super::listings::plain;
 use super::streams::Frail;
 use super::texts::small_plan;
 use super::*;
@@ -11,7 +10,7 @@ use std::test::Fail;
 use tfm_tables::Font;
 use tfm_tool::{Summary, ToolFault, set_each};
 
-/// Lines, and what their records have behind the numbers.
+/// Lines, and what their records have after the numbers.
 static LINES: [(&str, &str); 6] = [
     ("a", "set 327680 steps 1 c97=327680"),
     ("ab", "set 491520 steps 2 c97=327680 c98=163840"),
@@ -40,12 +39,12 @@ fn wanted(alloc: Global) -> Result<String, Fail> {
 /// The terms of all lines.
 fn terms<R: Abort + AllocGlobal>(rt: &R) -> Result<Arc<Terms>, Fail> {
     let alloc = rt.alloc();
-    let font = Font::read(alloc, &plain(alloc)?, None)?;
+    let font = Font::read(alloc, &PLAIN, None)?;
     let limit = Limit::new(100).expect(rt, "a limit");
     Ok(Arc::new(alloc, Terms::new(font, limit, Policy::Refuse))?)
 }
 
-/// A source of so many lines.
+/// A source of this many lines.
 fn source(alloc: Global, count: usize) -> Result<ListSource, AllocError> {
     let mut lines = Vec::new(alloc);
     for i in 0..count {

@@ -1,5 +1,4 @@
 //! `stream_text` itself: lines of several sources as they come, writers that fail, and sources that fail.
-use super::listings::plain;
 use super::streams::{Frail, Trickle};
 use super::*;
 use line_lane::{Block, Capacity};
@@ -42,11 +41,10 @@ where
             return Err(ToolFault::OutOfMemory);
         }
     }
-    let font = plain(alloc).expect(rt, "a font");
     let limit = Limit::new(limit).expect(rt, "a limit");
     let plan = small_plan().expect(rt, "a plan");
     stream_text(
-        rt, alloc, &font, None, limit, policy, sources, plan, version, &NoGate, out,
+        rt, alloc, &PLAIN, None, limit, policy, sources, plan, version, &NoGate, out,
     )
 }
 
@@ -55,7 +53,7 @@ const ALL: usize = usize::MAX;
 /// A text of one source, the limit, the policy and the version, and what is printed, as of `set`.
 type Case = (Given, u32, Policy, Version, &'static str);
 
-static ONE_SOURCE: [Case; 9] = [
+static ONE_SOURCE: [Case; 11] = [
     (
         (b"ab abc\n", ALL),
         5,
@@ -112,13 +110,29 @@ static ONE_SOURCE: [Case; 9] = [
         Version::Two,
         "records 2\n1:1 set 0 steps 0\n1:2 set 491520 steps 2 c97=327680 c98=163840\n1 end complete 2\n",
     ),
-    // The read behind `a`, a line feed and `a` fails.
+    // The read after `a`, a line feed and `a` fails.
     (
         (b"a\nab", 3),
         100,
         Policy::Refuse,
         Version::One,
         "1:1 set 327680 c97=327680\n1 end read 1\n",
+    ),
+    (
+        (b"a\nab", 3),
+        100,
+        Policy::Refuse,
+        Version::Json,
+        "{\"source\":1,\"line\":1,\"width\":327680,\"steps\":1,\"items\":[[\"c\",97,327680]]}\n\
+{\"source\":1,\"end\":\"read\",\"lines\":1}\n",
+    ),
+    (
+        (b"ab abc\n", ALL),
+        4,
+        Policy::Refuse,
+        Version::Json,
+        "{\"source\":1,\"line\":1,\"refused\":\"steps\",\"limit\":4}\n\
+{\"source\":1,\"end\":\"complete\",\"lines\":1}\n",
     ),
 ];
 

@@ -1,8 +1,7 @@
-use super::settings::file_name;
 use super::*;
+use std::io;
 use std::io::{ErrorKind, Read, Write};
 use std::test::Fail;
-use std::{fs, io, process};
 
 /// Gives its bytes a few at a time, and fails once its good reads are used up.
 #[derive(Drop)]
@@ -76,22 +75,6 @@ impl Write for Frail {
     }
 }
 
-static UNREAD: [&str; 3] = ["no/such/font.tfm", "", "."];
-
-#[test]
-fn fonts_that_are_not_read(rt: HostRuntime) -> Result<(), Fail> {
-    for font in &UNREAD {
-        let done = run(&rt, &["counts", font], &NO_CHARACTERS);
-        assert!(rt; done.is(4, b"", b"tfmset: font not read\n"), "{font:?}");
-    }
-    let name = file_name(&rt, "font", process::id(rt.process()))?;
-    fs::write(&rt, name.as_str(), NO_CHARACTERS.as_slice())?;
-    let done = run(&rt, &["counts", name.as_str()], b"");
-    fs::remove_file(&rt, name.as_str())?;
-    assert!(rt; done.is(0, TEXT.as_bytes(), b""), "a file");
-    Ok(())
-}
-
 /// The counts of what a reader gives.
 fn run_on<R: Abort + Files + Env + Threads + Wait + Clock + Sync + AllocGlobal>(
     rt: &R,
@@ -159,7 +142,7 @@ where
 
 pub static FAILED: &[u8] = b"tfmset: output failed\n";
 
-/// The counts are refused behind so many writes, which took so many bytes.
+/// The counts are refused after this many writes, which took this many bytes.
 fn fails_after<R: Abort + Files + Env + Threads + Wait + Clock + Sync + AllocGlobal>(
     rt: &R,
     good_writes: usize,
@@ -195,9 +178,10 @@ fn a_write_that_fails_is_told(rt: HostRuntime) -> Result<(), Fail> {
 }
 
 /// Words that print a text.
-static PRINTING: [&[&str]; 5] = [
+static PRINTING: [&[&str]; 6] = [
     &["counts", "-"],
     &["list", "-"],
+    &["check", "-"],
     &["--help"],
     &["--version"],
     &["help", "counts"],
@@ -219,9 +203,11 @@ fn a_device_that_is_full_is_told(rt: HostRuntime) -> Result<(), Fail> {
 }
 
 /// Words that are refused, and the status.
-static REFUSED: [(&[&str], u8); 4] = [
+static REFUSED: [(&[&str], u8); 6] = [
     (&[], 2),
     (&["list"], 2),
+    (&["check"], 2),
+    (&["check", "-", "-"], 2),
     (&["counts", "-"], 3),
     (&["counts", "no/such/font.tfm"], 4),
 ];

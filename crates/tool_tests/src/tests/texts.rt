@@ -1,5 +1,4 @@
 //! `set_text` itself: sources that fail, writers that fail, and refused memory.
-use super::listings::plain;
 use super::streams::{Frail, Trickle};
 use super::*;
 use line_lane::{Block, Capacity};
@@ -18,12 +17,12 @@ pub fn small_plan() -> Option<Plan> {
     })
 }
 
-/// A source of these bytes, one a read, which fails after so many reads.
+/// A source of these bytes, one a read, which fails after this many reads.
 fn source<'a>(alloc: Global, bytes: &'a [u8], good_reads: usize) -> ReaderSource<Trickle<'a>> {
     ReaderSource::new(alloc, Trickle::new(bytes, 1, good_reads))
 }
 
-/// Two sources: one of `ab` and `c`, which fails after so many reads, and one of `a`.
+/// Two sources: one of `ab` and `c`, which fails after this many reads, and one of `a`.
 pub fn two_sources<'a>(
     alloc: Global,
     good_reads: usize,
@@ -77,19 +76,33 @@ const BROKEN: &str = "1:1 set 491520 c97=327680 c98=163840\n1 end read 1\n\
 
 const EMPTY: &str = "1 end read 0\n2:1 set 327680 c97=327680\n2 end complete 1\n";
 
+const WHOLE_IN_JSON: &str = "\
+{\"source\":1,\"line\":1,\"width\":491520,\"steps\":2,\"items\":[[\"c\",97,327680],[\"c\",98,163840]]}\n\
+{\"source\":1,\"line\":2,\"width\":491520,\"steps\":1,\"items\":[[\"c\",99,491520]]}\n\
+{\"source\":1,\"end\":\"complete\",\"lines\":2}\n\
+{\"source\":2,\"line\":1,\"width\":327680,\"steps\":1,\"items\":[[\"c\",97,327680]]}\n\
+{\"source\":2,\"end\":\"complete\",\"lines\":1}\n";
+
+const BROKEN_IN_JSON: &str = "\
+{\"source\":1,\"line\":1,\"width\":491520,\"steps\":2,\"items\":[[\"c\",97,327680],[\"c\",98,163840]]}\n\
+{\"source\":1,\"end\":\"read\",\"lines\":1}\n\
+{\"source\":2,\"line\":1,\"width\":327680,\"steps\":1,\"items\":[[\"c\",97,327680]]}\n\
+{\"source\":2,\"end\":\"complete\",\"lines\":1}\n";
+
 /// How many reads are good, the version, the text, and whether a read failed.
-static CASES: [(usize, Version, &str, bool); 3] = [
+static CASES: [(usize, Version, &str, bool); 5] = [
     (5, Version::Two, WHOLE, false),
     (4, Version::One, BROKEN, true),
     (2, Version::One, EMPTY, true),
+    (5, Version::Json, WHOLE_IN_JSON, false),
+    (4, Version::Json, BROKEN_IN_JSON, true),
 ];
 
 #[test]
 fn a_source_that_fails_has_its_first_lines(rt: HostRuntime) -> Result<(), Fail> {
-    let font = plain(rt.alloc())?;
     for (good_reads, version, text, read_failed) in &CASES {
         let mut out = Vec::new(rt.alloc());
-        let summary = set_two(&rt, &font, *good_reads, *version, &mut out)?;
+        let summary = set_two(&rt, &PLAIN, *good_reads, *version, &mut out)?;
         assert!(rt; out.as_slice() == text.as_bytes(), "{text}");
         assert!(rt; summary.read_failed == *read_failed && !summary.memory);
         assert!(rt; summary.refused == 0);
@@ -99,11 +112,10 @@ fn a_source_that_fails_has_its_first_lines(rt: HostRuntime) -> Result<(), Fail> 
 
 #[test]
 fn a_text_whose_write_fails(rt: HostRuntime) -> Result<(), Fail> {
-    let font = plain(rt.alloc())?;
     // 163 bytes, twenty at a time
     for good_writes in 0..9 {
         let mut out = Frail::new(rt.alloc(), 20, good_writes, true);
-        let done = set_two(&rt, &font, 5, Version::Two, &mut out);
+        let done = set_two(&rt, &PLAIN, 5, Version::Two, &mut out);
         let all = out.text.as_slice() == WHOLE.as_bytes();
         match done {
             Ok(_) => assert!(rt; all, "{good_writes}"),
@@ -116,14 +128,11 @@ fn a_text_whose_write_fails(rt: HostRuntime) -> Result<(), Fail> {
 }
 
 /// With memory enough the whole text is written. The kit's option `--fail-alloc` refuses one request:
-/// then the font or the run is refused for want of memory or of a thread, or a lane is given up.
+/// then the font or the run is refused for lack of memory or of a thread, or a lane is given up.
 #[test]
 fn a_refused_request_of_a_text(rt: HostRuntime) -> Result<(), Fail> {
-    let Ok(font) = plain(rt.alloc()) else {
-        return Ok(println!(rt; "refused before the text")?);
-    };
     let mut out = Vec::new(rt.alloc());
-    let told = match set_two(&rt, &font, 5, Version::Two, &mut out) {
+    let told = match set_two(&rt, &PLAIN, 5, Version::Two, &mut out) {
         Ok(summary) if summary.memory => "given up",
         Ok(_) => {
             assert!(rt; out.as_slice() == WHOLE.as_bytes());

@@ -1,0 +1,19 @@
+use Rattle.std.proofs.Common.{subst, sym}
+use Rattle.std.specs.Prelude.{IfSome}
+use Rattle.tfm_tool.specs.Kept.{HaveSameFont}
+use Rattle.tfm_tool.specs.Named.{file_bytes_of, font_bytes_of}
+use Rattle.tfm_tool.specs.Requests.{terms_of_setting}
+use Rattle.tfm_tool.proofs.ReaderLemmas.{reader_fault, reader_lines}
+use Rattle.tfm_tool.proofs.SourceLemmas.{named_set}
+use Rattle.tfm_tool.proofs.runs.set_files.Goals as goal
+
+pub returns-clause-text : goal.returns-clause-text
+returns-clause-text g c =
+    named_set (reader_lines g.F.File.Read.remaining) reader_fault c.set_sources.result c.as_slice.result.now c.args.setting.now.layout.size
+    c.args.setting.now.layout.version c.in_ok-font.sources.items
+    (font_bytes_of (g.F.Opens.known c.args.files.now) (g.I.Read.remaining c.args.input.now) c.args.setting.now.font.now)
+    (file_bytes_of (g.F.Opens.known c.args.files.now) c.args.setting.now.files.items) (terms_of_setting c.args.setting.now)
+    (g.O.Write.contents c.args.out.now) (g.O.Write.contents c.set_sources.new.out)
+    (subst (λ b. IfSome (font_bytes_of (g.F.Opens.known c.args.files.now) (g.I.Read.remaining c.args.input.now) c.args.setting.now.font.now) (λ all. HaveSameFont b all))
+    (sym c.as_slice.ensures.value) c.in_ok-font.ensures.font)
+    c.in_ok-font.ensures.files c.set_sources.ensures.text

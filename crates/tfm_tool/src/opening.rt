@@ -1,0 +1,79 @@
+//! Files by their names: those of the file system, and files in memory.
+ghost use Rattle.std.specs.Prelude.{◌≡◌, ℕ, List, Option, Some, IfOk, IfSome};
+ghost use Rattle.tfm_tool.specs.Named.{bytes_in};
+
+use std::io::{ErrorKind, Read};
+use std::rt::Files;
+use std::{fs, io};
+
+/// Files that can be opened by their names, to be read.
+pub trait Opens {
+    /// A file that was opened.
+    type File: Read + Send + Drop;
+
+    /// The bytes of the file of a name, if they are known.
+    ghost known: { Self → List ℕ → Option (List ℕ) };
+
+    /// Opens the file of this name, to be read from its start.
+    fn open(&self, name: &str) -> io::Result<Self::File>
+        ensures { IfOk result (λ file. IfSome (known self.now name.now)
+            (λ all. Self.File.remaining file ≡ Some all)) };
+}
+
+/// The files of the file system. What they hold isn't known.
+#[derive(Drop)]
+pub struct Disk<'a, R> {
+    rt: &'a R,
+}
+
+impl<'a, R> Disk<'a, R> {
+    /// The files that this handle opens.
+    pub fn new(rt: &'a R) -> Self {
+        Disk { rt }
+    }
+}
+
+impl<R: Files> Opens for Disk<'_, R>
+where
+    R::File: Send,
+{
+    ghost use Rattle.std.specs.Prelude.{None};
+
+    type File = R::File;
+
+    ghost known = { λ _ _. None };
+
+    fn open(&self, name: &str) -> io::Result<R::File> {
+        fs::open(self.rt, name)
+    }
+}
+
+/// Files in memory, each with its name; of several with one name the first is opened.
+#[derive(Clone, Copy)]
+pub struct InMemory<'a> {
+    files: &'a [(&'a str, &'a [u8])],
+}
+
+impl<'a> InMemory<'a> {
+    /// These names and bytes.
+    pub fn new(files: &'a [(&'a str, &'a [u8])]) -> Self
+        ensures { (name : List ℕ) → ⟦<InMemory<'a> as Opens>⟧.known result name ≡ bytes_in files.now name }
+    {
+        InMemory { files }
+    }
+}
+
+impl<'a> Opens for InMemory<'a> {
+    type File = &'a [u8];
+
+    ghost known = { λ memory name. bytes_in memory.files.now name };
+
+    fn open(&self, name: &str) -> io::Result<&'a [u8]> {
+        for file in self.files {
+            if file.0 == name {
+                return Ok(file.1);
+            }
+        }
+        Err(io::Error::from(ErrorKind::NotFound))
+    }
+}
