@@ -1,1 +1,3 @@
 pub mod OpeningLemmas
+pub mod FillingLemmas
+pub mod TextLemmas

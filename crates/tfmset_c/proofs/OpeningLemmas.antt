@@ -2,6 +2,8 @@
 use Rattle.std.proofs.Common.{◌≡◌, ℕ, Bool, true, false, ◌==◌, if◌then◌else◌, List, Option, Some, None, Ok, ap, sym, ◌∙◌, subst}
 use Rattle.tfm_words.specs.DesignSize.{design_size_of}
 use Rattle.tfm_tables.specs.Acceptance.{words_of}
+use Rattle.set_line.specs.Terms.{TermsValue}
+use Rattle.tfmset_c.specs.Texts.{IsSetWith, policy_of, terms_at}
 use Rattle.tfm_tables.specs.Font.{FontValue, HasSize, IsFontOf}
 use Rattle.tfmset_c.specs.Opening.{IsOpened, asked_size, size_or_zero, size_used}
 
@@ -33,3 +35,12 @@ opened bytes size given font asked is =
       value = fonts font.words (words_of bytes) font.size (size_used (words_of bytes) size) is.words
           (read ∙ ap (λ w. size_used w size) is.words);
     }
+
+-- what a text is set with, by the font that was read
+pub set_with : (bytes : List ℕ) (size limit policy : ℕ) (font : FontValue) (terms : TermsValue) → IsOpened bytes size font
+    → terms ≡ record { font = font; limit = limit; policy = policy_of policy } → IsSetWith bytes size limit policy terms
+unfolding terms_at
+set_with bytes size limit policy font terms opened is = record {
+  accepted = opened.accepted;
+  value = is ∙ ap (λ (f : FontValue). let t : TermsValue = record { font = f; limit = limit; policy = policy_of policy } in t) opened.value;
+}

@@ -15,14 +15,14 @@ tag_number (Lig _) = 1
 tag_number (ListOf _) = 2
 tag_number (Ext _) = 3
 
--- what stands behind a tag
+-- what stands after a tag
 abbrev pub tag_rest : Tag → ℕ
 tag_rest Plain = 0
 tag_rest (Lig remainder) = remainder
 tag_rest (ListOf remainder) = remainder
 tag_rest (Ext remainder) = remainder
 
--- a character by its measures and its tag, where it exists; else all zero
+-- a character by its measures and its tag, if it exists; else all zero
 unfoldable pub character_told : Option Metrics → Option Tag → TfmsetMetrics
 character_told (Some metrics) (Some tag) = record {
   exists = 1;

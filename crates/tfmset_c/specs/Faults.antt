@@ -63,7 +63,7 @@ count_fault_told (EmptyTable table) = told 5 (table_number table) 0
 count_fault_told TooManyRecipes = told 6 0 0
 count_fault_told LengthEquation = told 7 0 0
 
--- any fault of a font; want of memory is none
+-- any fault of a font; refused memory is none
 unfoldable pub fault_told : FontFault → TfmsetFault
 fault_told (Counts fault) = count_fault_told fault
 fault_told (Design _) = told 9 0 0

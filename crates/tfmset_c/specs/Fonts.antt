@@ -13,7 +13,7 @@ use Rattle.tfm_tables.specs.Table.{entries_of}
 use Rattle.tfmset_c.specs.Opening.{size_or_zero}
 use Rattle.tfmset_c.specs.declared.font.TfmsetFont.{TfmsetFont}
 
--- the code of the right boundary character, or 256 where the font has none
+-- the code of the right boundary character, or 256 if the font has none
 unfoldable pub right_or_none : List ℕ → ℕ
 right_or_none words = option_map_or (λ code. code) (right_code_of (program_of words)) 256
 

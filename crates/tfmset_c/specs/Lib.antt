@@ -4,3 +4,5 @@ pub mod Faults
 pub mod Fonts
 pub mod Characters
 pub mod Pairs
+pub mod Texts
+pub mod Filling

@@ -4,7 +4,7 @@ use Rattle.std.specs.Prelude.{◌≡◌, ℕ, ◌<◌, ◌==◌, List, Option, S
 use Rattle.tfm_words.specs.declared.design.DesignFault.{DesignFault}
 use Rattle.tfm_words.specs.DesignSize.{design_size_of}
 use Rattle.tfm_tables.specs.Acceptance.{font_fault_of, words_of}
-use Rattle.tfm_tables.specs.Font.{FontValue, IsPastDesign}
+use Rattle.tfm_tables.specs.Font.{FontValue}
 use Rattle.tfmset_c.specs.declared.opening.Denial.{Denial}
 use Rattle.tfmset_c.specs.declared.opening.Denial.TheVariants.{Memory, Refused}
 
@@ -36,7 +36,7 @@ pub record IsOpened (bytes : List ℕ) (size : ℕ) (font : FontValue) : Type 0 
 
 -- why no font was read: its first fault, or memory
 abbrev pub IsDenial : List ℕ → Denial → Type 0
-IsDenial bytes Memory = IsPastDesign bytes
+IsDenial bytes Memory = font_fault_of bytes ≡ None
 IsDenial bytes (Refused fault) = font_fault_of bytes ≡ Some fault
 
 -- the number that says why

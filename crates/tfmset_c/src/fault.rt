@@ -1,7 +1,6 @@
 ghost use Rattle.std.specs.Prelude.{◌≡◌, ◌≢◌, ◌≤◌, ◌<◌, ◌↔◌, Some, None};
 ghost use Rattle.std.specs.Option.{option_map};
 ghost use Rattle.tfm_tables.specs.Acceptance.{font_fault_of};
-ghost use Rattle.tfm_tables.specs.Font.{IsPastDesign};
 ghost use Rattle.tfmset_c.specs.Faults.{count_fault_told, count_number, fault_told, part_number, table_number};
 ghost use Rattle.tfmset_c.specs.Opening.{IsNoSize};
 
@@ -112,7 +111,7 @@ fn tell(told: FontFault) -> TfmsetFault
     }
 }
 
-/// Is this font accepted at this size, in scaled points, or with 0 at its design size? Where it is
+/// Is this font accepted at this size, in scaled points, or with 0 at its design size? If it is
 /// refused, `told` is its first fault; else `told` is as before.
 #[unsafe(no_mangle)]
 pub extern "C" fn tfmset_check(alloc: Global, font: &[u8], size: u32, told: &mut TfmsetFault) -> u32
@@ -120,7 +119,7 @@ pub extern "C" fn tfmset_check(alloc: Global, font: &[u8], size: u32, told: &mut
     ensures range { (result ≡ 4) ↔ IsNoSize size }
     ensures done { result ≡ 0 → font_fault_of font.now ≡ None }
     ensures refused { result ≡ 1 → option_map fault_told (font_fault_of font.now) ≡ Some told.new }
-    ensures memory { result ≡ 2 → IsPastDesign font.now }
+    ensures memory { result ≡ 2 → font_fault_of font.now ≡ None }
     ensures kept { result ≢ 1 → told.new ≡ told.old }
 {
     if size > MOST_SIZE {

@@ -1,7 +1,6 @@
 ghost use Rattle.std.specs.Prelude.{◌≡◌, ◌≢◌, ◌≤◌, ◌<◌, ◌↔◌, Some, None, Ok, IsSome, is_some};
 ghost use Rattle.tfm_words.specs.DesignSize.{design_size_of};
 ghost use Rattle.tfm_tables.specs.Acceptance.{font_fault_of};
-ghost use Rattle.tfm_tables.specs.Font.{IsPastDesign};
 ghost use Rattle.tfm_tables.specs.Program.{start_of};
 ghost use Rattle.tfm_tables.specs.declared.left_side.LeftSide.TheVariants.{Boundary};
 ghost use Rattle.tfmset_c.specs.Fonts.{flag, font_told, right_or_none};
@@ -29,7 +28,7 @@ pub struct TfmsetFont {
     pub check_sum: u32,
     /// The code of the right boundary character, or 256.
     pub right_boundary: u32,
-    /// 1 where the left boundary has a program, else 0.
+    /// 1 if the left boundary has a program, else 0.
     pub left_boundary: u32,
     /// Parameter 1, in units of 2^-20; a parameter that isn't there is 0.
     pub slant: i32,
@@ -95,7 +94,7 @@ pub extern "C" fn tfmset_font(alloc: Global, font: &[u8], size: u32, about: &mut
     ensures answers { (result ≤ 4) × (result ≢ 3) }
     ensures range { (result ≡ 4) ↔ IsNoSize size }
     ensures refused { result ≡ 1 → IsSome (font_fault_of font.now) }
-    ensures memory { result ≡ 2 → IsPastDesign font.now }
+    ensures memory { result ≡ 2 → font_fault_of font.now ≡ None }
     ensures accepted { result ≡ 0 → font_fault_of font.now ≡ None }
     ensures done { result ≡ 0 → about.new ≡ font_told (font_at font.now size) }
     ensures kept { result ≢ 0 → about.new ≡ about.old }

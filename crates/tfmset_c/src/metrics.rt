@@ -1,6 +1,5 @@
 ghost use Rattle.std.specs.Prelude.{◌≡◌, ◌≢◌, ◌≤◌, ◌<◌, ◌↔◌, Some, None, IsSome, ◌⊎◌};
 ghost use Rattle.tfm_tables.specs.Acceptance.{font_fault_of};
-ghost use Rattle.tfm_tables.specs.Font.{IsPastDesign};
 ghost use Rattle.tfmset_c.specs.Characters.{metrics_told, tag_number, tag_rest};
 ghost use Rattle.tfmset_c.specs.Opening.{IsNoSize, font_at};
 
@@ -12,7 +11,7 @@ use tfm_tables::{Font, Tag};
 #[repr(C)]
 #[derive(Clone, Copy, Debug, PartialEq, Eq)]
 pub struct TfmsetMetrics {
-    /// 1 where the character exists; else 0, and all else is 0.
+    /// 1 if the character exists; else 0, and all else is 0.
     pub exists: u32,
     /// Its width.
     pub width: i32,
@@ -90,7 +89,7 @@ pub extern "C" fn tfmset_metrics(
     ensures answers { (result ≤ 4) × (result ≢ 3) }
     ensures range { (result ≡ 4) ↔ (IsNoSize size ⊎ (255 < code)) }
     ensures refused { result ≡ 1 → IsSome (font_fault_of font.now) }
-    ensures memory { result ≡ 2 → IsPastDesign font.now }
+    ensures memory { result ≡ 2 → font_fault_of font.now ≡ None }
     ensures accepted { result ≡ 0 → font_fault_of font.now ≡ None }
     ensures done { result ≡ 0 → metrics.new ≡ metrics_told (font_at font.now size) code }
     ensures kept { result ≢ 0 → metrics.new ≡ metrics.old }

@@ -12,6 +12,8 @@ pub const DONE: u32 = 0;
 pub const REFUSED: u32 = 1;
 /// A request for memory was refused.
 pub const MEMORY: u32 = 2;
+/// There is no room for all that is to be told.
+pub const NO_ROOM: u32 = 3;
 /// A number is out of range.
 pub const RANGE: u32 = 4;
 

@@ -1,6 +1,5 @@
 ghost use Rattle.std.specs.Prelude.{◌≡◌, ◌≢◌, ◌≤◌, ◌<◌, ◌↔◌, Some, None, IsSome, ◌⊎◌};
 ghost use Rattle.tfm_tables.specs.Acceptance.{font_fault_of};
-ghost use Rattle.tfm_tables.specs.Font.{IsPastDesign};
 ghost use Rattle.tfmset_c.specs.Opening.{IsNoSize, font_at};
 ghost use Rattle.tfmset_c.specs.Pairs.{action_told, left_symbol, pair_told, right_symbol};
 
@@ -18,9 +17,9 @@ pub struct TfmsetPair {
     pub kern: i32,
     /// The character that a ligature puts in.
     pub code: u32,
-    /// 1 where a ligature keeps the left one.
+    /// 1 if a ligature keeps the left one.
     pub keep_left: u32,
-    /// 1 where a ligature keeps the right one.
+    /// 1 if a ligature keeps the right one.
     pub keep_right: u32,
     /// How many elements a ligature passes over.
     pub pass: u32,
@@ -99,7 +98,7 @@ pub extern "C" fn tfmset_pair(
     ensures answers { (result ≤ 4) × (result ≢ 3) }
     ensures range { (result ≡ 4) ↔ (IsNoSize size ⊎ ((256 < left) ⊎ (256 < right))) }
     ensures refused { result ≡ 1 → IsSome (font_fault_of font.now) }
-    ensures memory { result ≡ 2 → IsPastDesign font.now }
+    ensures memory { result ≡ 2 → font_fault_of font.now ≡ None }
     ensures accepted { result ≡ 0 → font_fault_of font.now ≡ None }
     ensures done { result ≡ 0 → pair.new ≡ pair_told (font_at font.now size) left right }
     ensures kept { result ≢ 0 → pair.new ≡ pair.old }

@@ -1,0 +1,99 @@
+-- The lines of a text that were set, as C gets them.
+-- This project's own; each outcome is that of `set_line`, Answer, and each record that of its Record.
+use Rattle.std.specs.Prelude.{◌≡◌, ℕ, None, pos, ◌+◌, ◌-◌, ◌^◌, ◌<◌, ◌==◌, ◌⊎◌, List, [], ◌∷◌, ◌++◌, length, map, flat_map, min, if◌then◌else◌}
+use Rattle.lig_kern.specs.declared.item.Item.{Item}
+use Rattle.lig_kern.specs.declared.item.Item.TheVariants.{Char, Kern, Space, Skipped}
+use Rattle.set_line.specs.declared.policy.Policy.{Policy}
+use Rattle.set_line.specs.declared.policy.Policy.TheVariants.{Refuse, Skip}
+use Rattle.set_line.specs.declared.outcome.LineRefusal.TheVariants.{TooLong, Missing, Steps}
+use Rattle.set_line.specs.declared.outcome.Outcome.{Outcome}
+use Rattle.set_line.specs.declared.outcome.Outcome.TheVariants.{Set, Refused}
+use Rattle.set_line.specs.declared.version.Version.{Version}
+use Rattle.set_line.specs.declared.version.Version.TheVariants.{One, Two, Json}
+use Rattle.set_line.specs.Answer.{outcome_of}
+use Rattle.set_line.specs.Lines.{lines_of}
+use Rattle.set_line.specs.Record.{record_text}
+use Rattle.set_line.specs.Terms.{TermsValue}
+use Rattle.tfm_tables.specs.Acceptance.{font_fault_of}
+use Rattle.tfmset_c.specs.Opening.{IsNoSize, font_at}
+use Rattle.tfmset_c.specs.declared.told.TfmsetCounts.{TfmsetCounts}
+use Rattle.tfmset_c.specs.declared.told.TfmsetItem.{TfmsetItem}
+use Rattle.tfmset_c.specs.declared.told.TfmsetLine.{TfmsetLine}
+
+-- a limit on steps that isn't from 1 to 16,777,216
+abbrev pub IsNoLimit : ℕ → Type 0
+IsNoLimit limit = (limit < 1) ⊎ (16777216 < limit)
+
+-- a number that is out of range
+abbrev pub IsOutOfRange : ℕ → ℕ → ℕ → Type 0
+IsOutOfRange size limit policy = IsNoSize size ⊎ (IsNoLimit limit ⊎ (1 < policy))
+
+-- 0 refuses a line with a missing character, and 1 skips the character
+unfoldable pub policy_of : ℕ → Policy
+policy_of n = if n == 0 then Refuse else Skip
+
+-- the versions of records: 1, 2, and 3 for JSON
+abbrev pub IsNoVersion : ℕ → Type 0
+IsNoVersion version = (version < 1) ⊎ (3 < version)
+
+unfoldable pub version_of : ℕ → Version
+version_of n = if n == 1 then One else (if n == 2 then Two else Json)
+
+-- what a text is set with
+unfoldable pub terms_at : List ℕ → ℕ → ℕ → ℕ → TermsValue
+terms_at bytes size limit policy = record { font = font_at bytes size; limit = limit; policy = policy_of policy }
+
+-- the font in these bytes is accepted, and this is what a text is set with
+pub record IsSetWith (bytes : List ℕ) (size limit policy : ℕ) (terms : TermsValue) : Type 0 where
+  pub accepted : font_fault_of bytes ≡ None
+  pub value : terms ≡ terms_at bytes size limit policy
+
+-- what becomes of a text's lines, in order
+unfoldable pub outcomes_of : TermsValue → List ℕ → List Outcome
+outcomes_of terms text = map (outcome_of terms) (lines_of text)
+
+-- a number as C holds it: the largest, 2^64 - 1, also stands for what is above it
+abbrev pub held : ℕ → ℕ
+held n = min n (2 ^ 64 - 1)
+
+-- an item: its kind, a code if it has one, and its amount
+unfoldable pub item_told : Item → TfmsetItem
+item_told (Char code width) = record { kind = 0; code = code; width = width }
+item_told (Kern amount) = record { kind = 1; code = 0; width = amount }
+item_told (Space amount) = record { kind = 2; code = 0; width = amount }
+item_told (Skipped code) = record { kind = 3; code = code; width = pos 0 }
+
+-- the items of a line: a refused one has none
+unfoldable pub items_in : Outcome → List Item
+items_in (Set items width steps) = items
+items_in (Refused refusal) = []
+
+-- a line, before whose items this many others stand
+unfoldable pub line_told : ℕ → Outcome → TfmsetLine
+line_told before (Set items width steps) =
+    record { width = width; first = held before; count = length items; place = 0; steps = steps; refusal = 0; code = 0 }
+line_told before (Refused (Missing offset code)) =
+    record { width = pos 0; first = held before; count = 0; place = offset; steps = 0; refusal = 1; code = code }
+line_told before (Refused (TooLong bytes)) =
+    record { width = pos 0; first = held before; count = 0; place = bytes; steps = 0; refusal = 2; code = 0 }
+line_told before (Refused (Steps limit)) =
+    record { width = pos 0; first = held before; count = 0; place = 0; steps = limit; refusal = 3; code = 0 }
+
+-- lines, before whose items this many others stand
+unfoldable pub lines_told : ℕ → List Outcome → List TfmsetLine
+lines_told before [] = []
+lines_told before (outcome ∷ outcomes) = line_told before outcome ∷ lines_told (before + length (items_in outcome)) outcomes
+
+-- the items of all lines, in order
+unfoldable pub items_told : List Outcome → List TfmsetItem
+items_told outcomes = map item_told (flat_map items_in outcomes)
+
+-- how many lines and items there are
+unfoldable pub counts_told : List Outcome → TfmsetCounts
+counts_told outcomes = record { lines = held (length outcomes); items = held (length (items_told outcomes)) }
+
+-- the records of lines, of which the first has this place in its source
+unfoldable pub records_told : ℕ → ℕ → Version → List Outcome → List ℕ
+records_told source place version [] = []
+records_told source place version (outcome ∷ outcomes) =
+    record_text source place outcome version ++ records_told source (place + 1) version outcomes

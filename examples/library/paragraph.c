@@ -1,0 +1,71 @@
+/* Breaks a paragraph into lines that aren't wider than they may be: each takes the words that still fit.
+ *
+ * usage: paragraph FONT POINTS < TEXT   the first 65,536 bytes of the text are read
+ *
+ * One call measures all words: each is handed over as a line of its own. A word has its ligatures and kerns
+ * to itself, so a line is as wide as its words and the spaces between them, to the scaled point. */
+#include <stdio.h>
+#include <stdlib.h>
+#include <tfmset.h>
+
+enum { LONGEST = 65536, LARGEST_FONT = 131068 };
+
+static uint8_t font[LARGEST_FONT], text[LONGEST];
+static struct tfmset_line words[LONGEST / 2 + 1];
+
+/* Reads words from standard input, with one line feed after each; answers how many bytes that are. */
+static size_t read_words(void)
+{
+    size_t length = 0;
+    int byte;
+    while (length < LONGEST && (byte = getchar()) != EOF) {
+        if (byte > ' ')
+            text[length++] = (uint8_t)byte;
+        else if (length > 0 && text[length - 1] != '\n')
+            text[length++] = '\n';
+    }
+    return length;
+}
+
+/* Prints the words, and their widths in the points that each line takes. */
+static void print_lines(const struct tfmset_counts *counts, int64_t space, int64_t widest)
+{
+    const uint8_t *word = text;
+    int64_t width = 0;
+    size_t i;
+    for (i = 0; i < counts->lines; i++) {
+        if (i > 0 && width + space + words[i].width > widest) {
+            printf("  %.2f\n", width / 65536.0);
+            width = 0;
+        } else if (i > 0) {
+            putchar(' ');
+            width += space;
+        }
+        while (word < text + LONGEST && *word != '\n' && *word != 0)
+            putchar(*word++);
+        word++;
+        width += words[i].width;
+    }
+    if (i > 0)
+        printf("  %.2f\n", width / 65536.0);
+}
+
+int main(int count, char **arguments)
+{
+    struct tfmset_font about;
+    struct tfmset_counts counts;
+    size_t length;
+    FILE *file;
+
+    if (count != 3 || (file = fopen(arguments[1], "rb")) == NULL)
+        return EXIT_FAILURE;
+    length = fread(font, 1, sizeof font, file);
+    fclose(file);
+    if (tfmset_font(font, length, 0, &about) != TFMSET_DONE)
+        return EXIT_FAILURE;
+    if (tfmset_widths(font, length, 0, 1048576, TFMSET_SKIP, text, read_words(), words,
+                      sizeof words / sizeof *words, &counts) != TFMSET_DONE)
+        return EXIT_FAILURE;
+    print_lines(&counts, about.space, (int64_t)(atof(arguments[2]) * 65536));
+    return EXIT_SUCCESS;
+}

@@ -1,0 +1,73 @@
+// Sets a text in eight threads, each its own part, and tells the widest line.
+//
+// usage: threads FONT TEXT
+//
+// The library has no state: the threads share the font's bytes and the text, and each has its own lines.
+#include <algorithm>
+#include <fstream>
+#include <iostream>
+#include <iterator>
+#include <string>
+#include <thread>
+#include <vector>
+#include <tfmset.h>
+
+struct Part {
+    const char *begin, *end;
+    std::vector<tfmset_line> lines;
+    uint32_t answer = TFMSET_DONE;
+
+    void set(const std::string &font)
+    {
+        lines.resize(std::count(begin, end, '\n') + 1);
+        tfmset_counts counts;
+        answer = tfmset_widths(reinterpret_cast<const uint8_t *>(font.data()), font.size(), 0, 1048576,
+                               TFMSET_SKIP, reinterpret_cast<const uint8_t *>(begin), end - begin,
+                               lines.data(), lines.size(), &counts);
+        lines.resize(answer == TFMSET_DONE ? counts.lines : 0);
+    }
+};
+
+static std::string content(const char *name)
+{
+    std::ifstream file(name, std::ios::binary);
+    return {std::istreambuf_iterator<char>(file), {}};
+}
+
+int main(int count, char **arguments)
+{
+    if (count != 3)
+        return 1;
+    const std::string font = content(arguments[1]), text = content(arguments[2]);
+    const size_t threads = 8;
+    std::vector<Part> parts(threads);
+    const char *at = text.data(), *const end = at + text.size();
+    for (size_t i = 0; i < threads; i++) {
+        // A part ends after a line feed, or with the text.
+        const char *cut = i + 1 < threads ? std::max(at, text.data() + text.size() * (i + 1) / threads) : end;
+        cut = std::find(cut, end, '\n');
+        parts[i].begin = at;
+        parts[i].end = at = cut == end ? end : cut + 1;
+    }
+
+    std::vector<std::thread> running;
+    for (Part &part : parts)
+        running.emplace_back(&Part::set, &part, std::cref(font));
+    for (std::thread &thread : running)
+        thread.join();
+
+    size_t line = 0, widest = 0;
+    int64_t width = -1;
+    for (const Part &part : parts) {
+        if (part.answer != TFMSET_DONE)
+            return 1;
+        for (const tfmset_line &each : part.lines) {
+            line++;
+            if (each.refusal == TFMSET_SET && each.width > width) {
+                widest = line;
+                width = each.width;
+            }
+        }
+    }
+    std::cout << line << " lines, the widest is " << widest << ": " << width << "\n";
+}
