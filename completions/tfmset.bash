@@ -14,7 +14,7 @@ _tfmset_file() {
 
 _tfmset() {
     local word=${COMP_WORDS[COMP_CWORD]} before=${COMP_WORDS[COMP_CWORD - 1]} options='' place=0 ended='' i
-    local commands='counts list set each stream help'
+    local commands='counts list check set each stream help'
     COMPREPLY=()
 
     if ((COMP_CWORD == 1)); then
@@ -26,7 +26,9 @@ _tfmset() {
     fi
 
     case ${COMP_WORDS[1]} in
-        counts | list) options='-h --help' ;;
+        counts) options='-h --help' ;;
+        list) options='--all -h --help' ;;
+        check) options='--size -h --help' ;;
         set | stream) options='--size --limit --missing --workers --capacity --block --record -h --help' ;;
         each) options='--size --missing --workers --capacity --block --record -h --help' ;;
         help)
@@ -41,7 +43,7 @@ _tfmset() {
         if [[ ! $ended && ${COMP_WORDS[i]} == -- ]]; then
             ended=yes
         elif [[ ! $ended && ${COMP_WORDS[i]} == --?* ]]; then
-            [[ ${COMP_WORDS[i]} == --help ]] || i=$((i + 1))
+            [[ ${COMP_WORDS[i]} == --@(all|help) ]] || i=$((i + 1))
             [[ ${COMP_WORDS[i]} != = ]] || i=$((i + 1))
         elif [[ $ended || ${COMP_WORDS[i]} != -?* ]]; then
             place=$((place + 1))
@@ -58,7 +60,7 @@ _tfmset() {
             --missing) mapfile -t COMPREPLY < <(compgen -W 'refuse skip' -- "$word") ;;
             --workers) mapfile -t COMPREPLY < <(compgen -W "$(echo {1..16})" -- "$word") ;;
             --block) mapfile -t COMPREPLY < <(compgen -W "$(echo {1..8})" -- "$word") ;;
-            --record) mapfile -t COMPREPLY < <(compgen -W '1 2' -- "$word") ;;
+            --record) mapfile -t COMPREPLY < <(compgen -W '1 2 json' -- "$word") ;;
         esac
         case $before in
             --size | --limit | --missing | --workers | --capacity | --block | --record) return ;;
@@ -71,6 +73,7 @@ _tfmset() {
 
     case ${COMP_WORDS[1]} in
         counts | list) ((place > 0)) || _tfmset_font "$word" ;;
+        check) _tfmset_font "$word" ;;
         set | stream) if ((place == 0)); then _tfmset_font "$word"; else _tfmset_file; fi ;;
         each)
             case $((place % 3)) in
