@@ -1,6 +1,6 @@
 -- The reports of a run whose answers were kept, and what a finished one says.
 use Rattle.std.proofs.Common.{arith, ◌≡◌, ℕ, zero, suc, ◌+◌, ◌<◌, List, [], ◌∷◌, ◌++◌, length, get_or, replicate, Option, Some, None, refl, ap, sym, subst, ◌∙◌}
-use Rattle.std.specs.Prelude.{All, IfOk, IfSome, Result, Ok}
+use Rattle.std.specs.Prelude.{map, All, IfOk, IfSome, Result, Ok}
 use Rattle.std.specs.Arc.{arc_value}
 use Rattle.std.specs.declared.sync.Arc.{Arc}
 use Rattle.std.specs.declared.alloc.Global.{Global}
@@ -48,6 +48,17 @@ module _ {S : Type 0} where
   reports_more (c ∷ lanes) (l ∷ lists) [] lane answers report are source own end = elim are [ ]
   reports_more (c ∷ lanes) (l ∷ lists) (r ∷ reports) lane answers report are source own end =
       (are.0, are.1, are.2, reports_more lanes lists reports lane answers report are.3 source own end)
+
+  -- the sources of the lanes are those of their reports
+  pub same_sources : (lanes : List (ClosedLane S)) (lists : List (List AnswerValue)) (reports : List (LaneReport S))
+      → AreReportsOf lanes lists reports → map (λ report. report.source) reports ≡ map (λ lane. lane.source) lanes
+  same_sources [] [] [] are = refl
+  same_sources [] [] (r ∷ reports) are = elim are [ ]
+  same_sources [] (l ∷ lists) reports are = elim are [ ]
+  same_sources (c ∷ lanes) [] reports are = elim are [ ]
+  same_sources (c ∷ lanes) (l ∷ lists) [] are = elim are [ ]
+  same_sources (c ∷ lanes) (l ∷ lists) (r ∷ reports) are =
+      ap (λ s. s ∷ map (λ report. report.source) reports) are.0 ∙ ap (λ xs. c.source ∷ xs) (same_sources lanes lists reports are.3)
 
   -- what holds of the lanes holds of their reports
   pub reported_all : (to_come : S → Option (List (List ℕ))) (failed : S → Option SourceFault) (events : List Event) (first : ℕ)

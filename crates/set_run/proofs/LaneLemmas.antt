@@ -122,14 +122,14 @@ pipeline_first terms fed answers all first line =
     let fits : n ≤ m = omega (arith, length-take n all, ap length first) in
     first ∙ ap (take n) line ∙ take-map (answer_of terms) n (take m fed) ∙ ap (answers_of terms) (take-take n m fed fits)
 
-module _ {S : Type 0} where
+module _ {S O : Type 0} where
   -- a lane that has ended
-  pub closed_of : (to_come : S → Option (List (List ℕ))) (failed : S → Option SourceFault) (source : S × Arc TermsValue Global)
+  pub closed_of : (to_come : S → Option (List (List ℕ))) (failed : S → Option SourceFault) (origin : S → O) (source : S × Arc TermsValue Global)
       (start back : Feeding S) (s t : Setter) (first last : LaneTaker) (lane : ClosedLane S) (told : List LaneEvent)
-      → start.source ≡ source.0 → IsFresh (arc_value source.1) start.feeder s first → SameSetter s t → HandsBack to_come failed start back
+      → start.source ≡ source.0 → IsFresh (arc_value source.1) start.feeder s first → SameSetter s t → HandsBack to_come failed origin start back
       → IsFinished back t last lane → IsToldFirst told last
       → (told ≡ lane_events (answers_among told) lane.end) × IsClosed to_come failed (arc_value source.1) source.0 (answers_among told) lane
-  closed_of to_come failed source start back s t first last lane told from fresh same handed finished came =
+  closed_of to_come failed origin source start back s t first last lane told from fresh same handed finished came =
       let terms = arc_value source.1 in let answers = answers_among told in let given = fed back.feeder in
       let own : (state_of t).terms ≡ terms = grind (rules, fresh, same) in
       let was : IsFedFrom (feeder_end back.feeder) given (to_come source.0) (to_come lane.source) (failed source.0) (failed lane.source) =

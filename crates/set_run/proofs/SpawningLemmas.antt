@@ -1,7 +1,7 @@
 -- A level of a run: its lane begins, the levels below come back, and its lane ends.
 use Rattle.std.proofs.Common.{rules, arith, ◌≡◌, ℕ, ◌+◌, ◌%◌, zero, suc, Bool, true, false, List, [], ◌∷◌, ◌++◌, length, get_or, Option, None, refl, ap, sym, subst, ◌∙◌}
-use Rattle.std.proofs.lemmas.List.{length-append}
-use Rattle.std.specs.Prelude.{set, All, IsSome, IsTrue, is_none}
+use Rattle.std.proofs.lemmas.List.{length-append, map-append}
+use Rattle.std.specs.Prelude.{map, set, All, IsSome, IsTrue, is_none}
 use Rattle.std.specs.List.{AllZip}
 use Rattle.std.specs.Arc.{arc_value}
 use Rattle.std.specs.declared.sync.Arc.{Arc}
@@ -14,7 +14,7 @@ use Rattle.set_run.specs.Events.{Event, LaneEvent, answers_in, lane_events, of_l
 use Rattle.set_run.specs.Workers.{HasOneMore}
 use Rattle.set_run.specs.Collecting.{AllLanes, IsFreshTaker, IsTold, IsToldBy, IsToldFirst, SameLane}
 use Rattle.set_run.specs.Given.{HandsBack}
-use Rattle.set_run.specs.Reports.{AreClosed, HasNoOthers, IsClosed}
+use Rattle.set_run.specs.Reports.{AreBack, AreClosed, HasNoOthers, IsClosed}
 use Rattle.set_run.specs.Lanes.{Begins, CanEnd, Ends, Held}
 use Rattle.set_run.specs.Gathering.{Collects, Gathers}
 use Rattle.set_run.specs.declared.collector.Refusal.{Refusal}
@@ -120,6 +120,18 @@ module _ {S : Type 0} where
             (subst (λ n. IsClosed to_come failed (arc_value source.1) source.0 (answers_in n events) lane) at one),
       )
 
+  -- one more source that came back
+  back_more : {O : Type 0} (origin : S → O) (sources : List (S × Arc TermsValue Global)) (source : S × Arc TermsValue Global)
+      (closed : List (ClosedLane S)) (lane : ClosedLane S) → AreBack origin sources (map (λ c. c.source) closed)
+      → origin lane.source ≡ origin source.0
+      → AreBack origin (sources ++ source ∷ []) (map (λ c. c.source) (closed ++ lane ∷ []))
+  back_more origin sources source closed lane are own =
+      ap (map origin) (map-append (λ c. c.source) closed (lane ∷ []))
+      ∙ map-append origin (map (λ c. c.source) closed) (lane.source ∷ [])
+      ∙ ap (λ xs. xs ++ origin lane.source ∷ []) are
+      ∙ ap (λ o. map (λ s. origin s.0) sources ++ o ∷ []) own
+      ∙ sym (map-append (λ s. origin s.0) sources (source ∷ []))
+
   -- once the levels below have come back, the lane can end
   pub can_end : (source : S × Arc TermsValue Global) (n : ℕ) (start back : Feeding S) (workers workers1 workers2 : List (List Setter))
       (lanes lanes1 lanes2 : List LaneTaker)
@@ -151,18 +163,18 @@ module _ {S : Type 0} where
       in (same_at_worker (n % length workers) s t workers workers1 workers2 workers3 with_one same_workers taken_here).1
 
   -- and the lane is among those that have ended
-  pub has_ended : {C : Type 0} (to_come : S → Option (List (List ℕ))) (failed : S → Option SourceFault) (places : C → ℕ) (given : C → List Event → Type 0)
+  pub has_ended : {O C : Type 0} (to_come : S → Option (List (List ℕ))) (failed : S → Option SourceFault) (origin : S → O) (places : C → ℕ) (given : C → List Event → Type 0)
       (refused : C → Option Refusal → Type 0) (sources rest : List (S × Arc TermsValue Global)) (source : S × Arc TermsValue Global) (n : ℕ)
       (start back : Feeding S) (closed closed' : List (ClosedLane S)) (workers workers1 workers2 workers3 : List (List Setter))
       (lanes lanes1 : List LaneTaker) (before : C) (collected collected' : Collected C) → sources ≡ rest ++ source ∷ []
       → Begins (n % length workers) source start (record { workers = workers; lanes = lanes }) (record { workers = workers1; lanes = lanes1 })
-      → AllZip (AllZip SameSetter) workers1 workers2 → HandsBack to_come failed start back
-      → Gathers to_come failed places given refused rest lanes1 before closed collected
+      → AllZip (AllZip SameSetter) workers1 workers2 → HandsBack to_come failed origin start back
+      → Gathers to_come failed origin places given refused rest lanes1 before closed collected
       → Ends (n % length workers2) back closed closed' (record { workers = workers2; lanes = collected.lanes.items })
       (record { workers = workers3; lanes = collected'.lanes.items })
       → collected'.collector ≡ collected.collector → collected'.refusal ≡ collected.refusal
-      → Gathers to_come failed places given refused sources lanes before closed' collected'
-  has_ended {C} to_come failed places given refused sources rest source n start back closed closed' workers workers1 workers2 workers3 lanes lanes1 before
+      → Gathers to_come failed origin places given refused sources lanes before closed' collected'
+  has_ended {O} {C} to_come failed origin places given refused sources rest source n start back closed closed' workers workers1 workers2 workers3 lanes lanes1 before
       collected collected' was (is, (s, l, fresh, with_one, more)) same_workers handed below (t, d, one, taken, popped, now, finished) own_collector own_refusal =
       let taken_here : HasOneMore (n % length workers) t workers3 workers2 =
       subst (λ m. HasOneMore (n % m) t workers3 workers2) (sym (as_many n s workers workers1 workers2 with_one same_workers)) taken
@@ -179,7 +191,7 @@ module _ {S : Type 0} where
             below.told has (subst (All IsFreshTaker) (sym more) (all_append IsFreshTaker lanes l fresh_lanes fresh.4))
             in let of_last = told_last IsToldFirst (length rest) events collected'.lanes.items d
             (subst (λ ts. AllLanes IsToldFirst (length rest) events ts) popped all)
-            in let facts = closed_of to_come failed source start back s t l d one (of_lane (length rest) events) is fresh own.0 handed finished of_last.1
+            in let facts = closed_of to_come failed origin source start back s t l d one (of_lane (length rest) events) is fresh own.0 handed finished of_last.1
             in let at : 0 + length rest ≡ length rest = omega arith in (
               events,
               subst (λ c. given c events) (sym own_collector) has',
@@ -202,6 +214,10 @@ module _ {S : Type 0} where
             (subst (λ end. IsSome end) (sym finished.1) last));
         refuses = subst (λ c. refused c collected'.refusal) (sym own_collector)
             (subst (λ r. refused collected.collector r) (sym own_refusal) below.refuses);
+        own_sources = subst (λ xs. AreBack origin xs (map (λ c. c.source) closed')) (sym was)
+            (subst (λ ys. AreBack origin (rest ++ source ∷ []) (map (λ c. c.source) ys)) (sym now)
+            (back_more origin rest source closed one below.own_sources
+            (ap origin finished.0 ∙ handed.2 ∙ ap origin is)));
       }
 
 -- nothing came of lanes of which nothing was taken
@@ -222,15 +238,15 @@ all_first ok last events [] all = tt
 all_first true last events (t ∷ ts) all = (told_first (of_lane (last + length ts) events) t all.0, all_first true last events ts all.1)
 all_first false last events (t ∷ ts) all = (all.0, all_first false last events ts all.1)
 
-module _ {S C : Type 0} where
+module _ {S O C : Type 0} where
   -- without a source, what was collected is all
-  pub gathers_none : (to_come : S → Option (List (List ℕ))) (failed : S → Option SourceFault) (places : C → ℕ) (given : C → List Event → Type 0)
+  pub gathers_none : (to_come : S → Option (List (List ℕ))) (failed : S → Option SourceFault) (origin : S → O) (places : C → ℕ) (given : C → List Event → Type 0)
       (refused : C → Option Refusal → Type 0) (sources : List (S × Arc TermsValue Global)) (lanes : List LaneTaker) (before : C) (closed : List (ClosedLane S))
       (back : Collected C) → sources ≡ [] → closed ≡ [] → Collects places given refused lanes before back
-      → Gathers to_come failed places given refused sources lanes before closed back
-  gathers_none to_come failed places given refused sources lanes before closed back no_source none all =
-      subst (λ xs. Gathers to_come failed places given refused xs lanes before closed back) (sym no_source)
-      (subst (λ ys. Gathers to_come failed places given refused [] lanes before ys back) (sym none) (record {
+      → Gathers to_come failed origin places given refused sources lanes before closed back
+  gathers_none to_come failed origin places given refused sources lanes before closed back no_source none all =
+      subst (λ xs. Gathers to_come failed origin places given refused xs lanes before closed back) (sym no_source)
+      (subst (λ ys. Gathers to_come failed origin places given refused [] lanes before ys back) (sym none) (record {
         places_kept = all.places_kept;
         same = all.same;
         told = λ has fresh.
@@ -244,4 +260,5 @@ module _ {S C : Type 0} where
         ended = all.whole;
         whole = λ none' k d below. absurd (omega (arith, below));
         refuses = all.refuses;
+        own_sources = refl;
       }))

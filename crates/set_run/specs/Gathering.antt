@@ -1,6 +1,6 @@
 -- What comes back to the thread that started the others: what was collected, and the lanes that have ended.
 -- This project's own.
-use Rattle.std.specs.Prelude.{◌≡◌, ℕ, ◌+◌, List, [], length, All, Option, IsSome, IsTrue, is_none}
+use Rattle.std.specs.Prelude.{◌≡◌, ℕ, ◌+◌, List, [], length, map, All, Option, IsSome, IsTrue, is_none}
 use Rattle.std.specs.List.{AllZip}
 use Rattle.std.specs.declared.sync.Arc.{Arc}
 use Rattle.std.specs.declared.alloc.Global.{Global}
@@ -8,7 +8,7 @@ use Rattle.set_line.specs.Terms.{TermsValue}
 use Rattle.line_lane.specs.declared.fault.SourceFault.{SourceFault}
 use Rattle.set_run.specs.Events.{Event}
 use Rattle.set_run.specs.Collecting.{AllLanes, IsFreshTaker, IsToldFirst, SameLane, TellsLanes}
-use Rattle.set_run.specs.Reports.{AreClosed, HasNoOthers}
+use Rattle.set_run.specs.Reports.{AreBack, AreClosed, HasNoOthers}
 use Rattle.set_run.specs.declared.collector.Refusal.{Refusal}
 use Rattle.set_run.specs.declared.collector_thread.Collected.{Collected}
 use Rattle.set_run.specs.declared.lane_taker.LaneTaker.{LaneTaker}
@@ -24,9 +24,9 @@ module _ {C : Type 0} where
     pub whole : IsTrue (is_none back.refusal) → All (λ lane. IsSome lane.end) back.lanes.items
     pub refuses : refused back.collector back.refusal
 
-module _ {S C : Type 0} where
-  -- the same, with the lanes of sources that have ended, if nothing had been taken of any lane before
-  pub record Gathers (to_come : S → Option (List (List ℕ))) (failed : S → Option SourceFault) (places : C → ℕ)
+module _ {S O C : Type 0} where
+  -- the same, with the lanes of sources that have ended, if nothing had been taken of any lane before; each has its source back
+  pub record Gathers (to_come : S → Option (List (List ℕ))) (failed : S → Option SourceFault) (origin : S → O) (places : C → ℕ)
       (given : C → List Event → Type 0) (refused : C → Option Refusal → Type 0) (sources : List (S × Arc TermsValue Global)) (lanes : List LaneTaker) (before : C) (closed : List (ClosedLane S))
       (back : Collected C) : Type 0 where
     pub places_kept : places back.collector ≡ places before
@@ -37,3 +37,4 @@ module _ {S C : Type 0} where
     pub ended : IsTrue (is_none back.refusal) → All (λ lane. IsSome lane.end) back.lanes.items
     pub whole : IsTrue (is_none back.refusal) → All (λ lane. IsSome lane.end) closed
     pub refuses : refused back.collector back.refusal
+    pub own_sources : AreBack origin sources (map (λ lane. lane.source) closed)

@@ -45,12 +45,13 @@ pub record IsFedFrom (end : Option SourceEnd) (given : List (List ℕ)) (before 
   pub left : fails ≡ None → HasGiven (length given) before after
   pub stays : StaysFailed failed given fails
 
-module _ {S : Type 0} where
-  -- a source and its feeder, as a thread hands them back: it is the same lane's, and if nothing had been fed, what was fed
-  -- are the source's lines, and its end is theirs
+module _ {S O : Type 0} where
+  -- a source and its feeder, as a thread hands them back: it is the same lane's; if nothing had been fed, what was fed are the
+  -- source's lines, and its end is theirs; and the source is of the same origin
   abbrev pub HandsBack :
-      (S → Option (List (List ℕ))) → (S → Option SourceFault) → Feeding S → Feeding S → Type 0
-  HandsBack to_come failed a b =
+      (S → Option (List (List ℕ))) → (S → Option SourceFault) → (S → O) → Feeding S → Feeding S → Type 0
+  HandsBack to_come failed origin a b =
       SameFeeder a.feeder b.feeder
       × (fed a.feeder ≡ [] → feeder_end a.feeder ≡ None
       → IsFedFrom (feeder_end b.feeder) (fed b.feeder) (to_come a.source) (to_come b.source) (failed a.source) (failed b.source))
+      × (origin b.source ≡ origin a.source)

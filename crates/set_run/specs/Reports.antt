@@ -1,6 +1,6 @@
 -- What a run reports of a source.
 -- This project's own.
-use Rattle.std.specs.Prelude.{◌≡◌, ◌≤◌, ℕ, ◌+◌, ◌⊎◌, List, [], ◌∷◌, length, take, All, Option, Some, None, IsSome, IfSome}
+use Rattle.std.specs.Prelude.{◌≡◌, ◌≤◌, ℕ, ◌+◌, ◌⊎◌, List, [], ◌∷◌, length, take, map, All, Option, Some, None, IsSome, IfSome}
 use Rattle.std.specs.List.{AllZip}
 use Rattle.std.specs.Arc.{arc_value}
 use Rattle.std.specs.declared.sync.Arc.{Arc}
@@ -122,6 +122,11 @@ module _ {S C : Type 0} where
   IsCollected to_come failed given sources run before after =
       given before []
       → (events : List Event) × given after events × AreClosed to_come failed events 0 sources run.lanes.items × HasNoOthers events (length sources)
+
+module _ {S O : Type 0} where
+  -- these sources, in order, are those that were handed in: each is of the same origin
+  abbrev pub AreBack : (S → O) → List (S × Arc TermsValue Global) → List S → Type 0
+  AreBack origin sources back = map origin back ≡ map (λ source. origin source.0) sources
 
 module _ {S : Type 0} where
   -- if no refusal is told, each lane has ended

@@ -12,6 +12,7 @@ use line_lane::SourceFault;
 use set_line::{Line, cut_at_feeds};
 use std::alloc::Global;
 use std::io::Read;
+use std::snapshot::Snapshot;
 
 mod buffer;
 mod raw_line;
@@ -23,6 +24,7 @@ pub struct ReaderSource<R> {
     reader: R,
     buffer: Buffer,
     state: ReaderState,
+    made_of: Snapshot<R>,
     alloc: Global,
 }
 
@@ -32,11 +34,14 @@ impl<R: Read> ReaderSource<R> {
         ensures to_come { ⟦<ReaderSource<R> as LineSource>⟧.to_come result
             ≡ option_map lines_of (R.remaining reader) }
         ensures failed { ⟦<ReaderSource<R> as LineSource>⟧.failed result ≡ None }
+        ensures origin { ⟦<ReaderSource<R> as LineSource>⟧.origin result ≡ reader }
     {
+        let made_of = Snapshot::of(&reader);
         ReaderSource {
             reader,
             buffer: Buffer::new(alloc),
             state: ReaderState::Open,
+            made_of,
             alloc,
         }
     }
@@ -44,10 +49,11 @@ impl<R: Read> ReaderSource<R> {
     /// The next line of a reader that neither came to its end nor failed.
     fn read_line(&mut self) -> Result<Option<Line>, SourceFault>
         requires { self.old.state ≡ ReaderState.Open }
-        ensures { let before = prepend_known self.old.buffer (R.remaining self.old.reader) in
+        ensures reads { let before = prepend_known self.old.buffer (R.remaining self.old.reader) in
             let after = prepend_known self.new.buffer (R.remaining self.new.reader) in
             Reads (lines_to_come self.old.state before) (fault_of self.old.state) result
             (lines_to_come self.new.state after) (fault_of self.new.state) }
+        ensures origin { self.new.made_of.value ≡ self.old.made_of.value }
     {
         cut_at_feeds();
         match next_raw_line(self.alloc, &mut self.reader, &mut self.buffer) {
@@ -76,6 +82,10 @@ impl<R: Read> LineSource for ReaderSource<R> {
         lines_to_come source.state (prepend_known source.buffer (R.remaining source.reader)) };
 
     ghost failed = { λ source. fault_of source.state };
+
+    ghost Origin = { R };
+
+    ghost origin = { λ source. source.made_of.value };
 
     fn next_line(&mut self) -> Result<Option<Line>, SourceFault> {
         match self.state {

@@ -1,8 +1,8 @@
 //! A run whose answers are kept.
-ghost use Rattle.std.specs.Prelude.{All, ◌≡◌, ◌++◌, ◌∷◌, [], ◌<◌, ◌≤◌, ◌⊎◌, Err, IfOk, IfErr, IsSome, MatchResult, get_or, length, vec_len};
+ghost use Rattle.std.specs.Prelude.{All, ◌≡◌, ◌++◌, ◌∷◌, [], ◌<◌, ◌≤◌, ◌⊎◌, Err, IfOk, IfErr, IsSome, MatchResult, get_or, length, map, vec_len};
 ghost use Rattle.set_run.specs.declared.run_fault.RunFault.TheVariants.{TooManySources, OutOfMemory as NoMemory, Thread};
 ghost use Rattle.line_lane.specs.declared.ending.LaneEnd.TheVariants.{Complete};
-ghost use Rattle.set_run.specs.Reports.{AreAnswered, AreReported, AreReportsOf};
+ghost use Rattle.set_run.specs.Reports.{AreAnswered, AreBack, AreReported, AreReportsOf};
 
 use crate::answer_lists::AnswerLists;
 use crate::{
@@ -60,6 +60,8 @@ pub fn run<R: Threads + Wait + Sync, S: LineSource + Send + Drop, G: Gate + Sync
     gate: &G,
 ) -> Result<Report<S>, RunFault>
     ensures lanes { IfOk result (λ report. AreReported S.to_come S.failed sources.items report) }
+    ensures sources { IfOk result (λ report.
+        AreBack S.origin sources.items (map (λ lane. lane.source) report)) }
     ensures finished { IfOk result (λ report. All (λ lane. lane.end ≡ Complete) report
         → AreAnswered S.to_come sources.items report) }
     ensures none { vec_len sources ≡ 0

@@ -1,8 +1,8 @@
 //! A run over a collector.
-ghost use Rattle.std.specs.Prelude.{◌≡◌, ◌+◌, ◌<◌, ◌≤◌, ◌⊎◌, [], None, Err, IfOk, IfErr, IsOk, vec_capacity, vec_len};
+ghost use Rattle.std.specs.Prelude.{◌≡◌, ◌+◌, ◌<◌, ◌≤◌, ◌⊎◌, [], None, Err, IfOk, IfErr, IsOk, map, vec_capacity, vec_len};
 ghost use Rattle.set_run.specs.declared.run_fault.RunFault.TheVariants.{TooManySources, OutOfMemory as NoMemory, Thread};
 ghost use Rattle.set_run.specs.Gathering.{Gathers};
-ghost use Rattle.set_run.specs.Reports.{IsCollected, IsWhole};
+ghost use Rattle.set_run.specs.Reports.{AreBack, IsCollected, IsWhole};
 
 use crate::collector_thread::Collected;
 use crate::lane_taker::LaneTaker;
@@ -53,7 +53,7 @@ fn run_threads<
     requires willing { C.refused collector None }
     requires none { closed.items ≡ [] }
     requires room { vec_len sources ≤ vec_capacity closed }
-    ensures gathered { IfOk result (λ back. Gathers S.to_come S.failed C.lanes C.given C.refused
+    ensures gathered { IfOk result (λ back. Gathers S.to_come S.failed S.origin C.lanes C.given C.refused
         sources.items [] collector back.0.items back.1) }
     ensures begun { vec_len sources ≡ 0 → vec_len workers ≡ 0 → IsOk result }
     ensures unbegun { IfErr result (λ unbegun. unbegun.collector ≡ collector) }
@@ -70,7 +70,7 @@ fn run_threads<
             requires willing { C.refused collector None }
             requires none { closed.items ≡ [] }
             requires room { vec_len sources ≤ vec_capacity closed }
-            ensures gathered { IfOk result (λ back. Gathers S.to_come S.failed C.lanes C.given C.refused
+            ensures gathered { IfOk result (λ back. Gathers S.to_come S.failed S.origin C.lanes C.given C.refused
                 sources.items lanes.items collector back.0.items back.1) }
             ensures begun { vec_len sources ≡ 0 → vec_len workers ≡ 0 → IsOk result }
             ensures unbegun { IfErr result (λ unbegun. unbegun.collector ≡ collector) }
@@ -114,6 +114,8 @@ pub fn run_into<
     ensures collected { IfOk result.1 (λ run.
         IsCollected S.to_come S.failed C.given sources.items run collector result.0) }
     ensures whole { IfOk result.1 (λ run. IsWhole run) }
+    ensures sources { IfOk result.1 (λ run.
+        AreBack S.origin sources.items (map (λ lane. lane.source) run.lanes.items)) }
     ensures refused { IfOk result.1 (λ run. C.refused result.0 run.refusal) }
     ensures lanes { C.lanes result.0 ≡ C.lanes collector }
     ensures fault { IfErr result.1 (λ fault. result.0 ≡ collector) }

@@ -26,7 +26,7 @@ pub(crate) struct Feeding<S> {
 pub(crate) struct FedFrom<S>(pub Snapshot<Feeding<S>>);
 
 impl<S: LineSource> Promise<Feeding<S>> for FedFrom<S> {
-    ghost kept_by = { λ p r. HandsBack S.to_come S.failed p.0.value r };
+    ghost kept_by = { λ p r. HandsBack S.to_come S.failed S.origin p.0.value r };
 }
 
 /// Feeds a line, as soon as there is room for it; false if the run is stopped.
@@ -104,6 +104,7 @@ fn feed_lines<R: Wait, S: LineSource>(
         → HasGiven (length (fed feeder.new)) (S.to_come source.old) (S.to_come source.new) }
     ensures failed { fed feeder.old ≡ []
         → StaysFailed (S.failed source.old) (fed feeder.new) (S.failed source.new) }
+    ensures origin { S.origin source.new ≡ S.origin source.old }
 {
     let mut unheard = 0;
     for _ in rt.forever() {
@@ -133,7 +134,7 @@ pub(crate) fn feed<R: Wait, S: LineSource, G: Gate>(
     number: usize,
     feeding: Feeding<S>,
 ) -> Feeding<S>
-    ensures { HandsBack S.to_come S.failed feeding result }
+    ensures { HandsBack S.to_come S.failed S.origin feeding result }
 {
     gate.enter(Stage::Source, number);
     let Feeding {

@@ -116,7 +116,7 @@ pub(crate) fn start_sources<
     ensures workers { IfOk result (λ back. AllZip (AllZip SameSetter) workers.items back.1.items) }
     ensures count { IfOk result (λ back. vec_len back.0 ≡ vec_len sources) }
     ensures room { IfOk result (λ back. vec_capacity closed ≤ vec_capacity back.0) }
-    ensures gathered { IfOk result (λ back. Gathers S.to_come S.failed C.lanes C.given C.refused
+    ensures gathered { IfOk result (λ back. Gathers S.to_come S.failed S.origin C.lanes C.given C.refused
         sources.items lanes.items collector back.0.items back.2) }
     ensures begun { vec_len sources ≡ 0 → vec_len workers ≡ 0 → IsOk result }
     ensures unbegun { IfErr result (λ unbegun. unbegun.collector ≡ collector) }

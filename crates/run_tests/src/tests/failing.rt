@@ -40,11 +40,15 @@ impl Frail {
 }
 
 impl LineSource for Frail {
-    ghost use Rattle.std.specs.Prelude.{None};
+    ghost use Rattle.std.specs.Prelude.{None, Unit, tt};
 
     ghost to_come = { λ _. None };
 
     ghost failed = { λ source. source.failed };
+
+    ghost Origin = { Unit {0} };
+
+    ghost origin = { λ _. tt };
 
     fn next_line(&mut self) -> Result<Option<Line>, SourceFault> {
         if let Some(fault) = self.failed {

@@ -206,11 +206,15 @@ impl<'a> Guest<'a> {
 }
 
 impl LineSource for Guest<'_> {
-    ghost use Rattle.std.specs.Prelude.{None};
+    ghost use Rattle.std.specs.Prelude.{None, Unit, tt};
 
     ghost to_come = { λ _. None };
 
     ghost failed = { λ _. None };
+
+    ghost Origin = { Unit {0} };
+
+    ghost origin = { λ _. tt };
 
     /// The first line is held until the other source was asked for its own.
     fn next_line(&mut self) -> Result<Option<Line>, SourceFault> {

@@ -19,11 +19,15 @@ pub struct Slow<'a, R> {
 }
 
 impl<R: Clock> LineSource for Slow<'_, R> {
-    ghost use Rattle.std.specs.Prelude.{None};
+    ghost use Rattle.std.specs.Prelude.{None, Unit, tt};
 
     ghost to_come = { λ _. None };
 
     ghost failed = { λ source. source.failed };
+
+    ghost Origin = { Unit {0} };
+
+    ghost origin = { λ _. tt };
 
     fn next_line(&mut self) -> Result<Option<Line>, SourceFault> {
         if let Some(fault) = self.failed {

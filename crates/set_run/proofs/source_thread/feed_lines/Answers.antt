@@ -7,7 +7,7 @@ use Rattle.set_run.proofs.source_thread.feed_lines.Goals as goal
 pub returns-then-not-offer-clause-left : goal.returns-then-not-offer-clause-left
 returns-then-not-offer-clause-left g c = λ none unfailed.
     let before = g.S.LineSource.to_come c.args.source.now in let after = g.S.LineSource.to_come c.next_line.new.self in
-    let reads = rw c.in-Ok-Some.field-0-is at c.in-Ok-Some.ensures in
+    let reads = rw c.in-Ok-Some.field-0-is at c.in-Ok-Some.ensures.reads in
     subst (λ lines. HasGiven (length lines) before after) (sym c.if-not-offer.ensures.fed)
     (gave_next before (fed c.loop.feeder) (g.S.LineSource.to_come c.loop.source) c.in-Ok-Some.line after (c.loop.invariant.4 none)
     reads.2)

@@ -11,3 +11,4 @@ invariant-loop g l =
     × (feeder_end l.feeder ≡ feeder_end l.initial.feeder)
     × (fed l.initial.feeder ≡ [] → Gave (g.S.LineSource.to_come l.initial.source) (fed l.feeder) (g.S.LineSource.to_come l.source))
     × (fed l.initial.feeder ≡ [] → StaysFailed (g.S.LineSource.failed l.initial.source) (fed l.feeder) (g.S.LineSource.failed l.source))
+    × (g.S.LineSource.origin l.source ≡ g.S.LineSource.origin l.initial.source)

@@ -5,7 +5,7 @@ use Rattle.set_run.proofs.spawning.+start_sources.Goals as goal
 
 pub returns-in_default-clause-gathered : goal.returns-in_default-clause-gathered
 returns-in_default-clause-gathered g t c =
-    gathers_none g.S.LineSource.to_come g.S.LineSource.failed g.C.Collector.lanes g.C.Collector.given g.C.Collector.refused c.args.sources.items c.args.lanes.items
+    gathers_none g.S.LineSource.to_come g.S.LineSource.failed g.S.LineSource.origin g.C.Collector.lanes g.C.Collector.given g.C.Collector.refused c.args.sources.items c.args.lanes.items
     c.args.collector c.args.closed.items c.in_ok-workers.collected (search rules) c.requires.none c.in_ok-workers.ensures.collected
 
 pub end-requires-clause-some : goal.end-requires-clause-some
@@ -19,8 +19,8 @@ end-requires-clause-some g t c =
 pub end-requires-clause-lane : goal.end-requires-clause-lane
 end-requires-clause-lane g t c =
     let from : c.in-Ok-spawn_with.child.promise.0.value ≡ c.in-Ok.feeding = search rules in
-    let handed : HandsBack g.S.LineSource.to_come g.S.LineSource.failed c.in-Ok.feeding c.join-feeding.result =
-    subst (λ f. HandsBack g.S.LineSource.to_come g.S.LineSource.failed f c.join-feeding.result) from c.join-feeding.ensures
+    let handed : HandsBack g.S.LineSource.to_come g.S.LineSource.failed g.S.LineSource.origin c.in-Ok.feeding c.join-feeding.result =
+    subst (λ f. HandsBack g.S.LineSource.to_come g.S.LineSource.failed g.S.LineSource.origin f c.join-feeding.result) from c.join-feeding.ensures
     in
     can_end c.in-Some.source c.len-number.result c.in-Ok.feeding c.join-feeding.result c.args.workers.items c.begin.new.workers.items
     c.in_ok-closed.workers.items c.args.lanes.items c.begin.new.lanes.items c.in_ok-closed.collected.lanes.items c.in-Ok.ensures
@@ -35,10 +35,10 @@ returns-clause-workers g t c =
 pub returns-clause-gathered : goal.returns-clause-gathered
 returns-clause-gathered g t c =
     let from : c.in-Ok-spawn_with.child.promise.0.value ≡ c.in-Ok.feeding = search rules in
-    let handed : HandsBack g.S.LineSource.to_come g.S.LineSource.failed c.in-Ok.feeding c.join-feeding.result =
-    subst (λ f. HandsBack g.S.LineSource.to_come g.S.LineSource.failed f c.join-feeding.result) from c.join-feeding.ensures
+    let handed : HandsBack g.S.LineSource.to_come g.S.LineSource.failed g.S.LineSource.origin c.in-Ok.feeding c.join-feeding.result =
+    subst (λ f. HandsBack g.S.LineSource.to_come g.S.LineSource.failed g.S.LineSource.origin f c.join-feeding.result) from c.join-feeding.ensures
     in
-    has_ended g.S.LineSource.to_come g.S.LineSource.failed g.C.Collector.lanes g.C.Collector.given g.C.Collector.refused c.args.sources.items c.pop.new.self.items
+    has_ended g.S.LineSource.to_come g.S.LineSource.failed g.S.LineSource.origin g.C.Collector.lanes g.C.Collector.given g.C.Collector.refused c.args.sources.items c.pop.new.self.items
     c.in-Some.source c.len-number.result c.in-Ok.feeding c.join-feeding.result c.in_ok-closed.closed.items c.end.new.closed.items
     c.args.workers.items c.begin.new.workers.items c.in_ok-closed.workers.items c.end.new.workers.items c.args.lanes.items c.begin.new.lanes.items
     c.args.collector c.in_ok-closed.collected

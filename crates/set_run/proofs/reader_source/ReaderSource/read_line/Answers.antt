@@ -2,8 +2,8 @@ use Rattle.std.specs.Io.KnownBytes.{prepend_known}
 use Rattle.set_run.proofs.ReadingLemmas.{gives_line}
 use Rattle.set_run.proofs.reader_source.ReaderSource.read_line.Goals as goal
 
-pub returns-in-Ok-Ended : goal.returns-in-Ok-Ended
-returns-in-Ok-Ended g c =
+pub returns-in-Ok-Ended-clause-reads : goal.returns-in-Ok-Ended-clause-reads
+returns-in-Ok-Ended-clause-reads g c =
     let taken = rw c.in-Ok-Ended.field-0-is at c.in-Ok-Ended.ensures in
     rw c.new.ensures
     (gives_line c.args.self.now.state (prepend_known c.args.self.now.buffer (g.R.Read.remaining c.args.self.now.reader))
