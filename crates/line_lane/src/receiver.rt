@@ -1,5 +1,5 @@
 //! The receiving end of a ring of messages.
-ghost use Rattle.std.specs.Prelude.{◌≡◌, ◌<◌, ◌≤◌, [], ◌∷◌, ◌++◌, length};
+ghost use Rattle.std.specs.Prelude.{◌≡◌, ◌+◌, ◌<◌, ◌≤◌, [], ◌∷◌, ◌++◌, length};
 ghost use Rattle.std.specs.Coded.{Coded-set, coded_option};
 ghost use Rattle.rtrb.specs.Ring.{SameConsumer, known_items, received};
 ghost use Rattle.line_lane.specs.Messages.{end_of};
@@ -21,6 +21,7 @@ pub(crate) struct Receiver<T, E> {
 #[inline(never)]
 fn pop<T: Drop, E: Copy>(consumer: &mut Consumer<Message<T, E>>, hand: &mut Message<T, E>)
     requires { 0 < length (known_items consumer.old) }
+    ensures known { length (known_items consumer.old) ≡ length (known_items consumer.new) + 1 }
     ensures same { SameConsumer consumer.old consumer.new }
     ensures received { received consumer.new ≡ received consumer.old ++ hand.new ∷ [] }
     ensures few { length hand.new.items ≤ 8 }
@@ -36,9 +37,10 @@ fn pop<T: Drop, E: Copy>(consumer: &mut Consumer<Message<T, E>>, hand: &mut Mess
 }
 
 impl<T: Drop, E: Copy> Receiver<T, E> {
-    ghost use Rattle.std.specs.Prelude.{◌+◌, None, IsTrue, IsFalse};
+    ghost use Rattle.std.specs.Prelude.{None, IsTrue, IsFalse, not};
     ghost use Rattle.line_lane.specs.Messages.{nothing};
     ghost use Rattle.line_lane.specs.Rings.{SameReceiver, end_received, items_received, messages_received};
+    ghost use Rattle.line_lane.specs.Known.{IsKeptUnless, messages};
 
     /// An end that has received nothing.
     pub fn new(consumer: Consumer<Message<T, E>>) -> Self
@@ -67,6 +69,7 @@ impl<T: Drop, E: Copy> Receiver<T, E> {
         ensures nothing { IsFalse result →
             (received self.new.consumer ≡ received self.old.consumer)
             × (self.new.hand ≡ self.old.hand) }
+        ensures known { IsKeptUnless (not result) (messages self.old) (messages self.new) }
     {
         if self.consumer.is_empty() {
             return false;

@@ -22,10 +22,11 @@ pub(crate) struct Sender<T, E> {
 }
 
 impl<T: Drop, E: Copy> Sender<T, E> {
-    ghost use Rattle.std.specs.Prelude.{◌+◌, ◌<◌, [], ◌∷◌, ◌++◌, None, IsTrue};
+    ghost use Rattle.std.specs.Prelude.{◌+◌, ◌<◌, [], ◌∷◌, ◌++◌, None, IsTrue, not};
     ghost use Rattle.rtrb.specs.Ring.{known_free};
     ghost use Rattle.line_lane.specs.Messages.{nothing};
     ghost use Rattle.line_lane.specs.Rings.{SameSender, end_sent, items_sent, messages_sent};
+    ghost use Rattle.line_lane.specs.Known.{IsKeptUnless, places};
 
     /// An end that has sent nothing, with nothing in hand.
     pub fn new(alloc: Global, producer: Producer<Message<T, E>>) -> Self
@@ -47,6 +48,7 @@ impl<T: Drop, E: Copy> Sender<T, E> {
         ensures sent { sent self.new.producer ≡ sent self.old.producer }
         ensures hand { self.new.hand ≡ self.old.hand }
         ensures room { IsTrue result → 0 < known_free self.new.producer }
+        ensures known { IsKeptUnless (not result) (places self.old) (places self.new) }
     {
         !self.producer.is_full()
     }
@@ -61,6 +63,7 @@ impl<T: Drop, E: Copy> Sender<T, E> {
         ensures count { messages_sent self.new ≡ messages_sent self.old + 1 }
         ensures ended { end_sent self.new ≡ self.old.hand.ending }
         ensures hand { self.new.hand ≡ nothing }
+        ensures known { (places self.old).known ≡ (places self.new).known + 1 }
     {
         self.ended = self.hand.ending();
         let next = Message::new();
