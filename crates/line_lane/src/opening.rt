@@ -6,6 +6,7 @@ ghost use Rattle.line_lane.specs.Takes.{empty_handed};
 ghost use Rattle.line_lane.specs.Known.{AreUnused};
 ghost use Rattle.line_lane.specs.Ends.{HasPlaces, IsLane, block_of, fed, feeder_end, hands_of, open_lines, state_of};
 
+use crate::message::Filled;
 use crate::receiver::Receiver;
 use crate::sender::Sender;
 use crate::{Block, Capacity, Feeder, Setter, Taker};
@@ -30,8 +31,9 @@ pub fn open(
     ensures taker { IfOk result (λ ends. hands_of ends.2 ≡ empty_handed) }
     ensures known { IfOk result (λ ends. AreUnused capacity ends.0 ends.1 ends.2) }
 {
-    let (lines_in, lines_out) = RingBuffer::new(alloc, capacity.get())?;
-    let (answers_in, answers_out) = RingBuffer::new(alloc, capacity.get())?;
+    let places = capacity.get();
+    let (lines_in, lines_out) = RingBuffer::with_protocol::<Global, Filled>(alloc, places)?;
+    let (answers_in, answers_out) = RingBuffer::with_protocol::<Global, Filled>(alloc, places)?;
     let feeder = Feeder {
         sender: Sender::new(alloc, lines_in),
         block,

@@ -4,7 +4,7 @@ ghost use Rattle.std.specs.Coded.{Coded-set, coded_option};
 ghost use Rattle.rtrb.specs.Ring.{sent};
 ghost use Rattle.line_lane.specs.Messages.{end_of, ends_last};
 
-use crate::message::Message;
+use crate::message::{Filled, Message};
 use rtrb::Producer;
 use std::alloc::Global;
 use std::mem;
@@ -12,7 +12,7 @@ use std::mem;
 /// The end that sends, with the message that is being made.
 #[derive(Drop)]
 pub(crate) struct Sender<T, E> {
-    pub producer: Producer<Message<T, E>>,
+    pub producer: Producer<Message<T, E>, Global, Filled>,
     pub hand: Message<T, E>,
     /// The end that was sent.
     pub ended: Option<E>,
@@ -24,12 +24,12 @@ pub(crate) struct Sender<T, E> {
 impl<T: Drop, E: Copy> Sender<T, E> {
     ghost use Rattle.std.specs.Prelude.{◌+◌, ◌<◌, [], ◌∷◌, ◌++◌, None, IsTrue, not};
     ghost use Rattle.rtrb.specs.Ring.{known_free};
-    ghost use Rattle.line_lane.specs.Messages.{nothing};
+    ghost use Rattle.line_lane.specs.Messages.{IsFilled, nothing};
     ghost use Rattle.line_lane.specs.Rings.{SameSender, end_sent, items_sent, messages_sent};
     ghost use Rattle.line_lane.specs.Known.{IsKeptUnless, places};
 
     /// An end that has sent nothing, with nothing in hand.
-    pub fn new(alloc: Global, producer: Producer<Message<T, E>>) -> Self
+    pub fn new(alloc: Global, producer: Producer<Message<T, E>, Global, Filled>) -> Self
         requires { sent producer ≡ [] }
         ensures producer { result.producer ≡ producer }
         ensures hand { result.hand ≡ nothing }
@@ -57,6 +57,7 @@ impl<T: Drop, E: Copy> Sender<T, E> {
     pub fn send(&mut self)
         requires room { 0 < known_free self.old.producer }
         requires unended { end_sent self.old ≡ None }
+        requires filled { IsFilled self.old.hand }
         ensures same { SameSender self.old self.new }
         ensures sent { sent self.new.producer ≡ sent self.old.producer ++ self.old.hand ∷ [] }
         ensures items { items_sent self.new ≡ items_sent self.old ++ self.old.hand.items }

@@ -2,7 +2,7 @@
 ghost use Rattle.std.specs.Prelude.{◌≡◌, [], true};
 ghost use Rattle.std.specs.Arc.{arc_value};
 ghost use Rattle.std.proofs.Props.{props};
-ghost use Rattle.line_lane.specs.Messages.{are_none, first_end};
+ghost use Rattle.line_lane.specs.Messages.{IsFilled, are_none, first_end};
 ghost use Rattle.line_lane.specs.Lane.{lane_end_of};
 ghost use Rattle.line_lane.specs.Turns.{IsOrderly, end_with};
 ghost use Rattle.line_lane.specs.Hands.{IsInHand, setter_state};
@@ -23,6 +23,7 @@ pub struct Setter {
     pub(crate) ready: bool,
     ghost in_hand: { IsInHand receiver sender ready } by { Prim.hlevel props },
     ghost orderly: { IsOrderly (setter_state (arc_value terms) receiver sender ready) } by { Prim.hlevel props },
+    ghost filled: { ready ≡ true → IsFilled sender.hand } by { Prim.hlevel props },
 }
 
 /// The end of a lane whose source ended so.
