@@ -30,9 +30,14 @@ unused known = record { known = known; used = 0 }
 abbrev pub IsKept : Stock → Stock → Type 0
 IsKept s t = s.known + s.used ≤ t.known + t.used
 
--- what was known is lost only by use; and a call is refused only if none was known before it, and none is known after it
-abbrev pub IsKeptUnless : Bool → Stock → Stock → Type 0
-IsKeptUnless refused s t = IsKept s t × (refused ≡ true → (s.known ≡ 0) × (t.known ≡ 0))
+-- what was known is lost only by use; and if a call was refused, none was known before it and none is known after it
+abbrev pub HasNoneIf : Bool → Stock → Stock → Type 0
+HasNoneIf refused s t = IsKept s t × (refused ≡ true → (s.known ≡ 0) × (t.known ≡ 0))
+
+-- on a ring whose two ends have met (its places and its messages before, and then after it): what was known is not lost, and
+-- each message that was sent was received or is known
+abbrev pub IsAllKnown : Stock → Stock → Stock → Stock → Type 0
+IsAllKnown places messages q n = IsKept places q × IsKept messages n × (n.used + n.known ≡ q.used)
 
 -- ---- the ends of a ring
 
@@ -69,6 +74,12 @@ AreUnused places f s t =
     (line_places f ≡ unused places) × (line_messages s ≡ unused 0)
     × (answer_places s ≡ unused places) × (answer_messages t ≡ unused 0)
 
+-- the same of both rings, once the three ends of a lane have met
+abbrev pub AreAllKnown : Feeder → Setter → Taker → Feeder → Setter → Taker → Type 0
+AreAllKnown f s t g u v =
+    IsAllKnown (line_places f) (line_messages s) (line_places g) (line_messages u)
+    × IsAllKnown (answer_places s) (answer_messages t) (answer_places u) (answer_messages v)
+
 -- ---- refusals
 
 -- whether a line came back for lack of room
@@ -94,12 +105,12 @@ is_nothing Nothing = true
 is_nothing (Answer answer) = false
 is_nothing (End end) = false
 
--- a turn of a setter is blocked only for lack of a place, and idle only for lack of a message
-abbrev pub TurnsFor : Turn → Setter → Setter → Type 0
-TurnsFor turn s t =
-    IsKeptUnless (is_blocked turn) (answer_places s) (answer_places t)
-    × IsKeptUnless (is_idle turn) (line_messages s) (line_messages t)
+-- what a setter knows after a turn: it was blocked only for lack of a place, and idle only for lack of a message
+abbrev pub KnowsAfter : Turn → Setter → Setter → Type 0
+KnowsAfter turn s t =
+    HasNoneIf (is_blocked turn) (answer_places s) (answer_places t)
+    × HasNoneIf (is_idle turn) (line_messages s) (line_messages t)
 
--- a setter has looked at neither ring
-abbrev pub KnowsNoMore : Setter → Setter → Type 0
-KnowsNoMore s t = (answer_places t ≡ answer_places s) × (line_messages t ≡ line_messages s)
+-- a setter knows what it knew, and has used nothing
+abbrev pub KnowsTheSame : Setter → Setter → Type 0
+KnowsTheSame s t = (answer_places t ≡ answer_places s) × (line_messages t ≡ line_messages s)

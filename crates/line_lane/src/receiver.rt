@@ -45,7 +45,7 @@ impl<T: Drop, E: Copy> Receiver<T, E> {
     ghost use Rattle.std.specs.Prelude.{None, IsTrue, IsFalse, not};
     ghost use Rattle.line_lane.specs.Messages.{nothing};
     ghost use Rattle.line_lane.specs.Rings.{SameReceiver, end_received, items_received, messages_received};
-    ghost use Rattle.line_lane.specs.Known.{IsKeptUnless, messages};
+    ghost use Rattle.line_lane.specs.Known.{HasNoneIf, messages};
 
     /// An end that has received nothing.
     pub fn new(consumer: Consumer<Message<T, E>, Global, Filled>) -> Self
@@ -75,7 +75,7 @@ impl<T: Drop, E: Copy> Receiver<T, E> {
         ensures nothing { IsFalse result →
             (received self.new.consumer ≡ received self.old.consumer)
             × (self.new.hand ≡ self.old.hand) }
-        ensures known { IsKeptUnless (not result) (messages self.old) (messages self.new) }
+        ensures known { HasNoneIf (not result) (messages self.old) (messages self.new) }
     {
         if self.consumer.is_empty() {
             return false;

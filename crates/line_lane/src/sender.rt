@@ -26,7 +26,7 @@ impl<T: Drop, E: Copy> Sender<T, E> {
     ghost use Rattle.rtrb.specs.Ring.{known_free};
     ghost use Rattle.line_lane.specs.Messages.{IsFilled, nothing};
     ghost use Rattle.line_lane.specs.Rings.{SameSender, end_sent, items_sent, messages_sent};
-    ghost use Rattle.line_lane.specs.Known.{IsKeptUnless, places};
+    ghost use Rattle.line_lane.specs.Known.{HasNoneIf, places};
 
     /// An end that has sent nothing, with nothing in hand.
     pub fn new(alloc: Global, producer: Producer<Message<T, E>, Global, Filled>) -> Self
@@ -48,7 +48,7 @@ impl<T: Drop, E: Copy> Sender<T, E> {
         ensures sent { sent self.new.producer ≡ sent self.old.producer }
         ensures hand { self.new.hand ≡ self.old.hand }
         ensures room { IsTrue result → 0 < known_free self.new.producer }
-        ensures known { IsKeptUnless (not result) (places self.old) (places self.new) }
+        ensures known { HasNoneIf (not result) (places self.old) (places self.new) }
     {
         !self.producer.is_full()
     }

@@ -56,7 +56,7 @@ impl Setter {
     ghost use Rattle.std.specs.Prelude.{false, is_some, OnErr, IfOk, MatchResult};
     ghost use Rattle.line_lane.specs.Turns.{Turns, given_up, is_done, is_given_up};
     ghost use Rattle.line_lane.specs.Ends.{SameSetter, state_of};
-    ghost use Rattle.line_lane.specs.Known.{KnowsNoMore, TurnsFor};
+    ghost use Rattle.line_lane.specs.Known.{KnowsAfter, KnowsTheSame};
 
     /// Whether an end was made.
     fn has_made_end(&self) -> bool
@@ -84,7 +84,7 @@ impl Setter {
         requires { self.old.ready ≡ true }
         ensures lane { SameSetter self.old self.new }
         ensures turn { Turns (state_of self.old) result (state_of self.new) }
-        ensures known { TurnsFor result self.old self.new }
+        ensures known { KnowsAfter result self.old self.new }
     {
         if !self.sender.has_room() {
             return Turn::Blocked;
@@ -102,8 +102,8 @@ impl Setter {
         ensures turn { IfOk result (λ turn. Turns (state_of self.old) turn (state_of self.new)) }
         ensures refused { OnErr result (state_of self.new ≡ state_of self.old) }
         ensures known { MatchResult result
-            (λ turn. TurnsFor turn self.old self.new)
-            (λ _. KnowsNoMore self.old self.new) }
+            (λ turn. KnowsAfter turn self.old self.new)
+            (λ _. KnowsTheSame self.old self.new) }
     {
         let terms = Arc::try_clone(&self.terms)?;
         let Some(line) = self.receiver.hand.take_first() else {
@@ -130,7 +130,7 @@ impl Setter {
         requires done { is_done (state_of self.old) ≡ false }
         ensures lane { SameSetter self.old self.new }
         ensures turn { Turns (state_of self.old) result (state_of self.new) }
-        ensures known { TurnsFor result self.old self.new }
+        ensures known { KnowsAfter result self.old self.new }
     {
         let given_up = self.has_given_up();
         if !self.receiver.receive() {
@@ -160,8 +160,8 @@ impl Setter {
             × (is_done (state_of self.old) ≡ false)
             × ((state_of self.old).ready ≡ false) × (are_none (state_of self.old).lines ≡ false)) }
         ensures known { MatchResult result
-            (λ turn. TurnsFor turn self.old self.new)
-            (λ _. KnowsNoMore self.old self.new) }
+            (λ turn. KnowsAfter turn self.old self.new)
+            (λ _. KnowsTheSame self.old self.new) }
     {
         if self.is_done() {
             return Ok(Turn::Done);
@@ -182,7 +182,7 @@ impl Setter {
         ensures lane { SameSetter self.old self.new }
         ensures orderly { IsOrderly (state_of self.new) }
         ensures state { state_of self.new ≡ given_up (state_of self.old) }
-        ensures known { KnowsNoMore self.old self.new }
+        ensures known { KnowsTheSame self.old self.new }
     {
         if self.has_made_end() {
             return;

@@ -17,7 +17,7 @@ pub struct Taker {
 impl Taker {
     ghost use Rattle.std.specs.Prelude.{◌≡◌, ◌+◌, ◌≤◌, ◌++◌};
     ghost use Rattle.line_lane.specs.Takes.{Takes, IsTakenFromHand};
-    ghost use Rattle.line_lane.specs.Known.{IsKeptUnless, answer_messages, is_nothing};
+    ghost use Rattle.line_lane.specs.Known.{HasNoneIf, answer_messages, is_nothing};
     ghost use Rattle.line_lane.specs.Ends.{SameTaker, hands_of, pops, received_answers, taken};
 
     /// What is in hand: an answer, or else the end.
@@ -43,7 +43,8 @@ impl Taker {
         ensures took { Takes (hands_of self.old) result (hands_of self.new) }
         ensures whole { taken self.new ++ (hands_of self.new).held ≡ received_answers self.new }
         ensures one { pops self.new ≤ pops self.old + 1 }
-        ensures known { IsKeptUnless (is_nothing result) (answer_messages self.old) (answer_messages self.new) }
+        ensures known { HasNoneIf (is_nothing result)
+            (answer_messages self.old) (answer_messages self.new) }
     {
         if let Some(took) = self.take_held() {
             return took;
