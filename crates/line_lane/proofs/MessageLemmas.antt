@@ -1,7 +1,7 @@
 -- Messages that came one after the other.
 use Rattle.std.proofs.Common.{arith, ◌≡◌, true, List, [], ◌∷◌, ◌++◌, Option, Some, None, refl, ap, sym, ◌∙◌, append-nil}
 use Rattle.std.specs.Prelude.{is_some}
-use Rattle.line_lane.specs.Messages.{MessageValue, first_end, items_of, end_of, are_none, stand_behind, ends_last}
+use Rattle.line_lane.specs.Messages.{MessageValue, IsFilled, first_end, items_of, end_of, are_none, stand_behind, ends_last}
 
 module _ {E : Type 0} where
   -- two ends are none only if both are
@@ -14,6 +14,14 @@ module _ {E : Type 0} where
   first_end-none (Some end) = refl
 
 module _ {T E : Type 0} where
+  -- a message that got an item is filled
+  pub filled-pushed : (before : List T) (item : T) (after : MessageValue T E) → after.items ≡ before ++ item ∷ [] → IsFilled after
+  filled-pushed before item after is = λ none _. by before (sym is ∙ none)
+    where
+      by : (items : List T) → items ++ item ∷ [] ≡ [] → ⊥
+      by [] e = grind (arith, e)
+      by (first ∷ items) e = grind (arith, e)
+
   -- after messages without an end the end is that of the next
   pub end_of-append : (messages : List (MessageValue T E)) (next : MessageValue T E) → end_of messages ≡ None
       → end_of (messages ++ next ∷ []) ≡ next.ending

@@ -3,7 +3,7 @@ use Rattle.std.proofs.Common.{arith, ◌≡◌, ℕ, suc, ◌+◌, ◌≤◌, Bo
 use Rattle.std.proofs.lemmas.List.{drop-append-le}
 use Rattle.std.specs.Prelude.{◌&&◌, not, is_some}
 use Rattle.set_line.specs.Answer.{AnswerValue, answer_of}
-use Rattle.line_lane.specs.Messages.{MessageValue, first_end, are_none}
+use Rattle.line_lane.specs.Messages.{MessageValue, IsFilled, first_end, are_none}
 use Rattle.line_lane.specs.Lane.{lane_end_of}
 use Rattle.line_lane.specs.Turns.{SetterState, IsOrderly, after_send, after_set, after_message, after_dropping, after_receipt, is_given_up, is_done, end_with, Moves, MovesOn, Turns}
 use Rattle.line_lane.specs.declared.turn.Turn.{Turn}
@@ -191,6 +191,17 @@ message_in_hand m before after sent ready few nothing items is_ready ending unma
     still : (lines : List (List ℕ)) → are_none lines ≡ false → first_end (end_with lines m.ending) None ≡ None
     still [] some = absurd (grind (arith, some))
     still (next ∷ lines) some = refl
+
+-- a message without a line has an end, and so has what is ready then
+pub message_filled : (m : MessageValue (List ℕ) SourceEnd) (before : Option LaneEnd) (after : MessageValue AnswerValue LaneEnd) (ready : Bool)
+    → IsFilled m → ready ≡ are_none m.items → after.ending ≡ first_end (end_with m.items m.ending) before → ready ≡ true → IsFilled after
+message_filled m before after ready filled is_ready ending up = λ _ none. by m.items m.ending filled (sym is_ready ∙ up) (sym ending ∙ none)
+  where
+    by : (items : List (List ℕ)) (source : Option SourceEnd) → (items ≡ [] → source ≡ None → ⊥) → are_none items ≡ true
+        → first_end (end_with items source) before ≡ None → ⊥
+    by [] None some _ _ = some refl refl
+    by [] (Some end) some _ e = grind (arith, e)
+    by (line ∷ lines) source some none _ = grind (arith, none)
 
 -- ---- turns
 

@@ -18,8 +18,9 @@ pub struct Feeder {
 }
 
 impl Feeder {
-    ghost use Rattle.std.specs.Prelude.{IsTrue, IsFalse, OnOk, IfErr};
+    ghost use Rattle.std.specs.Prelude.{IsTrue, IsFalse, OnOk, IfErr, not};
     ghost use Rattle.line_lane.specs.Ends.{IsAsFed, IsClosedWith, IsFed, IsFlushed, IsRefused, SameFeeder, block_of, fed, feeder_end, open_lines};
+    ghost use Rattle.line_lane.specs.Known.{HasNoneIf, lacks_room, line_places};
 
     pub(crate) fn is_closed(&self) -> bool
         ensures { result ≡ is_some (feeder_end self.now) }
@@ -35,6 +36,8 @@ impl Feeder {
         ensures fed { OnOk result (IsFed self.old line self.new) }
         ensures refused { IfErr result (λ fault. IsAsFed self.old self.new
             × IsRefused self.old line fault) }
+        ensures room { HasNoneIf (lacks_room result)
+            (line_places self.old) (line_places self.new) }
     {
         if self.is_closed() {
             return Err(OfferFault::Closed(line));
@@ -60,6 +63,7 @@ impl Feeder {
         ensures flushed { IsTrue result → IsFlushed self.old self.new }
         ensures refused { IsFalse result → IsAsFed self.old self.new
             × (open_lines self.old ≡ [] → ⊥) }
+        ensures room { HasNoneIf (not result) (line_places self.old) (line_places self.new) }
     {
         if self.sender.hand.len() == 0 {
             return true;
@@ -81,6 +85,7 @@ impl Feeder {
             × IsAsFed self.old self.new }
         ensures again { is_some (feeder_end self.old) ≡ true → IsAsFed self.old self.new
             × (open_lines self.old ≡ []) }
+        ensures room { HasNoneIf (not result) (line_places self.old) (line_places self.new) }
     {
         if self.is_closed() {
             // The first end stands.

@@ -1,6 +1,7 @@
 //! The two ends of a ring in one thread.
 ghost use Rattle.std.specs.Prelude.{◌≡◌, true, is_some};
 ghost use Rattle.rtrb.specs.Ring.{IsPair};
+ghost use Rattle.line_lane.specs.Known.{IsAllKnown, messages, places};
 ghost use Rattle.line_lane.specs.Rings.{IsFirstOf, IsReceiverAsBefore, IsSenderAsBefore, end_received, end_sent, items_received, items_sent};
 
 use crate::receiver::Receiver;
@@ -17,6 +18,8 @@ pub(crate) fn meet<T: Drop, E: Copy>(sender: &mut Sender<T, E>, receiver: &mut R
         → items_received receiver.old ≡ items_sent sender.old }
     ensures ended { is_some (end_received receiver.old) ≡ true
         → end_received receiver.old ≡ end_sent sender.old }
+    ensures known { IsAllKnown (places sender.old) (messages receiver.old)
+        (places sender.new) (messages receiver.new) }
 {
     receiver.consumer.slots_beside(&mut sender.producer);
 }

@@ -3,6 +3,7 @@ ghost use Rattle.std.specs.Prelude.{◌≡◌, ◌≤◌, ◌<◌, [], ◌∷◌
 ghost use Rattle.line_lane.specs.Messages.{nothing};
 
 use crate::places::{put, take_out};
+use rtrb::Protocol;
 use std::marker::Model;
 
 /// How many items a message has room for.
@@ -29,6 +30,16 @@ impl<T, E> Model for Message<T, E> {
     ghost view = { λ m. record { items = held m.places; ending = m.ending } };
 
     ghost invariant = { λ m. AreSideBySide m.first m.count m.places };
+}
+
+/// What is said of each message on a ring: it has an item or an end.
+#[derive(Clone, Copy)]
+pub(crate) struct Filled;
+
+impl<T, E> Protocol<Message<T, E>> for Filled {
+    ghost use Rattle.line_lane.specs.Messages.{IsFilled};
+
+    ghost allows = { λ _ message. IsFilled message };
 }
 
 impl<T: Drop, E: Copy> Message<T, E> {

@@ -3,8 +3,10 @@ ghost use Rattle.std.specs.Prelude.{◌≡◌, [], None, IfOk};
 ghost use Rattle.std.specs.Arc.{arc_value};
 ghost use Rattle.line_lane.specs.Turns.{fresh};
 ghost use Rattle.line_lane.specs.Takes.{empty_handed};
+ghost use Rattle.line_lane.specs.Known.{AreUnused};
 ghost use Rattle.line_lane.specs.Ends.{HasPlaces, IsLane, block_of, fed, feeder_end, hands_of, open_lines, state_of};
 
+use crate::message::Filled;
 use crate::receiver::Receiver;
 use crate::sender::Sender;
 use crate::{Block, Capacity, Feeder, Setter, Taker};
@@ -27,9 +29,11 @@ pub fn open(
         × (feeder_end ends.0 ≡ None) × (block_of ends.0 ≡ block)) }
     ensures setter { IfOk result (λ ends. state_of ends.1 ≡ fresh (arc_value terms)) }
     ensures taker { IfOk result (λ ends. hands_of ends.2 ≡ empty_handed) }
+    ensures known { IfOk result (λ ends. AreUnused capacity ends.0 ends.1 ends.2) }
 {
-    let (lines_in, lines_out) = RingBuffer::new(alloc, capacity.get())?;
-    let (answers_in, answers_out) = RingBuffer::new(alloc, capacity.get())?;
+    let places = capacity.get();
+    let (lines_in, lines_out) = RingBuffer::with_protocol::<Global, Filled>(alloc, places)?;
+    let (answers_in, answers_out) = RingBuffer::with_protocol::<Global, Filled>(alloc, places)?;
     let feeder = Feeder {
         sender: Sender::new(alloc, lines_in),
         block,

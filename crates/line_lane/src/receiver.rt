@@ -1,17 +1,18 @@
 //! The receiving end of a ring of messages.
-ghost use Rattle.std.specs.Prelude.{◌≡◌, ◌<◌, ◌≤◌, [], ◌∷◌, ◌++◌, length};
+ghost use Rattle.std.specs.Prelude.{◌≡◌, ◌+◌, ◌<◌, ◌≤◌, [], ◌∷◌, ◌++◌, length};
 ghost use Rattle.std.specs.Coded.{Coded-set, coded_option};
 ghost use Rattle.rtrb.specs.Ring.{SameConsumer, known_items, received};
-ghost use Rattle.line_lane.specs.Messages.{end_of};
+ghost use Rattle.line_lane.specs.Messages.{IsFilled, end_of};
 
-use crate::message::Message;
+use crate::message::{Filled, Message};
 use rtrb::Consumer;
+use std::alloc::Global;
 use std::mem;
 
 /// The end that receives, with the message that was received last.
 #[derive(Drop)]
 pub(crate) struct Receiver<T, E> {
-    pub consumer: Consumer<Message<T, E>>,
+    pub consumer: Consumer<Message<T, E>, Global, Filled>,
     pub hand: Message<T, E>,
     ghost told: { hand.ending ≡ end_of (received consumer) } by { Coded-set (coded_option E.code) _ _ },
 }
@@ -19,11 +20,16 @@ pub(crate) struct Receiver<T, E> {
 /// Receives a message that was seen, in place of the one before. It is a function by itself, since one
 /// that moves a message clears the room for that at its beginning. An empty one needn't be dropped.
 #[inline(never)]
-fn pop<T: Drop, E: Copy>(consumer: &mut Consumer<Message<T, E>>, hand: &mut Message<T, E>)
+fn pop<T: Drop, E: Copy>(
+    consumer: &mut Consumer<Message<T, E>, Global, Filled>,
+    hand: &mut Message<T, E>,
+)
     requires { 0 < length (known_items consumer.old) }
+    ensures known { length (known_items consumer.old) ≡ length (known_items consumer.new) + 1 }
     ensures same { SameConsumer consumer.old consumer.new }
     ensures received { received consumer.new ≡ received consumer.old ++ hand.new ∷ [] }
     ensures few { length hand.new.items ≤ 8 }
+    ensures filled { IsFilled hand.new }
 {
     let next = consumer.pop_known();
     if hand.len() == 0 {
@@ -36,12 +42,13 @@ fn pop<T: Drop, E: Copy>(consumer: &mut Consumer<Message<T, E>>, hand: &mut Mess
 }
 
 impl<T: Drop, E: Copy> Receiver<T, E> {
-    ghost use Rattle.std.specs.Prelude.{◌+◌, None, IsTrue, IsFalse};
+    ghost use Rattle.std.specs.Prelude.{None, IsTrue, IsFalse, not};
     ghost use Rattle.line_lane.specs.Messages.{nothing};
     ghost use Rattle.line_lane.specs.Rings.{SameReceiver, end_received, items_received, messages_received};
+    ghost use Rattle.line_lane.specs.Known.{HasNoneIf, messages};
 
     /// An end that has received nothing.
-    pub fn new(consumer: Consumer<Message<T, E>>) -> Self
+    pub fn new(consumer: Consumer<Message<T, E>, Global, Filled>) -> Self
         requires { received consumer ≡ [] }
         ensures consumer { result.consumer ≡ consumer }
         ensures hand { result.hand ≡ nothing }
@@ -64,9 +71,11 @@ impl<T: Drop, E: Copy> Receiver<T, E> {
         ensures count { IsTrue result →
             messages_received self.new ≡ messages_received self.old + 1 }
         ensures few { IsTrue result → length self.new.hand.items ≤ 8 }
+        ensures filled { IsTrue result → IsFilled self.new.hand }
         ensures nothing { IsFalse result →
             (received self.new.consumer ≡ received self.old.consumer)
             × (self.new.hand ≡ self.old.hand) }
+        ensures known { HasNoneIf (not result) (messages self.old) (messages self.new) }
     {
         if self.consumer.is_empty() {
             return false;

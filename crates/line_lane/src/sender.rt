@@ -4,7 +4,7 @@ ghost use Rattle.std.specs.Coded.{Coded-set, coded_option};
 ghost use Rattle.rtrb.specs.Ring.{sent};
 ghost use Rattle.line_lane.specs.Messages.{end_of, ends_last};
 
-use crate::message::Message;
+use crate::message::{Filled, Message};
 use rtrb::Producer;
 use std::alloc::Global;
 use std::mem;
@@ -12,7 +12,7 @@ use std::mem;
 /// The end that sends, with the message that is being made.
 #[derive(Drop)]
 pub(crate) struct Sender<T, E> {
-    pub producer: Producer<Message<T, E>>,
+    pub producer: Producer<Message<T, E>, Global, Filled>,
     pub hand: Message<T, E>,
     /// The end that was sent.
     pub ended: Option<E>,
@@ -22,13 +22,14 @@ pub(crate) struct Sender<T, E> {
 }
 
 impl<T: Drop, E: Copy> Sender<T, E> {
-    ghost use Rattle.std.specs.Prelude.{◌+◌, ◌<◌, [], ◌∷◌, ◌++◌, None, IsTrue};
+    ghost use Rattle.std.specs.Prelude.{◌+◌, ◌<◌, [], ◌∷◌, ◌++◌, None, IsTrue, not};
     ghost use Rattle.rtrb.specs.Ring.{known_free};
-    ghost use Rattle.line_lane.specs.Messages.{nothing};
+    ghost use Rattle.line_lane.specs.Messages.{IsFilled, nothing};
     ghost use Rattle.line_lane.specs.Rings.{SameSender, end_sent, items_sent, messages_sent};
+    ghost use Rattle.line_lane.specs.Known.{HasNoneIf, places};
 
     /// An end that has sent nothing, with nothing in hand.
-    pub fn new(alloc: Global, producer: Producer<Message<T, E>>) -> Self
+    pub fn new(alloc: Global, producer: Producer<Message<T, E>, Global, Filled>) -> Self
         requires { sent producer ≡ [] }
         ensures producer { result.producer ≡ producer }
         ensures hand { result.hand ≡ nothing }
@@ -47,6 +48,7 @@ impl<T: Drop, E: Copy> Sender<T, E> {
         ensures sent { sent self.new.producer ≡ sent self.old.producer }
         ensures hand { self.new.hand ≡ self.old.hand }
         ensures room { IsTrue result → 0 < known_free self.new.producer }
+        ensures known { HasNoneIf (not result) (places self.old) (places self.new) }
     {
         !self.producer.is_full()
     }
@@ -55,12 +57,14 @@ impl<T: Drop, E: Copy> Sender<T, E> {
     pub fn send(&mut self)
         requires room { 0 < known_free self.old.producer }
         requires unended { end_sent self.old ≡ None }
+        requires filled { IsFilled self.old.hand }
         ensures same { SameSender self.old self.new }
         ensures sent { sent self.new.producer ≡ sent self.old.producer ++ self.old.hand ∷ [] }
         ensures items { items_sent self.new ≡ items_sent self.old ++ self.old.hand.items }
         ensures count { messages_sent self.new ≡ messages_sent self.old + 1 }
         ensures ended { end_sent self.new ≡ self.old.hand.ending }
         ensures hand { self.new.hand ≡ nothing }
+        ensures known { (places self.old).known ≡ (places self.new).known + 1 }
     {
         self.ended = self.hand.ending();
         let next = Message::new();

@@ -2,7 +2,7 @@
 ghost use Rattle.std.specs.Prelude.{◌≡◌, [], true};
 ghost use Rattle.std.specs.Arc.{arc_value};
 ghost use Rattle.std.proofs.Props.{props};
-ghost use Rattle.line_lane.specs.Messages.{are_none, first_end};
+ghost use Rattle.line_lane.specs.Messages.{IsFilled, are_none, first_end};
 ghost use Rattle.line_lane.specs.Lane.{lane_end_of};
 ghost use Rattle.line_lane.specs.Turns.{IsOrderly, end_with};
 ghost use Rattle.line_lane.specs.Hands.{IsInHand, setter_state};
@@ -23,6 +23,7 @@ pub struct Setter {
     pub(crate) ready: bool,
     ghost in_hand: { IsInHand receiver sender ready } by { Prim.hlevel props },
     ghost orderly: { IsOrderly (setter_state (arc_value terms) receiver sender ready) } by { Prim.hlevel props },
+    ghost filled: { ready ≡ true → IsFilled sender.hand } by { Prim.hlevel props },
 }
 
 /// The end of a lane whose source ended so.
@@ -52,9 +53,10 @@ fn finish(lines: &Message<Line, SourceEnd>, answers: &mut Message<Answer, LaneEn
 }
 
 impl Setter {
-    ghost use Rattle.std.specs.Prelude.{false, is_some, OnErr, IfOk};
+    ghost use Rattle.std.specs.Prelude.{false, is_some, OnErr, IfOk, MatchResult};
     ghost use Rattle.line_lane.specs.Turns.{Turns, given_up, is_done, is_given_up};
     ghost use Rattle.line_lane.specs.Ends.{SameSetter, state_of};
+    ghost use Rattle.line_lane.specs.Known.{KnowsAfter, KnowsTheSame};
 
     /// Whether an end was made.
     fn has_made_end(&self) -> bool
@@ -82,6 +84,7 @@ impl Setter {
         requires { self.old.ready ≡ true }
         ensures lane { SameSetter self.old self.new }
         ensures turn { Turns (state_of self.old) result (state_of self.new) }
+        ensures known { KnowsAfter result self.old self.new }
     {
         if !self.sender.has_room() {
             return Turn::Blocked;
@@ -98,6 +101,9 @@ impl Setter {
         ensures lane { SameSetter self.old self.new }
         ensures turn { IfOk result (λ turn. Turns (state_of self.old) turn (state_of self.new)) }
         ensures refused { OnErr result (state_of self.new ≡ state_of self.old) }
+        ensures known { MatchResult result
+            (λ turn. KnowsAfter turn self.old self.new)
+            (λ _. KnowsTheSame self.old self.new) }
     {
         let terms = Arc::try_clone(&self.terms)?;
         let Some(line) = self.receiver.hand.take_first() else {
@@ -124,6 +130,7 @@ impl Setter {
         requires done { is_done (state_of self.old) ≡ false }
         ensures lane { SameSetter self.old self.new }
         ensures turn { Turns (state_of self.old) result (state_of self.new) }
+        ensures known { KnowsAfter result self.old self.new }
     {
         let given_up = self.has_given_up();
         if !self.receiver.receive() {
@@ -152,6 +159,9 @@ impl Setter {
         ensures refused { OnErr result ((state_of self.new ≡ state_of self.old)
             × (is_done (state_of self.old) ≡ false)
             × ((state_of self.old).ready ≡ false) × (are_none (state_of self.old).lines ≡ false)) }
+        ensures known { MatchResult result
+            (λ turn. KnowsAfter turn self.old self.new)
+            (λ _. KnowsTheSame self.old self.new) }
     {
         if self.is_done() {
             return Ok(Turn::Done);
@@ -172,6 +182,7 @@ impl Setter {
         ensures lane { SameSetter self.old self.new }
         ensures orderly { IsOrderly (state_of self.new) }
         ensures state { state_of self.new ≡ given_up (state_of self.old) }
+        ensures known { KnowsTheSame self.old self.new }
     {
         if self.has_made_end() {
             return;

@@ -2,6 +2,7 @@
 ghost use Rattle.std.specs.Prelude.{◌≡◌, true, false, Some, IfOk, IfErr, MatchOption};
 ghost use Rattle.line_lane.specs.Lane.{pipeline};
 ghost use Rattle.line_lane.specs.Ends.{IsLane, fed, state_of, taken, taker_end};
+ghost use Rattle.line_lane.specs.Known.{AreAllKnown};
 ghost use Rattle.line_lane.specs.Settled.{AreAsBefore, HaveMet, IsSettled, is_over};
 ghost use Rattle.line_lane.specs.declared.ending.LaneEnd.{LaneEnd as End};
 ghost use Rattle.line_lane.specs.declared.ending.LaneEnd.TheVariants.{GaveUp};
@@ -39,6 +40,7 @@ fn look(feeder: &mut Feeder, setter: &mut Setter, taker: &mut Taker)
     requires { IsLane feeder.old setter.old taker.old }
     ensures before { AreAsBefore feeder.old setter.old taker.old feeder.new setter.new taker.new }
     ensures met { HaveMet feeder.old setter.old taker.old }
+    ensures known { AreAllKnown feeder.old setter.old taker.old feeder.new setter.new taker.new }
 {
     meet(&mut feeder.sender, &mut setter.receiver);
     meet(&mut setter.sender, &mut taker.receiver);
@@ -58,6 +60,8 @@ pub fn settle(feeder: Feeder, setter: Setter, taker: Taker) -> Result<LaneEnd, O
     ensures unsettled { IfErr result (λ back. (is_over feeder setter taker ≡ false)
         × AreAsBefore feeder setter taker back.feeder back.setter back.taker
         × IsLane back.feeder back.setter back.taker) }
+    ensures known { IfErr result (λ back.
+        AreAllKnown feeder setter taker back.feeder back.setter back.taker) }
 {
     let (mut feeder, mut setter, mut taker) = (feeder, setter, taker);
     look(&mut feeder, &mut setter, &mut taker);

@@ -17,13 +17,14 @@ pub struct Taker {
 impl Taker {
     ghost use Rattle.std.specs.Prelude.{◌≡◌, ◌+◌, ◌≤◌, ◌++◌};
     ghost use Rattle.line_lane.specs.Takes.{Takes, IsTakenFromHand};
+    ghost use Rattle.line_lane.specs.Known.{HasNoneIf, answer_messages, is_nothing};
     ghost use Rattle.line_lane.specs.Ends.{SameTaker, hands_of, pops, received_answers, taken};
 
     /// What is in hand: an answer, or else the end.
     fn take_held(&mut self) -> Option<Took>
         ensures lane { SameTaker self.old self.new }
         ensures took { IsTakenFromHand (hands_of self.old) result (hands_of self.new) }
-        ensures none { pops self.new ≡ pops self.old }
+        ensures none { answer_messages self.new ≡ answer_messages self.old }
     {
         if let Some(answer) = self.receiver.hand.take_first() {
             // Called for its clause: an answer is right.
@@ -42,6 +43,8 @@ impl Taker {
         ensures took { Takes (hands_of self.old) result (hands_of self.new) }
         ensures whole { taken self.new ++ (hands_of self.new).held ≡ received_answers self.new }
         ensures one { pops self.new ≤ pops self.old + 1 }
+        ensures known { HasNoneIf (is_nothing result)
+            (answer_messages self.old) (answer_messages self.new) }
     {
         if let Some(took) = self.take_held() {
             return took;

@@ -2,7 +2,7 @@ use Rattle.std.proofs.Common.{refl, subst, sym, ap, ◌∙◌}
 use Rattle.line_lane.specs.Rings.{end_sent, items_received, end_received, messages_received}
 use Rattle.line_lane.specs.Turns.{IsOrderly}
 use Rattle.line_lane.specs.Ends.{state_of}
-use Rattle.line_lane.proofs.TurnLemmas.{message_in_hand, message_state, before_end-unmade, undone-before_end, orderly_receipt, receipt-message, receipt-dropping, moves_on, moves_receiving}
+use Rattle.line_lane.proofs.TurnLemmas.{message_filled, message_in_hand, message_state, before_end-unmade, undone-before_end, orderly_receipt, receipt-message, receipt-dropping, moves_on, moves_receiving}
 use Rattle.line_lane.proofs.setter.Setter.receive.Goals as goal
 
 pub invariant_of-self-else-given_up-clause-in_hand : goal.invariant_of-self-else-given_up-clause-in_hand
@@ -42,3 +42,8 @@ returns-then-given_up-clause-turn c =
           (c.receive.ensures.ended c.if-not-receive.false) (ap (λ x. x.items) c.clear.ensures) c.requires.lines
           (c.receive.ensures.count c.if-not-receive.false))),
     )
+
+pub invariant_of-self-else-given_up-clause-filled : goal.invariant_of-self-else-given_up-clause-filled
+invariant_of-self-else-given_up-clause-filled c =
+    message_filled c.receive.new.self.hand c.args.self.now.sender.hand.ending c.finish-self.new.answers c.finish-self.result
+    (c.receive.ensures.filled c.if-not-receive.false) c.finish-self.ensures.ready c.finish-self.ensures.ending

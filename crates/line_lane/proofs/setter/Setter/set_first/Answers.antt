@@ -3,6 +3,7 @@ use Rattle.line_lane.specs.Messages.{first_end}
 use Rattle.line_lane.specs.Rings.{end_sent}
 use Rattle.line_lane.specs.Turns.{IsOrderly, end_with}
 use Rattle.line_lane.specs.Ends.{state_of}
+use Rattle.line_lane.proofs.MessageLemmas.{filled-pushed}
 use Rattle.line_lane.proofs.TurnLemmas.{set_state, set_in_hand, orderly_set, with_line-going, with_line-unmade}
 use Rattle.line_lane.proofs.setter.Setter.set_first.Goals as goal
 
@@ -27,3 +28,8 @@ invariant_of-self-in-Ok-2-clause-orderly c =
     (c.finish-self.ensures.ending ∙ ap (λ m. first_end (end_with c.take_first.new.self.items c.take_first.new.self.ending) m.ending) c.push.ensures)))
     (orderly_set (state_of old) c.in-Some.line c.take_first.new.self.items lines
     (with_line-going (state_of old) c.in-Some.line c.take_first.new.self.items lines old.orderly) old.orderly)
+
+pub invariant_of-self-in-Ok-2-clause-filled : goal.invariant_of-self-in-Ok-2-clause-filled
+invariant_of-self-in-Ok-2-clause-filled c = λ _.
+    filled-pushed c.args.self.now.sender.hand.items c.in-Ok.answer c.finish-self.new.answers
+    (c.finish-self.ensures.items ∙ ap (λ m. m.items) c.push.ensures)
