@@ -52,6 +52,13 @@ pipeline_holds s taken held received sent lines orderly whole first seen =
     front-pipeline s.terms taken (sent ++ lines)
     (front-front taken (answers_of s.terms s.seen) (answers_of s.terms (sent ++ lines)) of_seen (front-answers s.terms s.seen (sent ++ lines) fed_front))
 
+-- what the setter saw are the first of the lines that were fed
+pub seen_of : (f : Feeder) (s : Setter) (t : Taker) → HaveMet f s t → IsFirstOf (state_of s).seen (fed f)
+seen_of f s t met =
+    let seen = (state_of s).seen in
+    let (rest, is) = front-front seen (items_sent f.sender) (fed f) (first-front seen (items_sent f.sender) met.first_lines) (open_lines f, refl) in
+    sym (take-append_seam seen rest) ∙ ap (take (length seen)) is
+
 -- ---- a setter that is done
 
 pub done-source : (s : SetterState) → is_done s ≡ true → is_some s.source ≡ true
@@ -188,6 +195,13 @@ settled_by_end f s t end met ending other =
     all_true (is_some (state_of s).source) (is_some (state_of s).made) (not s.ready) source (ap is_some made) (ap not unready) in
     let closed : is_some (feeder_end f) ≡ true = ap is_some (sym (met.source source)) ∙ source in
     settled_of f s t end met (all_true (is_some (feeder_end f)) (is_done (state_of s)) t.ended closed done ended) ending
+
+-- that of a lane given up comes only from a setter that gave up
+pub gave_up_of : (f : Feeder) (s : Setter) (t : Taker) → HaveMet f s t → taker_end t ≡ Some GaveUp → is_given_up (state_of s).made ≡ true
+gave_up_of f s t met ending =
+    let came : (hands_of t).ending ≡ Some GaveUp = ended-ending t.ended (hands_of t).ending GaveUp ending in
+    let sent : end_sent s.sender ≡ Some GaveUp = sym (met.ending (ap is_some came)) ∙ came in
+    ap (λ e. is_given_up (first_end e s.sender.hand.ending)) sent
 
 pub over_same : (f g : Feeder) (s u : Setter) (t v : Taker) → feeder_end g ≡ feeder_end f → state_of u ≡ state_of s → hands_of v ≡ hands_of t
     → is_over g u v ≡ is_over f s t

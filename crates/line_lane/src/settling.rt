@@ -3,6 +3,8 @@ ghost use Rattle.std.specs.Prelude.{◌≡◌, true, false, Some, IfOk, IfErr, M
 ghost use Rattle.line_lane.specs.Lane.{pipeline};
 ghost use Rattle.line_lane.specs.Ends.{IsLane, fed, state_of, taken, taker_end};
 ghost use Rattle.line_lane.specs.Known.{AreAllKnown};
+ghost use Rattle.line_lane.specs.Rings.{IsFirstOf};
+ghost use Rattle.line_lane.specs.Turns.{is_given_up};
 ghost use Rattle.line_lane.specs.Settled.{AreAsBefore, HaveMet, IsSettled, is_over};
 ghost use Rattle.line_lane.specs.declared.ending.LaneEnd.{LaneEnd as End};
 ghost use Rattle.line_lane.specs.declared.ending.LaneEnd.TheVariants.{GaveUp};
@@ -50,13 +52,16 @@ fn look(feeder: &mut Feeder, setter: &mut Setter, taker: &mut Taker)
 /// the setter is done, and the taker gave out the end, which is answered; else the ends come back as
 /// they were. In any case the answers taken are those of the first of the lines fed; of a lane that is
 /// over and wasn't given up they are the answers of all. An end that the taker gave out, other than
-/// that of a lane given up, comes only from a lane that is over.
+/// that of a lane given up, comes only from a lane that is over. What the setter saw are the first of the
+/// lines fed.
 pub fn settle(feeder: Feeder, setter: Setter, taker: Taker) -> Result<LaneEnd, Open>
     requires { IsLane feeder setter taker }
     ensures pipeline { pipeline (state_of setter).terms (fed feeder) (taken taker) }
+    ensures seen { IsFirstOf (state_of setter).seen (fed feeder) }
     ensures settled { IfOk result (λ end. IsSettled feeder setter taker end) }
     ensures ended { (end : End) → taker_end taker ≡ Some end → (end ≡ GaveUp → ⊥)
         → IsSettled feeder setter taker end }
+    ensures gave_up { taker_end taker ≡ Some GaveUp → is_given_up (state_of setter).made ≡ true }
     ensures unsettled { IfErr result (λ back. (is_over feeder setter taker ≡ false)
         × AreAsBefore feeder setter taker back.feeder back.setter back.taker
         × IsLane back.feeder back.setter back.taker) }

@@ -10,7 +10,7 @@ use Rattle.set_line.specs.Terms.{TermsValue}
 use Rattle.set_line.specs.Answer.{AnswerValue, answer_of}
 use Rattle.line_lane.specs.Lane.{answers_of, lane_end_of, pipeline}
 use Rattle.line_lane.specs.Turns.{is_given_up}
-use Rattle.line_lane.specs.Ends.{fed, feeder_end, state_of, taken, SameSetter}
+use Rattle.line_lane.specs.Ends.{fed, feeder_end, state_of, taken}
 use Rattle.line_lane.specs.Settled.{IsSettled}
 use Rattle.line_lane.specs.Rings.{IsFirstOf}
 use Rattle.line_lane.specs.declared.feeder.Feeder.{Feeder}
@@ -24,6 +24,7 @@ use Rattle.line_lane.specs.declared.ending.LaneEnd.TheVariants.{Complete, Source
 use Rattle.set_run.specs.Given.{AreFirst, AreAll, EndsWith, HandsBack, IsFedFrom}
 use Rattle.set_run.specs.Reports.{AreFirstAnswers, AreAllAnswers, IsClosed}
 use Rattle.set_run.specs.Lanes.{IsFresh, IsFinished}
+use Rattle.set_run.specs.Workers.{IsWorked}
 use Rattle.set_run.specs.Events.{LaneEvent, answers_among, lane_events}
 use Rattle.set_run.specs.Collecting.{IsToldFirst}
 use Rattle.set_run.specs.declared.source_thread.Feeding.{Feeding}
@@ -49,6 +50,12 @@ no_more terms answers given line =
 none_of : {T : Type 0} (xs : List T) (n : ℕ) → length xs ≤ n → n ≡ 0 → xs ≡ []
 none_of [] n short none = refl
 none_of (x ∷ xs) n short none = absurd (omega (arith, short, none))
+
+-- nothing is the first of no lines
+none_first : {T : Type 0} (xs ys : List T) → IsFirstOf xs ys → ys ≡ [] → xs ≡ []
+none_first [] ys first none = refl
+none_first (x ∷ xs) ys first none =
+    let no : x ∷ xs ≡ [] = first ∙ ap (take (length (x ∷ xs))) none in absurd (search rules)
 
 -- answers of the first of the lines that were given are those of the first that were to come
 answers_first : (terms : TermsValue) (answers : List AnswerValue) (given : List (List ℕ)) (before : Option (List (List ℕ)))
@@ -103,6 +110,10 @@ fault_or_up given source (SourceFailed other) before after fails fault has is en
     let own : fails ≡ Some other = failed_lane given source (SourceFailed other) before after fails other (is (λ no. absurd (search rules))) ends refl in
     inl (ap (end_of_fault fault) (sym own ∙ has))
 
+not_up : (end : LaneEnd) (fault : SourceFault) → (end ≡ SourceFailed fault) ⊎ (end ≡ GaveUp) → (end ≡ GaveUp → ⊥) → end ≡ SourceFailed fault
+not_up end fault (inl own) going = own
+not_up end fault (inr up) going = absurd (going up)
+
 -- a lane that is over with an end that isn't that of one given up
 going_end : (f : Feeder) (s : Setter) (t : Taker) (end : LaneEnd) → IsSettled f s t end → (end ≡ GaveUp → ⊥)
     → (option_map lane_end_of (feeder_end f) ≡ Some end) × (taken t ≡ answers_of (state_of s).terms (fed f))
@@ -126,12 +137,12 @@ module _ {S O : Type 0} where
   -- a lane that has ended
   pub closed_of : (to_come : S → Option (List (List ℕ))) (failed : S → Option SourceFault) (origin : S → O) (source : S × Arc TermsValue Global)
       (start back : Feeding S) (s t : Setter) (first last : LaneTaker) (lane : ClosedLane S) (told : List LaneEvent)
-      → start.source ≡ source.0 → IsFresh (arc_value source.1) start.feeder s first → SameSetter s t → HandsBack to_come failed origin start back
+      → start.source ≡ source.0 → IsFresh (arc_value source.1) start.feeder s first → IsWorked s t → HandsBack to_come failed origin start back
       → IsFinished back t last lane → IsToldFirst told last
       → (told ≡ lane_events (answers_among told) lane.end) × IsClosed to_come failed (arc_value source.1) source.0 (answers_among told) lane
   closed_of to_come failed origin source start back s t first last lane told from fresh same handed finished came =
       let terms = arc_value source.1 in let answers = answers_among told in let given = fed back.feeder in
-      let own : (state_of t).terms ≡ terms = grind (rules, fresh, same) in
+      let own : (state_of t).terms ≡ terms = grind (rules, fresh, same.0) in
       let was : IsFedFrom (feeder_end back.feeder) given (to_come source.0) (to_come lane.source) (failed source.0) (failed lane.source) =
       subst (λ x. IsFedFrom (feeder_end back.feeder) given (to_come source.0) (to_come x) (failed source.0) (failed x)) (sym finished.0)
       (subst (λ x. IsFedFrom (feeder_end back.feeder) given (to_come x) (to_come back.source) (failed x) (failed back.source)) from
@@ -164,8 +175,13 @@ module _ {S O : Type 0} where
                 own.1,
                 none_of answers (length given) (no_more terms answers given line) (ap length own.0),
                 (λ end is.
-                    fault_or_up given (feeder_end back.feeder) end (to_come source.0) (to_come lane.source) (failed lane.source) fault own.1
-                    (λ going. (over end is going).0) was.lines.1),
+                    not_up end fault
+                    (fault_or_up given (feeder_end back.feeder) end (to_come source.0) (to_come lane.source) (failed lane.source) fault own.1
+                    (λ going. (over end is going).0) was.lines.1)
+                    (λ up.
+                    let here : last.end ≡ Some GaveUp = sym finished.1 ∙ is ∙ ap Some up in
+                    let all = came.2 (ap is_some here) in
+                    same.1 fresh.5 (finished.5 (sym all.1 ∙ here)) (none_first (state_of t).seen given finished.4 own.0))),
               )),
         ),
       )

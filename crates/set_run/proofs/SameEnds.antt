@@ -4,14 +4,21 @@ use Rattle.line_lane.specs.Ends.{IsLane, SameFeeder, SameSetter, SameTaker}
 use Rattle.line_lane.specs.declared.feeder.Feeder.{Feeder}
 use Rattle.line_lane.specs.declared.setter.Setter.{Setter}
 use Rattle.line_lane.specs.declared.taker.Taker.{Taker}
+use Rattle.set_run.specs.Workers.{IsWorked}
 use Rattle.set_run.specs.Collecting.{SameLane}
 use Rattle.set_run.specs.declared.lane_taker.LaneTaker.{LaneTaker}
 
-pub setter_refl : (s : Setter) → SameSetter s s
-setter_refl s = grind rules
+same_setter : (s : Setter) → SameSetter s s
+same_setter s = grind rules
 
-pub setter_trans : (s t u : Setter) → SameSetter s t → SameSetter t u → SameSetter s u
-setter_trans s t u a b = grind (rules, a, b)
+same_setters : (s t u : Setter) → SameSetter s t → SameSetter t u → SameSetter s u
+same_setters s t u a b = grind (rules, a, b)
+
+pub setter_refl : (s : Setter) → IsWorked s s
+setter_refl s = (same_setter s, λ had. had)
+
+pub setter_trans : (s t u : Setter) → IsWorked s t → IsWorked t u → IsWorked s u
+setter_trans s t u a b = (same_setters s t u a.0 b.0, λ had. b.1 (a.1 had))
 
 pub taker_refl : (s : Taker) → SameTaker s s
 taker_refl s = grind rules

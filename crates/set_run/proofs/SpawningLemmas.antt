@@ -7,11 +7,11 @@ use Rattle.std.specs.Arc.{arc_value}
 use Rattle.std.specs.declared.sync.Arc.{Arc}
 use Rattle.std.specs.declared.alloc.Global.{Global}
 use Rattle.set_line.specs.Terms.{TermsValue}
-use Rattle.line_lane.specs.Ends.{SameFeeder, SameSetter, taken}
+use Rattle.line_lane.specs.Ends.{SameFeeder, taken}
 use Rattle.line_lane.specs.declared.setter.Setter.{Setter}
 use Rattle.line_lane.specs.declared.fault.SourceFault.{SourceFault}
 use Rattle.set_run.specs.Events.{Event, LaneEvent, answers_in, lane_events, of_lane}
-use Rattle.set_run.specs.Workers.{HasOneMore}
+use Rattle.set_run.specs.Workers.{HasOneMore, IsWorked}
 use Rattle.set_run.specs.Collecting.{AllLanes, IsFreshTaker, IsTold, IsToldBy, IsToldFirst, SameLane}
 use Rattle.set_run.specs.Given.{HandsBack}
 use Rattle.set_run.specs.Reports.{AreBack, AreClosed, HasNoOthers, IsClosed}
@@ -31,29 +31,29 @@ use Rattle.set_run.proofs.TakerLemmas.{told_first}
 
 -- workers that got one more setter, and came back
 pub as_many : (n : ℕ) (s : Setter) (workers workers1 workers2 : List (List Setter)) → HasOneMore (n % length workers) s workers workers1
-    → AllZip (AllZip SameSetter) workers1 workers2 → length workers ≡ length workers2
+    → AllZip (AllZip IsWorked) workers1 workers2 → length workers ≡ length workers2
 as_many n s workers workers1 workers2 with_one same =
-    let long : length workers1 ≡ length workers2 = zip_length (AllZip SameSetter) workers1 workers2 same in
+    let long : length workers1 ≡ length workers2 = zip_length (AllZip IsWorked) workers1 workers2 same in
     let more : length workers1 ≡ length workers = grind (rules, with_one) in sym more ∙ long
 
 -- the worker isn't empty
 some_at_worker : (i : ℕ) (s : Setter) (workers workers1 workers2 : List (List Setter)) → HasOneMore i s workers workers1
-    → AllZip (AllZip SameSetter) workers1 workers2 → get_or workers2 i [] ≡ [] → ⊥
+    → AllZip (AllZip IsWorked) workers1 workers2 → get_or workers2 i [] ≡ [] → ⊥
 some_at_worker i s workers workers1 workers2 with_one same none =
-    let there = zip_there (AllZip SameSetter) [] workers workers2 i (get_or workers i [] ++ s ∷ []) with_one.0
-    (subst (λ x. AllZip (AllZip SameSetter) x workers2) with_one.1 same)
-    in zip_none SameSetter (get_or workers i []) s (subst (λ x. AllZip SameSetter (get_or workers i [] ++ s ∷ []) x) none there)
+    let there = zip_there (AllZip IsWorked) [] workers workers2 i (get_or workers i [] ++ s ∷ []) with_one.0
+    (subst (λ x. AllZip (AllZip IsWorked) x workers2) with_one.1 same)
+    in zip_none IsWorked (get_or workers i []) s (subst (λ x. AllZip IsWorked (get_or workers i [] ++ s ∷ []) x) none there)
 
 -- the setter that is taken back is that of the same lane, and the workers are as before
 same_at_worker : (i : ℕ) (s t : Setter) (workers workers1 workers2 workers3 : List (List Setter)) → HasOneMore i s workers workers1
-    → AllZip (AllZip SameSetter) workers1 workers2 → HasOneMore i t workers3 workers2 → SameSetter s t × AllZip (AllZip SameSetter) workers workers3
+    → AllZip (AllZip IsWorked) workers1 workers2 → HasOneMore i t workers3 workers2 → IsWorked s t × AllZip (AllZip IsWorked) workers workers3
 same_at_worker i s t workers workers1 workers2 workers3 with_one same back =
     let x = get_or workers i [] in let y = get_or workers3 i [] in
-    let both : AllZip (AllZip SameSetter) (set workers i (x ++ s ∷ [])) (set workers3 i (y ++ t ∷ [])) =
-    subst (λ h. AllZip (AllZip SameSetter) h (set workers3 i (y ++ t ∷ []))) with_one.1
-    (subst (λ h. AllZip (AllZip SameSetter) workers1 h) back.1 same)
-    in let place = zip_place (AllZip SameSetter) [] workers workers3 i (x ++ s ∷ []) (y ++ t ∷ []) with_one.0 back.0 both in
-    let last = zip_last SameSetter x y s t place.0 in (last.1, place.1 last.0)
+    let both : AllZip (AllZip IsWorked) (set workers i (x ++ s ∷ [])) (set workers3 i (y ++ t ∷ [])) =
+    subst (λ h. AllZip (AllZip IsWorked) h (set workers3 i (y ++ t ∷ []))) with_one.1
+    (subst (λ h. AllZip (AllZip IsWorked) workers1 h) back.1 same)
+    in let place = zip_place (AllZip IsWorked) [] workers workers3 i (x ++ s ∷ []) (y ++ t ∷ []) with_one.0 back.0 both in
+    let last = zip_last IsWorked x y s t place.0 in (last.1, place.1 last.0)
 
 -- the same of the takers
 same_lanes : (a b : LaneTaker) (lanes lanes1 lanes2 lanes3 : List LaneTaker) → lanes1 ≡ lanes ++ a ∷ [] → AllZip SameLane lanes1 lanes2
@@ -136,7 +136,7 @@ module _ {S : Type 0} where
   pub can_end : (source : S × Arc TermsValue Global) (n : ℕ) (start back : Feeding S) (workers workers1 workers2 : List (List Setter))
       (lanes lanes1 lanes2 : List LaneTaker)
       → Begins (n % length workers) source start (record { workers = workers; lanes = lanes }) (record { workers = workers1; lanes = lanes1 })
-      → AllZip (AllZip SameSetter) workers1 workers2 → AllZip SameLane lanes1 lanes2 → SameFeeder start.feeder back.feeder
+      → AllZip (AllZip IsWorked) workers1 workers2 → AllZip SameLane lanes1 lanes2 → SameFeeder start.feeder back.feeder
       → CanEnd (n % length workers2) back.feeder (record { workers = workers2; lanes = lanes2 })
   can_end source n start back workers workers1 workers2 lanes lanes1 lanes2 (is, (s, l, fresh, with_one, more)) same_workers same_all same =
       let held : Held = record { workers = workers2; lanes = lanes2 } in
@@ -146,16 +146,16 @@ module _ {S : Type 0} where
         (λ t d workers3 lanes3 taken popped.
             let own = same_at_worker (n % length workers) s t workers workers1 workers2 workers3 with_one same_workers taken in
             let of_taker = same_lanes l d lanes lanes1 lanes2 lanes3 more same_all popped in
-            still_lane start.feeder back.feeder s t l.taker d.taker fresh.0 same own.0 of_taker.1),
+            still_lane start.feeder back.feeder s t l.taker d.taker fresh.0 same own.0.0 of_taker.1),
       )
 
   -- once it has ended, the workers have their setters as before
   pub workers_back : (source : S × Arc TermsValue Global) (n : ℕ) (start back : Feeding S) (closed closed' : List (ClosedLane S))
       (workers workers1 workers2 workers3 : List (List Setter)) (lanes lanes1 lanes2 lanes3 : List LaneTaker)
       → Begins (n % length workers) source start (record { workers = workers; lanes = lanes }) (record { workers = workers1; lanes = lanes1 })
-      → AllZip (AllZip SameSetter) workers1 workers2
+      → AllZip (AllZip IsWorked) workers1 workers2
       → Ends (n % length workers2) back closed closed' (record { workers = workers2; lanes = lanes2 }) (record { workers = workers3; lanes = lanes3 })
-      → AllZip (AllZip SameSetter) workers workers3
+      → AllZip (AllZip IsWorked) workers workers3
   workers_back source n start back closed closed' workers workers1 workers2 workers3 lanes lanes1 lanes2 lanes3
       (is, (s, l, fresh, with_one, more)) same_workers (t, d, one, taken, popped, ended, finished) =
       let taken_here : HasOneMore (n % length workers) t workers3 workers2 =
@@ -168,7 +168,7 @@ module _ {S : Type 0} where
       (start back : Feeding S) (closed closed' : List (ClosedLane S)) (workers workers1 workers2 workers3 : List (List Setter))
       (lanes lanes1 : List LaneTaker) (before : C) (collected collected' : Collected C) → sources ≡ rest ++ source ∷ []
       → Begins (n % length workers) source start (record { workers = workers; lanes = lanes }) (record { workers = workers1; lanes = lanes1 })
-      → AllZip (AllZip SameSetter) workers1 workers2 → HandsBack to_come failed origin start back
+      → AllZip (AllZip IsWorked) workers1 workers2 → HandsBack to_come failed origin start back
       → Gathers to_come failed origin places given refused rest lanes1 before closed collected
       → Ends (n % length workers2) back closed closed' (record { workers = workers2; lanes = collected.lanes.items })
       (record { workers = workers3; lanes = collected'.lanes.items })

@@ -1,6 +1,6 @@
 -- What a run reports of a source.
 -- This project's own.
-use Rattle.std.specs.Prelude.{◌≡◌, ◌≤◌, ℕ, ◌+◌, ◌⊎◌, List, [], ◌∷◌, length, take, map, All, Option, Some, None, IsSome, IfSome}
+use Rattle.std.specs.Prelude.{◌≡◌, ◌≤◌, ℕ, ◌+◌, List, [], ◌∷◌, length, take, map, All, Option, Some, None, IsSome, IfSome}
 use Rattle.std.specs.List.{AllZip}
 use Rattle.std.specs.Arc.{arc_value}
 use Rattle.std.specs.declared.sync.Arc.{Arc}
@@ -10,7 +10,7 @@ use Rattle.set_line.specs.Answer.{AnswerValue}
 use Rattle.line_lane.specs.Lane.{answers_of}
 use Rattle.line_lane.specs.declared.fault.SourceFault.{SourceFault}
 use Rattle.line_lane.specs.declared.ending.LaneEnd.{LaneEnd}
-use Rattle.line_lane.specs.declared.ending.LaneEnd.TheVariants.{Complete, SourceFailed, GaveUp}
+use Rattle.line_lane.specs.declared.ending.LaneEnd.TheVariants.{Complete, SourceFailed}
 use Rattle.set_run.specs.Events.{Event, answers_in, lane_events, of_lane}
 use Rattle.set_run.specs.Sources.{HasGiven}
 use Rattle.set_run.specs.declared.report.LaneReport.{LaneReport}
@@ -39,13 +39,12 @@ pub record LaneSeen : Type 0 where
   pub after : Option (List (List ℕ))
   pub fails : Option SourceFault
 
--- a lane whose source had failed with this fault has no answers, and its end, if it has one and wasn't given up, is this fault;
--- the source keeps it
+-- a lane whose source had failed with this fault has no answers, and its end, if it has one, is this fault; the source keeps it
 abbrev pub HadFailed : SourceFault → LaneSeen → Type 0
 HadFailed fault lane =
     (lane.fails ≡ Some fault)
     × (lane.answers ≡ [])
-    × ((end : LaneEnd) → lane.end ≡ Some end → (end ≡ SourceFailed fault) ⊎ (end ≡ GaveUp))
+    × ((end : LaneEnd) → lane.end ≡ Some end → end ≡ SourceFailed fault)
 
 -- what holds of a lane: it has the answers of the first of its source's lines; one that is complete has all of them, and its
 -- source hasn't failed; the source of one that ended with its fault has that fault; whatever the end, a source that hasn't

@@ -2,8 +2,8 @@
 //! thread promises stands beside what it was given.
 ghost use Rattle.std.specs.Prelude.{◌≡◌, ◌+◌, ◌<◌, ◌≤◌, ◌++◌, ◌∷◌, [], None, vec_capacity, vec_len, IfErr, IfOk, IsOk};
 ghost use Rattle.std.specs.List.{AllZip};
-ghost use Rattle.line_lane.specs.Ends.{SameSetter};
 ghost use Rattle.set_run.specs.Gathering.{Collects, Gathers};
+ghost use Rattle.set_run.specs.Workers.{IsWorked};
 
 use crate::collector_thread::{Collected, collect};
 use crate::lane::{begin, end};
@@ -56,7 +56,7 @@ pub(crate) fn start_workers<'s, E, R: Threads + Wait + Sync, G: Gate + Sync, C: 
 ) -> Result<(Vec<Worker>, Collected<C>), Unbegun<C>>
     requires places { vec_len lanes ≤ C.lanes collector }
     requires willing { C.refused collector None }
-    ensures workers { IfOk result (λ back. AllZip (AllZip SameSetter) workers.items back.0.items) }
+    ensures workers { IfOk result (λ back. AllZip (AllZip IsWorked) workers.items back.0.items) }
     ensures room { IfOk result (λ back. vec_capacity workers ≤ vec_capacity back.0) }
     ensures collected { IfOk result (λ back. Collects C.lanes C.given C.refused lanes.items collector back.1) }
     ensures begun { vec_len workers ≡ 0 → IsOk result }
@@ -113,7 +113,7 @@ pub(crate) fn start_sources<
     requires willing { C.refused collector None }
     requires none { closed.items ≡ [] }
     requires room { vec_len sources ≤ vec_capacity closed }
-    ensures workers { IfOk result (λ back. AllZip (AllZip SameSetter) workers.items back.1.items) }
+    ensures workers { IfOk result (λ back. AllZip (AllZip IsWorked) workers.items back.1.items) }
     ensures count { IfOk result (λ back. vec_len back.0 ≡ vec_len sources) }
     ensures room { IfOk result (λ back. vec_capacity closed ≤ vec_capacity back.0) }
     ensures gathered { IfOk result (λ back. Gathers S.to_come S.failed S.origin C.lanes C.given C.refused

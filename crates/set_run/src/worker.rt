@@ -3,7 +3,7 @@ ghost use Rattle.std.specs.Prelude.{◌≡◌, ◌<◌, ◌%◌, ◌++◌, ◌�
 ghost use Rattle.std.specs.List.{AllZip};
 ghost use Rattle.line_lane.specs.Ends.{SameSetter, state_of};
 ghost use Rattle.line_lane.specs.Turns.{Turns, given_up};
-ghost use Rattle.set_run.specs.Workers.{HasOneMore};
+ghost use Rattle.set_run.specs.Workers.{HadSeenALine, HasOneMore, IsWorked};
 
 use crate::came::Came;
 use crate::signals::Signals;
@@ -32,6 +32,7 @@ fn turn(setter: &mut Setter) -> Turn
     ensures lane { SameSetter setter.old setter.new }
     ensures turn { Turns (state_of setter.old) result (state_of setter.new)
         ⊎ (state_of setter.new ≡ given_up (state_of setter.old)) }
+    ensures seen { HadSeenALine (state_of setter.old) → HadSeenALine (state_of setter.new) }
 {
     match setter.turn() {
         Ok(turn) => turn,
@@ -44,7 +45,7 @@ fn turn(setter: &mut Setter) -> Turn
 
 /// The turns of a lane, up to one that doesn't move, and at most this many.
 fn take_turns(setter: &mut Setter, most: usize) -> Came
-    ensures { SameSetter setter.old setter.new }
+    ensures { IsWorked setter.old setter.new }
 {
     for moves in 0..most {
         match turn(setter) {
@@ -82,7 +83,7 @@ impl Worker {
     /// The turns of all lanes, one lane after the other; done at once if the run is stopped. The last
     /// lane has the number of the worker, and the numbers of the others come after it.
     pub fn go_round(&mut self, signals: &Signals, number: usize) -> Came
-        ensures { AllZip SameSetter self.old self.new }
+        ensures { AllZip IsWorked self.old self.new }
     {
         let mut all = Came::Done;
         for i in 0..self.setters.len() {

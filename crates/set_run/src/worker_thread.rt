@@ -1,6 +1,6 @@
 //! The thread of a setter: it sets the lines of its lanes.
 ghost use Rattle.std.specs.List.{AllZip};
-ghost use Rattle.line_lane.specs.Ends.{SameSetter};
+ghost use Rattle.set_run.specs.Workers.{IsWorked};
 
 use crate::backoff::Backoff;
 use crate::came::Came;
@@ -16,7 +16,7 @@ use std::thread::Promise;
 pub(crate) struct WorkedFrom(pub Snapshot<Worker>);
 
 impl Promise<Worker> for WorkedFrom {
-    ghost kept_by = { λ p r. AllZip SameSetter p.0.value r };
+    ghost kept_by = { λ p r. AllZip IsWorked p.0.value r };
 }
 
 /// The work of a setter's thread: it enters the gate, and gives its lanes turns until all are done.
@@ -27,7 +27,7 @@ pub(crate) fn work<R: Wait, G: Gate>(
     number: usize,
     worker: Worker,
 ) -> Worker
-    ensures { AllZip SameSetter worker result }
+    ensures { AllZip IsWorked worker result }
 {
     gate.enter(Stage::Setter, number);
     let mut worker = worker;

@@ -1,5 +1,5 @@
 use Rattle.std.proofs.Common.{sym, ◌∙◌}
-use Rattle.line_lane.proofs.SettleLemmas.{pipeline_of, settled_of, settled_by_end, over_same, taker_end_same}
+use Rattle.line_lane.proofs.SettleLemmas.{gave_up_of, pipeline_of, seen_of, settled_of, settled_by_end, over_same, taker_end_same}
 use Rattle.line_lane.proofs.settling.settle.Goals as goal
 
 pub returns-in-Some-clause-settled : goal.returns-in-Some-clause-settled
@@ -19,3 +19,15 @@ returns-in-Some-clause-ended c = λ end. settled_by_end c.args.feeder c.args.set
 
 pub returns-in-None-clause-ended : goal.returns-in-None-clause-ended
 returns-in-None-clause-ended c = λ end. settled_by_end c.args.feeder c.args.setter c.args.taker end c.look.ensures.met
+
+pub returns-in-Some-clause-seen : goal.returns-in-Some-clause-seen
+returns-in-Some-clause-seen c = seen_of c.args.feeder c.args.setter c.args.taker c.look.ensures.met
+
+pub returns-in-None-clause-seen : goal.returns-in-None-clause-seen
+returns-in-None-clause-seen c = seen_of c.args.feeder c.args.setter c.args.taker c.look.ensures.met
+
+pub returns-in-Some-clause-gave_up : goal.returns-in-Some-clause-gave_up
+returns-in-Some-clause-gave_up c = gave_up_of c.args.feeder c.args.setter c.args.taker c.look.ensures.met
+
+pub returns-in-None-clause-gave_up : goal.returns-in-None-clause-gave_up
+returns-in-None-clause-gave_up c = gave_up_of c.args.feeder c.args.setter c.args.taker c.look.ensures.met

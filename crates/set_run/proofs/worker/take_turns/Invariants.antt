@@ -1,6 +1,6 @@
 -- the setter is of the same lane
-use Rattle.line_lane.specs.Ends.{SameSetter}
+use Rattle.set_run.specs.Workers.{IsWorked}
 use Rattle.set_run.proofs.worker.take_turns.Given as goal
 
 abbrev pub invariant-loop-moves : goal.invariant-loop-moves
-invariant-loop-moves l = SameSetter l.initial.setter l.setter
+invariant-loop-moves l = IsWorked l.initial.setter l.setter

@@ -1,13 +1,13 @@
 use Rattle.std.proofs.Common.{rules}
-use Rattle.line_lane.specs.Ends.{SameSetter}
+use Rattle.set_run.specs.Workers.{IsWorked}
 use Rattle.set_run.proofs.Zips.{zip_refl, zip_change}
 use Rattle.set_run.proofs.SameEnds.{setter_refl, setter_trans}
 use Rattle.set_run.proofs.worker.Worker.go_round.Goals as goal
 
 pub loop-i-init : goal.loop-i-init
-loop-i-init c = zip_refl SameSetter setter_refl c.self.inside.setters.items
+loop-i-init c = zip_refl IsWorked setter_refl c.self.inside.setters.items
 
 pub loop-i-preserved : goal.loop-i-preserved
 loop-i-preserved c =
-    zip_change SameSetter setter_trans c.self.inside.setters.items c.loop-i.self-inside.setters.items c.loop-i.i c.index_mut.result.now
+    zip_change IsWorked setter_trans c.self.inside.setters.items c.loop-i.self-inside.setters.items c.loop-i.i c.index_mut.result.now
     c.take_turns.new.setter c.index_mut.ensures.value (search rules) c.loop-i.invariant c.take_turns.ensures

@@ -1,7 +1,7 @@
 -- the setters are of the same lanes
 use Rattle.std.specs.List.{AllZip}
-use Rattle.line_lane.specs.Ends.{SameSetter}
+use Rattle.set_run.specs.Workers.{IsWorked}
 use Rattle.set_run.proofs.worker.Worker.go_round.Given as goal
 
 abbrev pub invariant-loop-i : goal.invariant-loop-i
-invariant-loop-i l = AllZip SameSetter l.initial.self-inside.setters.items l.self-inside.setters.items
+invariant-loop-i l = AllZip IsWorked l.initial.self-inside.setters.items l.self-inside.setters.items
