@@ -1,5 +1,5 @@
 -- Lemmas on the faults of the texts of fonts.
-use Rattle.std.proofs.Common.{rules, ◌≡◌, Result, Ok, Err}
+use Rattle.std.proofs.Common.{rules, ◌≡◌, Option, Some, None, Result, Ok, Err, refl}
 use Rattle.std.specs.Result.{IsErrAnd}
 use Rattle.font_texts.specs.declared.fault.FontTextFault.{FontTextFault}
 use Rattle.font_texts.specs.declared.fault.FontTextFault.TheVariants.{Font as NoFont, OutOfMemory as NoRoom, Write as NotWritten}
@@ -34,3 +34,9 @@ not_of_run NotWritten f is = absurd (search rules)
 pub is_not_of_run : (fault : FontTextFault) (f : RunFault) (r : Result (Unit {0}) ToolFault) → IsErrAnd r (λ told. told ≡ fault_of_font_text fault) → r ≡ Err (Run f) → ⊥
 is_not_of_run fault f (Ok u) tells is = absurd (search rules)
 is_not_of_run fault f (Err told) tells is = not_of_run fault f (search rules)
+
+-- a text that was written is of a font without the fault that alone stops it
+pub has_no_fault : (first : Option FontFault) (r : Result (Unit {0}) ToolFault) → {u : Unit {0}} → r ≡ Ok u
+    → ((f : FontFault) → (r ≡ Err (Font f) → first ≡ Some f) × (first ≡ Some f → r ≡ Err (Font f))) → first ≡ None
+has_no_fault None r was font = refl
+has_no_fault (Some f) r was font = let bad : r ≡ Err (Font f) = (font f).1 refl in absurd (search rules)

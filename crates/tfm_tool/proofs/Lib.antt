@@ -8,3 +8,4 @@ pub mod NamedLemmas
 pub mod SourceLemmas
 pub mod KnownLemmas
 pub mod ReaderLemmas
+pub mod EachLemmas

@@ -1,6 +1,6 @@
 -- What is printed of sources is what is printed of what they tell.
 use Rattle.std.proofs.Common.{◌≡◌, ℕ, suc, ◌+◌, List, [], ◌∷◌, ◌++◌, fold, length, map, Option, refl, ap, sym, subst, ◌∙◌}
-use Rattle.std.specs.List.{AllZip, list_any}
+use Rattle.std.specs.List.{list_any}
 use Rattle.std.specs.Prelude.{count_by, ◌||◌, IfSome, Result}
 use Rattle.std.specs.Io.KnownBytes.{Appends, Keeps}
 use Rattle.set_line.specs.Terms.{TermsValue}
@@ -8,7 +8,7 @@ use Rattle.set_line.specs.declared.version.Version.{Version}
 use Rattle.line_lane.specs.declared.fault.SourceFault.{SourceFault}
 use Rattle.set_run.specs.declared.report.LaneReport.{LaneReport}
 use Rattle.run_texts.specs.Endings.{summary_status}
-use Rattle.run_texts.specs.ReportText.{is_unread, is_wanting, lanes_text, run_text, refused_in, summary_of_run}
+use Rattle.run_texts.specs.ReportText.{is_unread, is_wanting, lanes_text, run_text, summary_of_run}
 use Rattle.run_texts.specs.RunText.{head_text, is_refused, lane_text, why_of}
 use Rattle.run_texts.specs.Streaming.{HaveLines, IsStreamed, SourceLine, merged_text}
 use Rattle.run_texts.specs.Setting.{AreReportedWith, IsWritten}
@@ -36,7 +36,7 @@ module _ {S : Type 0} (to_come : S → Option (List (List ℕ))) (failed : S →
   same_lanes number version [] = refl
   same_lanes number version (r ∷ reports) = ap (λ text. lane_text number version r.answers (why_of r.end) ++ text) (same_lanes (number + 1) version reports)
 
-  same_text : (version : Version) (reports : List (LaneReport S)) → run_text version (map told_report reports) ≡ run_text version reports
+  pub same_text : (version : Version) (reports : List (LaneReport S)) → run_text version (map told_report reports) ≡ run_text version reports
   same_text version reports = ap (λ text. head_text version ++ text) (same_lanes 1 version reports)
 
   same_refused : (before : ℕ) (reports : List (LaneReport S)) → fold (λ a lane. a + count_by is_refused lane.answers) before (map told_report reports) ≡ fold (λ a lane. a + count_by is_refused lane.answers) before reports
@@ -51,7 +51,7 @@ module _ {S : Type 0} (to_come : S → Option (List (List ℕ))) (failed : S →
   same_wanting [] = refl
   same_wanting (r ∷ reports) = ap (λ any. is_wanting r.end || any) (same_wanting reports)
 
-  same_status : (reports : List (LaneReport S)) → summary_status (summary_of_run (map told_report reports)) ≡ summary_status (summary_of_run reports)
+  pub same_status : (reports : List (LaneReport S)) → summary_status (summary_of_run (map told_report reports)) ≡ summary_status (summary_of_run reports)
   same_status reports = rw (same_refused 0 reports, same_unread reports, same_wanting reports) refl
 
   -- ---- the reports are those of what is told

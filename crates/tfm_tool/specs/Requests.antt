@@ -2,18 +2,21 @@
 -- This project's own.
 use Rattle.std.specs.Prelude.{◌≡◌, ℕ, List, Bool, true, false, Option, None}
 use Rattle.std.specs.Io.KnownBytes.{Appends}
+use Rattle.std.specs.List.{AllZip}
 use Rattle.font_texts.specs.AllListing.{all_listing_of}
-use Rattle.font_texts.specs.CountsText.{counts_text_of}
+use Rattle.font_texts.specs.CountsText.{counts_text_of, head_fault_of}
 use Rattle.font_texts.specs.Listing.{listing_of}
 use Rattle.tfm_tables.specs.Font.{FontValue, IsFontOf}
 use Rattle.set_line.specs.Terms.{TermsValue}
 use Rattle.set_line.specs.declared.version.Version.{Version}
 use Rattle.tfm_tool.specs.Checking.{AreChecked}
 use Rattle.tfm_tool.specs.Named.{OfKnown, file_bytes_of, font_bytes_of, stream_bytes_of}
-use Rattle.tfm_tool.specs.Runs.{IsPrinted, IsPrintedAsItComes}
+use Rattle.tfm_tool.specs.Jobs.{IsSourceOfJob, jobs_in}
+use Rattle.tfm_tool.specs.Runs.{IsPrinted, IsPrintedAsItComes, IsPrintedEach}
 use Rattle.tfm_tool.specs.Told.{AreSourcesOf, Told}
 use Rattle.tfm_tool.specs.declared.args.Request.{Request}
 use Rattle.tfm_tool.specs.declared.args.Request.TheVariants.{Counts, List as ListFont, Check, Set, Stream, Each}
+use Rattle.tfm_tool.specs.declared.args.Jobs.{Jobs}
 use Rattle.tfm_tool.specs.declared.args.Setting.{Setting}
 
 -- the listing of a font, or with all that its file says
@@ -43,10 +46,11 @@ IsStreamedWith bytes terms version before after status =
 -- Each has what is known of the bytes of a file by its name, and of standard input; what the output held before and after; and the status.
 
 module _ (known : List ℕ → Option (List ℕ)) (input before after : Option (List ℕ)) where
-  -- the text of the counts in the font's bytes
+  -- the text of the counts in the font's bytes, whose counts and design size have no fault
   abbrev pub CountsAreTold : List ℕ → ℕ → Type 0
   CountsAreTold name status =
-      OfKnown (font_bytes_of known input name) (λ all. Appends before after (counts_text_of all)) × (status ≡ 0)
+      OfKnown (font_bytes_of known input name) (λ all. (head_fault_of all ≡ None) × Appends before after (counts_text_of all))
+      × (status ≡ 0)
 
   -- the listing of the font in its bytes, at its design size
   abbrev pub IsListed : List ℕ → Bool → ℕ → Type 0
@@ -74,12 +78,20 @@ module _ (known : List ℕ → Option (List ℕ)) (input before after : Option (
   abbrev pub IsSetAsItComes : Setting → ℕ → Type 0
   IsSetAsItComes setting status = IsSetFrom (stream_bytes_of known input setting.files.items) setting status
 
+module _ (known : List ℕ → Option (List ℕ)) (before after : Option (List ℕ)) where
+  -- the text of a run over sources of the jobs' files, in order, each with the terms of its own job
+  abbrev pub IsEachSet : Jobs → ℕ → Type 0
+  IsEachSet asked status =
+      (sources : List (Told × TermsValue))
+      × AllZip (IsSourceOfJob known asked.layout) (jobs_in asked.words.items) sources
+      × IsPrintedEach sources asked.layout.version before after status
+
 module _ (known : List ℕ → Option (List ℕ)) (input before after : Option (List ℕ)) where
-  -- what is done for a request; of `each` nothing is said here
+  -- what is done for a request
   abbrev pub IsDone : Request → ℕ → Type 0
   IsDone (Counts font) status = CountsAreTold known input before after font.now status
   IsDone (ListFont font all_of_it) status = IsListed known input before after font.now all_of_it status
-  IsDone (Check asked) status = AreChecked asked.fonts.items before after status
+  IsDone (Check asked) status = AreChecked known input asked.fonts.items before after status
   IsDone (Set setting) status = IsSet known input before after setting status
   IsDone (Stream setting) status = IsSetAsItComes known input before after setting status
-  IsDone (Each jobs) status = Unit {0}
+  IsDone (Each jobs) status = IsEachSet known before after jobs status

@@ -1,17 +1,18 @@
--- What the program prints of a run, with the status that it ends with, and the terms that a job asks for.
+-- What the program prints of a run, with the status that it ends with.
 -- This project's own.
 use Rattle.std.specs.Prelude.{◌≡◌, ℕ, List, Option}
 use Rattle.std.specs.Io.KnownBytes.{Appends}
-use Rattle.tfm_tables.specs.Font.{IsFontOf}
+use Rattle.std.specs.List.{AllZip}
 use Rattle.set_line.specs.Terms.{TermsValue}
-use Rattle.set_line.specs.declared.policy.Policy.{Policy}
 use Rattle.set_line.specs.declared.version.Version.{Version}
 use Rattle.line_lane.specs.declared.fault.SourceFault.{SourceFault}
+use Rattle.set_run.specs.Reports.{IsReported}
 use Rattle.set_run.specs.declared.report.LaneReport.{LaneReport}
 use Rattle.run_texts.specs.Endings.{summary_status}
 use Rattle.run_texts.specs.ReportText.{run_text, summary_of_run}
 use Rattle.run_texts.specs.Setting.{AreReportedWith}
 use Rattle.run_texts.specs.Streaming.{IsStreamed}
+use Rattle.tfm_tool.specs.Told.{Told}
 
 module _ {S : Type 0} where
   -- the text of a report of these sources with these terms was printed, and the status is the one of its summary
@@ -32,6 +33,10 @@ module _ {S : Type 0} where
       × IsStreamed version reports before after
       × (status ≡ summary_status (summary_of_run reports))
 
--- terms with this limit and this policy, and a font of some bytes at this size
-abbrev pub AreTermsOf : Option ℕ → ℕ → Policy → TermsValue → Type 0
-AreTermsOf size limit policy terms = (bytes : List ℕ) × IsFontOf bytes size terms.font × (terms.limit ≡ limit) × (terms.policy ≡ policy)
+-- the text of a report of sources, each by what it tells and with its own terms, was printed, and the status is the one of its summary
+abbrev pub IsPrintedEach : List (Told × TermsValue) → Version → Option (List ℕ) → Option (List ℕ) → ℕ → Type 0
+IsPrintedEach sources version before after status =
+    (reports : List (LaneReport Told))
+    × AllZip (λ source report. IsReported (λ told. told.lines) (λ told. told.fault) source.1 source.0 report) sources reports
+    × Appends before after (run_text version reports)
+    × (status ≡ summary_status (summary_of_run reports))

@@ -1,9 +1,8 @@
 //! The subcommand `check`: a line for each font, and the status that they lead to.
-ghost use Rattle.std.specs.Prelude.{◌≡◌, ◌≢◌, ◌<◌, ◌⊎◌, true, false, [], ◌∷◌, codes, max, Contains, Err, IfErr, IfOk, IfSome};
+ghost use Rattle.std.specs.Prelude.{◌≡◌, ◌≢◌, ◌<◌, ◌≤◌, ◌⊎◌, true, false, [], ◌∷◌, codes, max, Contains, Err, IfErr, IfOk, IfSome};
 ghost use Rattle.std.specs.Io.KnownBytes.{Appends};
-ghost use Rattle.font_texts.specs.declared.finding.Finding.TheVariants.{NotRead as Unread};
-ghost use Rattle.font_texts.specs.Findings.{finding_line, finding_of};
-ghost use Rattle.tfm_tool.specs.Checking.{AreChecked, dashes_in, finding_status};
+ghost use Rattle.font_texts.specs.Findings.{finding_line};
+ghost use Rattle.tfm_tool.specs.Checking.{AreChecked, IsFound, dashes_in, finding_status};
 ghost use Rattle.tfm_tool.specs.Named.{font_bytes_of};
 ghost use Rattle.tfm_tool.specs.Status.{AfterText, is_after_text, is_before_output, status_of};
 ghost use Rattle.tfm_tool.specs.declared.exit.Failure.TheVariants.{SomeFontNotRead, TwoFonts};
@@ -33,12 +32,14 @@ where
     O: Write,
     ensures twice { 1 < dashes_in asked.now.fonts.items
         → (result ≡ Err TwoFonts) × (input.new ≡ input.old) × (out.new ≡ out.old) }
-    ensures text { AfterText result (AreChecked asked.now.fonts.items (O.contents out.old) (O.contents out.new)) }
+    ensures text { AfterText result (AreChecked (F.known files.now) (I.remaining input.old)
+        asked.now.fonts.items (O.contents out.old) (O.contents out.new)) }
     ensures once { result ≡ Err TwoFonts → 1 < dashes_in asked.now.fonts.items }
     ensures failed { IfErr result (λ failure. (failure ≡ TwoFonts)
         ⊎ ((failure ≡ SomeFontNotRead) ⊎ (status_of failure ≡ 5))) }
     ensures unread { result ≡ Err SomeFontNotRead
-        → AreChecked asked.now.fonts.items (O.contents out.old) (O.contents out.new) 4 }
+        → AreChecked (F.known files.now) (I.remaining input.old)
+        asked.now.fonts.items (O.contents out.old) (O.contents out.new) 4 }
     ensures status { IfOk result (λ status. Contains (0 ∷ 1 ∷ []) status) }
     ensures untouched { IfErr result (λ failure. is_before_output failure ≡ true → out.new ≡ out.old) }
 {
@@ -61,7 +62,8 @@ fn dashes(names: &[&str]) -> usize
     names.iter().filter(|name| **name == "-").count()
 }
 
-/// A line for each of the fonts that are asked for, in order: the highest of their statuses.
+/// A line for each of the fonts that are asked for, in order: the highest of their statuses. At most one
+/// of them is `-`, so that it has all bytes of `input`.
 fn check_all<F, I, O>(
     alloc: Global,
     files: &F,
@@ -73,7 +75,9 @@ where
     F: Opens,
     I: Read,
     O: Write,
-    ensures text { IfOk result (AreChecked asked.now.fonts.items (O.contents out.old) (O.contents out.new)) }
+    ensures text { IfOk result (λ status. dashes_in asked.now.fonts.items ≤ 1
+        → AreChecked (F.known files.now) (I.remaining input.old)
+        asked.now.fonts.items (O.contents out.old) (O.contents out.new) status) }
     ensures told { IfErr result (λ failure. status_of failure ≡ 5) }
     ensures fault { IfErr result (λ failure. is_after_text failure ≡ false) }
 {
@@ -114,7 +118,7 @@ where
         Appends (O.contents out.old) (O.contents out.new) (finding_line (name.now, finding))) }
     ensures found { IfOk result (λ finding. IfSome
         (font_bytes_of (F.known files.now) (I.remaining input.old) name.now)
-        (λ all. (finding ≡ finding_of all) ⊎ (finding ≡ Unread))) }
+        (λ all. IsFound all finding)) }
     ensures other { name.now ≢ codes "-" → input.new ≡ input.old }
     ensures told { IfErr result (λ failure. status_of failure ≡ 5) }
     ensures fault { IfErr result (λ failure. is_after_text failure ≡ false) }

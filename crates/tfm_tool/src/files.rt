@@ -1,13 +1,14 @@
 //! The files that a run asks for: fonts, which are read to their end, and files with lines, which are opened.
 ghost use Rattle.std.specs.Prelude.{◌≡◌, ◌≢◌, ℕ, ◌++◌, List, Some, false, codes, IfErr, IfOk, IfSome, OnOk};
 ghost use Rattle.std.specs.Io.KnownBytes.{IsAtEnd};
+ghost use Rattle.std.specs.List.{AllZip};
+ghost use Rattle.tfm_tool.specs.Jobs.{IsOpenedWith};
 ghost use Rattle.tfm_tool.specs.Kept.{HaveSameFont, kept_of};
 ghost use Rattle.tfm_tool.specs.Named.{file_bytes_of, font_bytes_of};
 ghost use Rattle.tfm_tool.specs.Status.{is_after_text};
 ghost use Rattle.tfm_tool.specs.Told.{AreSourcesOf, IsSourceOf, all_told_by, told_by};
 
 use crate::exit::Failure;
-use crate::jobs::Job;
 use crate::{Opens, ToolFault};
 use set_line::Terms;
 use set_run::{LineSource, ReaderSource};
@@ -149,18 +150,20 @@ pub(crate) fn open_files<F: Opens>(
     Ok(sources)
 }
 
-/// The files of all jobs, opened in order, each with its terms.
+/// The files of these names, opened in order, each with its terms.
 pub(crate) fn open_each<F: Opens>(
     alloc: Global,
     files: &F,
-    jobs: &[Job<'_>],
-    terms: Vec<Arc<Terms>>,
+    jobs: Vec<(&str, Arc<Terms>)>,
 ) -> Result<Vec<(ReaderSource<F::File>, Arc<Terms>)>, Failure>
-    ensures { IfErr result (λ failure. is_after_text failure ≡ false) }
+    ensures sources { IfOk result (λ sources. AllZip (IsOpenedWith (F.known files.now)
+        (told_by ⟦<ReaderSource<F::File> as LineSource>⟧.to_come
+        ⟦<ReaderSource<F::File> as LineSource>⟧.failed)) jobs.entry.items sources.items) }
+    ensures fault { IfErr result (λ failure. is_after_text failure ≡ false) }
 {
     let mut sources = Vec::new(alloc);
-    for (job, terms) in jobs.iter().zip(terms) {
-        let source = open_file(alloc, files, sources.len() + 1, job.file)?;
+    for (name, terms) in jobs {
+        let source = open_file(alloc, files, sources.len() + 1, name)?;
         sources
             .push((source, terms))
             .map_err(|_| Failure::Tool(ToolFault::OutOfMemory))?;

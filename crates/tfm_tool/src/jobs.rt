@@ -1,9 +1,11 @@
 //! The jobs of `each`: a font, a limit and a file, again and again.
 
-ghost use Rattle.std.specs.Prelude.{◌≡◌, false, IfErr, IfOk};
+ghost use Rattle.std.specs.Prelude.{◌≡◌, false, map, IfErr, IfOk, IfSome};
 ghost use Rattle.std.specs.Arc.{arc_value};
-ghost use Rattle.std.specs.List.{AllZip};
-ghost use Rattle.tfm_tool.specs.Runs.{AreTermsOf};
+ghost use Rattle.std.specs.Char.{is_ascii_digit};
+ghost use Rattle.std.specs.List.{AllZip, list_all};
+ghost use Rattle.std.specs.Str.Parse.{digits_value};
+ghost use Rattle.tfm_tool.specs.Jobs.{AreTermsOf, HasTermsOf, job_value, jobs_in};
 ghost use Rattle.tfm_tool.specs.Status.{is_after_text};
 
 use crate::Opens;
@@ -24,9 +26,19 @@ pub(crate) struct Job<'a> {
     pub file: &'a str,
 }
 
+/// Whether each byte is a decimal digit.
+fn is_in_digits(word: &str) -> bool
+    ensures { result ≡ list_all is_ascii_digit word.now }
+{
+    word.bytes().all(|byte| byte.is_ascii_digit())
+}
+
 /// A limit: one to eight decimal digits, within its range.
-fn limit_of(word: &str) -> Option<Limit> {
-    if word.len() > 8 || !word.bytes().all(|byte| byte.is_ascii_digit()) {
+#[tactic(auto, using(crate::proofs::EachLemmas::has_no_plus))]
+fn limit_of(word: &str) -> Option<Limit>
+    ensures { IfSome result (λ limit. limit ≡ digits_value 10 word.now) }
+{
+    if word.len() > 8 || !is_in_digits(word) {
         return None;
     }
     Limit::new(word.parse().ok()?)
@@ -34,7 +46,8 @@ fn limit_of(word: &str) -> Option<Limit> {
 
 /// The jobs that these words ask for, whose limits are all looked at.
 pub(crate) fn jobs<'a>(alloc: Global, words: &[&'a str]) -> Result<Vec<Job<'a>>, Failure>
-    ensures { IfErr result (λ failure. is_after_text failure ≡ false) }
+    ensures jobs { IfOk result (λ jobs. map job_value jobs.items ≡ jobs_in words.now) }
+    ensures fault { IfErr result (λ failure. is_after_text failure ≡ false) }
 {
     if words.len() % 3 != 0 {
         return Err(Failure::NotInThrees);
@@ -65,8 +78,8 @@ fn terms_of<F: Opens>(
     job: &Job<'_>,
     layout: &Layout,
 ) -> Result<Arc<Terms>, Failure>
-    ensures terms { IfOk result (λ terms. AreTermsOf
-        layout.now.size job.now.limit layout.now.policy (arc_value terms)) }
+    ensures terms { IfOk result (λ terms.
+        AreTermsOf (F.known files.now) layout.now (job_value job.now) (arc_value terms)) }
     ensures fault { IfErr result (λ failure. is_after_text failure ≡ false) }
 {
     let bytes = match font_file(alloc, files, job.font) {
@@ -83,21 +96,21 @@ fn terms_of<F: Opens>(
     }
 }
 
-/// The terms of all jobs: each font is read before any file is opened.
-pub(crate) fn all_terms<F: Opens>(
+/// The names of the jobs' files, each with the job's terms: each font is read before any file is opened.
+pub(crate) fn all_terms<'a, F: Opens>(
     alloc: Global,
     files: &F,
-    jobs: &[Job<'_>],
+    jobs: &[Job<'a>],
     layout: &Layout,
-) -> Result<Vec<Arc<Terms>>, Failure>
-    ensures terms { IfOk result (λ all. AllZip (λ job terms. AreTermsOf
-        layout.now.size job.limit layout.now.policy (arc_value terms)) jobs.now all.items) }
+) -> Result<Vec<(&'a str, Arc<Terms>)>, Failure>
+    ensures terms { IfOk result (λ all.
+        AllZip (HasTermsOf (F.known files.now) layout.now) jobs.now all.items) }
     ensures fault { IfErr result (λ failure. is_after_text failure ≡ false) }
 {
     let mut all = Vec::new(alloc);
     for job in jobs {
         let terms = terms_of(alloc, files, all.len() + 1, job, layout)?;
-        all.push(terms)
+        all.push((job.file, terms))
             .map_err(|_| Failure::Tool(ToolFault::OutOfMemory))?;
     }
     Ok(all)

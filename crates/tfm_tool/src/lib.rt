@@ -12,6 +12,7 @@ pub use texts_of_fonts::{check_text, counts_text, finding_text, list_all_text, l
 mod args;
 mod checking;
 mod commands;
+mod each;
 mod exit;
 mod files;
 mod jobs;

@@ -1,5 +1,5 @@
 //! Files by their names: those of the file system, and files in memory.
-ghost use Rattle.std.specs.Prelude.{◌≡◌, ℕ, List, Option, Some, IfOk, IfSome};
+ghost use Rattle.std.specs.Prelude.{◌≡◌, ℕ, List, Option, Some, IfOk, IfSome, is_ok, is_some};
 ghost use Rattle.tfm_tool.specs.Named.{bytes_in};
 
 use std::io::{ErrorKind, Read};
@@ -68,7 +68,11 @@ impl<'a> Opens for InMemory<'a> {
 
     ghost known = { λ memory name. bytes_in memory.files.now name };
 
-    fn open(&self, name: &str) -> io::Result<&'a [u8]> {
+    fn open(&self, name: &str) -> io::Result<&'a [u8]>
+        ensures known { IfOk result (λ file. IfSome (⟦<InMemory<'a> as Opens>⟧.known self.now name.now)
+            (λ all. ⟦<&'a [u8] as Read>⟧.remaining file ≡ Some all)) }
+        ensures there { is_ok result ≡ is_some (⟦<InMemory<'a> as Opens>⟧.known self.now name.now) }
+    {
         for file in self.files {
             if file.0 == name {
                 return Ok(file.1);

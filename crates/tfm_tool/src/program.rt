@@ -7,9 +7,10 @@ ghost use Rattle.tfm_tool.specs.Status.{AfterText, is_before_output, status_of};
 
 use crate::args::{Request, requested};
 use crate::checking::check;
+use crate::each::set_jobs;
 use crate::exit::Failure;
 use crate::files::font_bytes;
-use crate::runs::{set_files, set_jobs, stream};
+use crate::runs::{set_files, stream};
 use crate::{Disk, Opens, counts_text, list_all_text, list_text};
 use clap::error::ErrorKind as WordsKind;
 use run_texts::{ToolFault, accepted};

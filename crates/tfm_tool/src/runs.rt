@@ -1,4 +1,4 @@
-//! The subcommands `set`, `stream` and `each`: what each reads and opens, its run, and the status.
+//! The subcommands `set` and `stream`: what each reads and opens, its run, and the status.
 ghost use Rattle.std.specs.Prelude.{◌≡◌, ◌≢◌, ◌⊎◌, true, false, [], ◌∷◌, codes, Contains, Err, Some, IfErr, IfOk, IfSome};
 ghost use Rattle.tfm_tables.specs.declared.fault.FontFault.{FontFault as Refusal};
 ghost use Rattle.tfm_tables.specs.Acceptance.{font_fault_of};
@@ -14,11 +14,10 @@ ghost use Rattle.tfm_tool.specs.Status.{AfterText, is_after_text, is_before_outp
 ghost use Rattle.run_texts.specs.Endings.{summary_status};
 
 use crate::Opens;
-use crate::args::{Jobs, Setting};
+use crate::args::Setting;
 use crate::exit::Failure;
-use crate::files::{font_bytes, open_each, open_files};
-use crate::jobs::{all_terms, jobs};
-use run_texts::{Summary, ToolFault, accepted, set_each, set_text, status, stream_text};
+use crate::files::{font_bytes, open_files};
+use run_texts::{Summary, ToolFault, accepted, set_text, status, stream_text};
 use set_run::{LineSource, MOST_SOURCES, NoGate, ReaderSource};
 use std::alloc::Global;
 use std::io::{Read, Write};
@@ -245,39 +244,8 @@ where
     finish(&streamed?, out)
 }
 
-/// The lines of files, each set with a font and a limit of its own: the status that the records lead
-/// to. All fonts are read before any file is opened.
-pub(crate) fn set_jobs<R, F, O>(
-    rt: &R,
-    files: &F,
-    asked: &Jobs<'_>,
-    out: &mut O,
-) -> Result<u8, Failure>
-where
-    R: AllocGlobal + Threads + Wait + Clock + Sync,
-    F: Opens,
-    O: Write,
-    ensures status { IfOk result (λ status. Contains (0 ∷ 1 ∷ []) status) }
-    ensures untouched { IfErr result (λ failure. is_before_output failure ≡ true → out.new ≡ out.old) }
-{
-    let layout = asked.layout;
-    let jobs = jobs(rt.alloc(), asked.words.as_slice())?;
-    let terms = all_terms(rt.alloc(), files, jobs.as_slice(), &layout)?;
-    let sources = open_each(rt.alloc(), files, jobs.as_slice(), terms)?;
-    let summary = set_each(
-        rt,
-        rt.alloc(),
-        sources,
-        layout.plan,
-        layout.version,
-        &NoGate,
-        out,
-    )?;
-    finish(&summary, out)
-}
-
 /// The status after a text that was written, once all of it is out; 4 and 5 are told as faults.
-fn finish<O: Write>(summary: &Summary, out: &mut O) -> Result<u8, Failure>
+pub(crate) fn finish<O: Write>(summary: &Summary, out: &mut O) -> Result<u8, Failure>
     ensures status { IfOk result (λ status. Contains (0 ∷ 1 ∷ []) status) }
     ensures worst { AfterText result (λ status. status ≡ summary_status summary.now) }
     ensures kept { Keeps (O.contents out.old) (O.contents out.new) }

@@ -1,13 +1,21 @@
-use Rattle.std.proofs.Common.{◌+◌, take, max, sym, subst}
-use Rattle.tfm_tool.specs.Checking.{AreChecked}
-use Rattle.tfm_tool.proofs.CheckingLemmas.{one_checked}
+use Rattle.std.proofs.Common.{◌+◌, ap, take, sym, subst}
+use Rattle.tfm_tool.specs.Checking.{AreChecked, IsFound}
+use Rattle.tfm_tool.proofs.CheckingLemmas.{found_at_start, one_checked, still_unread}
 use Rattle.tfm_tool.proofs.checking.check_all.Goals as goal
 
 pub loop-name-preserved : goal.loop-name-preserved
 loop-name-preserved g c =
     let within = rw c.deref-name-items.ensures.value at c.loop-name-test.true in
     let line = rw c.deref-name-items.ensures.value at c.in_ok-finding.ensures.text in
-    subst (AreChecked (take (c.loop-name.name-index + 1) c.args.asked.now.fonts.items) (g.O.Write.contents c.args.out.now) (g.O.Write.contents c.check_one.new.out))
-    (sym c.higher-highest.ensures)
-    (one_checked c.args.asked.now.fonts.items c.loop-name.name-index _ c.in_ok-finding.finding (g.O.Write.contents c.args.out.now)
-    (g.O.Write.contents c.loop-name.out) (g.O.Write.contents c.check_one.new.out) c.loop-name.highest within c.loop-name.invariant line)
+    let found = rw c.deref-name-items.ensures.value at c.in_ok-finding.ensures.found in
+    let other = rw c.deref-name-items.ensures.value at c.check_one.ensures.other in (
+      λ few.
+          subst (AreChecked (g.F.Opens.known c.args.files.now) (g.I.Read.remaining c.args.input.now) (take (c.loop-name.name-index + 1) c.args.asked.now.fonts.items) (g.O.Write.contents c.args.out.now) (g.O.Write.contents c.check_one.new.out))
+          (sym c.higher-highest.ensures)
+          (one_checked (g.F.Opens.known c.args.files.now) (g.I.Read.remaining c.args.input.now) c.args.asked.now.fonts.items c.loop-name.name-index _ c.in_ok-finding.finding (g.O.Write.contents c.args.out.now)
+          (g.O.Write.contents c.loop-name.out) (g.O.Write.contents c.check_one.new.out) c.loop-name.highest within (c.loop-name.invariant.0 few)
+          (found_at_start c.args.asked.now.fonts.items c.loop-name.name-index _ within (g.I.Read.remaining c.args.input.now) (g.I.Read.remaining c.loop-name.input) c.loop-name.invariant.1
+          (g.F.Opens.known c.args.files.now) (λ all. IsFound all c.in_ok-finding.finding) few found) line),
+      still_unread c.args.asked.now.fonts.items c.loop-name.name-index _ within (g.I.Read.remaining c.args.input.now) (g.I.Read.remaining c.loop-name.input) c.loop-name.invariant.1
+          (g.I.Read.remaining c.check_one.new.input) (λ no. ap g.I.Read.remaining (other no)),
+    )

@@ -1,0 +1,18 @@
+use Rattle.std.proofs.Common.{rules, ◌≡◌, ◌∷◌, [], ◌++◌, refl, subst, sym}
+use Rattle.std.proofs.lemmas.Slice.Zip.{all_zipped_more}
+use Rattle.std.specs.List.{AllZip}
+use Rattle.std.specs.declared.alloc.Global.{Global}
+use Rattle.std.specs.declared.sync.Arc.{Arc}
+use Rattle.set_line.specs.Terms.{TermsValue}
+use Rattle.tfm_tool.specs.Jobs.{IsOpenedWith}
+use Rattle.tfm_tool.proofs.ReaderLemmas.{reader_told}
+use Rattle.tfm_tool.proofs.files.open_each.Goals as goal
+
+pub loop-name-preserved : goal.loop-name-preserved
+loop-name-preserved g c =
+    let source : _ × Arc TermsValue Global = (c.in_ok-source.source, c.in-Some.terms) in
+    let more : c.push.new.self.items ≡ c.loop-name.sources.items ++ source ∷ [] = search rules in
+    subst (λ all. AllZip (IsOpenedWith (g.F.Opens.known c.args.files.now) (reader_told g.F.File.Read.remaining))
+    (c.loop-name.yielded ++ (c.in-Some.name, c.in-Some.terms) ∷ []) all) (sym more)
+    (all_zipped_more (IsOpenedWith (g.F.Opens.known c.args.files.now) (reader_told g.F.File.Read.remaining)) c.loop-name.yielded c.loop-name.sources.items
+    (c.in-Some.name, c.in-Some.terms) source c.loop-name.invariant (c.in_ok-source.ensures.source, refl))

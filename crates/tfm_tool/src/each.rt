@@ -1,0 +1,70 @@
+//! The subcommand `each`: the sources of its jobs, their run, and the status.
+ghost use Rattle.std.specs.Prelude.{◌≡◌, true, false, [], ◌∷◌, map, Contains, IfErr, IfOk};
+ghost use Rattle.std.specs.List.{AllZip};
+ghost use Rattle.tfm_tool.specs.Jobs.{IsSourceOfJob, jobs_in, told_with_terms};
+ghost use Rattle.tfm_tool.specs.Requests.{IsEachSet};
+ghost use Rattle.tfm_tool.specs.Status.{AfterText, is_after_text, is_before_output};
+ghost use Rattle.tfm_tool.specs.Told.{told_by};
+
+use crate::Opens;
+use crate::args::Jobs;
+use crate::exit::Failure;
+use crate::files::open_each;
+use crate::jobs::{all_terms, jobs};
+use crate::runs::finish;
+use run_texts::set_each;
+use set_line::Terms;
+use set_run::{LineSource, NoGate, ReaderSource};
+use std::alloc::Global;
+use std::io::Write;
+use std::sync::{Arc, Wait};
+use std::thread::Threads;
+use std::time::Clock;
+
+/// The sources of the jobs, each with its terms. All fonts are read before any file is opened.
+fn job_sources<F: Opens>(
+    alloc: Global,
+    files: &F,
+    asked: &Jobs<'_>,
+) -> Result<Vec<(ReaderSource<F::File>, Arc<Terms>)>, Failure>
+    ensures sources { IfOk result (λ sources. AllZip (IsSourceOfJob (F.known files.now) asked.now.layout)
+        (jobs_in asked.now.words.items)
+        (map (told_with_terms (told_by ⟦<ReaderSource<F::File> as LineSource>⟧.to_come
+        ⟦<ReaderSource<F::File> as LineSource>⟧.failed)) sources.items)) }
+    ensures fault { IfErr result (λ failure. is_after_text failure ≡ false) }
+{
+    let given = jobs(alloc, asked.words.as_slice())?;
+    let with_terms = all_terms(alloc, files, given.as_slice(), &asked.layout)?;
+    open_each(alloc, files, with_terms)
+}
+
+/// The lines of files, each set with a font and a limit of its own: the status that the records lead
+/// to.
+pub(crate) fn set_jobs<R, F, O>(
+    rt: &R,
+    files: &F,
+    asked: &Jobs<'_>,
+    out: &mut O,
+) -> Result<u8, Failure>
+where
+    R: AllocGlobal + Threads + Wait + Clock + Sync,
+    F: Opens,
+    O: Write,
+    ensures text { AfterText result (IsEachSet (F.known files.now)
+        (O.contents out.old) (O.contents out.new) asked.now) }
+    ensures status { IfOk result (λ status. Contains (0 ∷ 1 ∷ []) status) }
+    ensures untouched { IfErr result (λ failure. is_before_output failure ≡ true → out.new ≡ out.old) }
+{
+    let sources = job_sources(rt.alloc(), files, asked)?;
+    let layout = asked.layout;
+    let summary = set_each(
+        rt,
+        rt.alloc(),
+        sources,
+        layout.plan,
+        layout.version,
+        &NoGate,
+        out,
+    )?;
+    finish(&summary, out)
+}
