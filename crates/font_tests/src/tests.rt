@@ -1,3 +1,4 @@
+mod built;
 mod counts_of_fonts;
 mod damage;
 mod faults;
@@ -10,8 +11,6 @@ mod listings;
 mod programs;
 mod readers;
 mod reading;
-mod sample;
-mod samples;
 mod scaled;
 mod slow;
 mod words;

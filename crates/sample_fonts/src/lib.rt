@@ -1,26 +1,18 @@
-//! Sample fonts that more than one crate of tests reads, as the words of their files.
+//! Sample fonts for tests, field by field, and the files that they make.
 #![tactic(auto)]
 
-/// A font of a, b and c without programs, of 10 points.
-pub const PLAIN: [u32; 20] = [
-    0x0014_0002, // 20 words, 2 of them in the header
-    0x0061_0063, // from a to c
-    0x0004_0001, // 4 widths, 1 height
-    0x0001_0001, // 1 depth, 1 italic correction
-    0x0000_0000, // no instructions, no kerns
-    0x0000_0002, // no recipes, 2 parameters
-    0x0000_0000, // no check sum
-    0x00A0_0000, // 10 points
-    0x0100_0000, // a: the first width
-    0x0200_0000, // b: the second one
-    0x0300_0000, // c: the third one
-    0x0000_0000, // the width of no character
-    0x0008_0000, // half of the size: 327,680 scaled points
-    0x0004_0000, // a quarter: 163,840
-    0x000C_0000, // three quarters: 491,520
-    0x0000_0000, // no height
-    0x0000_0000, // no depth
-    0x0000_0000, // no italic correction
-    0x0000_0000, // the slant
-    0x0005_5555, // the space, a third of the size: 218,453
-];
+pub mod examples;
+pub mod files;
+mod fonts;
+mod instructions;
+mod sample;
+
+pub use fonts::{
+    A, A_FROM_0, A_FROM_1, AHEAD, B, B_FROM_3, BACK, BOUNDARY_EXISTS, C, C_FROM_2, ENDLESS, HALF,
+    INDIRECT, KERN_BEFORE_B, KERN_BEFORE_C, KERNS, LEFT_BOUNDARY, LIGATURE, LIGATURE_C,
+    NO_CHARACTERS, NO_PROGRAM, NOTHING, PLAIN, PLAIN_PARAMETERS, QUARTER, RIGHT_BOUNDARY,
+    THREE_QUARTERS, endless_program, header, header_texts, largest, largest_program,
+    ligature_program, with_characters, with_program,
+};
+pub use instructions::{boundary, go_to, kern_before, last, ligature_before};
+pub use sample::{Info, Sample};

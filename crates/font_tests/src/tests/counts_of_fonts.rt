@@ -1,24 +1,9 @@
 use font_texts::{FontTextFault, counts_text};
+use sample_fonts::files::NO_CHARACTERS;
 use std::process::Abort;
 use std::test::Fail;
 use tfm_tables::FontFault;
 use tfm_words::{CountFault, DesignFault};
-
-/// The font without characters, of 5 points.
-static NO_CHARACTERS: [u8; 48] = [
-    0, 12, 0, 2, // lf, lh
-    0, 1, 0, 0, // bc, ec
-    0, 1, 0, 1, // nw, nh
-    0, 1, 0, 1, // nd, ni
-    0, 0, 0, 0, // nl, nk
-    0, 0, 0, 0, // ne, np
-    0, 0, 0, 0, // the check sum
-    0, 0x50, 0, 0, // the design size
-    0, 0, 0, 0, // width 0
-    0, 0, 0, 0, // height 0
-    0, 0, 0, 0, // depth 0
-    0, 0, 0, 0, // italic correction 0
-];
 
 /// The place of the design size.
 const DESIGN: usize = 28;

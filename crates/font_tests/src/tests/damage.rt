@@ -1,6 +1,5 @@
-use super::sample::Sample;
-use super::samples::{LEFT_BOUNDARY, LIGATURE, PLAIN, RIGHT_BOUNDARY, header, header_texts};
 use super::slow::slow_fault;
+use sample_fonts::{LEFT_BOUNDARY, LIGATURE, PLAIN, RIGHT_BOUNDARY, Sample, header, header_texts};
 use std::io::Print;
 use std::process::Abort;
 use std::test::Fail;

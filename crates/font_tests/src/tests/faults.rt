@@ -1,8 +1,7 @@
 use super::faulty::{CHARACTERS_AND_FIRST_ENTRIES, FORMS_OF_B, MEASURES, TOO_WIDE};
 use super::faulty_programs::{ACCEPTED, FIRST_INSTRUCTIONS, PROGRAMS};
-use super::sample::Sample;
-use super::samples::{
-    A, C, KERN_BEFORE_B, KERN_BEFORE_C, LIGATURE, PLAIN, with_characters, with_program,
+use sample_fonts::{
+    A, C, KERN_BEFORE_B, KERN_BEFORE_C, LIGATURE, PLAIN, Sample, with_characters, with_program,
 };
 use std::process::Abort;
 use std::test::Fail;

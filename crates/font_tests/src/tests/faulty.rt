@@ -1,7 +1,7 @@
 //! Fonts with faults, and the fault that is named of each.
-use super::sample::{Info, Sample};
-use super::samples::{
-    A_FROM_0, B, BACK, C, HALF, KERN_BEFORE_B, KERN_BEFORE_C, LIGATURE, LIGATURE_C, NOTHING, PLAIN,
+use sample_fonts::{
+    A_FROM_0, B, BACK, C, HALF, Info, KERN_BEFORE_B, KERN_BEFORE_C, LIGATURE, LIGATURE_C, NOTHING,
+    PLAIN, Sample,
 };
 use tfm_tables::{FontFault, Step};
 use tfm_words::Table::{Depth, Height, Italic, Kern, Param, Width};

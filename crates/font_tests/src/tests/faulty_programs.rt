@@ -1,8 +1,7 @@
 //! Programs with faults, and the fault that is named of each.
-use super::sample::Sample;
-use super::samples::{
+use sample_fonts::{
     KERN_BEFORE_B, KERN_BEFORE_C, LEFT_BOUNDARY, LIGATURE, LIGATURE_C, NO_CHARACTERS, PLAIN,
-    RIGHT_BOUNDARY,
+    RIGHT_BOUNDARY, Sample,
 };
 use tfm_tables::{Part, Step};
 

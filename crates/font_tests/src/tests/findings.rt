@@ -1,26 +1,10 @@
+use super::listings::Failing;
 use font_texts::{Finding, FontTextFault, check_text, finding_text};
-use std::io;
-use std::io::Write;
+use sample_fonts::files::NO_CHARACTERS;
 use std::process::Abort;
 use std::test::Fail;
 use tfm_tables::{FontFault, Part};
 use tfm_words::{Count, CountFault, DesignFault, Size, Table};
-
-/// The font without characters, of 5 points.
-static NO_CHARACTERS: [u8; 48] = [
-    0, 12, 0, 2, // lf, lh
-    0, 1, 0, 0, // bc, ec
-    0, 1, 0, 1, // nw, nh
-    0, 1, 0, 1, // nd, ni
-    0, 0, 0, 0, // nl, nk
-    0, 0, 0, 0, // ne, np
-    0, 0, 0, 0, // the check sum
-    0, 0x50, 0, 0, // the design size
-    0, 0, 0, 0, // width 0
-    0, 0, 0, 0, // height 0
-    0, 0, 0, 0, // depth 0
-    0, 0, 0, 0, // italic correction 0
-];
 
 /// A look at these bytes under this name finds this, and its line stands behind what was there.
 fn checks<R: Abort + AllocGlobal>(
@@ -189,27 +173,6 @@ fn each_finding_has_its_words(rt: HostRuntime) -> Result<(), Fail> {
         }
     }
     Ok(())
-}
-
-/// A writer that takes some bytes, and then fails.
-#[derive(Drop)]
-struct Failing {
-    room: usize,
-}
-
-impl Write for Failing {
-    fn write(&mut self, buf: &[u8]) -> io::Result<usize> {
-        if self.room == 0 {
-            return Err(io::Error::from(io::ErrorKind::StorageFull));
-        }
-        let taken = buf.len().min(self.room);
-        self.room -= taken;
-        Ok(taken)
-    }
-
-    fn flush(&mut self) -> io::Result<()> {
-        Ok(())
-    }
 }
 
 #[test]

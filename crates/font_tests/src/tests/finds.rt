@@ -1,8 +1,7 @@
-use super::sample::{Info, Sample};
-use super::samples::{
-    A_FROM_0, BACK, BOUNDARY_EXISTS, ENDLESS, INDIRECT, KERN_BEFORE_B, KERN_BEFORE_C,
-    LEFT_BOUNDARY, LIGATURE, NO_CHARACTERS, NO_PROGRAM, NOTHING, PLAIN, RIGHT_BOUNDARY, largest,
-    largest_program,
+use sample_fonts::{
+    A_FROM_0, BACK, BOUNDARY_EXISTS, ENDLESS, INDIRECT, Info, KERN_BEFORE_B, KERN_BEFORE_C,
+    LEFT_BOUNDARY, LIGATURE, NO_CHARACTERS, NO_PROGRAM, NOTHING, PLAIN, RIGHT_BOUNDARY, Sample,
+    largest, largest_program,
 };
 use std::alloc::{AllocError, Global};
 use std::process::Abort;

@@ -1,6 +1,5 @@
 use super::readers::read;
-use super::sample::Sample;
-use super::samples::{PLAIN, header, header_texts};
+use sample_fonts::{PLAIN, Sample, header, header_texts};
 use std::process::Abort;
 use std::test::Fail;
 use tfm_tables::Font;

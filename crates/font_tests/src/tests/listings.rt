@@ -1,92 +1,34 @@
 use font_texts::{FontTextFault, list_all_text, list_text};
+use sample_fonts::{
+    A, AHEAD, B, HALF, Info, NOTHING, PLAIN, Sample, header, ligature_program, with_program,
+};
 use std::alloc::{AllocError, Global};
 use std::io;
 use std::io::Write;
 use std::process::Abort;
 use std::test::Fail;
-use tfm_tables::{Font, FontFault};
+use tfm_tables::{Font, FontFault, Step};
 use tfm_words::CountFault;
 
-/// The characters a, b and c at 10 points, with these three counts (lf, nl and nk), char_info words,
-/// instructions and kerns.
-fn letters(
-    alloc: Global,
-    [lf, nl, nk]: [u16; 3],
-    infos: [[u8; 4]; 3],
-    program: &[[u8; 4]],
-    kerns: &[[u8; 4]],
-) -> Result<Vec<u8>, AllocError> {
-    let mut bytes = Vec::new(alloc);
-    for count in [lf, 2, 97, 99, 4, 1, 1, 1, nl, nk, 0, 2] {
-        bytes.extend_from_slice(&count.to_be_bytes())?;
-    }
-    push_words(&mut bytes, &HEADER)?;
-    push_words(&mut bytes, &infos)?;
-    push_words(&mut bytes, &SIZES)?;
-    push_words(&mut bytes, program)?;
-    push_words(&mut bytes, kerns)?;
-    push_words(&mut bytes, &PARAMETERS)?;
-    Ok(bytes)
-}
-
-static HEADER: [[u8; 4]; 2] = [
-    [0, 0, 0, 0], // check sum
-    [0, 0xA0, 0, 0], // 10 points
-];
-
-static SIZES: [[u8; 4]; 7] = [
-    [0, 0, 0, 0], // width 0
-    [0, 0x08, 0, 0], // width 1: half the size
-    [0, 0x04, 0, 0], // width 2: a quarter
-    [0, 0x0C, 0, 0], // width 3: three quarters
-    [0, 0, 0, 0], // height 0
-    [0, 0, 0, 0], // depth 0
-    [0, 0, 0, 0], // italic 0
-];
-
-static PARAMETERS: [[u8; 4]; 2] = [
-    [0, 0, 0, 0], // slant
-    [0, 5, 0x55, 0x55], // space: a third
-];
-
-fn push_words(bytes: &mut Vec<u8>, words: &[[u8; 4]]) -> Result<(), AllocError> {
-    for word in words {
-        bytes.extend_from_slice(word)?;
-    }
-    Ok(())
-}
-
-/// a's program has a ligature c for b, and a kern for c; c's has a kern for b.
+/// The file of the font in which a and b are replaced by this operation.
 fn ligature(alloc: Global, op: u8) -> Result<Vec<u8>, AllocError> {
-    letters(
-        alloc,
-        [25, 3, 2],
-        [[1, 0, 1, 0], [2, 0, 0, 0], [3, 0, 1, 2]],
-        &[[0, 98, op, 99], [128, 99, 128, 0], [128, 98, 128, 1]],
-        &[[0xFF, 0xFF, 0, 0], [0, 0, 0x80, 0]],
-    )
+    with_program(&ligature_program(op, 99)).file(alloc)
 }
 
 /// No characters, at 5 points, with a coding scheme, a family and the last word of a header of 18.
-fn header(
+fn header_file(
     alloc: Global,
     coding: &[u8],
     family: &[u8],
     last: [u8; 4],
 ) -> Result<Vec<u8>, AllocError> {
-    let mut bytes = Vec::new(alloc);
-    for count in [28u16, 18, 1, 0, 1, 1, 1, 1, 0, 0, 0, 0] {
-        bytes.extend_from_slice(&count.to_be_bytes())?;
-    }
-    bytes.extend_from_slice(&[0, 0, 0, 0])?; // check sum
-    bytes.extend_from_slice(&[0, 0x50, 0, 0])?; // 5 points
-    bytes.extend_from_slice(coding)?;
-    bytes.resize(24 + 48, 0)?; // 40 bytes of coding scheme
-    bytes.extend_from_slice(family)?;
-    bytes.resize(24 + 68, 0)?; // 20 bytes of family
-    bytes.extend_from_slice(&last)?;
-    bytes.resize(112, 0)?; // four words: width, height, depth and italic 0
-    Ok(bytes)
+    let mut texts = Vec::new(alloc);
+    texts.extend_from_slice(coding)?;
+    texts.resize(40, 0)?; // 40 bytes of coding scheme
+    texts.extend_from_slice(family)?;
+    texts.resize(60, 0)?; // 20 bytes of family
+    texts.extend_from_slice(&last)?;
+    header(&texts).file(alloc)
 }
 
 fn listing(alloc: Global, bytes: &[u8]) -> Result<Vec<u8>, Fail> {
@@ -141,7 +83,7 @@ static LONG_HEADER: &[u8] = b"checksum 0\n\
 
 #[test]
 fn a_long_header_is_listed(rt: HostRuntime) -> Result<(), Fail> {
-    let bytes = header(rt.alloc(), b"\x08TEX TEXT", b"\x03CMR", [0, 0, 0, 0xEA])?;
+    let bytes = header_file(rt.alloc(), b"\x08TEX TEXT", b"\x03CMR", [0, 0, 0, 0xEA])?;
     lists(&rt, &bytes, LONG_HEADER)
 }
 
@@ -158,9 +100,44 @@ static UNPRINTABLE: &[u8] = b"checksum 0\n\
 #[test]
 fn unprintable_bytes_and_backslashes_are_escaped(rt: HostRuntime) -> Result<(), Fail> {
     let coding = b"\x07 a\\\x7F\xE9~\x1F";
-    let bytes = header(rt.alloc(), coding, b"\x00", [0x80, 0, 0, 9])?;
+    let bytes = header_file(rt.alloc(), coding, b"\x00", [0x80, 0, 0, 9])?;
     lists(&rt, &bytes, UNPRINTABLE)
 }
+
+/// Both boundaries, with a character that has a larger one and one that has a recipe.
+static BOTH_BOUNDARIES: Sample<'static> = Sample {
+    characters: &[
+        Info {
+            tag: 2,
+            remainder: 98,
+            ..A
+        },
+        Info {
+            tag: 3,
+            remainder: 7,
+            ..B
+        },
+        NOTHING,
+    ],
+    program: &[
+        // the right boundary character
+        Step {
+            skip: 255,
+            next: 124,
+            op: 0,
+            remainder: 1,
+        },
+        // the left boundary's program begins at instruction 0
+        Step {
+            skip: 255,
+            next: 0,
+            op: 0,
+            remainder: 0,
+        },
+    ],
+    kerns: &[AHEAD],
+    ..PLAIN
+};
 
 static BOUNDARIES: &[u8] = b"checksum 0\n\
     design 655360\n\
@@ -177,37 +154,28 @@ static BOUNDARIES: &[u8] = b"checksum 0\n\
 
 #[test]
 fn boundaries_and_tags_are_listed(rt: HostRuntime) -> Result<(), Fail> {
-    let bytes = letters(
-        rt.alloc(),
-        [23, 2, 1],
-        [[1, 0, 2, 98], [2, 0, 3, 7], [0, 0, 0, 0]],
-        &[[255, 124, 0, 1], [255, 0, 0, 0]],
-        &[[0, 0, 0x80, 0]],
-    )?;
+    let bytes = BOTH_BOUNDARIES.file(rt.alloc())?;
     lists(&rt, &bytes, BOUNDARIES)
 }
 
 /// One character, whose recipe is number 1 of two, at 10 points.
-static RECIPES: [[u8; 4]; 18] = [
-    [0, 17, 0, 2], // lf, lh
-    [0, 65, 0, 65], // bc, ec
-    [0, 2, 0, 1], // nw, nh
-    [0, 1, 0, 1], // nd, ni
-    [0, 0, 0, 0], // nl, nk
-    [0, 2, 0, 1], // ne, np
-    [0x44, 0x45, 0xAF, 0x0F], // the check sum
-    [0, 0xA0, 0, 0], // 10 points
-    [1, 0, 3, 1], // A: width 1, recipe 1
-    [0, 0, 0, 0], // width 0
-    [0, 0x08, 0, 0], // width 1
-    [0, 0, 0, 0], // height 0
-    [0, 0, 0, 0], // depth 0
-    [0, 0, 0, 0], // italic 0
-    [0, 0, 0, 65], // recipe 0
-    [48, 60, 58, 255], // recipe 1
-    [0, 0x10, 0, 0], // the slant
-    [1, 2, 3, 4], // behind the font
-];
+static RECIPES: Sample<'static> = Sample {
+    bc: 65,
+    ec: 65,
+    check_sum: 0x4445_AF0F,
+    characters: &[Info {
+        tag: 3,
+        remainder: 1,
+        ..A
+    }],
+    width: &[0, HALF],
+    recipes: &[
+        65, // only a part that is repeated
+        0x303C_3AFF, // top 48, middle 60, bottom 58, repeated 255
+    ],
+    parameters: &[0x10_0000], // the slant
+    ..PLAIN
+};
 
 static ALL: &[u8] = b"lf 17\n\
     lh 2\n\
@@ -250,8 +218,8 @@ static ALL: &[u8] = b"lf 17\n\
 
 #[test]
 fn all_of_a_font_is_listed(rt: HostRuntime) -> Result<(), Fail> {
-    let mut bytes = Vec::new(rt.alloc());
-    push_words(&mut bytes, &RECIPES)?;
+    let mut bytes = RECIPES.file(rt.alloc())?;
+    bytes.extend_from_slice(&[1, 2, 3, 4])?; // behind the font
     let mut out = Vec::new(rt.alloc());
     assert!(rt; list_all_text(rt.alloc(), &bytes, None, &mut out).is_ok());
     assert_eq!(rt; out.as_slice(), ALL);
@@ -305,8 +273,8 @@ fn each_operation_has_its_name(rt: HostRuntime) -> Result<(), Fail> {
 
 /// A writer that takes some bytes, and then fails.
 #[derive(Drop)]
-struct Failing {
-    room: usize,
+pub struct Failing {
+    pub room: usize,
 }
 
 impl Write for Failing {

@@ -1,8 +1,8 @@
 use super::readers::read;
-use super::sample::Sample;
-use super::samples::{
+use sample_fonts::{
     A_FROM_0, A_FROM_1, BACK, BOUNDARY_EXISTS, C, ENDLESS, INDIRECT, KERN_BEFORE_C, LEFT_BOUNDARY,
-    LIGATURE, NO_CHARACTERS, NO_PROGRAM, PLAIN, RIGHT_BOUNDARY, ligature_program, with_program,
+    LIGATURE, NO_CHARACTERS, NO_PROGRAM, PLAIN, RIGHT_BOUNDARY, Sample, ligature_program,
+    with_program,
 };
 use std::process::Abort;
 use std::test::Fail;

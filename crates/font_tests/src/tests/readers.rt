@@ -1,7 +1,6 @@
-use super::sample::{Info, Sample};
-use super::samples::{
-    A, A_FROM_0, AHEAD, BACK, C, HALF, KERN_BEFORE_C, LIGATURE, NO_CHARACTERS, NOTHING, PLAIN,
-    QUARTER, THREE_QUARTERS,
+use sample_fonts::{
+    A, A_FROM_0, AHEAD, BACK, C, HALF, Info, KERN_BEFORE_C, LIGATURE, NO_CHARACTERS, NOTHING,
+    PLAIN, QUARTER, Sample, THREE_QUARTERS,
 };
 use std::alloc::Global;
 use std::process::Abort;

@@ -1,5 +1,5 @@
 use super::faults::is_truncated;
-use super::samples::{RIGHT_BOUNDARY, largest, largest_program};
+use sample_fonts::{RIGHT_BOUNDARY, largest, largest_program};
 use std::process::Abort;
 use std::test::Fail;
 use tfm_tables::{Font, FontFault, LeftSide, Step};
@@ -41,7 +41,7 @@ fn the_largest_file(rt: HostRuntime) -> Result<(), Fail> {
 }
 
 /// With memory enough the font is read. The kit's option `--fail-alloc` refuses one request: the
-/// first two make the file, and the next ones are the reading's own. A refused one of these is told
+/// first one makes the file, and the next ones are the reading's own. A refused one of these is told
 /// as refused memory, and the text that is printed says which it was.
 #[test]
 fn refused_memory(rt: HostRuntime) -> Result<(), Fail> {

@@ -1,6 +1,5 @@
 use super::readers::read;
-use super::sample::Sample;
-use super::samples::{BACK, HALF, PLAIN, PLAIN_PARAMETERS};
+use sample_fonts::{BACK, HALF, PLAIN, PLAIN_PARAMETERS, Sample};
 use std::process::Abort;
 use std::test::Fail;
 use tfm_tables::{Font, Metrics};

@@ -1,3 +1,4 @@
+use sample_fonts::{LIGATURE, NO_CHARACTERS, PLAIN, Sample};
 use std::alloc::{AllocError, Global};
 use std::process::Abort;
 use std::test::Fail;
@@ -8,125 +9,48 @@ use tfm_words::{
     Count, CountFault, Counts, DesignFault, FixWord, Size, Table, design_size, word_at,
 };
 
-/// The twelve counts of a sample font.
-#[derive(Clone, Copy)]
-struct Head {
-    lf: u16,
-    lh: u16,
-    bc: u16,
-    ec: u16,
-    nw: u16,
-    nh: u16,
-    nd: u16,
-    ni: u16,
-    nl: u16,
-    nk: u16,
-    ne: u16,
-    np: u16,
+/// Where counts stand in a file.
+const LF: usize = 0;
+
+const LH: usize = 2;
+
+const BC: usize = 4;
+
+const EC: usize = 6;
+
+const NW: usize = 8;
+
+const NH: usize = 10;
+
+const ND: usize = 12;
+
+const NI: usize = 14;
+
+const NK: usize = 18;
+
+const NE: usize = 20;
+
+const NP: usize = 22;
+
+/// A place in a file, and the count that stands there.
+type Placed = (usize, u16);
+
+/// The file of a font, but with these counts.
+fn file_with(alloc: Global, font: &Sample<'_>, counts: &[Placed]) -> Result<Vec<u8>, AllocError> {
+    let mut file = font.file(alloc)?;
+    for (place, count) in counts {
+        let [high, low] = count.to_be_bytes();
+        put(&mut file, *place, high);
+        put(&mut file, place.wrapping_add(1), low);
+    }
+    Ok(file)
 }
 
-impl Head {
-    fn numbers(&self) -> [u16; 12] {
-        [
-            self.lf, self.lh, self.bc, self.ec, self.nw, self.nh, self.nd, self.ni, self.nl,
-            self.nk, self.ne, self.np,
-        ]
+/// The file has this byte at a place.
+fn put(file: &mut Vec<u8>, place: usize, byte: u8) {
+    if let Some(old) = file.get_mut(place) {
+        *old = byte;
     }
-}
-
-/// The font without characters: the least that a font may have, of 12 words.
-const NO_CHARACTERS: Head = Head {
-    lf: 12,
-    lh: 2,
-    bc: 1,
-    ec: 0,
-    nw: 1,
-    nh: 1,
-    nd: 1,
-    ni: 1,
-    nl: 0,
-    nk: 0,
-    ne: 0,
-    np: 0,
-};
-
-/// Its words after the counts.
-const NO_CHARACTERS_WORDS: [u32; 6] = [
-    0, // check sum
-    0x50_0000, // design size: 5 points
-    0, // width 0
-    0, // height 0
-    0, // depth 0
-    0, // italic correction 0
-];
-
-/// A font with the characters a, b and c, without programs, of 20 words.
-const PLAIN: Head = Head {
-    lf: 20,
-    bc: 97,
-    ec: 99,
-    nw: 4,
-    np: 2,
-    ..NO_CHARACTERS
-};
-
-const PLAIN_WORDS: [u32; 14] = [
-    0, // check sum
-    0xA0_0000, // design size: 10 points
-    0x0100_0000, // a: width 1
-    0x0200_0000, // b: width 2
-    0x0300_0000, // c: width 3
-    0, // width 0
-    0x08_0000, // width 1: half of the size
-    0x04_0000, // width 2: a quarter
-    0x0C_0000, // width 3: three quarters
-    0, // height 0
-    0, // depth 0
-    0, // italic correction 0
-    0, // parameter 1: the slant
-    0x05_5555, // parameter 2: the space, a third
-];
-
-/// The same with a ligature and two kerns, of 25 words.
-const LIGATURE: Head = Head {
-    lf: 25,
-    nl: 3,
-    nk: 2,
-    ..PLAIN
-};
-
-const LIGATURE_WORDS: [u32; 19] = [
-    0, // check sum
-    0xA0_0000, // design size: 10 points
-    0x0100_0100, // a: width 1, its program begins at instruction 0
-    0x0200_0000, // b: width 2
-    0x0300_0102, // c: width 3, its program begins at instruction 2
-    0, // width 0
-    0x08_0000, // width 1
-    0x04_0000, // width 2
-    0x0C_0000, // width 3
-    0, // height 0
-    0, // depth 0
-    0, // italic correction 0
-    0x0062_0063, // instruction 0: before b, the ligature c
-    0x8063_8000, // instruction 1: before c, kern 0; the last of a
-    0x8062_8001, // instruction 2: before b, kern 1; the last of c
-    0xFFFF_0000, // kern 0
-    0x0000_8000, // kern 1
-    0, // parameter 1
-    0x05_5555, // parameter 2
-];
-
-/// The file of these counts and these words.
-fn file(alloc: Global, head: &Head, words: &[u32]) -> Result<Vec<u8>, AllocError> {
-    let mut bytes = Vec::new(alloc);
-    for count in head.numbers() {
-        bytes.extend_from_slice(&count.to_be_bytes())?;
-    }
-    for word in words {
-        bytes.extend_from_slice(&word.to_be_bytes())?;
-    }
-    Ok(bytes)
 }
 
 fn numbers_of(counts: &Counts) -> [u16; 12] {
@@ -148,17 +72,13 @@ fn numbers_of(counts: &Counts) -> [u16; 12] {
 
 #[test]
 fn counts_of_the_empty_font(rt: HostRuntime) -> Result<(), Fail> {
-    let other_spelling = Head {
-        bc: 256,
-        ec: 255,
-        ..NO_CHARACTERS
-    };
-    for head in [NO_CHARACTERS, other_spelling] {
-        let mut bytes = file(rt.alloc(), &head, &NO_CHARACTERS_WORDS)?;
+    for (bc, ec) in [(1, 0), (256, 255)] {
+        let counts = [(BC, bc), (EC, ec)];
+        let mut bytes = file_with(rt.alloc(), &NO_CHARACTERS, &counts)?;
         assert_eq!(rt; bytes.len(), 48);
-        let bc = head.bc;
+        let wanted = [12, 2, bc, ec, 1, 1, 1, 1, 0, 0, 0, 0];
         let counts = Counts::read(&bytes)?;
-        assert_eq!(rt; numbers_of(&counts), head.numbers(), "bc {bc}, 48 bytes");
+        assert_eq!(rt; numbers_of(&counts), wanted, "bc {bc}, 48 bytes");
         assert_eq!(rt; design_size(&bytes, &counts)?.get(), 327_680, "bc {bc}");
         bytes.push(0xFF)?;
         assert_eq!(rt; Counts::read(&bytes), Ok(counts), "bc {bc}, 49 bytes");
@@ -171,135 +91,55 @@ fn counts_of_the_empty_font(rt: HostRuntime) -> Result<(), Fail> {
 
 #[test]
 fn faults_of_counts(rt: HostRuntime) -> Result<(), Fail> {
-    let empty = NO_CHARACTERS;
     let cases = [
-        (
-            "lf 13",
-            Head { lf: 13, ..empty },
-            CountFault::LengthEquation,
-        ),
-        (
-            "nh 32768",
-            Head { nh: 32768, ..empty },
-            CountFault::CountRange(Count::Nh),
-        ),
-        ("bc 2", Head { bc: 2, ..empty }, CountFault::CharRange),
-        ("ec 256", Head { ec: 256, ..empty }, CountFault::CharRange),
-        ("lh 1", Head { lh: 1, ..empty }, CountFault::HeaderShort),
-        (
-            "ni 0",
-            Head { ni: 0, ..empty },
-            CountFault::EmptyTable(Italic),
-        ),
-        (
-            "ne 257",
-            Head { ne: 257, ..empty },
-            CountFault::TooManyRecipes,
-        ),
+        ("lf 13", (LF, 13), CountFault::LengthEquation),
+        ("nh 32768", (NH, 32768), CountFault::CountRange(Count::Nh)),
+        ("bc 2", (BC, 2), CountFault::CharRange),
+        ("ec 256", (EC, 256), CountFault::CharRange),
+        ("lh 1", (LH, 1), CountFault::HeaderShort),
+        ("ni 0", (NI, 0), CountFault::EmptyTable(Italic)),
+        ("ne 257", (NE, 257), CountFault::TooManyRecipes),
     ];
-    for (case, head, fault) in cases {
-        let bytes = file(rt.alloc(), &head, &NO_CHARACTERS_WORDS)?;
+    for (case, count, fault) in cases {
+        let bytes = file_with(rt.alloc(), &NO_CHARACTERS, &[count])?;
         assert_eq!(rt; Counts::read(&bytes), Err(fault), "{case}");
     }
     Ok(())
 }
 
+/// Counts of the plain font that are wrong, and the first fault.
+static FIRST_FAULTS: [(&[Placed], CountFault); 11] = [
+    (
+        &[(NP, 40000), (LF, 65535)],
+        CountFault::CountRange(Count::Lf),
+    ),
+    (
+        &[(NK, 32768), (ND, 32768)],
+        CountFault::CountRange(Count::Nd),
+    ),
+    (&[(NP, 32768), (BC, 101)], CountFault::CountRange(Count::Np)),
+    (&[(BC, 101), (LH, 1)], CountFault::CharRange),
+    (&[(LH, 0), (NW, 0)], CountFault::HeaderShort),
+    (&[(NW, 0), (NI, 0)], CountFault::EmptyTable(Width)),
+    (&[(ND, 0), (NH, 0)], CountFault::EmptyTable(Height)),
+    (&[(NH, 0), (NE, 257)], CountFault::EmptyTable(Height)),
+    (&[(NI, 0), (ND, 0)], CountFault::EmptyTable(Depth)),
+    (&[(NE, 257), (LF, 19)], CountFault::TooManyRecipes),
+    (&[(LF, 21)], CountFault::LengthEquation),
+];
+
 #[test]
 fn the_first_fault_in_order_is_named(rt: HostRuntime) -> Result<(), Fail> {
-    let plain = PLAIN;
-    let cases = [
-        (
-            Head {
-                np: 40000,
-                lf: 65535,
-                ..plain
-            },
-            CountFault::CountRange(Count::Lf),
-        ),
-        (
-            Head {
-                nk: 32768,
-                nd: 32768,
-                ..plain
-            },
-            CountFault::CountRange(Count::Nd),
-        ),
-        (
-            Head {
-                np: 32768,
-                bc: 101,
-                ..plain
-            },
-            CountFault::CountRange(Count::Np),
-        ),
-        (
-            Head {
-                bc: 101,
-                lh: 1,
-                ..plain
-            },
-            CountFault::CharRange,
-        ),
-        (
-            Head {
-                lh: 0,
-                nw: 0,
-                ..plain
-            },
-            CountFault::HeaderShort,
-        ),
-        (
-            Head {
-                nw: 0,
-                ni: 0,
-                ..plain
-            },
-            CountFault::EmptyTable(Width),
-        ),
-        (
-            Head {
-                nd: 0,
-                nh: 0,
-                ..plain
-            },
-            CountFault::EmptyTable(Height),
-        ),
-        (
-            Head {
-                nh: 0,
-                ne: 257,
-                ..plain
-            },
-            CountFault::EmptyTable(Height),
-        ),
-        (
-            Head {
-                ni: 0,
-                nd: 0,
-                ..plain
-            },
-            CountFault::EmptyTable(Depth),
-        ),
-        (
-            Head {
-                ne: 257,
-                lf: 19,
-                ..plain
-            },
-            CountFault::TooManyRecipes,
-        ),
-        (Head { lf: 21, ..plain }, CountFault::LengthEquation),
-    ];
-    for (head, fault) in cases {
-        let bytes = file(rt.alloc(), &head, &PLAIN_WORDS)?;
-        assert_eq!(rt; Counts::read(&bytes), Err(fault));
+    for (counts, fault) in &FIRST_FAULTS {
+        let bytes = file_with(rt.alloc(), &PLAIN, counts)?;
+        assert_eq!(rt; Counts::read(&bytes), Err(*fault), "{counts:?}");
     }
     Ok(())
 }
 
 #[test]
 fn cut_files(rt: HostRuntime) -> Result<(), Fail> {
-    let bytes = file(rt.alloc(), &LIGATURE, &LIGATURE_WORDS)?;
+    let bytes = LIGATURE.file(rt.alloc())?;
     assert_eq!(rt; bytes.len(), 100);
     assert!(rt; Counts::read(&bytes).is_ok());
     for len in 0..100 {
@@ -308,6 +148,14 @@ fn cut_files(rt: HostRuntime) -> Result<(), Fail> {
         assert_eq!(rt; Counts::read(&bytes[..len]), Err(fault), "{len} bytes");
     }
     Ok(())
+}
+
+/// The font without characters, with this design size.
+fn with_design(design: u32) -> Sample<'static> {
+    Sample {
+        design,
+        ..NO_CHARACTERS
+    }
 }
 
 #[test]
@@ -323,9 +171,7 @@ fn design_sizes(rt: HostRuntime) -> Result<(), Fail> {
         (0, Err(DesignFault::DesignSize)),
     ];
     for (header, wanted) in cases {
-        let mut words = NO_CHARACTERS_WORDS;
-        words[1] = header;
-        let bytes = file(rt.alloc(), &NO_CHARACTERS, &words)?;
+        let bytes = with_design(header).file(rt.alloc())?;
         let counts = Counts::read(&bytes)?;
         let size = design_size(&bytes, &counts).map(Size::get);
         assert_eq!(rt; size, wanted, "header word {header}");
@@ -347,8 +193,8 @@ fn places_of_tables(rt: HostRuntime) -> Result<(), Fail> {
         (Exten, (18, 0), (23, 0)),
         (Param, (18, 2), (23, 2)),
     ];
-    let plain = Counts::read(&file(rt.alloc(), &PLAIN, &PLAIN_WORDS)?)?;
-    let ligature = Counts::read(&file(rt.alloc(), &LIGATURE, &LIGATURE_WORDS)?)?;
+    let plain = Counts::read(&PLAIN.file(rt.alloc())?)?;
+    let ligature = Counts::read(&LIGATURE.file(rt.alloc())?)?;
     for (table, in_plain, in_ligature) in cases {
         assert_eq!(rt; plain.table(table), in_plain, "{table} of the plain font");
         assert_eq!(rt;
@@ -362,7 +208,7 @@ fn places_of_tables(rt: HostRuntime) -> Result<(), Fail> {
 
 #[test]
 fn words(rt: HostRuntime) -> Result<(), Fail> {
-    let bytes = file(rt.alloc(), &PLAIN, &PLAIN_WORDS)?;
+    let bytes = PLAIN.file(rt.alloc())?;
     assert_eq!(rt; bytes.len(), 80);
     assert_eq!(rt; word_at(&bytes, 0), [0x00, 0x14, 0x00, 0x02], "lf and lh");
     assert_eq!(rt;

@@ -1,48 +1,15 @@
 //! Sample fonts, and what is made with them.
 use line_lane::{Block, Capacity};
-use sample_fonts::PLAIN;
+use sample_fonts::{PLAIN, Sample, ligature_program, with_program};
 use set_line::{Answer, Limit, Line, Policy, Terms, Version, record};
 use std::alloc::Global;
 use std::process::Abort;
 use std::sync::Arc;
 use tfm_tables::Font;
 
-/// The plain font with programs of a and of c: between a and b a c is inserted, and kerns stand
-/// between a and c and between c and b.
-static LIGATURE: [u32; 25] = [
-    0x0019_0002, // 25 words, 2 of them in the header
-    0x0061_0063, // from a to c
-    0x0004_0001, // 4 widths, 1 height
-    0x0001_0001, // 1 depth, 1 italic correction
-    0x0003_0002, // 3 instructions, 2 kerns
-    0x0000_0002, // no recipes, 2 parameters
-    0x0000_0000, // no check sum
-    0x00A0_0000, // 10 points
-    0x0100_0100, // a: the first width, a program from instruction 0
-    0x0200_0000, // b: the second width
-    0x0300_0102, // c: the third width, a program from instruction 2
-    0x0000_0000, // the width of no character
-    0x0008_0000, // half of the size: 327,680 scaled points
-    0x0004_0000, // a quarter: 163,840
-    0x000C_0000, // three quarters: 491,520
-    0x0000_0000, // no height
-    0x0000_0000, // no depth
-    0x0000_0000, // no italic correction
-    0x0062_0363, // before b: c is inserted, and both stay; else the next one
-    0x8063_8000, // before c: kern 0; the last one
-    0x8062_8001, // before b: kern 1; the last one
-    0xFFFF_0000, // a sixteenth of the size back: -40,960 scaled points
-    0x0000_8000, // a thirty-second of it ahead: 20,480
-    0x0000_0000, // the slant
-    0x0005_5555, // the space, a third of the size: 218,453
-];
-
-/// Terms with the font of these words, at its design size; `None` if memory was refused.
-fn terms(alloc: Global, words: &[u32]) -> Option<Arc<Terms>> {
-    let mut file = Vec::with_capacity(alloc, 100).ok()?;
-    for word in words {
-        file.extend_from_slice(&word.to_be_bytes()).ok()?;
-    }
+/// Terms with a font, at its design size; `None` if memory was refused.
+fn terms(alloc: Global, sample: &Sample<'_>) -> Option<Arc<Terms>> {
+    let file = sample.file(alloc).ok()?;
     let font = Font::read(alloc, &file, None).ok()?;
     let terms = Terms::new(font, Limit::new(1_048_576)?, Policy::Refuse);
     Arc::new(alloc, terms).ok()
@@ -53,9 +20,10 @@ pub fn plain(alloc: Global) -> Option<Arc<Terms>> {
     terms(alloc, &PLAIN)
 }
 
-/// Terms with the font with programs; `None` if memory was refused.
+/// Terms with the font in which a c is inserted between a and b, and both stay; `None` if memory was
+/// refused.
 pub fn ligature(alloc: Global) -> Option<Arc<Terms>> {
-    terms(alloc, &LIGATURE)
+    terms(alloc, &with_program(&ligature_program(3, 99)))
 }
 
 /// A line of this text; `None` if memory was refused.

@@ -1,6 +1,5 @@
 mod matches;
 mod memory;
-mod parts;
 mod rewriting;
 mod samples;
 mod slow;

@@ -1,5 +1,6 @@
 //! Many lines of many sources, compared with the same lines set one after the other.
-use super::samples::{LIGATURE, LIMIT, plan, terms_of};
+use super::samples::{LIMIT, plan, terms_of};
+use sample_fonts::LIGATURE;
 use set_line::{Answer, Line, Outcome, Terms, set};
 use set_run::{ListSource, NoGate, Report, run};
 use std::alloc::Global;

@@ -1,8 +1,8 @@
 //! What a run reports doesn't hang on its plan.
 use super::entries::Entries;
 use super::reports::{reports, says_ab, sources_of_ab, text_of_ab};
-use super::samples::{ENDLESS, LIGATURE, LIMIT, line, plain, plan, source_of, terms_of};
-use sample_fonts::PLAIN;
+use super::samples::{LIMIT, line, plain, plan, source_of, terms_of};
+use sample_fonts::{ENDLESS, LIGATURE, PLAIN};
 use set_line::{Line, Terms};
 use set_run::{ListSource, NoGate, RunFault, run};
 use std::alloc::Global;

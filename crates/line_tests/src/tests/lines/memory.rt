@@ -3,8 +3,8 @@
 //! the call's own. A refused one of these is told as refused memory, what was handed in is as
 //! before, and the same call then succeeds. The text that is printed says which it was.
 use super::answers::refusal_of;
-use super::samples::{endless, ligature};
 use lig_kern::Item;
+use sample_fonts::examples::{endless, ligature};
 use set_line::{
     Answer, Limit, Line, LineRefusal, OutOfMemory, Outcome, Policy, Terms, Version, lines, record,
     set,

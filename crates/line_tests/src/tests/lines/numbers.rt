@@ -1,6 +1,6 @@
 //! Records with other numbers of source and place, and after other text.
 use super::answers::{LIMIT, answer_to, terms_of};
-use super::samples::{endless, plain};
+use sample_fonts::examples::{endless, plain};
 use set_line::{Answer, Limit, Policy, Terms, Version, record};
 use std::process::Abort;
 use std::sync::Arc;

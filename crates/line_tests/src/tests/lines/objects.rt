@@ -1,6 +1,6 @@
 //! Records as JSON objects, each whole.
 use super::answers::{LIMIT, answer_to, terms_of, text_of};
-use super::samples::{endless, left_boundary, ligature, plain, right_boundary};
+use sample_fonts::examples::{endless, left_boundary, ligature, plain, right_boundary};
 use set_line::{Policy, Version, record};
 use std::process::Abort;
 use std::test::Fail;

@@ -1,7 +1,7 @@
 //! The small types give what was put in.
 use super::answers::{answer_to, refusal_of, terms_of};
-use super::samples::plain;
 use lig_kern::Item;
+use sample_fonts::examples::plain;
 use set_line::{Answer, Items, Limit, Line, LineRefusal, OutOfMemory, Outcome, Policy, Terms};
 use std::alloc::AllocError;
 use std::process::Abort;

@@ -1,6 +1,6 @@
 //! Lines that are set, each with its whole record in both versions.
 use super::answers::{LIMIT, Row, refuses, sets_each, sets_row, terms_of};
-use super::samples::{
+use sample_fonts::examples::{
     boundary_exists, endless, indirect, left_boundary, ligature, plain, right_boundary,
 };
 use set_line::Policy;

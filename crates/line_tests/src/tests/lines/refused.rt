@@ -1,6 +1,6 @@
 //! Lines that are refused at sight.
 use super::answers::{LIMIT, refuses, terms_of};
-use super::samples::{endless, plain};
+use sample_fonts::examples::{endless, plain};
 use set_line::{Policy, Terms};
 use std::process::Abort;
 use std::sync::Arc;

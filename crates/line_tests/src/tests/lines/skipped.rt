@@ -1,6 +1,6 @@
 //! Characters that are missing, and skipped.
 use super::answers::{LIMIT, Row, refuses_with_one_step_less, sets, sets_many, terms_of};
-use super::samples::{left_boundary, plain, right_boundary};
+use sample_fonts::examples::{left_boundary, plain, right_boundary};
 use set_line::Policy;
 use std::process::Abort;
 use std::test::Fail;

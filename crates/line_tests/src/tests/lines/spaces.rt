@@ -1,6 +1,6 @@
 //! Spaces, and lines without anything else.
 use super::answers::{LIMIT, Row, has_records, sets_each, sets_many, terms_of};
-use super::samples::{largest, plain, without_parameters, without_space};
+use sample_fonts::examples::{largest, plain, without_parameters, without_space};
 use set_line::Policy;
 use std::test::Fail;
 

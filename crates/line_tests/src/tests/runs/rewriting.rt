@@ -1,7 +1,8 @@
 //! Words of many small fonts, set by `set_word` and by the definition alone.
-use super::parts::{Character, PLAIN, boundary, from, go_to, kern_before, last, ligature_before};
+use super::samples;
 use super::slow::slow_set;
 use lig_kern::{WordFault, set_word};
+use sample_fonts::{A_FROM_0, A_FROM_1, Info, boundary, go_to, kern_before, last, ligature_before};
 use std::alloc::{AllocError, Global};
 use std::process::Abort;
 use std::test::Fail;
@@ -76,23 +77,19 @@ fn program_of(shape: Shape, (first, second): (u8, u8), (left, right): (bool, boo
 
 /// The letters a, b, c and d. The programs of a and c begin with the first ligature, that of b with
 /// the second, and d has none.
-const LETTERS: [Character; 4] = [
-    Character {
-        width: 1,
-        start: Some(1),
+const LETTERS: [Info; 4] = [
+    A_FROM_1,
+    Info {
+        tag: 1,
+        remainder: 2,
+        ..sample_fonts::B
     },
-    Character {
-        width: 2,
-        start: Some(2),
+    Info {
+        tag: 1,
+        remainder: 1,
+        ..sample_fonts::C
     },
-    Character {
-        width: 3,
-        start: Some(1),
-    },
-    Character {
-        width: 1,
-        start: None,
-    },
+    sample_fonts::A,
 ];
 
 /// All words of a and b of up to four letters.
@@ -118,7 +115,7 @@ fn agrees_on_all<R: Abort + AllocGlobal>(
     program: &[Step],
     words: &[Vec<u8>],
 ) -> Result<u32, Fail> {
-    let font = PLAIN.with(rt.alloc(), &LETTERS, program)?;
+    let font = samples::letters(rt.alloc(), &LETTERS, program)?;
     let mut without_end = 0u32;
     for word in words {
         for right in [false, true] {
@@ -166,12 +163,11 @@ fn small_programs_are_run_as_the_definition_says(rt: HostRuntime) -> Result<(), 
 }
 
 /// The letters from a on, so many that all of these can stand ahead at once.
-fn many_letters(alloc: Global) -> Result<Vec<Character>, AllocError> {
-    let [_, _, _, without_program] = LETTERS;
+fn many_letters(alloc: Global) -> Result<Vec<Info>, AllocError> {
     let mut letters = Vec::new(alloc);
-    letters.push(from(without_program, 0))?;
+    letters.push(A_FROM_0)?;
     for _ in 1..25 {
-        letters.push(without_program)?;
+        letters.push(sample_fonts::A)?;
     }
     Ok(letters)
 }
@@ -191,7 +187,7 @@ fn one_more_letter(alloc: Global) -> Result<Vec<Step>, AllocError> {
 fn many_characters_ahead(rt: HostRuntime) -> Result<(), Fail> {
     let program = one_more_letter(rt.alloc())?;
     let letters = many_letters(rt.alloc())?;
-    let font = PLAIN.with(rt.alloc(), &letters, &program)?;
+    let font = samples::letters(rt.alloc(), &letters, &program)?;
     for word in ["ab", "aab", "abab"] {
         for right in [false, true] {
             let ends = agrees(&rt, &program, &font, (word.as_bytes(), right), 200)?;

@@ -1,29 +1,57 @@
-//! Sample fonts, by what they show.
-use super::parts::{
-    A, B, C, NO_CHARACTERS, PLAIN, Sample, boundary, from, go_to, kern_before, last,
-    ligature_before,
+//! Sample fonts, as they are read: with both kerns, and without parameters.
+use sample_fonts::{
+    BOUNDARY_EXISTS, ENDLESS, INDIRECT, Info, KERNS, LEFT_BOUNDARY, NO_PROGRAM, PLAIN,
+    RIGHT_BOUNDARY, Sample, endless_program, kern_before, largest_program, last, ligature_program,
+    with_program,
 };
-use std::alloc::{AllocError, Global};
+use std::alloc::Global;
 use tfm_tables::{Font, FontFault, Step};
+
+/// The font at its design size.
+fn read(alloc: Global, sample: &Sample<'_>) -> Result<Font, FontFault> {
+    match sample.file(alloc) {
+        Ok(file) => Font::read(alloc, &file, None),
+        Err(_) => Err(FontFault::OutOfMemory),
+    }
+}
+
+/// The font with both kerns, and without parameters.
+fn with_kerns(alloc: Global, sample: &Sample<'_>) -> Result<Font, FontFault> {
+    let sample = Sample {
+        kerns: KERNS,
+        parameters: &[],
+        ..*sample
+    };
+    read(alloc, &sample)
+}
 
 /// a, b and c without programs.
 pub fn plain(alloc: Global) -> Result<Font, FontFault> {
-    PLAIN.with(alloc, &[A, B, C], &[])
+    with_kerns(alloc, &PLAIN)
 }
 
-/// Programs of a, from instruction 0, and of c, from instruction 2.
-fn programs_of_a_and_c(alloc: Global, program: &[Step]) -> Result<Font, FontFault> {
-    PLAIN.with(alloc, &[from(A, 0), B, from(C, 2)], program)
+/// Characters from a to this code, with this program.
+fn sample_of<'a>(ec: u16, characters: &'a [Info], program: &'a [Step]) -> Sample<'a> {
+    Sample {
+        ec,
+        characters,
+        program,
+        ..PLAIN
+    }
+}
+
+/// The characters from a on, with this program.
+pub fn letters(alloc: Global, characters: &[Info], program: &[Step]) -> Result<Font, FontFault> {
+    let count = u16::try_from(characters.len()).unwrap_or(0);
+    with_kerns(
+        alloc,
+        &sample_of(count.wrapping_add(96), characters, program),
+    )
 }
 
 /// A ligature of a and b with c, by this operation, and kerns between a and c and between c and b.
 pub fn ligature(alloc: Global, op: u8) -> Result<Font, FontFault> {
-    let program = [
-        ligature_before(98, op, 99),
-        last(kern_before(99, 0)),
-        last(kern_before(98, 1)),
-    ];
-    programs_of_a_and_c(alloc, &program)
+    with_kerns(alloc, &with_program(&ligature_program(op, 99)))
 }
 
 /// Two kerns between a and b.
@@ -33,7 +61,7 @@ pub fn two_for_one_pair(alloc: Global) -> Result<Font, FontFault> {
         last(kern_before(98, 1)),
         last(kern_before(98, 1)),
     ];
-    programs_of_a_and_c(alloc, &program)
+    with_kerns(alloc, &with_program(&program))
 }
 
 /// A skip over a kern that ends the search.
@@ -46,74 +74,47 @@ pub fn skipped(alloc: Global) -> Result<Font, FontFault> {
         last(kern_before(99, 0)),
         last(kern_before(98, 1)),
     ];
-    programs_of_a_and_c(alloc, &program)
+    with_kerns(alloc, &with_program(&program))
 }
 
-/// A right boundary character, code 124, that doesn't exist. After a the boundary becomes b, and
-/// after b a kern stands before it. Another kern stands between a and b.
+/// A right boundary character that doesn't exist.
 pub fn right_boundary(alloc: Global) -> Result<Font, FontFault> {
-    let program = [
-        boundary(124, 0),
-        ligature_before(124, 2, 98),
-        last(kern_before(98, 0)),
-        last(kern_before(124, 1)),
-    ];
-    PLAIN.with(alloc, &[from(A, 1), from(B, 3), C], &program)
+    with_kerns(alloc, &RIGHT_BOUNDARY)
 }
 
-/// A right boundary character that exists: b. Before it stands a kern after a.
+/// A right boundary character that exists.
 pub fn boundary_exists(alloc: Global) -> Result<Font, FontFault> {
-    let program = [boundary(98, 0), last(kern_before(98, 0))];
-    PLAIN.with(alloc, &[from(A, 1), B, C], &program)
+    with_kerns(alloc, &BOUNDARY_EXISTS)
 }
 
-/// A right boundary character without a program in a font without characters. The same instruction
-/// gives the left boundary a program, in which nothing is done.
+/// A right boundary character without a program, without kerns.
 pub fn no_program(alloc: Global) -> Result<Font, FontFault> {
-    NO_CHARACTERS.with(alloc, &[], &[boundary(65, 0)])
+    read(alloc, &NO_PROGRAM)
 }
 
-/// A left boundary's program: a kern before a, and c between the boundary and b.
+/// A left boundary's program.
 pub fn left_boundary(alloc: Global) -> Result<Font, FontFault> {
-    let program = [
-        kern_before(97, 0),
-        last(ligature_before(98, 3, 99)),
-        boundary(0, 0),
-    ];
-    PLAIN.with(alloc, &[A, B, C], &program)
+    with_kerns(alloc, &LEFT_BOUNDARY)
 }
 
-/// The program of a begins elsewhere, with an instruction that itself points elsewhere.
+/// A program that begins elsewhere, with an instruction that itself points elsewhere.
 pub fn indirect(alloc: Global) -> Result<Font, FontFault> {
-    let program = [go_to(0, 1), go_to(98, 0)];
-    PLAIN.with(alloc, &[from(A, 0), B, C], &program)
+    with_kerns(alloc, &INDIRECT)
 }
 
 /// One more a between two of them, by this operation: some of these have no end.
 pub fn endless(alloc: Global, op: u8) -> Result<Font, FontFault> {
-    let program = [last(ligature_before(97, op, 97))];
-    PLAIN.with(alloc, &[from(A, 0), B, C], &program)
-}
-
-/// The largest font that the counts allow, of 32,767 words: nearly all of it the left boundary's
-/// program, which has a kern before the right boundary, again and again.
-pub fn largest(alloc: Global) -> Result<Font, FontFault> {
-    let Ok(program) = largest_program(alloc) else {
-        return Err(FontFault::OutOfMemory);
+    let sample = Sample {
+        program: &endless_program(op),
+        ..ENDLESS
     };
-    Sample {
-        kerns: &[0x1_0000],
-        ..NO_CHARACTERS
-    }
-    .with(alloc, &[], &program)
+    with_kerns(alloc, &sample)
 }
 
-fn largest_program(alloc: Global) -> Result<Vec<Step>, AllocError> {
-    let mut program = Vec::new(alloc);
-    program.push(boundary(65, 1))?;
-    for _ in 1..32_753 {
-        program.push(kern_before(65, 0))?;
+/// The largest font that the counts allow, with its own kern.
+pub fn largest(alloc: Global) -> Result<Font, FontFault> {
+    match largest_program(alloc) {
+        Ok(program) => read(alloc, &sample_fonts::largest(&program)),
+        Err(_) => Err(FontFault::OutOfMemory),
     }
-    program.push(boundary(0, 1))?;
-    Ok(program)
 }

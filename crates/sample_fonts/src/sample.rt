@@ -5,11 +5,17 @@ use tfm_tables::Step;
 /// A char_info word, field by field.
 #[derive(Clone, Copy)]
 pub struct Info {
+    /// Which of the widths; 0 for a code without a character.
     pub width: u8,
+    /// Which of the heights, of 16 at most.
     pub height: u8,
+    /// Which of the depths, of 16 at most.
     pub depth: u8,
+    /// Which of the italic corrections, of 64 at most.
     pub italic: u8,
+    /// What the remainder is: 0 nothing, 1 where a program begins, 2 a larger character, 3 a recipe.
     pub tag: u8,
+    /// The number that the tag speaks of.
     pub remainder: u8,
 }
 
@@ -28,34 +34,60 @@ impl Info {
 /// The parts of a font.
 #[derive(Clone, Copy)]
 pub struct Sample<'a> {
+    /// The code of the first char_info word.
     pub bc: u16,
+    /// The code of the last one.
     pub ec: u16,
+    /// The first word of the header.
     pub check_sum: u32,
+    /// The second one: the design size, in points times 2^20.
     pub design: u32,
     /// The header from its third word on.
     pub texts: &'a [u8],
+    /// The char_info words.
     pub characters: &'a [Info],
+    /// The widths, of which the first is that of no character.
     pub width: &'a [u32],
+    /// The heights.
     pub height: &'a [u32],
+    /// The depths.
     pub depth: &'a [u32],
+    /// The italic corrections.
     pub italic: &'a [u32],
+    /// The instructions of the ligature and kerning program.
     pub program: &'a [Step],
+    /// The kerns.
     pub kerns: &'a [u32],
+    /// The recipes, each a word.
     pub recipes: &'a [u32],
+    /// The parameters from number 1 on.
     pub parameters: &'a [u32],
 }
 
 impl Sample<'_> {
-    /// The font's file. Its counts are those of the parts.
+    /// The font's file, for which memory is taken once unless it is a large one.
     pub fn file(&self, alloc: Global) -> Result<Vec<u8>, AllocError> {
-        let tables = self.tables(alloc)?;
-        let lf = count(tables.len() / 4).wrapping_add(6);
+        let mut file = Vec::with_capacity(alloc, ROOM)?;
+        for count in self.counts() {
+            file.extend_from_slice(&count.to_be_bytes())?;
+        }
+        append(&mut file, &[self.check_sum, self.design])?;
+        file.extend_from_slice(self.texts)?;
+        append_infos(&mut file, self.characters)?;
+        for table in [self.width, self.height, self.depth, self.italic] {
+            append(&mut file, table)?;
+        }
+        append_steps(&mut file, self.program)?;
+        for table in [self.kerns, self.recipes, self.parameters] {
+            append(&mut file, table)?;
+        }
+        Ok(file)
+    }
+
+    /// The twelve counts, which are those of the parts.
+    fn counts(&self) -> [u16; 12] {
         let lh = count(self.texts.len() / 4).wrapping_add(2);
-        let counts = [
-            lf,
-            lh,
-            self.bc,
-            self.ec,
+        let tables = [
             count(self.width.len()),
             count(self.height.len()),
             count(self.depth.len()),
@@ -65,28 +97,14 @@ impl Sample<'_> {
             count(self.recipes.len()),
             count(self.parameters.len()),
         ];
-        let mut file = Vec::with_capacity(alloc, ROOM)?;
-        for count in counts {
-            file.extend_from_slice(&count.to_be_bytes())?;
+        let mut lf = count(self.characters.len())
+            .wrapping_add(lh)
+            .wrapping_add(6);
+        for entries in tables {
+            lf = lf.wrapping_add(entries);
         }
-        file.extend_from_slice(&tables)?;
-        Ok(file)
-    }
-
-    /// All that follows the counts.
-    fn tables(&self, alloc: Global) -> Result<Vec<u8>, AllocError> {
-        let mut bytes = Vec::with_capacity(alloc, ROOM)?;
-        append(&mut bytes, &[self.check_sum, self.design])?;
-        bytes.extend_from_slice(self.texts)?;
-        append_infos(&mut bytes, self.characters)?;
-        for table in [self.width, self.height, self.depth, self.italic] {
-            append(&mut bytes, table)?;
-        }
-        append_steps(&mut bytes, self.program)?;
-        for table in [self.kerns, self.recipes, self.parameters] {
-            append(&mut bytes, table)?;
-        }
-        Ok(bytes)
+        let [nw, nh, nd, ni, nl, nk, ne, np] = tables;
+        [lf, lh, self.bc, self.ec, nw, nh, nd, ni, nl, nk, ne, np]
     }
 }
 
@@ -111,7 +129,7 @@ fn append_steps(bytes: &mut Vec<u8>, program: &[Step]) -> Result<(), AllocError>
     Ok(())
 }
 
-/// Room for the files of most samples, so that making one takes memory twice.
+/// Room for the files of most samples.
 const ROOM: usize = 512;
 
 /// A count of this many entries; of too many, one that no font has.

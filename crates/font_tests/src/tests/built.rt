@@ -1,0 +1,23 @@
+//! The files that stand as bytes are those that the parts make.
+use sample_fonts::{NO_CHARACTERS, PLAIN, examples, files};
+use std::test::Fail;
+
+#[test]
+fn the_files_are_those_of_the_parts(rt: HostRuntime) -> Result<(), Fail> {
+    let file = NO_CHARACTERS.file(rt.alloc())?;
+    assert!(rt;
+        file.as_slice() == files::NO_CHARACTERS.as_slice(),
+        "no characters"
+    );
+    let file = PLAIN.file(rt.alloc())?;
+    assert!(rt;
+        file.as_slice() == files::PLAIN.as_slice(),
+        "the plain font"
+    );
+    let file = examples::no_characters(rt.alloc())?;
+    assert!(rt;
+        file.as_slice() == files::NO_CHARACTERS.as_slice(),
+        "the example"
+    );
+    Ok(())
+}
