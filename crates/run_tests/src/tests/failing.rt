@@ -40,7 +40,7 @@ impl Frail {
 }
 
 impl LineSource for Frail {
-    ghost use Rattle.std.specs.Prelude.{None, Unit, tt};
+    ghost use Rattle.std.specs.Prelude.{None};
 
     ghost to_come = { λ _. None };
 

@@ -206,7 +206,7 @@ impl<'a> Guest<'a> {
 }
 
 impl LineSource for Guest<'_> {
-    ghost use Rattle.std.specs.Prelude.{None, Unit, tt};
+    ghost use Rattle.std.specs.Prelude.{None};
 
     ghost to_come = { λ _. None };
 

@@ -19,7 +19,7 @@ pub struct Slow<'a, R> {
 }
 
 impl<R: Clock> LineSource for Slow<'_, R> {
-    ghost use Rattle.std.specs.Prelude.{None, Unit, tt};
+    ghost use Rattle.std.specs.Prelude.{None};
 
     ghost to_come = { λ _. None };
 
