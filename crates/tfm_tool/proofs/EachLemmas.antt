@@ -26,8 +26,8 @@ use Rattle.tfm_tool.specs.Named.{OfKnown}
 use Rattle.tfm_tool.specs.Requests.{IsEachSet}
 use Rattle.tfm_tool.specs.Status.{AfterText}
 use Rattle.tfm_tool.specs.Told.{IsSourceOf, Told, told_by}
-use Rattle.tfm_tool.specs.declared.args.Jobs.{Jobs}
-use Rattle.tfm_tool.specs.declared.args.Layout.{Layout}
+use Rattle.command_line.specs.declared.request.Jobs.{Jobs}
+use Rattle.command_line.specs.declared.request.Layout.{Layout}
 use Rattle.tfm_tool.specs.declared.exit.Failure.{Failure}
 use Rattle.tfm_tool.specs.declared.jobs.Job.{Job}
 use Rattle.tfm_tool.proofs.CheckingLemmas.{kept_text}

@@ -10,7 +10,7 @@ use Rattle.tfm_tables.specs.Font.{IsFontOf}
 use Rattle.set_line.specs.Terms.{TermsValue}
 use Rattle.tfm_tool.specs.Named.{OfKnown}
 use Rattle.tfm_tool.specs.Told.{IsSourceOf, Told}
-use Rattle.tfm_tool.specs.declared.args.Layout.{Layout}
+use Rattle.command_line.specs.declared.request.Layout.{Layout}
 use Rattle.tfm_tool.specs.declared.jobs.Job.{Job}
 
 -- a job: the name of its font, its limit and the name of its file

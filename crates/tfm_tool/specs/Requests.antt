@@ -14,10 +14,10 @@ use Rattle.tfm_tool.specs.Named.{OfKnown, file_bytes_of, font_bytes_of, stream_b
 use Rattle.tfm_tool.specs.Jobs.{IsSourceOfJob, jobs_in}
 use Rattle.tfm_tool.specs.Runs.{IsPrinted, IsPrintedAsItComes, IsPrintedEach}
 use Rattle.tfm_tool.specs.Told.{AreSourcesOf, Told}
-use Rattle.tfm_tool.specs.declared.args.Request.{Request}
-use Rattle.tfm_tool.specs.declared.args.Request.TheVariants.{Counts, List as ListFont, Check, Set, Stream, Each}
-use Rattle.tfm_tool.specs.declared.args.Jobs.{Jobs}
-use Rattle.tfm_tool.specs.declared.args.Setting.{Setting}
+use Rattle.command_line.specs.declared.request.Request.{Request}
+use Rattle.command_line.specs.declared.request.Request.TheVariants.{Counts, List as ListFont, Check, Set, Stream, Each}
+use Rattle.command_line.specs.declared.request.Jobs.{Jobs}
+use Rattle.command_line.specs.declared.request.Setting.{Setting}
 
 -- the listing of a font, or with all that its file says
 abbrev pub list_text_of : Bool → FontValue → List ℕ

@@ -7,7 +7,7 @@ ghost use Rattle.tfm_tool.specs.Status.{AfterText, is_after_text, is_before_outp
 ghost use Rattle.tfm_tool.specs.Told.{told_by};
 
 use crate::Opens;
-use crate::args::Jobs;
+use command_line::Jobs;
 use crate::exit::Failure;
 use crate::files::open_each;
 use crate::jobs::{all_terms, jobs};

@@ -9,7 +9,7 @@ ghost use Rattle.tfm_tool.specs.Jobs.{AreTermsOf, HasTermsOf, job_value, jobs_in
 ghost use Rattle.tfm_tool.specs.Status.{is_after_text};
 
 use crate::Opens;
-use crate::args::Layout;
+use command_line::Layout;
 use crate::exit::Failure;
 use crate::files::{ReadFault, font_file};
 use run_texts::{ToolFault, accepted};

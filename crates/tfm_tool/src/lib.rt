@@ -1,7 +1,7 @@
 //! The texts that `tfmset` writes, and the whole program over its arguments, a reader and two writers.
 #![tactic(auto)]
 
-pub use args::{Checking, Jobs, Layout, Request, Setting, requested};
+pub use command_line::{Checking, Jobs, Layout, Request, Setting, requested};
 pub use exit::Failure;
 pub use font_texts::Finding;
 pub use opening::{Disk, InMemory, Opens};
@@ -9,9 +9,7 @@ pub use program::{perform, tool, words_refused};
 pub use run_texts::{Summary, ToolFault, set_each, set_text, status, stream_each, stream_text};
 pub use texts_of_fonts::{check_text, counts_text, finding_text, list_all_text, list_text};
 
-mod args;
 mod checking;
-mod commands;
 mod each;
 mod exit;
 mod files;

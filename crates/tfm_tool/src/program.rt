@@ -5,7 +5,7 @@ ghost use Rattle.tfm_tables.specs.Font.{FontValue, IsFontOf};
 ghost use Rattle.tfm_tool.specs.Requests.{CountsAreTold, IsDone, IsListed, list_text_of};
 ghost use Rattle.tfm_tool.specs.Status.{AfterText, is_before_output, status_of};
 
-use crate::args::{Request, requested};
+use command_line::{Request, requested};
 use crate::checking::check;
 use crate::each::set_jobs;
 use crate::exit::Failure;

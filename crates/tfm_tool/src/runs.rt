@@ -14,7 +14,7 @@ ghost use Rattle.tfm_tool.specs.Status.{AfterText, is_after_text, is_before_outp
 ghost use Rattle.run_texts.specs.Endings.{summary_status};
 
 use crate::Opens;
-use crate::args::Setting;
+use command_line::Setting;
 use crate::exit::Failure;
 use crate::files::{font_bytes, open_files};
 use run_texts::{Summary, ToolFault, accepted, set_text, status, stream_text};

@@ -1,4 +1,10 @@
 //! The command line, as `clap` reads it, and its help.
+ghost use Rattle.std.specs.Prelude.{codes, IfOk, IsOkAnd};
+ghost use Rattle.clap.specs.declared.builder.value_parser.ValueParser.{ValueParser};
+ghost use Rattle.clap.specs.declared.builder.value_parser.ValueParser.TheVariants.{Names};
+ghost use Rattle.clap.specs.Words.{App, Rule, Shape, new_app, new_rule, with_rule, with_subcommand};
+ghost use Rattle.command_line.specs.Commands.{AllChoices, Choices, IsArgument, IsCommandOf, IsSubcommand, TakesWords, bare_app, check_shape, choice_rule, counts_shape, each_shape, flag_rule, list_shape, missing_words, needed, number_rule, record_words, run_rules, set_shape, setting_rules, size_rule, stream_shape, tfmset_app, with_default, with_rules, words_rule};
+
 use clap::{Arg, ArgAction, Command, value_parser};
 use std::alloc::{AllocError, Global};
 
@@ -42,8 +48,8 @@ const LIST_AFTER_HELP: &str = "Example, in the folder examples of the sources:
 
 Prints the header, the boundaries, the characters with their measures, the
 instructions of the lig/kern program, the kerns and the parameters. Measures
-are in scaled points at the design size. With --all the twelve counts stand
-before, and the recipes and each word of the file, in hexadecimal, behind.
+are in scaled points at the design size. With --all the twelve counts come
+first, and the recipes and each word of the file, in hexadecimal, last.
 
 Exit status: 0 done; 2 the command line is refused; 3 the font is refused; 4
 the font was not read; 5 memory or the output was refused.";
@@ -151,7 +157,9 @@ const FONT_HELP: &str = "A TFM file, or - for standard input";
 const FONTS_HELP: &str = "TFM files; one may be - for standard input";
 
 /// The whole command.
-pub(crate) fn tfmset_command<'a>(alloc: Global) -> Result<Command<'a>, AllocError> {
+pub(crate) fn tfmset_command<'a>(alloc: Global) -> Result<Command<'a>, AllocError>
+    ensures { IfOk result (λ command. (choices : AllChoices) × IsCommandOf (tfmset_app choices) command) }
+{
     let command = bare_command(alloc)?;
     let command = with(command, counts_command(alloc))?;
     let command = with(command, list_command(alloc))?;
@@ -162,7 +170,9 @@ pub(crate) fn tfmset_command<'a>(alloc: Global) -> Result<Command<'a>, AllocErro
 }
 
 /// The command without its subcommands.
-fn bare_command<'a>(alloc: Global) -> Result<Command<'a>, AllocError> {
+fn bare_command<'a>(alloc: Global) -> Result<Command<'a>, AllocError>
+    ensures { IfOk result (IsCommandOf bare_app) }
+{
     let command = Command::new(alloc, "tfmset")
         .no_binary_name(true)
         .version(VERSION)
@@ -178,127 +188,176 @@ fn bare_command<'a>(alloc: Global) -> Result<Command<'a>, AllocError> {
 fn with<'a>(
     command: Command<'a>,
     subcommand: Result<Command<'a>, AllocError>,
-) -> Result<Command<'a>, AllocError> {
+) -> Result<Command<'a>, AllocError>
+    ensures { IfOk result (λ made. IsOkAnd subcommand.entry (λ added. (app : App) (shape : Shape)
+        → IsCommandOf app command.entry → IsSubcommand shape added
+        → IsCommandOf (with_subcommand app shape) made)) }
+{
     command.subcommand(subcommand?)
 }
 
-fn counts_command<'a>(alloc: Global) -> Result<Command<'a>, AllocError> {
-    Command::new(alloc, "counts")
-        .about(COUNTS_ABOUT)
-        .after_help(COUNTS_AFTER_HELP)
-        .arg(font_argument(alloc))
+fn counts_command<'a>(alloc: Global) -> Result<Command<'a>, AllocError>
+    ensures { IfOk result (IsSubcommand counts_shape) }
+{
+    let command = subcommand(alloc, "counts", COUNTS_ABOUT, COUNTS_AFTER_HELP);
+    with_argument(command, font_argument(alloc))
 }
 
-fn list_command<'a>(alloc: Global) -> Result<Command<'a>, AllocError> {
-    Command::new(alloc, "list")
-        .about(LIST_ABOUT)
-        .after_help(LIST_AFTER_HELP)
-        .arg(all_option(alloc))?
-        .arg(font_argument(alloc))
+fn list_command<'a>(alloc: Global) -> Result<Command<'a>, AllocError>
+    ensures { IfOk result (IsSubcommand list_shape) }
+{
+    let command = subcommand(alloc, "list", LIST_ABOUT, LIST_AFTER_HELP);
+    let command = with_argument(command, all_option(alloc))?;
+    with_argument(command, font_argument(alloc))
 }
 
-fn all_option<'a>(alloc: Global) -> Arg<'a> {
-    Arg::new(alloc, "all")
-        .long("all")
-        .help(ALL_HELP)
-        .action(ArgAction::SetTrue)
+fn check_command<'a>(alloc: Global) -> Result<Command<'a>, AllocError>
+    ensures { IfOk result (IsSubcommand check_shape) }
+{
+    let command = subcommand(alloc, "check", CHECK_ABOUT, CHECK_AFTER_HELP);
+    let command = with_argument(command, size_option(alloc))?;
+    with_argument(command, many(alloc, "FONT", FONTS_HELP).required(true))
 }
 
-fn check_command<'a>(alloc: Global) -> Result<Command<'a>, AllocError> {
-    Command::new(alloc, "check")
-        .about(CHECK_ABOUT)
-        .after_help(CHECK_AFTER_HELP)
-        .arg(number_option(alloc, "size", SIZE_HELP, 134_217_727))?
-        .arg(many(alloc, "FONT", FONTS_HELP).required(true))
+fn set_command<'a>(alloc: Global) -> Result<Command<'a>, AllocError>
+    ensures { IfOk result (λ made. (choices : Choices) × IsSubcommand (set_shape choices) made) }
+{
+    let command = subcommand(alloc, "set", SET_ABOUT, SET_AFTER_HELP);
+    let command = setting_options(alloc, command)?;
+    with_argument(command, many(alloc, "FILE", FILE_HELP).required(true))
 }
 
-fn font_argument<'a>(alloc: Global) -> Arg<'a> {
-    Arg::new(alloc, "FONT").required(true).help(FONT_HELP)
+fn stream_command<'a>(alloc: Global) -> Result<Command<'a>, AllocError>
+    ensures { IfOk result (λ made. (choices : Choices) × IsSubcommand (stream_shape choices) made) }
+{
+    let command = subcommand(alloc, "stream", STREAM_ABOUT, STREAM_AFTER_HELP);
+    let command = setting_options(alloc, command)?;
+    with_argument(command, many(alloc, "FILE", STREAM_FILE_HELP))
 }
 
-fn set_command<'a>(alloc: Global) -> Result<Command<'a>, AllocError> {
-    let command = Command::new(alloc, "set")
-        .about(SET_ABOUT)
-        .after_help(SET_AFTER_HELP);
-    setting_options(alloc, command)?.arg(many(alloc, "FILE", FILE_HELP).required(true))
+fn each_command<'a>(alloc: Global) -> Result<Command<'a>, AllocError>
+    ensures { IfOk result (λ made. (choices : Choices) × IsSubcommand (each_shape choices) made) }
+{
+    let command = subcommand(alloc, "each", EACH_ABOUT, EACH_AFTER_HELP);
+    let command = with_argument(command, size_option(alloc))?;
+    let command = run_options(alloc, command)?;
+    with_argument(command, many(alloc, "WORD", WORDS_HELP).required(true))
 }
 
-fn stream_command<'a>(alloc: Global) -> Result<Command<'a>, AllocError> {
-    let command = Command::new(alloc, "stream")
-        .about(STREAM_ABOUT)
-        .after_help(STREAM_AFTER_HELP);
-    setting_options(alloc, command)?.arg(many(alloc, "FILE", STREAM_FILE_HELP))
+/// A subcommand without arguments.
+fn subcommand<'a>(alloc: Global, name: &'a str, about: &'a str, after_help: &'a str) -> Command<'a>
+    ensures { IsCommandOf (new_app name.now) result }
+{
+    Command::new(alloc, name)
+        .about(about)
+        .after_help(after_help)
 }
 
 /// The options of a run with one font, and the font.
-fn setting_options<'a>(alloc: Global, command: Command<'a>) -> Result<Command<'a>, AllocError> {
-    let size = number_option(alloc, "size", SIZE_HELP, 134_217_727);
-    let command = with_argument(command, size)?;
+fn setting_options<'a>(alloc: Global, command: Command<'a>) -> Result<Command<'a>, AllocError>
+    ensures { IfOk result (λ made. (app : App) → IsCommandOf app command.entry
+        → (choices : Choices) × IsCommandOf (with_rules app (setting_rules choices)) made) }
+{
+    let command = with_argument(command, size_option(alloc))?;
     let limit = number_option(alloc, "limit", LIMIT_HELP, 16_777_216).default_value("1048576");
     let command = with_argument(command, limit)?;
     let command = run_options(alloc, command)?;
     with_argument(command, font_argument(alloc))
 }
 
-fn each_command<'a>(alloc: Global) -> Result<Command<'a>, AllocError> {
-    let command = Command::new(alloc, "each")
-        .about(EACH_ABOUT)
-        .after_help(EACH_AFTER_HELP)
-        .arg(number_option(alloc, "size", SIZE_HELP, 134_217_727))?;
-    run_options(alloc, command)?.arg(many(alloc, "WORD", WORDS_HELP).required(true))
-}
-
 /// The options that every run has.
-fn run_options<'a>(alloc: Global, command: Command<'a>) -> Result<Command<'a>, AllocError> {
-    let missing = ["missing", "P", MISSING_HELP];
-    let missing = choice_option(alloc, missing, &["refuse", "skip"], "refuse");
-    let command = with_argument(command, missing)?;
+fn run_options<'a>(alloc: Global, command: Command<'a>) -> Result<Command<'a>, AllocError>
+    ensures { IfOk result (λ made. (app : App) → IsCommandOf app command.entry
+        → (choices : Choices) × IsCommandOf (with_rules app (run_rules choices)) made) }
+{
+    let command = with_argument(command, missing_option(alloc))?;
     let workers = number_option(alloc, "workers", WORKERS_HELP, 16).default_value("2");
     let command = with_argument(command, workers)?;
     let capacity = number_option(alloc, "capacity", CAPACITY_HELP, 65_536).default_value("16");
     let command = with_argument(command, capacity)?;
     let block = number_option(alloc, "block", BLOCK_HELP, 8).default_value("1");
     let command = with_argument(command, block)?;
-    let record = choice_option(
-        alloc,
-        ["record", "V", RECORD_HELP],
-        &["1", "2", "json"],
-        "1",
-    );
-    with_argument(command, record)
+    with_argument(command, record_option(alloc))
 }
 
 /// The command with one more argument, in one place as `with` is.
-fn with_argument<'a>(command: Command<'a>, argument: Arg<'a>) -> Result<Command<'a>, AllocError> {
+fn with_argument<'a>(command: Command<'a>, argument: Arg<'a>) -> Result<Command<'a>, AllocError>
+    ensures { IfOk result (λ made. (app : App) (rule : Rule)
+        → IsCommandOf app command.entry → IsArgument rule argument.entry
+        → IsCommandOf (with_rule app rule) made) }
+{
     command.arg(argument)
 }
 
+fn font_argument<'a>(alloc: Global) -> Arg<'a>
+    ensures { IsArgument (needed (new_rule (codes "FONT"))) result }
+{
+    Arg::new(alloc, "FONT").required(true).help(FONT_HELP)
+}
+
+fn all_option<'a>(alloc: Global) -> Arg<'a>
+    ensures { IsArgument (flag_rule (codes "all")) result }
+{
+    Arg::new(alloc, "all")
+        .long("all")
+        .help(ALL_HELP)
+        .action(ArgAction::SetTrue)
+}
+
+fn size_option<'a>(alloc: Global) -> Arg<'a>
+    ensures { IsArgument size_rule result }
+{
+    number_option(alloc, "size", SIZE_HELP, 134_217_727)
+}
+
+fn missing_option<'a>(alloc: Global) -> Arg<'a>
+    ensures { (parser : ValueParser) × TakesWords missing_words parser
+        × IsArgument (with_default (codes "refuse") (choice_rule (codes "missing") parser)) result }
+{
+    let words = &["refuse", "skip"];
+    choice_option(alloc, "missing", "P", MISSING_HELP, words).default_value("refuse")
+}
+
+fn record_option<'a>(alloc: Global) -> Arg<'a>
+    ensures { (parser : ValueParser) × TakesWords record_words parser
+        × IsArgument (with_default (codes "1") (choice_rule (codes "record") parser)) result }
+{
+    let words = &["1", "2", "json"];
+    choice_option(alloc, "record", "V", RECORD_HELP, words).default_value("1")
+}
+
 /// As many words as there are.
-fn many<'a>(alloc: Global, name: &'a str, help: &'a str) -> Arg<'a> {
+fn many<'a>(alloc: Global, name: &'a str, help: &'a str) -> Arg<'a>
+    ensures { IsArgument (words_rule name.now) result }
+{
     Arg::new(alloc, name).num_args(1..).help(help)
 }
 
 /// An option for a number from 1 on.
-fn number_option<'a>(alloc: Global, name: &'a str, help: &'a str, most: i64) -> Arg<'a> {
+fn number_option<'a>(alloc: Global, name: &'a str, help: &'a str, most: u32) -> Arg<'a>
+    ensures { IsArgument (number_rule name.now most) result }
+{
     Arg::new(alloc, name)
         .long(name)
         .value_name("N")
         .help(help)
-        .value_parser(value_parser!(u32).range(1..=most))
+        .value_parser(value_parser!(u32).range(1..=i64::from(most)))
 }
 
 /// An option for one of some words.
 fn choice_option<'a>(
     alloc: Global,
-    [name, value, help]: [&'a str; 3],
+    name: &'a str,
+    value: &'a str,
+    help: &'a str,
     words: &'a [&'a str],
-    default: &'a str,
-) -> Arg<'a> {
+) -> Arg<'a>
+    ensures { IsArgument (choice_rule name.now (Names words.entry)) result }
+{
     Arg::new(alloc, name)
         .long(name)
         .value_name(value)
         .help(help)
         .value_parser(words)
         .hide_possible_values(true)
-        .default_value(default)
 }

@@ -1,0 +1,38 @@
+-- Requests: what the words ask for, by what a parse says of them.
+use Rattle.std.proofs.Common.{◌≡◌, true, List, Option, Some, None, refl, sym, subst}
+use Rattle.std.proofs.lemmas.Option.{none-some, same_Some}
+use Rattle.std.specs.Prelude.{Result}
+use Rattle.clap.specs.Words.{App, FailsBy, HasMatchesOf, Text, fault_of, is_simple, is_simple_and_free, subcommand_of, subcommand_rows_of}
+use Rattle.clap.specs.declared.error.Error.{Error}
+use Rattle.clap.specs.declared.parser.matches.ArgMatches.{ArgMatches}
+use Rattle.command_line.specs.Asked.{Finds, IsAskedOf, IsAskedWith}
+use Rattle.command_line.specs.Commands.{AllChoices, tfmset_app}
+use Rattle.command_line.specs.declared.request.Request.{Request}
+
+module _ (choices : AllChoices) where
+  -- what is said of a parse applies to this command
+  simple : is_simple (tfmset_app choices) ≡ true
+  simple = refl
+
+  free : is_simple_and_free (tfmset_app choices) ≡ true
+  free = refl
+
+  module _ (words : List Text) (app : App) (is : app ≡ tfmset_app choices) where
+    rows_of_words : (m : ArgMatches) → HasMatchesOf app words m → subcommand_rows_of m ≡ subcommand_of (tfmset_app choices) words
+    rows_of_words m has = (subst (λ a. HasMatchesOf a words m) is has simple).1
+
+    -- what is found in the matches is what the words ask for
+    pub asked_in_words : (m : ArgMatches) (found : Option Request) (request : Request) → HasMatchesOf app words m → Finds (IsAskedOf (subcommand_rows_of m)) found
+        → found ≡ Some request → IsAskedWith choices words request
+    asked_in_words m (Some other) request has finds one =
+        subst (IsAskedWith choices words) (same_Some other request one) (subst (λ s. IsAskedOf s other) (rows_of_words m has) finds)
+    asked_in_words m None request has finds one = absurd (none-some request one)
+
+    pub nothing_in_words : (m : ArgMatches) (found : Option Request) → HasMatchesOf app words m → Finds (IsAskedOf (subcommand_rows_of m)) found
+        → found ≡ None → (request : Request) → ¬ IsAskedWith choices words request
+    nothing_in_words m (Some other) has finds none request asks = none-some other (sym none)
+    nothing_in_words m None has finds none request asks = finds request (subst (λ s. IsAskedOf s request) (sym (rows_of_words m has)) asks)
+
+    -- a parse fails by the first fault of the words, and otherwise there is none
+    pub faults : {T : Type 0} (r : Result T Error) → (is_simple_and_free app ≡ true → FailsBy (fault_of app words) r) → FailsBy (fault_of (tfmset_app choices) words) r
+    faults r fails = subst (λ a. is_simple_and_free a ≡ true → FailsBy (fault_of a words) r) is fails free

@@ -1,0 +1,11 @@
+use Rattle.std.proofs.Common.{rules, codes}
+use Rattle.std.proofs.lemmas.Result.{IfOk-weaker}
+use Rattle.command_line.specs.Commands.{IsArgument, needed, words_rule}
+use Rattle.command_line.proofs.CommandLemmas.{as_subcommand}
+use Rattle.command_line.proofs.commands.set_command.Goals as goal
+
+pub returns : goal.returns
+returns c =
+    let with_options = c.in_ok-command.ensures _ c.subcommand-command.ensures in
+    let files : IsArgument (needed (words_rule (codes "FILE"))) c.required.result = search rules in
+    IfOk-weaker c.with_argument.result _ _ (λ made more. (with_options.0, as_subcommand _ made (more _ _ with_options.1 files))) c.with_argument.ensures

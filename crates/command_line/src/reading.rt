@@ -1,0 +1,250 @@
+//! From words to what they ask for, by what a parse finds in them.
+ghost use Rattle.std.specs.Prelude.{◌≡◌, [], map, IfErr, IfOk, Some, codes, option_map, unwrap_or};
+ghost use Rattle.clap.specs.Words.{all_of, first_of, found_of, one_of, rows_of, subcommand_rows_of};
+ghost use Rattle.command_line.specs.Commands.{AllChoices, IsCommandOf, tfmset_app};
+ghost use Rattle.command_line.specs.Asked.{AreJobs, AsksFor, Finds, IsAskedBy, IsAskedOf, IsAskedWith, IsChecking, IsFlag, IsLayout, IsNumberIn, IsPlan, IsRefusedBy, IsRefusedWith, IsSetting, IsSize, policy_word, texts, version_word};
+
+use crate::commands::tfmset_command;
+use crate::request::{Checking, Jobs, Layout, Request, Setting};
+use clap::error::ErrorKind;
+use clap::{ArgMatches, Command, Error};
+use line_lane::{Block, Capacity};
+use set_line::{Limit, Policy, Version};
+use set_run::{Plan, Workers};
+use std::alloc::{AllocError, Global};
+use std::convert::AsStr;
+use tfm_words::Size;
+
+/// Reads the words after the program's name. The error is also how help and the version come.
+pub fn requested<'a, S: AsStr>(alloc: Global, words: &'a [S]) -> Result<Request<'a>, Error>
+    ensures asked { IfOk result (IsAskedBy (map S.text words.entry.now)) }
+    ensures refused { IfErr result (IsRefusedBy (map S.text words.entry.now)) }
+{
+    let mut command = tfmset_command(alloc)?;
+    requested_of(alloc, &mut command, words)
+}
+
+/// What the words ask the command for.
+fn requested_of<'a, S: AsStr>(
+    alloc: Global,
+    command: &mut Command<'a>,
+    words: &'a [S],
+) -> Result<Request<'a>, Error>
+    ensures asked { (choices : AllChoices) → IsCommandOf (tfmset_app choices) command.old
+        → IfOk result (IsAskedWith choices (map S.text words.entry.now)) }
+    ensures refused { (choices : AllChoices) → IsCommandOf (tfmset_app choices) command.old
+        → IfErr result (IsRefusedWith choices (map S.text words.entry.now)) }
+{
+    let matches = command.try_get_matches_from_mut(words)?;
+    match given(alloc, &matches)? {
+        Some(request) => Ok(request),
+        None => Err(command.error(ErrorKind::MissingSubcommand, "no subcommand was given")?),
+    }
+}
+
+/// What a parse found is asked for, if anything is.
+fn given<'a>(alloc: Global, matches: &ArgMatches<'a>) -> Result<Option<Request<'a>>, AllocError>
+    ensures { IfOk result (Finds (IsAskedOf (subcommand_rows_of matches.now))) }
+{
+    match matches.subcommand() {
+        Some((name, matches)) => asked_by(alloc, name, matches),
+        None => Ok(None),
+    }
+}
+
+/// What the subcommand of this name asks for.
+fn asked_by<'a>(
+    alloc: Global,
+    name: &str,
+    matches: &ArgMatches<'a>,
+) -> Result<Option<Request<'a>>, AllocError>
+    ensures { IfOk result (Finds (AsksFor (rows_of (found_of matches.now)) name.now)) }
+{
+    match name {
+        "counts" => Ok(text(matches, "FONT").map(|font| Request::Counts { font })),
+        "list" => {
+            let all = flag(matches, "all");
+            Ok(text(matches, "FONT").map(|font| Request::List { font, all }))
+        }
+        "check" => Ok(asked_fonts(alloc, matches)?.map(Request::Check)),
+        "set" => Ok(asked_setting(alloc, matches)?.map(Request::Set)),
+        "stream" => Ok(asked_setting(alloc, matches)?.map(Request::Stream)),
+        "each" => Ok(asked_jobs(alloc, matches)?.map(Request::Each)),
+        _ => Ok(None),
+    }
+}
+
+/// The fonts of `check`.
+fn asked_fonts<'a>(
+    alloc: Global,
+    matches: &ArgMatches<'a>,
+) -> Result<Option<Checking<'a>>, AllocError>
+    ensures { IfOk result (Finds (IsChecking (rows_of (found_of matches.now)))) }
+{
+    let Some(fonts) = words(matches, "FONT") else {
+        return Ok(None);
+    };
+    let fonts = Vec::from_slice(alloc, fonts)?;
+    let size = asked_size(matches);
+    Ok(Some(Checking { fonts, size }))
+}
+
+/// The lines of `set` or `stream`, and how they are set.
+fn asked_setting<'a>(
+    alloc: Global,
+    matches: &ArgMatches<'a>,
+) -> Result<Option<Setting<'a>>, AllocError>
+    ensures { IfOk result (Finds (IsSetting (rows_of (found_of matches.now)))) }
+{
+    let files = asked_files(alloc, matches)?;
+    let Some((font, limit, layout)) = font_limit_layout(matches) else {
+        return Ok(None);
+    };
+    Ok(Some(Setting {
+        font,
+        limit,
+        files,
+        layout,
+    }))
+}
+
+fn font_limit_layout<'a>(matches: &ArgMatches<'a>) -> Option<(&'a str, Limit, Layout)>
+    ensures { Finds (λ found.
+        (first_of (codes "FONT") (rows_of (found_of matches.now)) ≡ Some found.0.now)
+        × IsNumberIn 1 16777216 (one_of (codes "limit") (rows_of (found_of matches.now))) found.1
+        × IsLayout (rows_of (found_of matches.now)) found.2) result }
+{
+    Some((
+        text(matches, "FONT")?,
+        asked_limit(matches)?,
+        asked_layout(matches)?,
+    ))
+}
+
+/// The files; there may be none.
+fn asked_files<'a>(alloc: Global, matches: &ArgMatches<'a>) -> Result<Vec<&'a str>, AllocError>
+    ensures { IfOk result (λ files.
+        unwrap_or (all_of (codes "FILE") (rows_of (found_of matches.now))) [] ≡ texts files.items) }
+{
+    match words(matches, "FILE") {
+        Some(files) => Vec::from_slice(alloc, files),
+        None => Ok(Vec::new(alloc)),
+    }
+}
+
+/// The jobs of `each`.
+fn asked_jobs<'a>(alloc: Global, matches: &ArgMatches<'a>) -> Result<Option<Jobs<'a>>, AllocError>
+    ensures { IfOk result (Finds (AreJobs (rows_of (found_of matches.now)))) }
+{
+    let Some(words) = words(matches, "WORD") else {
+        return Ok(None);
+    };
+    let Some(layout) = asked_layout(matches) else {
+        return Ok(None);
+    };
+    let words = Vec::from_slice(alloc, words)?;
+    Ok(Some(Jobs { words, layout }))
+}
+
+/// How the run is laid out.
+fn asked_layout(matches: &ArgMatches<'_>) -> Option<Layout>
+    ensures { Finds (IsLayout (rows_of (found_of matches.now))) result }
+{
+    Some(Layout {
+        size: asked_size(matches),
+        policy: asked_policy(matches)?,
+        plan: asked_plan(matches)?,
+        version: asked_version(matches)?,
+    })
+}
+
+fn asked_policy(matches: &ArgMatches<'_>) -> Option<Policy>
+    ensures { Finds (λ policy. first_of (codes "missing") (rows_of (found_of matches.now))
+        ≡ Some (policy_word policy)) result }
+{
+    match text(matches, "missing")? {
+        "refuse" => Some(Policy::Refuse),
+        "skip" => Some(Policy::Skip),
+        _ => None,
+    }
+}
+
+fn asked_version(matches: &ArgMatches<'_>) -> Option<Version>
+    ensures { Finds (λ version. first_of (codes "record") (rows_of (found_of matches.now))
+        ≡ Some (version_word version)) result }
+{
+    match text(matches, "record")? {
+        "1" => Some(Version::One),
+        "2" => Some(Version::Two),
+        "json" => Some(Version::Json),
+        _ => None,
+    }
+}
+
+fn asked_plan(matches: &ArgMatches<'_>) -> Option<Plan>
+    ensures { Finds (IsPlan (rows_of (found_of matches.now))) result }
+{
+    Some(Plan {
+        capacity: asked_capacity(matches)?,
+        block: asked_block(matches)?,
+        workers: asked_workers(matches)?,
+    })
+}
+
+fn asked_size(matches: &ArgMatches<'_>) -> Option<Size>
+    ensures { IsSize (rows_of (found_of matches.now)) result }
+{
+    Size::new(number(matches, "size")?)
+}
+
+fn asked_limit(matches: &ArgMatches<'_>) -> Option<Limit>
+    ensures { Finds (IsNumberIn 1 16777216 (one_of (codes "limit") (rows_of (found_of matches.now)))) result }
+{
+    Limit::new(number(matches, "limit")?)
+}
+
+fn asked_capacity(matches: &ArgMatches<'_>) -> Option<Capacity>
+    ensures { Finds (IsNumberIn 1 65536 (one_of (codes "capacity") (rows_of (found_of matches.now)))) result }
+{
+    Capacity::new(number(matches, "capacity")? as usize)
+}
+
+fn asked_block(matches: &ArgMatches<'_>) -> Option<Block>
+    ensures { Finds (IsNumberIn 1 8 (one_of (codes "block") (rows_of (found_of matches.now)))) result }
+{
+    Block::new(number(matches, "block")? as usize)
+}
+
+fn asked_workers(matches: &ArgMatches<'_>) -> Option<Workers>
+    ensures { Finds (IsNumberIn 1 16 (one_of (codes "workers") (rows_of (found_of matches.now)))) result }
+{
+    Workers::new(number(matches, "workers")? as usize)
+}
+
+/// The number of this option.
+fn number(matches: &ArgMatches<'_>, name: &str) -> Option<u32>
+    ensures { Finds (IsNumberIn 0 4294967295 (one_of name.now (rows_of (found_of matches.now)))) result }
+{
+    matches.get_one(name)
+}
+
+/// The first text of this argument.
+fn text<'a>(matches: &ArgMatches<'a>, name: &str) -> Option<&'a str>
+    ensures { Finds (λ text. first_of name.now (rows_of (found_of matches.now)) ≡ Some text.now) result }
+{
+    matches.get_str(name)
+}
+
+/// All words of this argument.
+fn words<'b, 'a>(matches: &'b ArgMatches<'a>, name: &str) -> Option<&'b [&'a str]>
+    ensures { option_map (λ words. texts words.now) result ≡ all_of name.now (rows_of (found_of matches.now)) }
+{
+    matches.get_strs(name)
+}
+
+/// Whether this flag is set.
+fn flag(matches: &ArgMatches<'_>, name: &str) -> bool
+    ensures { IsFlag (one_of name.now (rows_of (found_of matches.now))) result }
+{
+    matches.get_flag(name)
+}
