@@ -11,6 +11,16 @@ pub fn kern_before(next: u8, index: u8) -> Step {
     }
 }
 
+/// Before a code, a kern whose number may be above 255: the operation has its high byte after 128.
+/// Numbers above 32,767 have no instruction, and are taken less 32,768.
+pub fn far_kern_before(next: u8, index: u16) -> Step {
+    let [high, low] = index.to_be_bytes();
+    Step {
+        op: 128 | high,
+        ..kern_before(next, low)
+    }
+}
+
 /// Before a code, a ligature operation that inserts a character; and the search goes on.
 pub fn ligature_before(next: u8, op: u8, inserted: u8) -> Step {
     Step {

@@ -5,6 +5,7 @@ pub mod examples;
 pub mod files;
 mod fonts;
 mod instructions;
+pub mod lengths;
 mod sample;
 
 pub use fonts::{
@@ -14,5 +15,5 @@ pub use fonts::{
     THREE_QUARTERS, endless_program, header, header_texts, largest, largest_program,
     ligature_program, with_characters, with_program,
 };
-pub use instructions::{boundary, go_to, kern_before, last, ligature_before};
+pub use instructions::{boundary, far_kern_before, go_to, kern_before, last, ligature_before};
 pub use sample::{Info, Sample};

@@ -6,7 +6,7 @@ use std::test::Fail;
 use tfm_tables::{FontFault, Part};
 use tfm_words::{Count, CountFault, DesignFault, Size, Table};
 
-/// A look at these bytes under this name finds this, and its line stands behind what was there.
+/// A look at these bytes under this name finds this, and its line stands after what was there.
 fn checks<R: Abort + AllocGlobal>(
     rt: &R,
     name: &str,

@@ -219,7 +219,7 @@ static ALL: &[u8] = b"lf 17\n\
 #[test]
 fn all_of_a_font_is_listed(rt: HostRuntime) -> Result<(), Fail> {
     let mut bytes = RECIPES.file(rt.alloc())?;
-    bytes.extend_from_slice(&[1, 2, 3, 4])?; // behind the font
+    bytes.extend_from_slice(&[1, 2, 3, 4])?; // after the font
     let mut out = Vec::new(rt.alloc());
     assert!(rt; list_all_text(rt.alloc(), &bytes, None, &mut out).is_ok());
     assert_eq!(rt; out.as_slice(), ALL);

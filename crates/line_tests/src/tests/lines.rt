@@ -1,6 +1,9 @@
 mod answers;
 mod feeds;
 mod hostile;
+mod long_fonts;
+mod long_lines;
+mod long_texts;
 mod memory;
 mod numbers;
 mod objects;

@@ -5,7 +5,7 @@ use set_line::{Policy, Version, record};
 use std::process::Abort;
 use std::test::Fail;
 
-/// The limit, the policy, a line, and what its record has behind source 1 and line 1.
+/// The limit, the policy, a line, and what its record has after source 1 and line 1.
 type Row = (u32, Policy, &'static str, &'static str);
 
 static PLAIN: [Row; 6] = [
@@ -120,7 +120,7 @@ fn a_long_line_is_refused_in_an_object(rt: HostRuntime) -> Result<(), Fail> {
     Ok(())
 }
 
-/// The greatest numbers, behind other text.
+/// The greatest numbers, after other text.
 #[test]
 fn an_object_begins_with_the_source_and_the_line(rt: HostRuntime) -> Result<(), Fail> {
     let terms = terms_of(&rt, &plain(rt.alloc())?, LIMIT, Policy::Refuse)?;

@@ -58,7 +58,7 @@ fn a_refused_item_in_an_empty_list(rt: HostRuntime) -> Result<(), Fail> {
 }
 
 #[test]
-fn a_refused_item_behind_earlier_ones(rt: HostRuntime) -> Result<(), Fail> {
+fn a_refused_item_after_earlier_ones(rt: HostRuntime) -> Result<(), Fail> {
     sets_or_refuses(&rt, &EARLIER)
 }
 
