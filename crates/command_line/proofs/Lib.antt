@@ -1,3 +1,4 @@
 pub mod CommandLemmas
 pub mod ValueLemmas
 pub mod AskedLemmas
+pub mod WorkedRows

@@ -1,5 +1,5 @@
 -- Lemmas on the statuses of failures.
-use Rattle.std.proofs.Common.{[], ◌∷◌, Contains, lit<, refl}
+use Rattle.std.proofs.Common.{arith, ◌≡◌, ◌≤◌, ◌<◌, ℕ, [], ◌∷◌, Contains, lit<, refl}
 use Rattle.tfm_tool.specs.declared.exit.Failure.{Failure}
 use Rattle.tfm_tool.specs.declared.exit.Failure.TheVariants.{Usage, NotInThrees, TooManyFiles, LimitRange, FontAndText, TwoFonts, NotRead, FontNotRead, SomeFontNotRead, FontRefused, FileNotOpened, FileNotEnded, Tool}
 use Rattle.run_texts.specs.declared.fault.ToolFault.TheVariants.{Font, Run, OutOfMemory, Write}
@@ -26,3 +26,27 @@ status_listed (FileNotOpened _) = (4, lit< tt, refl)
 status_listed FileNotEnded = (4, lit< tt, refl)
 status_listed (Tool OutOfMemory) = (5, lit< tt, refl)
 status_listed (Tool Write) = (5, lit< tt, refl)
+
+-- and it is 2 or more
+status_of_fault : (failure : Failure) → 2 ≤ status_of failure
+status_of_fault (Usage _) = omega arith
+status_of_fault (Tool (Font _)) = omega arith
+status_of_fault (Tool (Run TooManySources)) = omega arith
+status_of_fault (Tool (Run RunOutOfMemory)) = omega arith
+status_of_fault (Tool (Run Thread)) = omega arith
+status_of_fault NotInThrees = omega arith
+status_of_fault TooManyFiles = omega arith
+status_of_fault (LimitRange _) = omega arith
+status_of_fault FontAndText = omega arith
+status_of_fault TwoFonts = omega arith
+status_of_fault (FontRefused _ _) = omega arith
+status_of_fault NotRead = omega arith
+status_of_fault (FontNotRead _) = omega arith
+status_of_fault SomeFontNotRead = omega arith
+status_of_fault (FileNotOpened _) = omega arith
+status_of_fault FileNotEnded = omega arith
+status_of_fault (Tool OutOfMemory) = omega arith
+status_of_fault (Tool Write) = omega arith
+
+pub no_fault_below : (status : ℕ) (failure : Failure) → status ≡ status_of failure → ¬ (status < 2)
+no_fault_below status failure is below = absurd (omega (arith, below, is, status_of_fault failure))

@@ -1,4 +1,4 @@
-ghost use Rattle.std.specs.Prelude.{◌≡◌, ◌≢◌, true, [], ◌∷◌, Contains, None, IfErr, IfOk, OnOk};
+ghost use Rattle.std.specs.Prelude.{◌≡◌, ◌≢◌, ◌<◌, true, [], ◌∷◌, Contains, None, IfErr, IfOk, OnOk};
 ghost use Rattle.std.specs.Io.KnownBytes.{Appends, Keeps};
 ghost use Rattle.std.specs.IoError.{error_kind};
 ghost use Rattle.tfm_tables.specs.Font.{FontValue, IsFontOf};
@@ -39,6 +39,7 @@ where
     O: Write,
     E: Write,
     ensures statuses { Contains (0 ∷ 1 ∷ 2 ∷ 3 ∷ 4 ∷ 5 ∷ []) result }
+    ensures silent { result < 2 → err.new ≡ err.old }
     ensures usage { result ≡ 2 → Keeps (O.contents out.old) (O.contents out.new) }
     ensures font { result ≡ 3 → Keeps (O.contents out.old) (O.contents out.new) }
 {

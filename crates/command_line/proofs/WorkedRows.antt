@@ -1,0 +1,111 @@
+-- Command lines, and what the definitions alone make of them.
+use Rattle.std.proofs.Common.{◌≡◌, List, [], ◌∷◌, Option, Some, None, refl, codes}
+use Rattle.std.specs.Prelude.{option_map}
+use Rattle.clap.specs.Words.{Kinds, Text, all_of, fault_of, first_of, one_of, subcommand_of}
+use Rattle.clap.specs.declared.error.kind.ErrorKind.TheVariants.{DisplayHelp, DisplayVersion, DisplayHelpOnMissingArgumentOrSubcommand, MissingRequiredArgument, UnknownArgument, ValueValidation}
+use Rattle.clap.proofs.OnLiterals.{clap_on_literals}
+use Rattle.command_line.specs.Commands.{AllChoices, tfmset_app}
+
+module _ (choices : AllChoices) where
+  -- the first text, the text that is read and all texts of an argument, by the words; none if no subcommand is found
+  abbrev text_in : Text → List Text → Option (Option Text)
+  text_in argument words = option_map (λ s. first_of argument s.1) (subcommand_of (tfmset_app choices) words)
+
+  abbrev read_in : Text → List Text → Option (Option Text)
+  read_in argument words = option_map (λ s. one_of argument s.1) (subcommand_of (tfmset_app choices) words)
+
+  abbrev all_in : Text → List Text → Option (Option (List Text))
+  all_in argument words = option_map (λ s. all_of argument s.1) (subcommand_of (tfmset_app choices) words)
+
+  abbrev fault_in : List Text → Kinds
+  fault_in words = fault_of (tfmset_app choices) words
+
+  -- ---- values that are given
+
+  abbrev counts : List Text
+  counts = codes "counts" ∷ codes "f.tfm" ∷ []
+
+  counts_name : option_map (λ s. s.0) (subcommand_of (tfmset_app choices) counts) ≡ Some (codes "counts")
+  unfolding clap_on_literals
+  counts_name = refl
+
+  counts_font : text_in (codes "FONT") counts ≡ Some (Some (codes "f.tfm"))
+  unfolding clap_on_literals
+  counts_font = refl
+
+  list_all : read_in (codes "all") (codes "list" ∷ codes "f.tfm" ∷ codes "--all" ∷ []) ≡ Some (Some (codes "true"))
+  unfolding clap_on_literals
+  list_all = refl
+
+  abbrev set : List Text
+  set = codes "set" ∷ codes "--size=655360" ∷ codes "--workers" ∷ codes "4" ∷ codes "f.tfm" ∷ codes "a" ∷ codes "b" ∷ []
+
+  set_size : read_in (codes "size") set ≡ Some (Some (codes "655360"))
+  unfolding clap_on_literals
+  set_size = refl
+
+  set_workers : read_in (codes "workers") set ≡ Some (Some (codes "4"))
+  unfolding clap_on_literals
+  set_workers = refl
+
+  set_files : all_in (codes "FILE") set ≡ Some (Some (codes "a" ∷ codes "b" ∷ []))
+  unfolding clap_on_literals
+  set_files = refl
+
+  each_words : all_in (codes "WORD") (codes "each" ∷ codes "f.tfm" ∷ codes "100" ∷ codes "a" ∷ []) ≡ Some (Some (codes "f.tfm" ∷ codes "100" ∷ codes "a" ∷ []))
+  unfolding clap_on_literals
+  each_words = refl
+
+  -- ---- values that are not
+
+  list_not_all : read_in (codes "all") (codes "list" ∷ codes "f.tfm" ∷ []) ≡ Some (Some (codes "false"))
+  unfolding clap_on_literals
+  list_not_all = refl
+
+  set_limit : read_in (codes "limit") set ≡ Some (Some (codes "1048576"))
+  unfolding clap_on_literals
+  set_limit = refl
+
+  set_missing : text_in (codes "missing") set ≡ Some (Some (codes "refuse"))
+  unfolding clap_on_literals
+  set_missing = refl
+
+  stream_files : all_in (codes "FILE") (codes "stream" ∷ codes "f.tfm" ∷ []) ≡ Some None
+  unfolding clap_on_literals
+  stream_files = refl
+
+  -- ---- words that are refused, and help
+
+  nothing : fault_in [] ≡ DisplayHelpOnMissingArgumentOrSubcommand ∷ []
+  unfolding clap_on_literals
+  nothing = refl
+
+  help : fault_in (codes "set" ∷ codes "--help" ∷ []) ≡ DisplayHelp ∷ []
+  unfolding clap_on_literals
+  help = refl
+
+  version : fault_in (codes "--version" ∷ []) ≡ DisplayVersion ∷ []
+  unfolding clap_on_literals
+  version = refl
+
+  no_font : fault_in (codes "list" ∷ []) ≡ MissingRequiredArgument ∷ []
+  unfolding clap_on_literals
+  no_font = refl
+
+  size_of_nothing : fault_in (codes "check" ∷ codes "--size" ∷ codes "0" ∷ codes "f.tfm" ∷ []) ≡ ValueValidation ∷ []
+  unfolding clap_on_literals
+  size_of_nothing = refl
+
+  no_option : fault_in (codes "counts" ∷ codes "--size" ∷ codes "1" ∷ codes "f.tfm" ∷ []) ≡ UnknownArgument ∷ []
+  unfolding clap_on_literals
+  no_option = refl
+
+  -- ---- words that are taken
+
+  largest_size : fault_in (codes "check" ∷ codes "--size" ∷ codes "134217727" ∷ codes "f.tfm" ∷ codes "-" ∷ []) ≡ []
+  unfolding clap_on_literals
+  largest_size = refl
+
+  larger_size : fault_in (codes "check" ∷ codes "--size" ∷ codes "134217728" ∷ codes "f.tfm" ∷ []) ≡ ValueValidation ∷ []
+  unfolding clap_on_literals
+  larger_size = refl
