@@ -1,10 +1,11 @@
 -- Lemmas on the statuses of failures.
 use Rattle.std.proofs.Common.{arith, ◌≡◌, ◌≤◌, ◌<◌, ℕ, [], ◌∷◌, Contains, lit<, refl}
+use Rattle.std.specs.Prelude.{IfOk, Result, Ok, Err}
 use Rattle.tfm_tool.specs.declared.exit.Failure.{Failure}
 use Rattle.tfm_tool.specs.declared.exit.Failure.TheVariants.{Usage, NotInThrees, TooManyFiles, LimitRange, FontAndText, TwoFonts, NotRead, FontNotRead, SomeFontNotRead, FontRefused, FileNotOpened, FileNotEnded, Tool}
 use Rattle.run_texts.specs.declared.fault.ToolFault.TheVariants.{Font, Run, OutOfMemory, Write}
 use Rattle.set_run.specs.declared.run_fault.RunFault.TheVariants.{TooManySources, OutOfMemory as RunOutOfMemory, Thread}
-use Rattle.tfm_tool.specs.Status.{status_of}
+use Rattle.tfm_tool.specs.Status.{AfterText, status_of}
 
 -- a failure has one of the statuses of the table
 pub status_listed : (failure : Failure) → Contains (0 ∷ 1 ∷ 2 ∷ 3 ∷ 4 ∷ 5 ∷ []) (status_of failure)
@@ -50,3 +51,8 @@ status_of_fault (Tool Write) = omega arith
 
 pub no_fault_below : (status : ℕ) (failure : Failure) → status ≡ status_of failure → ¬ (status < 2)
 no_fault_below status failure is below = absurd (omega (arith, below, is, status_of_fault failure))
+
+-- what holds after a whole text holds if all went well
+pub after_text_of_ok : (r : Result ℕ Failure) (P : ℕ → Type 0) → AfterText r P → IfOk r P
+after_text_of_ok (Ok status) P is = is
+after_text_of_ok (Err failure) P is = tt

@@ -6,3 +6,4 @@ pub mod Kept
 pub mod Jobs
 pub mod Checking
 pub mod Requests
+pub mod Served

@@ -7,10 +7,10 @@ ghost use Rattle.tfm_tool.specs.Named.{font_bytes_of};
 ghost use Rattle.tfm_tool.specs.Status.{AfterText, is_after_text, is_before_output, status_of};
 ghost use Rattle.tfm_tool.specs.declared.exit.Failure.TheVariants.{SomeFontNotRead, TwoFonts};
 
-use command_line::Checking;
 use crate::exit::Failure;
 use crate::files::{ReadFault, font_bytes};
 use crate::{Opens, check_text, finding_text};
+use command_line::Checking;
 use font_texts::Finding;
 use run_texts::ToolFault;
 use std::alloc::Global;

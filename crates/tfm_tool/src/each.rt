@@ -7,11 +7,11 @@ ghost use Rattle.tfm_tool.specs.Status.{AfterText, is_after_text, is_before_outp
 ghost use Rattle.tfm_tool.specs.Told.{told_by};
 
 use crate::Opens;
-use command_line::Jobs;
 use crate::exit::Failure;
 use crate::files::open_each;
 use crate::jobs::{all_terms, jobs};
 use crate::runs::finish;
+use command_line::Jobs;
 use run_texts::set_each;
 use set_line::Terms;
 use set_run::{LineSource, NoGate, ReaderSource};

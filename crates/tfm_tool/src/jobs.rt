@@ -9,9 +9,9 @@ ghost use Rattle.tfm_tool.specs.Jobs.{AreTermsOf, HasTermsOf, job_value, jobs_in
 ghost use Rattle.tfm_tool.specs.Status.{is_after_text};
 
 use crate::Opens;
-use command_line::Layout;
 use crate::exit::Failure;
 use crate::files::{ReadFault, font_file};
+use command_line::Layout;
 use run_texts::{ToolFault, accepted};
 use set_line::{Limit, Terms};
 use set_run::MOST_SOURCES;

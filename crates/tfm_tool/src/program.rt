@@ -1,11 +1,12 @@
-ghost use Rattle.std.specs.Prelude.{◌≡◌, ◌≢◌, ◌<◌, true, [], ◌∷◌, Contains, None, IfErr, IfOk, OnOk};
+ghost use Rattle.std.specs.Prelude.{◌≡◌, ◌≢◌, ◌<◌, ℕ, true, List, [], ◌∷◌, map, Contains, Option, None, IfErr, IfOk, OnOk};
 ghost use Rattle.std.specs.Io.KnownBytes.{Appends, Keeps};
 ghost use Rattle.std.specs.IoError.{error_kind};
+ghost use Rattle.clap.specs.Words.{kind_of};
 ghost use Rattle.tfm_tables.specs.Font.{FontValue, IsFontOf};
 ghost use Rattle.tfm_tool.specs.Requests.{CountsAreTold, IsDone, IsListed, list_text_of};
+ghost use Rattle.tfm_tool.specs.Served.{IsServed, is_answer};
 ghost use Rattle.tfm_tool.specs.Status.{AfterText, is_before_output, status_of};
 
-use command_line::{Request, requested};
 use crate::checking::check;
 use crate::each::set_jobs;
 use crate::exit::Failure;
@@ -13,6 +14,7 @@ use crate::files::font_bytes;
 use crate::runs::{set_files, stream};
 use crate::{Disk, Opens, counts_text, list_all_text, list_text};
 use clap::error::ErrorKind as WordsKind;
+use command_line::{Request, requested};
 use run_texts::{ToolFault, accepted};
 use std::alloc::Global;
 use std::convert::AsStr;
@@ -40,6 +42,8 @@ where
     E: Write,
     ensures statuses { Contains (0 ∷ 1 ∷ 2 ∷ 3 ∷ 4 ∷ 5 ∷ []) result }
     ensures silent { result < 2 → err.new ≡ err.old }
+    ensures served { result < 2 → (written : Option (List ℕ)) × Keeps written (O.contents out.new)
+        × IsServed (map S.text words.now) (I.remaining input.old) (O.contents out.old) written result }
     ensures usage { result ≡ 2 → Keeps (O.contents out.old) (O.contents out.new) }
     ensures font { result ≡ 3 → Keeps (O.contents out.old) (O.contents out.new) }
 {
@@ -72,6 +76,8 @@ where
     S: AsStr,
     I: Read + Send,
     O: Write,
+    ensures served { IfOk result (IsServed (map S.text words.now) (I.remaining input.old)
+        (O.contents out.old) (O.contents out.new)) }
     ensures status { IfOk result (λ status. Contains (0 ∷ 1 ∷ []) status) }
     ensures untouched { IfErr result (λ failure. is_before_output failure ≡ true → out.new ≡ out.old) }
 {
@@ -180,7 +186,8 @@ fn list_bytes<O: Write>(
 
 /// Help and the version are an answer; any other error is why there is none.
 fn show<O: Write>(error: clap::Error, out: &mut O) -> Result<(), Failure>
-    ensures { IfErr result (λ failure. is_before_output failure ≡ true → out.new ≡ out.old) }
+    ensures answer { OnOk result (is_answer (kind_of error) ≡ true) }
+    ensures untouched { IfErr result (λ failure. is_before_output failure ≡ true → out.new ≡ out.old) }
 {
     match error.kind() {
         WordsKind::DisplayHelp | WordsKind::DisplayVersion => {

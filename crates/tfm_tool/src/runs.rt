@@ -14,9 +14,9 @@ ghost use Rattle.tfm_tool.specs.Status.{AfterText, is_after_text, is_before_outp
 ghost use Rattle.run_texts.specs.Endings.{summary_status};
 
 use crate::Opens;
-use command_line::Setting;
 use crate::exit::Failure;
 use crate::files::{font_bytes, open_files};
+use command_line::Setting;
 use run_texts::{Summary, ToolFault, accepted, set_text, status, stream_text};
 use set_run::{LineSource, MOST_SOURCES, NoGate, ReaderSource};
 use std::alloc::Global;
