@@ -44,7 +44,7 @@ has_no_plus (c ∷ cs) all = without_leading_plus_none (c ∷ cs) (λ is.
     list_all_at is_ascii_digit (c ∷ cs) 0 0 (omega arith) (subst (λ b. is_ascii_digit b ≡ false) (sym is) refl) in
     let bad : true ≡ false = sym all ∙ no in cc)
 
-three_of : (chunk : List (Bor (List ℕ))) (d : Bor (List ℕ)) → 3 ≤ length chunk → length chunk < 4
+pub three_of : (chunk : List (Bor (List ℕ))) (d : Bor (List ℕ)) → 3 ≤ length chunk → length chunk < 4
     → chunk ≡ get_or chunk 0 d ∷ get_or chunk 1 d ∷ get_or chunk 2 d ∷ []
 three_of [] d long short = absurd (omega (arith, long))
 three_of (a ∷ []) d long short = absurd (omega (arith, long))

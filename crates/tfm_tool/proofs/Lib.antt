@@ -9,3 +9,4 @@ pub mod SourceLemmas
 pub mod KnownLemmas
 pub mod ReaderLemmas
 pub mod EachLemmas
+pub mod WordLemmas

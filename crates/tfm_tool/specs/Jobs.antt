@@ -1,8 +1,10 @@
 -- The jobs of `each`: what its words ask for, and the terms and the sources that they lead to.
 -- This project's own.
-use Rattle.std.specs.Prelude.{◌≡◌, ℕ, List, [], ◌∷◌, Option}
+use Rattle.std.specs.Prelude.{◌≡◌, ◌≢◌, ℕ, ◌+◌, ◌/◌, ◌%◌, ◌<◌, ◌≤◌, true, List, [], ◌∷◌, ◌++◌, length, All, Option}
 use Rattle.std.specs.Arc.{arc_value}
 use Rattle.std.specs.Borrow.{Bor}
+use Rattle.std.specs.Char.{is_ascii_digit}
+use Rattle.std.specs.List.{list_all}
 use Rattle.std.specs.Str.Parse.{digits_value}
 use Rattle.std.specs.declared.alloc.Global.{Global}
 use Rattle.std.specs.declared.sync.Arc.{Arc}
@@ -11,6 +13,8 @@ use Rattle.set_line.specs.Terms.{TermsValue}
 use Rattle.tfm_tool.specs.Named.{OfKnown}
 use Rattle.tfm_tool.specs.Told.{IsSourceOf, Told}
 use Rattle.command_line.specs.declared.request.Layout.{Layout}
+use Rattle.tfm_tool.specs.declared.exit.Failure.{Failure}
+use Rattle.tfm_tool.specs.declared.exit.Failure.TheVariants.{NotInThrees, TooManyFiles, LimitRange}
 use Rattle.tfm_tool.specs.declared.jobs.Job.{Job}
 
 -- a job: the name of its font, its limit and the name of its file
@@ -23,6 +27,49 @@ pub record JobValue : Type 0 where
 abbrev pub jobs_in : List (Bor (List ℕ)) → List JobValue
 jobs_in (font ∷ limit ∷ file ∷ words) = record { font = font.now; limit = digits_value 10 limit.now; file = file.now } ∷ jobs_in words
 jobs_in words = []
+
+-- the limits of words, as they are written: the second word of each three
+abbrev pub limit_words : List (Bor (List ℕ)) → List (List ℕ)
+limit_words (font ∷ limit ∷ file ∷ words) = limit.now ∷ limit_words words
+limit_words words = []
+
+-- the limit that a word writes: one to eight decimal digits, whose value lies from 1 to 16,777,216
+abbrev pub IsLimitOf : List ℕ → ℕ → Type 0
+IsLimitOf word limit =
+    (list_all is_ascii_digit word ≡ true)
+    × (1 ≤ length word)
+    × (length word ≤ 8)
+    × (digits_value 10 word ≡ limit)
+    × (1 ≤ limit)
+    × (limit ≤ 16777216)
+
+-- a word writes some limit
+abbrev pub WritesLimit : List ℕ → Type 0
+WritesLimit word = (limit : ℕ) × IsLimitOf word limit
+
+-- words that come in threes, of which there are at most 64
+abbrev pub AreUpTo64Threes : List (Bor (List ℕ)) → Type 0
+AreUpTo64Threes words = (length words % 3 ≡ 0) × (length words / 3 ≤ 64)
+
+-- the n-th of these words, from 1, is the first that writes no limit
+abbrev pub IsFirstWithoutLimit : ℕ → List (List ℕ) → Type 0
+IsFirstWithoutLimit n words =
+    (before : List (List ℕ)) × (word : List ℕ) × (after : List (List ℕ))
+    × (words ≡ before ++ word ∷ after)
+    × (n ≡ length before + 1)
+    × All WritesLimit before
+    × ¬ WritesLimit word
+
+-- what is wrong with the words of `each`: they aren't in threes; there are more than 64 threes; or the n-th limit is the first that is none
+abbrev pub IsFaultOfWords : List (Bor (List ℕ)) → Failure → Type 0
+IsFaultOfWords words NotInThrees = length words % 3 ≢ 0
+IsFaultOfWords words TooManyFiles = (length words % 3 ≡ 0) × (64 < length words / 3)
+IsFaultOfWords words (LimitRange n) = AreUpTo64Threes words × IsFirstWithoutLimit n (limit_words words)
+IsFaultOfWords words _ = ⊥
+
+-- words that have no fault: at most 64 threes, each with a limit
+abbrev pub AreWordsOfJobs : List (Bor (List ℕ)) → Type 0
+AreWordsOfJobs words = AreUpTo64Threes words × All WritesLimit (limit_words words)
 
 -- the job that a job of the program stands for
 abbrev pub job_value : Job → JobValue

@@ -1,12 +1,14 @@
 //! The jobs of `each`: a font, a limit and a file, again and again.
 
-ghost use Rattle.std.specs.Prelude.{◌≡◌, false, map, IfErr, IfOk, IfSome};
+ghost use Rattle.std.specs.Prelude.{◌≡◌, ◌⊎◌, false, map, IfErr, IfOk};
 ghost use Rattle.std.specs.Arc.{arc_value};
 ghost use Rattle.std.specs.Char.{is_ascii_digit};
 ghost use Rattle.std.specs.List.{AllZip, list_all};
-ghost use Rattle.std.specs.Str.Parse.{digits_value};
-ghost use Rattle.tfm_tool.specs.Jobs.{AreTermsOf, HasTermsOf, job_value, jobs_in};
+ghost use Rattle.command_line.specs.Asked.{Finds};
+ghost use Rattle.run_texts.specs.declared.fault.ToolFault.TheVariants.{OutOfMemory};
+ghost use Rattle.tfm_tool.specs.Jobs.{AreTermsOf, AreWordsOfJobs, HasTermsOf, IsFaultOfWords, IsLimitOf, job_value, jobs_in};
 ghost use Rattle.tfm_tool.specs.Status.{is_after_text};
+ghost use Rattle.tfm_tool.specs.declared.exit.Failure.TheVariants.{Tool};
 
 use crate::Opens;
 use crate::exit::Failure;
@@ -36,7 +38,7 @@ fn is_in_digits(word: &str) -> bool
 /// A limit: one to eight decimal digits, within its range.
 #[tactic(auto, using(crate::proofs::EachLemmas::has_no_plus))]
 fn limit_of(word: &str) -> Option<Limit>
-    ensures { IfSome result (λ limit. limit ≡ digits_value 10 word.now) }
+    ensures { Finds (IsLimitOf word.now) result }
 {
     if word.len() > 8 || !is_in_digits(word) {
         return None;
@@ -47,6 +49,8 @@ fn limit_of(word: &str) -> Option<Limit>
 /// The jobs that these words ask for, whose limits are all looked at.
 pub(crate) fn jobs<'a>(alloc: Global, words: &[&'a str]) -> Result<Vec<Job<'a>>, Failure>
     ensures jobs { IfOk result (λ jobs. map job_value jobs.items ≡ jobs_in words.now) }
+    ensures lawful { IfOk result (λ _. AreWordsOfJobs words.now) }
+    ensures refused { IfErr result (λ failure. (failure ≡ Tool OutOfMemory) ⊎ IsFaultOfWords words.now failure) }
     ensures fault { IfErr result (λ failure. is_after_text failure ≡ false) }
 {
     if words.len() % 3 != 0 {
