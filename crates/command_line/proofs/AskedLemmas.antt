@@ -23,15 +23,15 @@ module _ (choices : AllChoices) where
 
     -- what is found in the matches is what the words ask for
     pub asked_in_words : (m : ArgMatches) (found : Option Request) (request : Request) → HasMatchesOf app words m → Finds (IsAskedOf (subcommand_rows_of m)) found
-        → found ≡ Some request → IsAskedWith choices words request
+        → found ≡ Some request → IsAskedOf (subcommand_of (tfmset_app choices) words) request
     asked_in_words m (Some other) request has finds one =
-        subst (IsAskedWith choices words) (same_Some other request one) (subst (λ s. IsAskedOf s other) (rows_of_words m has) finds)
+        subst (IsAskedOf (subcommand_of (tfmset_app choices) words)) (same_Some other request one) (subst (λ s. IsAskedOf s other) (rows_of_words m has) finds)
     asked_in_words m None request has finds one = absurd (none-some request one)
 
     pub nothing_in_words : (m : ArgMatches) (found : Option Request) → HasMatchesOf app words m → Finds (IsAskedOf (subcommand_rows_of m)) found
         → found ≡ None → (request : Request) → ¬ IsAskedWith choices words request
     nothing_in_words m (Some other) has finds none request asks = none-some other (sym none)
-    nothing_in_words m None has finds none request asks = finds request (subst (λ s. IsAskedOf s request) (sym (rows_of_words m has)) asks)
+    nothing_in_words m None has finds none request asks = finds request (subst (λ s. IsAskedOf s request) (sym (rows_of_words m has)) asks.1)
 
     -- a parse fails by the first fault of the words, and otherwise there is none
     pub faults : {T : Type 0} (r : Result T Error) → (is_simple_and_free app ≡ true → FailsBy (fault_of app words) r) → FailsBy (fault_of (tfmset_app choices) words) r

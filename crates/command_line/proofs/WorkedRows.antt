@@ -2,7 +2,7 @@
 use Rattle.std.proofs.Common.{◌≡◌, List, [], ◌∷◌, Option, Some, None, refl, codes}
 use Rattle.std.specs.Prelude.{option_map}
 use Rattle.clap.specs.Words.{Kinds, Text, all_of, fault_of, first_of, one_of, subcommand_of}
-use Rattle.clap.specs.declared.error.kind.ErrorKind.TheVariants.{DisplayHelp, DisplayVersion, DisplayHelpOnMissingArgumentOrSubcommand, MissingRequiredArgument, UnknownArgument, ValueValidation}
+use Rattle.clap.specs.declared.error.kind.ErrorKind.TheVariants.{ArgumentConflict, DisplayHelp, DisplayVersion, DisplayHelpOnMissingArgumentOrSubcommand, MissingRequiredArgument, UnknownArgument, ValueValidation}
 use Rattle.clap.proofs.OnLiterals.{clap_on_literals}
 use Rattle.command_line.specs.Commands.{AllChoices, tfmset_app}
 
@@ -56,7 +56,7 @@ module _ (choices : AllChoices) where
   unfolding clap_on_literals
   each_words = refl
 
-  -- ---- values that are not
+  -- ---- values that aren't given
 
   list_not_all : read_in (codes "all") (codes "list" ∷ codes "f.tfm" ∷ []) ≡ Some (Some (codes "false"))
   unfolding clap_on_literals
@@ -96,6 +96,18 @@ module _ (choices : AllChoices) where
   unfolding clap_on_literals
   size_of_nothing = refl
 
+  stray_word : fault_in (codes "counts" ∷ codes "f.tfm" ∷ codes "g.tfm" ∷ []) ≡ UnknownArgument ∷ []
+  unfolding clap_on_literals
+  stray_word = refl
+
+  two_sizes : fault_in (codes "check" ∷ codes "--size=1" ∷ codes "--size=2" ∷ codes "f.tfm" ∷ []) ≡ ArgumentConflict ∷ []
+  unfolding clap_on_literals
+  two_sizes = refl
+
+  larger_size : fault_in (codes "check" ∷ codes "--size" ∷ codes "134217728" ∷ codes "f.tfm" ∷ []) ≡ ValueValidation ∷ []
+  unfolding clap_on_literals
+  larger_size = refl
+
   no_option : fault_in (codes "counts" ∷ codes "--size" ∷ codes "1" ∷ codes "f.tfm" ∷ []) ≡ UnknownArgument ∷ []
   unfolding clap_on_literals
   no_option = refl
@@ -105,7 +117,3 @@ module _ (choices : AllChoices) where
   largest_size : fault_in (codes "check" ∷ codes "--size" ∷ codes "134217727" ∷ codes "f.tfm" ∷ codes "-" ∷ []) ≡ []
   unfolding clap_on_literals
   largest_size = refl
-
-  larger_size : fault_in (codes "check" ∷ codes "--size" ∷ codes "134217728" ∷ codes "f.tfm" ∷ []) ≡ ValueValidation ∷ []
-  unfolding clap_on_literals
-  larger_size = refl

@@ -5,7 +5,7 @@ use Rattle.std.specs.Borrow.{Bor}
 use Rattle.std.specs.Str.Parse.{IsNumeral, digits_value, without_leading_plus}
 use Rattle.clap.specs.Words.{HasKind, Row, Text, all_of, fault_of, first_of, kind_of, one_of, subcommand_of}
 use Rattle.clap.specs.declared.error.Error.{Error}
-use Rattle.clap.specs.declared.error.kind.ErrorKind.TheVariants.{OutOfMemory}
+use Rattle.clap.specs.declared.error.kind.ErrorKind.TheVariants.{MissingSubcommand, OutOfMemory}
 use Rattle.set_line.specs.declared.policy.Policy.{Policy}
 use Rattle.set_line.specs.declared.policy.Policy.TheVariants.{Refuse, Skip}
 use Rattle.set_line.specs.declared.version.Version.{Version}
@@ -109,15 +109,15 @@ IsAskedOf subcommand request = IsSomeAnd subcommand (λ s. AsksFor s.1 s.0 reque
 -- ---- requests, by the words
 
 module _ (choices : AllChoices) (words : List Text) where
-  -- what the words ask for
+  -- a parse finds no fault in the words, and they ask for this
   abbrev pub IsAskedWith : Request → Type 0
-  IsAskedWith request = IsAskedOf (subcommand_of (tfmset_app choices) words) request
+  IsAskedWith request = (fault_of (tfmset_app choices) words ≡ []) × IsAskedOf (subcommand_of (tfmset_app choices) words) request
 
   -- why the words are refused: memory, or the first fault that a parse finds, or without one that they ask for nothing
   abbrev pub IsRefusedWith : Error → Type 0
   IsRefusedWith error =
       HasKind (fault_of (tfmset_app choices) words) error
-      ⊎ ((fault_of (tfmset_app choices) words ≡ []) × ((request : Request) → ¬ IsAskedWith request))
+      ⊎ ((fault_of (tfmset_app choices) words ≡ []) × (kind_of error ≡ MissingSubcommand) × ((request : Request) → ¬ IsAskedWith request))
 
 -- the same of the command with some choices; memory may also be refused before there is a command
 abbrev pub IsAskedBy : List Text → Request → Type 0

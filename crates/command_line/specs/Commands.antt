@@ -13,7 +13,7 @@ use Rattle.clap.specs.declared.builder.value_parser.ValueParser.TheVariants as p
 
 -- ---- arguments
 
--- a word that has to be there
+-- an argument that has to be given
 abbrev pub needed : Rule → Rule
 needed rule = record rule { required = true }
 
@@ -51,7 +51,7 @@ missing_words = codes "refuse" ∷ codes "skip" ∷ []
 abbrev pub record_words : List Text
 record_words = codes "1" ∷ codes "2" ∷ codes "json" ∷ []
 
--- the parsers of the two options for a word: what is done with missing characters, and the form of records
+-- the parsers of the two options whose value is one of some words: what is done with missing characters, and the form of records
 pub record Choices : Type 0 where
   pub missing : ValueParser
   pub records : ValueParser
@@ -102,7 +102,7 @@ each_shape choices = subcommand_with (codes "each") (size_rule ∷ run_rules cho
 
 -- ---- the command
 
--- the command without subcommands: its name isn't among the words, and it shows its help if there are none
+-- the command before it has subcommands: its name isn't among the words, it has a version, it shows its help without words, and it wants a subcommand
 abbrev pub bare_app : App
 bare_app = record {
   top = record (new_app (codes "tfmset")).top {
@@ -118,7 +118,7 @@ bare_app = record {
 abbrev pub command_with : List Shape → App
 command_with shapes = record { top = record bare_app.top { is_leaf = false }; subs = shapes }
 
--- the parsers of the three subcommands that run
+-- the parsers of the three subcommands that set lines
 pub record AllChoices : Type 0 where
   pub set : Choices
   pub stream : Choices

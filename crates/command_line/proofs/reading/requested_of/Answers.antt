@@ -15,8 +15,12 @@ returns-in_err-matches-clause-refused g c = λ choices is.
 
 pub returns-in-Some-clause-asked : goal.returns-in-Some-clause-asked
 returns-in-Some-clause-asked g c = λ choices is.
-    asked_in_words choices (map g.S.AsStr.text c.args.words.now) (app_of c.args.command.now) is.0 c.in_ok-matches.matches c.in_ok-request.field-0 c.in-Some.request
-    c.in_ok-matches.ensures.ok.2 c.in_ok-request.ensures (search rules)
+    let words = map g.S.AsStr.text c.args.words.now in
+    let none = faults choices words (app_of c.args.command.now) is.0 {T = ArgMatches} (Ok c.in_ok-matches.matches) c.in_ok-matches.ensures.kinds in (
+      none,
+      asked_in_words choices words (app_of c.args.command.now) is.0 c.in_ok-matches.matches c.in_ok-request.field-0 c.in-Some.request
+          c.in_ok-matches.ensures.ok.2 c.in_ok-request.ensures (search rules),
+    )
 
 pub returns-clause-refused : goal.returns-clause-refused
 returns-clause-refused g c = λ choices is.
@@ -24,6 +28,7 @@ returns-clause-refused g c = λ choices is.
     let none = faults choices words (app_of c.args.command.now) is.0 {T = ArgMatches} (Ok c.in_ok-matches.matches) c.in_ok-matches.ensures.kinds in
     inr (
       none,
+      c.in_ok-error-in-None.ensures.kind,
       nothing_in_words choices words (app_of c.args.command.now) is.0 c.in_ok-matches.matches c.in_ok-request.field-0
           c.in_ok-matches.ensures.ok.2 c.in_ok-request.ensures (search rules),
     )
