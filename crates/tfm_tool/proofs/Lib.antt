@@ -10,3 +10,5 @@ pub mod KnownLemmas
 pub mod ReaderLemmas
 pub mod EachLemmas
 pub mod WordLemmas
+pub mod CauseLemmas
+pub mod WorkedRows

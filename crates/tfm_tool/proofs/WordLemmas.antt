@@ -1,5 +1,6 @@
 -- The words of `each`: the limits that they write, and the first that writes none.
-use Rattle.std.proofs.Common.{arith, ◌≡◌, ℕ, zero, suc, ◌+◌, ◌%◌, ◌^◌, ◌<◌, ◌≤◌, true, false, min, List, [], ◌∷◌, ◌++◌, get_or, length, length-append, nat_le, Option, Some, None, Bor, codes, refl, ap, sym, subst, ◌∙◌}
+use Rattle.std.proofs.Common.{arith, ◌≡◌, ℕ, zero, suc, ◌+◌, ◌%◌, ◌^◌, ◌<◌, ◌≤◌, true, false, min, List, [], ◌∷◌, ◌++◌, get_or, length, length-append, nat_le, Option, Some, None, Bor, ap, sym, subst, ◌∙◌}
+use Rattle.std.proofs.Math.Seq.{get_or-append_seam}
 use Rattle.std.proofs.lemmas.Bool.{and_parts, leb-true, true≢false}
 use Rattle.std.proofs.lemmas.List.{append-nil, append_assoc, nil_from_length}
 use Rattle.std.proofs.lemmas.List.Elements.{All-append}
@@ -11,8 +12,9 @@ use Rattle.std.specs.List.{list_all}
 use Rattle.std.specs.Str.Parse.{AllDigits, IsNumeral, ParsesUnsigned, digits_value}
 use Rattle.std.specs.declared.num.ParseIntError.{ParseIntError}
 use Rattle.command_line.specs.Asked.{Finds}
-use Rattle.tfm_tool.specs.declared.exit.Failure.TheVariants.{LimitRange}
-use Rattle.tfm_tool.specs.Jobs.{IsFaultOfWords, IsFirstWithoutLimit, IsLimitOf, WritesLimit, limit_words}
+use Rattle.tfm_tool.specs.declared.exit.Failure.{Failure}
+use Rattle.tfm_tool.specs.declared.exit.Failure.TheVariants.{LimitRange, NotInThrees, TooManyFiles}
+use Rattle.tfm_tool.specs.Jobs.{AreWordsOfJobs, IsFaultOfWords, IsFirstWithoutLimit, IsLimitOf, WritesLimit, limit_words}
 use Rattle.tfm_tool.proofs.EachLemmas.{has_no_plus, three_of}
 
 -- ---- one limit
@@ -54,7 +56,7 @@ next_limit : (rest chunk left : List (Bor (List ℕ))) (d : Bor (List ℕ)) → 
     → limit_words rest ≡ (get_or chunk 1 d).now ∷ limit_words left
 next_limit rest chunk left d parts long short = ap limit_words (parts ∙ ap (λ c. c ++ left) (three_of chunk d long short))
 
-limit_of_one : (word : List ℕ) → WritesLimit word → All WritesLimit (word ∷ [])
+pub limit_of_one : (word : List ℕ) → WritesLimit word → All WritesLimit (word ∷ [])
 limit_of_one word writes zero d below = writes
 limit_of_one word writes (suc k) d below = absurd (omega (arith, below))
 
@@ -88,31 +90,13 @@ all_limits all rest count has none =
     subst (λ words. All WritesLimit words)
     (sym (has.1 ∙ (ap (λ words. has.0 ++ limit_words words) (nil_from_length rest none) ∙ append-nil has.0))) has.3
 
--- ---- worked examples
-
--- the least limit, the greatest, and one with zeros before it
-limits_written : IsLimitOf (codes "1") 1 × IsLimitOf (codes "16777216") 16777216 × IsLimitOf (codes "00000512") 512
-limits_written = (
-  (refl, omega arith, omega arith, refl, omega arith, omega arith),
-  (refl, omega arith, omega arith, refl, omega arith, omega arith),
-  (refl, omega arith, omega arith, refl, omega arith, omega arith),
-)
-
--- nothing, zero, more than the greatest, nine digits and a plus write none
-none_written : ¬ WritesLimit [] × ¬ WritesLimit (codes "0") × ¬ WritesLimit (codes "16777217") × ¬ WritesLimit (codes "000000001") × ¬ WritesLimit (codes "+1")
-none_written = (
-  (λ w. absurd (omega (arith, w.1.1))),
-  (λ w. let zero_is : 0 ≡ w.0 = w.1.3 in absurd (omega (arith, zero_is, w.1.4))),
-  (λ w. let more_is : 16777217 ≡ w.0 = w.1.3 in absurd (omega (arith, more_is, w.1.5))),
-  (λ w. let nine : 9 ≤ 8 = w.1.2 in absurd (omega (arith, nine))),
-  (λ w. absurd (true≢false (sym w.1.0))),
-)
-
--- the word of a text
-abbrev word : List ℕ → Bor (List ℕ)
-word text = record { ref_ptr = (0, 0); now = text }
-
--- of two jobs the second has no limit
-second_limit : IsFaultOfWords (word (codes "cmr10") ∷ word (codes "1") ∷ word (codes "a") ∷ word (codes "cmr10") ∷ word (codes "0") ∷ word (codes "b") ∷ []) (LimitRange 2)
-second_limit =
-    ((refl, omega arith), (codes "1" ∷ [], codes "0", [], refl, refl, limit_of_one (codes "1") (1, limits_written.0), none_written.1))
+-- words whose limits are all there have no fault
+pub lawful_words : (words : List (Bor (List ℕ))) (failure : Failure) → AreWordsOfJobs words → IsFaultOfWords words failure → ⊥
+lawful_words words NotInThrees lawful fault = fault lawful.0.0
+lawful_words words TooManyFiles lawful fault = absurd (omega (arith, lawful.0.1, fault.1))
+lawful_words words (LimitRange n) lawful fault =
+    let first = fault.1 in
+    let long : length (limit_words words) ≡ length (first.0 ++ first.1 ∷ first.2) = ap length first.3 in
+    first.6 (subst (λ word. WritesLimit word) (ap (λ all. get_or all (length first.0) []) first.3 ∙ get_or-append_seam first.0 first.1 first.2 [])
+    (lawful.1 (length first.0) [] (omega (arith, long, length-append first.0 (first.1 ∷ first.2)))))
+lawful_words words failure lawful fault = fault

@@ -60,7 +60,7 @@ IsFirstWithoutLimit n words =
     × All WritesLimit before
     × ¬ WritesLimit word
 
--- what is wrong with the words of `each`: they aren't in threes; there are more than 64 threes; or the n-th limit is the first that is none
+-- what is wrong with the words of `each`: they aren't in threes; there are more than 64 threes; or the n-th limit is the first that is wrong
 abbrev pub IsFaultOfWords : List (Bor (List ℕ)) → Failure → Type 0
 IsFaultOfWords words NotInThrees = length words % 3 ≢ 0
 IsFaultOfWords words TooManyFiles = (length words % 3 ≡ 0) × (64 < length words / 3)

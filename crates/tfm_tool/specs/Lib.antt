@@ -6,4 +6,6 @@ pub mod Kept
 pub mod Jobs
 pub mod Checking
 pub mod Requests
+pub mod FontFaults
+pub mod Faults
 pub mod Served

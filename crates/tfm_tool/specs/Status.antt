@@ -1,6 +1,6 @@
 -- The status that the program ends with, by what went wrong.
 -- The table is this project's own; 2 for a command line that is refused is common use.
-use Rattle.std.specs.Prelude.{◌≡◌, ℕ, ◌==◌, ◌||◌, Bool, true, false, Result, MatchResult}
+use Rattle.std.specs.Prelude.{◌≡◌, ℕ, ◌==◌, ◌||◌, Bool, true, false, Result, IfErr, MatchResult}
 use Rattle.tfm_tool.specs.declared.exit.Failure.{Failure}
 use Rattle.tfm_tool.specs.declared.exit.Failure.TheVariants.{Usage, NotInThrees, TooManyFiles, LimitRange, FontAndText, TwoFonts, NotRead, FontNotRead, SomeFontNotRead, FontRefused, FileNotOpened, FileNotEnded, Tool}
 use Rattle.run_texts.specs.declared.fault.ToolFault.{ToolFault}
@@ -52,3 +52,7 @@ is_after_text _ = false
 -- what holds of the status that a request ends with, if its whole text was written
 abbrev pub AfterText : Result ℕ Failure → (ℕ → Type 0) → Type 0
 AfterText result P = MatchResult result P (λ failure. is_after_text failure ≡ true → P (status_of failure))
+
+-- what holds of a failure with status 2 or 3
+abbrev pub BeforeText : {A : Type 0} → Result A Failure → (Failure → Type 0) → Type 0
+BeforeText result P = IfErr result (λ failure. is_before_output failure ≡ true → P failure)

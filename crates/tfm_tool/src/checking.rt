@@ -3,8 +3,9 @@ ghost use Rattle.std.specs.Prelude.{◌≡◌, ◌≢◌, ◌<◌, ◌≤◌, �
 ghost use Rattle.std.specs.Io.KnownBytes.{Appends};
 ghost use Rattle.font_texts.specs.Findings.{finding_line};
 ghost use Rattle.tfm_tool.specs.Checking.{AreChecked, IsFound, dashes_in, finding_status};
+ghost use Rattle.tfm_tool.specs.Faults.{IsFaultOfCheck};
 ghost use Rattle.tfm_tool.specs.Named.{font_bytes_of};
-ghost use Rattle.tfm_tool.specs.Status.{AfterText, is_after_text, is_before_output, status_of};
+ghost use Rattle.tfm_tool.specs.Status.{AfterText, BeforeText, is_after_text, is_before_output, status_of};
 ghost use Rattle.tfm_tool.specs.declared.exit.Failure.TheVariants.{SomeFontNotRead, TwoFonts};
 
 use crate::exit::Failure;
@@ -37,6 +38,7 @@ where
     ensures once { result ≡ Err TwoFonts → 1 < dashes_in asked.now.fonts.items }
     ensures failed { IfErr result (λ failure. (failure ≡ TwoFonts)
         ⊎ ((failure ≡ SomeFontNotRead) ⊎ (status_of failure ≡ 5))) }
+    ensures cause { BeforeText result (IsFaultOfCheck asked.now) }
     ensures unread { result ≡ Err SomeFontNotRead
         → AreChecked (F.known files.now) (I.remaining input.old)
         asked.now.fonts.items (O.contents out.old) (O.contents out.new) 4 }

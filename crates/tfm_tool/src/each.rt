@@ -1,9 +1,11 @@
 //! The subcommand `each`: the sources of its jobs, their run, and the status.
-ghost use Rattle.std.specs.Prelude.{◌≡◌, true, false, [], ◌∷◌, map, Contains, IfErr, IfOk};
+ghost use Rattle.std.specs.Prelude.{◌≡◌, ◌⊎◌, ◌≤◌, true, false, [], ◌∷◌, length, map, Contains, IfErr, IfOk};
 ghost use Rattle.std.specs.List.{AllZip};
-ghost use Rattle.tfm_tool.specs.Jobs.{IsSourceOfJob, jobs_in, told_with_terms};
+ghost use Rattle.tfm_tool.specs.Faults.{IsRefused};
+ghost use Rattle.tfm_tool.specs.FontFaults.{IsFirstRefused};
+ghost use Rattle.tfm_tool.specs.Jobs.{IsFaultOfWords, IsSourceOfJob, jobs_in, told_with_terms};
 ghost use Rattle.tfm_tool.specs.Requests.{IsEachSet};
-ghost use Rattle.tfm_tool.specs.Status.{AfterText, is_after_text, is_before_output};
+ghost use Rattle.tfm_tool.specs.Status.{AfterText, BeforeText, is_after_text, is_before_output};
 ghost use Rattle.tfm_tool.specs.Told.{told_by};
 
 use crate::Opens;
@@ -32,6 +34,11 @@ fn job_sources<F: Opens>(
         (map (told_with_terms (told_by ⟦<ReaderSource<F::File> as LineSource>⟧.to_come
         ⟦<ReaderSource<F::File> as LineSource>⟧.failed)) sources.items)) }
     ensures fault { IfErr result (λ failure. is_after_text failure ≡ false) }
+    ensures cause { BeforeText result (λ failure. IsFaultOfWords asked.now.words.items failure
+        ⊎ IsFirstRefused (F.known files.now) asked.now.layout (jobs_in asked.now.words.items) failure) }
+    ensures refused { (fault : Failure) → IsFaultOfWords asked.now.words.items fault
+        → IsRefused (IsFaultOfWords asked.now.words.items) result }
+    ensures few { IfOk result (λ sources. length sources.items ≤ 64) }
 {
     let given = jobs(alloc, asked.words.as_slice())?;
     let with_terms = all_terms(alloc, files, given.as_slice(), &asked.layout)?;
@@ -54,6 +61,10 @@ where
         (O.contents out.old) (O.contents out.new) asked.now) }
     ensures status { IfOk result (λ status. Contains (0 ∷ 1 ∷ []) status) }
     ensures untouched { IfErr result (λ failure. is_before_output failure ≡ true → out.new ≡ out.old) }
+    ensures cause { BeforeText result (λ failure. IsFaultOfWords asked.now.words.items failure
+        ⊎ IsFirstRefused (F.known files.now) asked.now.layout (jobs_in asked.now.words.items) failure) }
+    ensures refused { (fault : Failure) → IsFaultOfWords asked.now.words.items fault
+        → IsRefused (IsFaultOfWords asked.now.words.items) result × (out.new ≡ out.old) }
 {
     let sources = job_sources(rt.alloc(), files, asked)?;
     let layout = asked.layout;

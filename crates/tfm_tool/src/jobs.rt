@@ -6,8 +6,9 @@ ghost use Rattle.std.specs.Char.{is_ascii_digit};
 ghost use Rattle.std.specs.List.{AllZip, list_all};
 ghost use Rattle.command_line.specs.Asked.{Finds};
 ghost use Rattle.run_texts.specs.declared.fault.ToolFault.TheVariants.{OutOfMemory};
+ghost use Rattle.tfm_tool.specs.FontFaults.{IsFirstRefused, IsRefusedJob};
 ghost use Rattle.tfm_tool.specs.Jobs.{AreTermsOf, AreWordsOfJobs, HasTermsOf, IsFaultOfWords, IsLimitOf, job_value, jobs_in};
-ghost use Rattle.tfm_tool.specs.Status.{is_after_text};
+ghost use Rattle.tfm_tool.specs.Status.{BeforeText, is_after_text};
 ghost use Rattle.tfm_tool.specs.declared.exit.Failure.TheVariants.{Tool};
 
 use crate::Opens;
@@ -85,6 +86,8 @@ fn terms_of<F: Opens>(
     ensures terms { IfOk result (λ terms.
         AreTermsOf (F.known files.now) layout.now (job_value job.now) (arc_value terms)) }
     ensures fault { IfErr result (λ failure. is_after_text failure ≡ false) }
+    ensures cause { BeforeText result
+        (IsRefusedJob (F.known files.now) number (job_value job.now)) }
 {
     let bytes = match font_file(alloc, files, job.font) {
         Ok(bytes) => bytes,
@@ -110,6 +113,8 @@ pub(crate) fn all_terms<'a, F: Opens>(
     ensures terms { IfOk result (λ all.
         AllZip (HasTermsOf (F.known files.now) layout.now) jobs.now all.items) }
     ensures fault { IfErr result (λ failure. is_after_text failure ≡ false) }
+    ensures cause { BeforeText result
+        (IsFirstRefused (F.known files.now) layout.now (map job_value jobs.now)) }
 {
     let mut all = Vec::new(alloc);
     for job in jobs {

@@ -1,11 +1,18 @@
-ghost use Rattle.std.specs.Prelude.{◌≡◌, ◌≢◌, ◌<◌, ℕ, true, List, [], ◌∷◌, map, Contains, Option, None, IfErr, IfOk, OnOk};
+ghost use Rattle.std.specs.Prelude.{◌≡◌, ◌≢◌, ◌⊎◌, ◌<◌, ℕ, true, List, [], ◌∷◌, map, Contains, Option, Some, None, Err, IfErr, IfOk, OnOk};
 ghost use Rattle.std.specs.Io.KnownBytes.{Appends, Keeps};
 ghost use Rattle.std.specs.IoError.{error_kind};
 ghost use Rattle.clap.specs.Words.{kind_of};
+ghost use Rattle.set_run.specs.declared.run_fault.RunFault.{RunFault};
+ghost use Rattle.tfm_tables.specs.Acceptance.{font_fault_of};
 ghost use Rattle.tfm_tables.specs.Font.{FontValue, IsFontOf};
+ghost use Rattle.tfm_tables.specs.declared.fault.FontFault.{FontFault};
+ghost use Rattle.tfm_tool.specs.Faults.{IsCauseOf, IsFaultOf, IsRefused};
+ghost use Rattle.tfm_tool.specs.FontFaults.{IsRefusedFont, IsRefusedHead};
+ghost use Rattle.tfm_tool.specs.Named.{font_bytes_of};
 ghost use Rattle.tfm_tool.specs.Requests.{CountsAreTold, IsDone, IsListed, list_text_of};
-ghost use Rattle.tfm_tool.specs.Served.{IsServed, is_answer};
-ghost use Rattle.tfm_tool.specs.Status.{AfterText, is_before_output, status_of};
+ghost use Rattle.tfm_tool.specs.Served.{IsServed, IsTurnedDown, IsTurnedDownBy, is_answer, is_usage};
+ghost use Rattle.tfm_tool.specs.declared.exit.Failure.TheVariants.{Usage};
+ghost use Rattle.tfm_tool.specs.Status.{AfterText, BeforeText, is_before_output, status_of};
 
 use crate::checking::check;
 use crate::each::set_jobs;
@@ -46,6 +53,8 @@ where
         × IsServed (map S.text words.now) (I.remaining input.old) (O.contents out.old) written result }
     ensures usage { result ≡ 2 → Keeps (O.contents out.old) (O.contents out.new) }
     ensures font { result ≡ 3 → Keeps (O.contents out.old) (O.contents out.new) }
+    ensures cause { (result ≡ 2) ⊎ (result ≡ 3)
+        → IsTurnedDown (map S.text words.now) (I.remaining input.old) result }
 {
     let answered = answer(rt, words, input, out);
     let flushed = out.flush();
@@ -80,6 +89,7 @@ where
         (O.contents out.old) (O.contents out.new)) }
     ensures status { IfOk result (λ status. Contains (0 ∷ 1 ∷ []) status) }
     ensures untouched { IfErr result (λ failure. is_before_output failure ≡ true → out.new ≡ out.old) }
+    ensures cause { BeforeText result (IsTurnedDownBy (map S.text words.now) (I.remaining input.old)) }
 {
     match requested(rt.alloc(), words) {
         Ok(request) => perform(rt, &Disk::new(rt), &request, input, out),
@@ -108,6 +118,10 @@ where
         (O.contents out.old) (O.contents out.new) request.now) }
     ensures status { IfOk result (λ status. Contains (0 ∷ 1 ∷ []) status) }
     ensures untouched { IfErr result (λ failure. is_before_output failure ≡ true → out.new ≡ out.old) }
+    ensures cause { BeforeText result
+        (IsCauseOf (F.known files.now) (I.remaining input.old) request.now) }
+    ensures refused { (fault : Failure) → IsFaultOf request.now fault
+        → IsRefused (IsFaultOf request.now) result × (out.new ≡ out.old) }
 {
     match request {
         Request::Counts { font } => counts(rt.alloc(), files, font, input, out),
@@ -136,6 +150,8 @@ where
         (O.contents out.old) (O.contents out.new) font.now) }
     ensures status { IfOk result (λ status. status ≡ 0) }
     ensures untouched { IfErr result (λ failure. is_before_output failure ≡ true → out.new ≡ out.old) }
+    ensures cause { BeforeText result
+        (IsRefusedHead (font_bytes_of (F.known files.now) (I.remaining input.old) font.now)) }
 {
     let bytes = font_bytes(alloc, files, font, input)?;
     counts_text(alloc, bytes.as_slice(), out)?;
@@ -160,6 +176,8 @@ where
         (O.contents out.old) (O.contents out.new) font.now all) }
     ensures status { IfOk result (λ status. status ≡ 0) }
     ensures untouched { IfErr result (λ failure. is_before_output failure ≡ true → out.new ≡ out.old) }
+    ensures cause { BeforeText result
+        (IsRefusedFont (font_bytes_of (F.known files.now) (I.remaining input.old) font.now)) }
 {
     let bytes = font_bytes(alloc, files, font, input)?;
     list_bytes(alloc, bytes.as_slice(), all, out)?;
@@ -176,6 +194,8 @@ fn list_bytes<O: Write>(
     ensures text { OnOk result ((f : FontValue) × IsFontOf bytes.now None f
         × Appends (O.contents out.old) (O.contents out.new) (list_text_of all f)) }
     ensures untouched { IfErr result (λ fault. fault ≢ ToolFault.Write → out.new ≡ out.old) }
+    ensures font { (f : FontFault) → result ≡ Err (ToolFault.Font f) → font_fault_of bytes.now ≡ Some f }
+    ensures run { (f : RunFault) → result ≢ Err (ToolFault.Run f) }
 {
     if all {
         return list_all_text(alloc, bytes, None, out);
@@ -188,6 +208,7 @@ fn list_bytes<O: Write>(
 fn show<O: Write>(error: clap::Error, out: &mut O) -> Result<(), Failure>
     ensures answer { OnOk result (is_answer (kind_of error) ≡ true) }
     ensures untouched { IfErr result (λ failure. is_before_output failure ≡ true → out.new ≡ out.old) }
+    ensures cause { BeforeText result (λ failure. (is_usage (kind_of error) ≡ true) × (failure ≡ Usage error)) }
 {
     match error.kind() {
         WordsKind::DisplayHelp | WordsKind::DisplayVersion => {

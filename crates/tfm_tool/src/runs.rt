@@ -1,16 +1,18 @@
 //! The subcommands `set` and `stream`: what each reads and opens, its run, and the status.
-ghost use Rattle.std.specs.Prelude.{◌≡◌, ◌≢◌, ◌⊎◌, true, false, [], ◌∷◌, codes, Contains, Err, Some, IfErr, IfOk, IfSome};
+ghost use Rattle.std.specs.Prelude.{◌≡◌, ◌≢◌, ◌⊎◌, ◌<◌, ◌≤◌, true, false, [], ◌∷◌, codes, length, Contains, Err, Some, IfErr, IfOk, IfSome};
 ghost use Rattle.tfm_tables.specs.declared.fault.FontFault.{FontFault as Refusal};
 ghost use Rattle.tfm_tables.specs.Acceptance.{font_fault_of};
 ghost use Rattle.tfm_tables.specs.Font.{FontValue, IsFontOf};
 ghost use Rattle.std.specs.Io.KnownBytes.{Keeps};
+ghost use Rattle.tfm_tool.specs.Faults.{IsFaultOfSet, IsFaultOfStream};
+ghost use Rattle.tfm_tool.specs.FontFaults.{IsRefusedFont};
 ghost use Rattle.tfm_tool.specs.Kept.{HaveSameFont};
 ghost use Rattle.tfm_tool.specs.Named.{file_bytes_of, font_bytes_of};
 ghost use Rattle.tfm_tool.specs.Requests.{IsSet, IsSetAsItComes, IsSetFrom};
 ghost use Rattle.tfm_tool.specs.Runs.{IsPrinted, IsPrintedAsItComes};
 ghost use Rattle.tfm_tool.specs.Told.{AreSourcesOf, all_told_by};
-ghost use Rattle.tfm_tool.specs.declared.exit.Failure.TheVariants.{FontAndText, Tool};
-ghost use Rattle.tfm_tool.specs.Status.{AfterText, is_after_text, is_before_output, status_of};
+ghost use Rattle.tfm_tool.specs.declared.exit.Failure.TheVariants.{FontAndText, TooManyFiles, Tool};
+ghost use Rattle.tfm_tool.specs.Status.{AfterText, BeforeText, is_after_text, is_before_output, status_of};
 ghost use Rattle.run_texts.specs.Endings.{summary_status};
 
 use crate::Opens;
@@ -41,6 +43,8 @@ where
         (λ all. HaveSameFont bytes.items all)) }
     ensures unread { setting.now.font.now ≢ codes "-" → input.new ≡ input.old }
     ensures fault { IfErr result (λ failure. is_after_text failure ≡ false) }
+    ensures cause { BeforeText result (IsRefusedFont
+        (font_bytes_of (F.known files.now) (I.remaining input.old) setting.now.font.now)) }
 {
     let bytes = font_bytes(alloc, files, setting.font, input)?;
     accepted(alloc, bytes.as_slice(), setting.layout.size)?;
@@ -65,6 +69,11 @@ where
         (all_told_by ⟦<ReaderSource<F::File> as LineSource>⟧.to_come
         ⟦<ReaderSource<F::File> as LineSource>⟧.failed both.1.items)) }
     ensures fault { IfErr result (λ failure. is_after_text failure ≡ false) }
+    ensures cause { BeforeText result (λ failure. IsFaultOfSet setting.now failure
+        ⊎ IsRefusedFont (font_bytes_of (F.known files.now) (I.remaining input.old) setting.now.font.now)
+        failure) }
+    ensures many { 64 < length setting.now.files.items → result ≡ Err TooManyFiles }
+    ensures few { IfOk result (λ both. length both.1.items ≤ 64) }
 {
     if setting.files.len() > MOST_SOURCES {
         return Err(Failure::TooManyFiles);
@@ -91,6 +100,11 @@ where
         (O.contents out.old) (O.contents out.new) setting.now) }
     ensures status { IfOk result (λ status. Contains (0 ∷ 1 ∷ []) status) }
     ensures untouched { IfErr result (λ failure. is_before_output failure ≡ true → out.new ≡ out.old) }
+    ensures cause { BeforeText result (λ failure. IsFaultOfSet setting.now failure
+        ⊎ IsRefusedFont (font_bytes_of (F.known files.now) (I.remaining input.old) setting.now.font.now)
+        failure) }
+    ensures many { 64 < length setting.now.files.items
+        → (result ≡ Err TooManyFiles) × (out.new ≡ out.old) }
 {
     let (font, sources) = font_and_files(rt.alloc(), files, setting, input)?;
     set_sources(rt, setting, font.as_slice(), sources, out)
@@ -115,6 +129,7 @@ where
         setting.now.layout.version sources.items (O.contents out.old) (O.contents out.new) status) }
     ensures status { IfOk result (λ status. Contains (0 ∷ 1 ∷ []) status) }
     ensures untouched { IfErr result (λ failure. is_before_output failure ≡ true → out.new ≡ out.old) }
+    ensures cause { length sources.items ≤ 64 → BeforeText result (IsRefusedFont (Some font.now)) }
 {
     let layout = setting.layout;
     let summary = set_text(
@@ -151,6 +166,13 @@ where
         (O.contents out.old) (O.contents out.new) setting.now) }
     ensures status { IfOk result (λ status. Contains (0 ∷ 1 ∷ []) status) }
     ensures untouched { IfErr result (λ failure. is_before_output failure ≡ true → out.new ≡ out.old) }
+    ensures cause { BeforeText result (λ failure. IsFaultOfStream setting.now failure
+        ⊎ IsRefusedFont (font_bytes_of (F.known files.now) (I.remaining input.old) setting.now.font.now)
+        failure) }
+    ensures many { 64 < length setting.now.files.items
+        → (result ≡ Err TooManyFiles) × (out.new ≡ out.old) }
+    ensures both { setting.now.files.items ≡ [] → setting.now.font.now ≡ codes "-"
+        → (result ≡ Err FontAndText) × (out.new ≡ out.old) }
 {
     if setting.files.is_empty() {
         return stream_input(rt, files, setting, input, out);
@@ -168,6 +190,7 @@ fn input_source<'a, I: Read>(
         (all_told_by ⟦<ReaderSource<&'a mut I> as LineSource>⟧.to_come
         ⟦<ReaderSource<&'a mut I> as LineSource>⟧.failed sources.items)) }
     ensures fault { IfErr result (λ failure. is_after_text failure ≡ false) }
+    ensures few { IfOk result (λ sources. length sources.items ≤ 64) }
     ensures status { IfErr result (λ failure. is_before_output failure ≡ false) }
 {
     let mut sources = Vec::new(alloc);
@@ -196,6 +219,10 @@ where
         (O.contents out.old) (O.contents out.new) (I.remaining input.old ∷ []) setting.now) }
     ensures status { IfOk result (λ status. Contains (0 ∷ 1 ∷ []) status) }
     ensures untouched { IfErr result (λ failure. is_before_output failure ≡ true → out.new ≡ out.old) }
+    ensures cause { BeforeText result (λ failure.
+        ((failure ≡ FontAndText) × (setting.now.font.now ≡ codes "-"))
+        ⊎ IsRefusedFont (font_bytes_of (F.known files.now) (I.remaining input.old) setting.now.font.now)
+        failure) }
 {
     if setting.font == "-" {
         return Err(Failure::FontAndText);
@@ -226,6 +253,7 @@ where
         → result ≡ Err (Tool (ToolFault.Font fault)) }
     ensures status { IfOk result (λ status. Contains (0 ∷ 1 ∷ []) status) }
     ensures untouched { IfErr result (λ failure. is_before_output failure ≡ true → out.new ≡ out.old) }
+    ensures cause { length sources.items ≤ 64 → BeforeText result (IsRefusedFont (Some font.now)) }
 {
     let layout = setting.layout;
     let streamed = stream_text(

@@ -55,6 +55,7 @@ pub fn list_all_text<W: Write>(
     ensures refused { (f : FontFault) → font_fault_of bytes.now ≡ Some f
         → result ≡ Err (ToolFault.Font f) }
     ensures untouched { IfErr result (λ fault. fault ≢ ToolFault.Write → out.new ≡ out.old) }
+    ensures run { (f : RunFault) → result ≢ Err (ToolFault.Run f) }
 {
     font_texts::list_all_text(alloc, bytes, size, out)?;
     Ok(())

@@ -1,8 +1,12 @@
 use Rattle.std.proofs.Common.{◌≡◌, map, subst}
+use Rattle.std.proofs.lemmas.Result.{IfOk-weaker}
 use Rattle.std.specs.List.{AllZip}
-use Rattle.tfm_tool.specs.Jobs.{HasTermsOf, job_value, jobs_in}
+use Rattle.tfm_tool.specs.Faults.{IsRefused}
+use Rattle.tfm_tool.specs.Jobs.{AreWordsOfJobs, HasTermsOf, IsFaultOfWords, job_value, jobs_in}
 use Rattle.tfm_tool.proofs.EachLemmas.{sources_if_ok}
 use Rattle.tfm_tool.proofs.ReaderLemmas.{reader_told}
+use Rattle.tfm_tool.proofs.CauseLemmas.{few_of_jobs, refused_on}
+use Rattle.tfm_tool.proofs.WordLemmas.{lawful_words}
 use Rattle.tfm_tool.proofs.each.job_sources.Goals as goal
 
 pub returns-clause-sources : goal.returns-clause-sources
@@ -13,3 +17,23 @@ returns-clause-sources g c =
     (subst (λ jobs. AllZip (HasTermsOf (g.F.Opens.known c.args.files.now) c.args.asked.now.layout) jobs c.in_ok-with_terms.with_terms.items)
     c.as_slice-2.ensures.value c.in_ok-with_terms.ensures.terms)
     c.open_each.ensures.sources
+
+pub returns-in_err-given-clause-refused : goal.returns-in_err-given-clause-refused
+returns-in_err-given-clause-refused g c = λ fault is.
+    subst (λ words. IsRefused (IsFaultOfWords words) c.from_residual.result) c.as_slice.ensures.value
+    (refused_on c.from_residual.result c.in_err-given.field-0.0 (IsFaultOfWords c.as_slice.result.now) c.from_residual.ensures.1 c.in_err-given.ensures.refused)
+
+pub returns-in_err-with_terms-clause-refused : goal.returns-in_err-with_terms-clause-refused
+returns-in_err-with_terms-clause-refused g c = λ fault is. absurd (lawful_words c.args.asked.now.words.items fault
+    (subst AreWordsOfJobs c.as_slice.ensures.value c.in_ok-given.ensures.lawful) is)
+
+pub returns-clause-refused : goal.returns-clause-refused
+returns-clause-refused g c = λ fault is. absurd (lawful_words c.args.asked.now.words.items fault
+    (subst AreWordsOfJobs c.as_slice.ensures.value c.in_ok-given.ensures.lawful) is)
+
+pub returns-clause-few : goal.returns-clause-few
+returns-clause-few g c =
+    IfOk-weaker c.open_each.result _ _ (λ sources. few_of_jobs (g.F.Opens.known c.args.files.now) c.args.asked.now.layout (reader_told g.F.File.Read.remaining)
+    c.as_slice.result.now c.in_ok-given.given.items c.in_ok-with_terms.with_terms.items sources.items c.in_ok-given.ensures.lawful c.in_ok-given.ensures.jobs
+    (subst (λ jobs. AllZip (HasTermsOf (g.F.Opens.known c.args.files.now) c.args.asked.now.layout) jobs c.in_ok-with_terms.with_terms.items)
+    c.as_slice-2.ensures.value c.in_ok-with_terms.ensures.terms)) c.open_each.ensures.sources

@@ -1,10 +1,13 @@
-use Rattle.std.proofs.Common.{rules, ℕ, List, Bor, ◌≡◌, ◌∷◌, [], ◌++◌, ◌+◌, take, refl, subst, sym}
+use Rattle.std.proofs.Common.{rules, ℕ, List, Bor, Option, length, ◌≡◌, ◌∷◌, [], ◌++◌, ◌+◌, take, refl, subst, sym}
 use Rattle.std.specs.List.{AllZip}
 use Rattle.std.specs.declared.alloc.Global.{Global}
 use Rattle.std.specs.declared.sync.Arc.{Arc}
 use Rattle.set_line.specs.Terms.{TermsValue}
-use Rattle.tfm_tool.specs.Jobs.{HasTermsOf}
+use Rattle.tfm_tool.specs.FontFaults.{IsRefusedJob}
+use Rattle.tfm_tool.specs.Jobs.{HasTermsOf, job_value}
+use Rattle.tfm_tool.specs.declared.exit.Failure.{Failure}
 use Rattle.tfm_tool.proofs.JobLemmas.{place_more}
+use Rattle.tfm_tool.proofs.CauseLemmas.{first_refused, told_on}
 use Rattle.tfm_tool.proofs.jobs.all_terms.Goals as goal
 
 pub loop-job-preserved : goal.loop-job-preserved
@@ -14,3 +17,12 @@ loop-job-preserved g c =
     subst (λ all. AllZip (HasTermsOf (g.F.Opens.known c.args.files.now) c.args.layout.now) (take (c.loop-job.job-index + 1) c.args.jobs.now) all) (sym more)
     (place_more (HasTermsOf (g.F.Opens.known c.args.files.now) c.args.layout.now) c.args.jobs.now
     c.loop-job.all.items c.loop-job.job-index c.job-item.result pair (search rules) (search rules) c.loop-job.invariant (refl, c.in_ok-terms.ensures.terms))
+
+pub returns-in_err-terms-clause-cause : goal.returns-in_err-terms-clause-cause
+returns-in_err-terms-clause-cause g c =
+    let known : List ℕ → Option (List ℕ) = g.F.Opens.known c.args.files.now in
+    let failure : Failure = c.in_err-terms.field-0.0 in
+    let number : c.len.result ≡ length c.loop-job.all.items = search rules in
+    told_on c.from_residual.result failure _ c.from_residual.ensures.1 (λ before.
+    first_refused known c.args.layout.now c.args.jobs.now c.loop-job.all.items c.loop-job.job-index c.job-item.result failure (search rules) (search rules)
+    c.loop-job.invariant (subst (λ n. IsRefusedJob known (n + 1) (job_value c.job-item.result) failure) number (c.in_err-terms.ensures.cause before)))

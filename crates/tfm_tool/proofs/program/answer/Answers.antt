@@ -1,8 +1,13 @@
-use Rattle.std.proofs.Common.{inl}
-use Rattle.std.proofs.lemmas.Result.{IfOk-weaker}
+use Rattle.std.proofs.Common.{inl, inr}
+use Rattle.tfm_tool.proofs.CauseLemmas.{before_map, served_of}
 use Rattle.tfm_tool.proofs.StatusLemmas.{after_text_of_ok}
 use Rattle.tfm_tool.proofs.program.answer.Goals as goal
 
 pub returns-in-Ok-clause-served : goal.returns-in-Ok-clause-served
 returns-in-Ok-clause-served g c =
-    IfOk-weaker c.perform.result _ _ (λ status is_done. inl (c.in-Ok.request, c.in-Ok.ensures.asked, is_done)) (after_text_of_ok c.perform.result _ c.perform.ensures.text)
+    served_of c.perform.result _ _ _ _ (after_text_of_ok c.perform.result _ c.perform.ensures.text) c.perform.ensures.refused
+    (λ status done without. inl (c.in-Ok.request, c.in-Ok.ensures.asked, without, done))
+
+pub returns-in-Ok-clause-cause : goal.returns-in-Ok-clause-cause
+returns-in-Ok-clause-cause g c =
+    before_map c.perform.result _ _ (λ failure cause. inr (c.in-Ok.request, c.in-Ok.ensures.asked, cause)) c.perform.ensures.cause

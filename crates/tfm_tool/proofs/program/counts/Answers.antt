@@ -1,9 +1,13 @@
-use Rattle.std.proofs.Common.{◌≡◌, ◌∙◌, None, refl, subst, sym}
+use Rattle.std.proofs.Common.{◌≡◌, ◌∙◌, None, Some, Err, ap, refl, subst, sym}
 use Rattle.std.specs.Io.KnownBytes.{Appends}
 use Rattle.font_texts.specs.CountsText.{counts_text_of, head_fault_of}
+use Rattle.run_texts.specs.declared.fault.ToolFault.{ToolFault}
+use Rattle.tfm_tool.specs.FontFaults.{IsRefusedHead}
 use Rattle.tfm_tool.specs.Named.{font_bytes_of}
+use Rattle.tfm_tool.specs.declared.exit.Failure.TheVariants.{Tool}
 use Rattle.tfm_tool.proofs.FontTextLemmas.{has_no_fault}
 use Rattle.tfm_tool.proofs.KnownLemmas.{of_known}
+use Rattle.tfm_tool.proofs.CauseLemmas.{head_cause, head_cause_known, told_cause}
 use Rattle.tfm_tool.proofs.program.counts.Goals as goal
 
 pub returns-clause-text : goal.returns-clause-text
@@ -17,3 +21,12 @@ returns-clause-text g c =
           (λ all same. (sym same.head ∙ sound, subst (λ t. Appends (g.O.Write.contents c.args.out.now) (g.O.Write.contents c.counts_text.new.out) t) same.counts is)),
       refl,
     )
+
+pub returns-in_err-counts_text-clause-cause : goal.returns-in_err-counts_text-clause-cause
+returns-in_err-counts_text-clause-cause g c =
+    let fault : ToolFault = c.in_err-counts_text.field-0.0 in
+    let was : c.counts_text.result ≡ Err fault = c.in_err-counts_text.was in
+    told_cause c.from_residual-in_err-counts_text.result fault _ c.from_residual-in_err-counts_text.ensures.1 (λ before.
+    head_cause_known (font_bytes_of (g.F.Opens.known c.args.files.now) (g.I.Read.remaining c.args.input.now) c.args.font.now) c.in_ok-bytes.bytes.items (Tool fault)
+    c.in_ok-bytes.ensures.bytes (subst (λ b. IsRefusedHead (Some b) (Tool fault)) c.as_slice.ensures.value
+    (head_cause c.as_slice.result.now fault (λ f is. (c.counts_text.ensures.font f).0 (was ∙ ap Err is)) (λ f is. c.counts_text.ensures.run f (was ∙ ap Err is)) before)))

@@ -1,3 +1,7 @@
+use Rattle.std.proofs.Common.{◌≡◌, true}
+use Rattle.tfm_tool.specs.Status.{is_before_output}
+use Rattle.tfm_tool.specs.declared.exit.Failure.{Failure}
+use Rattle.tfm_tool.proofs.CauseLemmas.{before_at, before_of}
 use Rattle.tfm_tool.proofs.StatusLemmas.{no_fault_below, status_listed}
 use Rattle.tfm_tool.proofs.program.tool.Goals as goal
 
@@ -6,3 +10,9 @@ returns-in-Err-default-clause-statuses g c = rw c.fail-in-Err-default.ensures (s
 
 pub returns-in-Err-default-clause-silent : goal.returns-in-Err-default-clause-silent
 returns-in-Err-default-clause-silent g c = λ below. absurd (no_fault_below _ _ c.fail-in-Err-default.ensures below)
+
+pub returns-in-Err-default-clause-cause : goal.returns-in-Err-default-clause-cause
+returns-in-Err-default-clause-cause g c = λ which.
+    let failure : Failure = c.in-Err-default.failure in
+    let before : is_before_output failure ≡ true = before_of c.fail-in-Err-default.result failure c.fail-in-Err-default.ensures which in
+    (failure, before_at c.answer-answered.result failure _ c.in-Err-default.is-0 c.answer-answered.ensures.cause before, c.fail-in-Err-default.ensures)

@@ -1,0 +1,16 @@
+use Rattle.std.proofs.Common.{◌≡◌, ◌∙◌, Some, Err, ap, subst}
+use Rattle.run_texts.specs.declared.fault.ToolFault.{ToolFault}
+use Rattle.tfm_tool.specs.FontFaults.{IsRefusedFont}
+use Rattle.tfm_tool.specs.Named.{font_bytes_of}
+use Rattle.tfm_tool.specs.declared.exit.Failure.TheVariants.{Tool}
+use Rattle.tfm_tool.proofs.CauseLemmas.{accepted_cause, font_cause, told_cause}
+use Rattle.tfm_tool.proofs.runs.accepted_bytes.Goals as goal
+
+pub returns-in_err-accepted-clause-cause : goal.returns-in_err-accepted-clause-cause
+returns-in_err-accepted-clause-cause g c =
+    let fault : ToolFault = c.in_err-accepted.field-0.0 in
+    let was : c.accepted.result ≡ Err fault = c.in_err-accepted.was in
+    told_cause c.from_residual-in_err-accepted.result fault _ c.from_residual-in_err-accepted.ensures.1 (λ before.
+    font_cause (font_bytes_of (g.F.Opens.known c.args.files.now) (g.I.Read.remaining c.args.input.now) c.args.setting.now.font.now) c.in_ok-bytes.bytes.items (Tool fault)
+    c.in_ok-bytes.ensures.bytes (subst (λ b. IsRefusedFont (Some b) (Tool fault)) c.as_slice.ensures.value
+    (accepted_cause c.as_slice.result.now fault (λ f is. c.accepted.ensures.font f (was ∙ ap Err is)) c.in_err-accepted.ensures.fault before)))
