@@ -1,5 +1,5 @@
 -- The reports of a run: those of lanes that have ended, with the answers that came of them.
-use Rattle.std.proofs.Common.{◌≡◌, ℕ, suc, ◌+◌, Bool, false, ◌||◌, List, [], ◌∷◌, length, All, Option, Some, None, refl, ap, subst, ◌∙◌}
+use Rattle.std.proofs.Common.{◌≡◌, ℕ, suc, ◌+◌, Bool, false, ◌||◌, List, [], ◌∷◌, length, map, All, Option, Some, None, refl, ap, sym, subst, ◌∙◌}
 use Rattle.std.proofs.lemmas.List.Elements.{All-head, All-tail}
 use Rattle.std.specs.Prelude.{IsSome}
 use Rattle.std.specs.List.{list_any}
@@ -12,9 +12,10 @@ use Rattle.line_lane.specs.declared.fault.SourceFault.{SourceFault}
 use Rattle.line_lane.specs.declared.ending.LaneEnd.{LaneEnd}
 use Rattle.line_lane.specs.declared.ending.LaneEnd.TheVariants.{Complete}
 use Rattle.set_run.specs.Events.{Event, answers_in}
-use Rattle.set_run.specs.Reports.{AreClosed, AreReported, IsTrueToSource}
+use Rattle.set_run.specs.Reports.{AreBack, AreClosed, AreReported, IsTrueToSource}
 use Rattle.set_run.specs.declared.report.LaneReport.{LaneReport}
 use Rattle.set_run.specs.declared.run_end.ClosedLane.{ClosedLane}
+use Rattle.run_texts.specs.Setting.{AreOwnReports}
 use Rattle.run_texts.specs.declared.summary.Summary.{Summary}
 
 -- ---- a lane with an end
@@ -44,7 +45,7 @@ module _ {S : Type 0} where
   reports_of number events (lane ∷ lanes) =
       record { source = lane.source; answers = answers_in number events; end = end_or lane.end } ∷ reports_of (number + 1) events lanes
 
-  pub are_reported : (to_come : S → Option (List (List ℕ))) (failed : S → Option SourceFault) (events : List Event) (number : ℕ)
+  are_reported : (to_come : S → Option (List (List ℕ))) (failed : S → Option SourceFault) (events : List Event) (number : ℕ)
       (sources : List (S × Arc TermsValue Global)) (lanes : List (ClosedLane S))
       → AreClosed to_come failed events number sources lanes → All (λ lane. IsSome lane.end) lanes
       → AreReported to_come failed sources (reports_of number events lanes)
@@ -63,6 +64,19 @@ module _ {S : Type 0} where
     })) (some_end l.end (All-head HasEnd l lanes whole)) closed.1,
     are_reported to_come failed events (number + 1) sources lanes closed.2 (All-tail HasEnd l lanes whole),
   )
+
+  -- they have the lanes' sources
+  pub sources_of_reports : (events : List Event) (number : ℕ) (lanes : List (ClosedLane S))
+      → map (λ report. report.source) (reports_of number events lanes) ≡ map (λ lane. lane.source) lanes
+  sources_of_reports events number [] = refl
+  sources_of_reports events number (l ∷ lanes) = ap (λ sources. l.source ∷ sources) (sources_of_reports events (number + 1) lanes)
+
+  pub own_reports : {O : Type 0} (to_come : S → Option (List (List ℕ))) (failed : S → Option SourceFault) (origin : S → O) (events : List Event)
+      (sources : List (S × Arc TermsValue Global)) (lanes : List (ClosedLane S)) → AreClosed to_come failed events 0 sources lanes
+      → All (λ lane. IsSome lane.end) lanes → AreBack origin sources (map (λ lane. lane.source) lanes)
+      → AreOwnReports to_come failed origin sources (reports_of 0 events lanes)
+  own_reports to_come failed origin events sources lanes closed whole back =
+      (are_reported to_come failed events 0 sources lanes closed whole, subst (AreBack origin sources) (sym (sources_of_reports events 0 lanes)) back)
 
   -- how many reports there are
   pub as_many : (to_come : S → Option (List (List ℕ))) (failed : S → Option SourceFault) (events : List Event) (number : ℕ)

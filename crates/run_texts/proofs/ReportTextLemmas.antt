@@ -1,5 +1,5 @@
 -- The reports of a run whose texts were kept, and their text.
-use Rattle.std.proofs.Common.{◌≡◌, ℕ, ◌+◌, ◌-◌, ◌^◌, List, [], ◌∷◌, ◌++◌, length, count_by, min, sum_by, flat_map, All, Option, Some, None, arith, refl, ap, sym, subst, ◌∙◌}
+use Rattle.std.proofs.Common.{◌≡◌, ℕ, ◌+◌, ◌-◌, ◌^◌, List, [], ◌∷◌, ◌++◌, length, map, count_by, min, sum_by, flat_map, All, Option, Some, None, arith, refl, ap, sym, subst, ◌∙◌}
 use Rattle.std.proofs.lemmas.List.Sums.{sum_by-cons}
 use Rattle.std.proofs.lemmas.List.Elements.{All-head, All-tail}
 use Rattle.std.specs.Prelude.{IsSome}
@@ -12,17 +12,17 @@ use Rattle.set_line.specs.Terms.{TermsValue}
 use Rattle.line_lane.specs.declared.fault.SourceFault.{SourceFault}
 use Rattle.line_lane.specs.declared.ending.LaneEnd.{LaneEnd}
 use Rattle.set_run.specs.Events.{Event, LaneEvent, answers_among, answers_in, lane_events, of_lane}
-use Rattle.set_run.specs.Reports.{AreClosed, AreReported, IsCollected, IsWhole}
+use Rattle.set_run.specs.Reports.{AreBack, AreClosed, IsCollected, IsWhole}
 use Rattle.set_run.specs.declared.report.LaneReport.{LaneReport}
 use Rattle.set_run.specs.declared.run_end.ClosedLane.{ClosedLane}
 use Rattle.set_run.specs.declared.run_end.RunEnd.{RunEnd}
 use Rattle.run_texts.specs.RunText.{head_text, is_refused, lane_text, why_of}
 use Rattle.run_texts.specs.LaneText.{AreKept, LaneTextValue, event_lines}
 use Rattle.run_texts.specs.ReportText.{is_unread, is_wanting, lanes_text, summary_of_lanes}
-use Rattle.run_texts.specs.Setting.{IsWritten}
+use Rattle.run_texts.specs.Setting.{AreOwnReports, IsWritten}
 use Rattle.run_texts.specs.declared.summary.Summary.{Summary}
 use Rattle.run_texts.proofs.EventLemmas.{lane_joined, lines_of_lane}
-use Rattle.run_texts.proofs.ReportLemmas.{HasEnd, are_reported, end_or, ends_of, reports_of, same_summary, some_end}
+use Rattle.run_texts.proofs.ReportLemmas.{HasEnd, own_reports, end_or, ends_of, reports_of, same_summary, some_end}
 use Rattle.run_texts.proofs.LaneTextLemmas.{Given}
 
 -- ---- the text of a lane
@@ -66,16 +66,16 @@ module _ {S : Type 0} where
       ∙ sym (sum_by-cons (λ (lane : LaneReport S). count_by is_refused lane.answers)
       (record { source = l.source; answers = answers_in number events; end = end_or l.end }) (reports_of (number + 1) events lanes))
 
-module _ {S C : Type 0} (version_of : C → Version) (lanes_of : C → List LaneTextValue) (version : Version) where
+module _ {S O C : Type 0} (version_of : C → Version) (lanes_of : C → List LaneTextValue) (version : Version) where
   -- the texts that were kept of a run are the text of its reports
-  pub kept_run : (to_come : S → Option (List (List ℕ))) (failed : S → Option SourceFault) (sources : List (S × Arc TermsValue Global))
+  pub kept_run : (to_come : S → Option (List (List ℕ))) (failed : S → Option SourceFault) (origin : S → O) (sources : List (S × Arc TermsValue Global))
       (run : RunEnd S) (before after : C) (form : Version) (count : ℕ) (w w' : Option (List ℕ)) (summary : Summary)
       → version ≡ form → count ≡ length sources → Given version_of lanes_of version count before [] → run.refusal ≡ None → IsWhole run
-      → IsCollected to_come failed (Given version_of lanes_of version count) sources run before after
+      → IsCollected to_come failed (Given version_of lanes_of version count) sources run before after → AreBack origin sources (map (λ lane. lane.source) run.lanes.items)
       → Appends w w' (head_text (version_of after) ++ flat_map (λ text. text.text) (lanes_of after))
       → summary ≡ summary_of_lanes (sum_by (λ text. text.refused) (lanes_of after)) run.lanes.items
-      → (reports : List (LaneReport S)) × AreReported to_come failed sources reports × IsWritten form reports w w' summary
-  kept_run to_come failed sources run before after form count w w' summary asked many begun none whole collected written is =
+      → (reports : List (LaneReport S)) × AreOwnReports to_come failed origin sources reports × IsWritten form reports w w' summary
+  kept_run to_come failed origin sources run before after form count w w' summary asked many begun none whole collected back written is =
       let came = collected begun in
       let events : List Event = came.0 in
       let ended = whole none in
@@ -84,7 +84,7 @@ module _ {S C : Type 0} (version_of : C → Version) (lanes_of : C → List Lane
       texts_of to_come failed version events 0 sources run.lanes.items (lanes_of after) long came.2 ended came.1.2
       ∙ ap (λ v. lanes_text 1 v (reports_of 0 events run.lanes.items)) asked in (
         reports_of 0 events run.lanes.items,
-        are_reported to_come failed events 0 sources run.lanes.items came.2 ended,
+        own_reports to_come failed origin events sources run.lanes.items came.2 ended back,
         (
           subst (Appends w w')
               (ap (λ v. head_text v ++ flat_map (λ text. text.text) (lanes_of after)) (came.1.0 ∙ asked) ∙ ap (λ t. head_text form ++ t) texts) written,

@@ -1,5 +1,5 @@
 -- The reports of a run whose lines were written as they came.
-use Rattle.std.proofs.Common.{◌≡◌, ℕ, zero, suc, ◌+◌, ◌-◌, ◌^◌, ◌≤◌, Bool, true, false, cond, ◌==◌, List, [], ◌∷◌, ◌++◌, length, count_by, min, sum_by, All, Option, Some, None, inl, inr, arith, refl, ap, sym, subst, ◌∙◌, append-nil}
+use Rattle.std.proofs.Common.{◌≡◌, ℕ, zero, suc, ◌+◌, ◌-◌, ◌^◌, ◌≤◌, Bool, true, false, cond, ◌==◌, List, [], ◌∷◌, ◌++◌, length, map, count_by, min, sum_by, All, Option, Some, None, inl, inr, arith, refl, ap, sym, subst, ◌∙◌, append-nil}
 use Rattle.std.proofs.lemmas.List.{length-map}
 use Rattle.std.proofs.lemmas.List.Elements.{All-cons, All-head, All-nil, All-tail}
 use Rattle.std.proofs.lemmas.List.Sums.{sum_by-cons}
@@ -16,20 +16,21 @@ use Rattle.set_line.specs.Terms.{TermsValue}
 use Rattle.line_lane.specs.declared.fault.SourceFault.{SourceFault}
 use Rattle.line_lane.specs.declared.ending.LaneEnd.{LaneEnd}
 use Rattle.set_run.specs.Events.{Event, answers_in, lane_events, of_lane}
-use Rattle.set_run.specs.Reports.{AreClosed, AreReported, HasNoOthers, IsWhole}
+use Rattle.set_run.specs.Reports.{AreBack, AreClosed, HasNoOthers, IsWhole}
 use Rattle.set_run.specs.declared.report.LaneReport.{LaneReport}
 use Rattle.set_run.specs.declared.run_end.ClosedLane.{ClosedLane}
 use Rattle.set_run.specs.declared.run_end.RunEnd.{RunEnd}
 use Rattle.run_texts.specs.declared.fault.ToolFault.{ToolFault}
 use Rattle.run_texts.specs.RunText.{head_text, is_refused}
 use Rattle.run_texts.specs.ReportText.{is_unread, is_wanting, summary_of_lanes, summary_of_run}
+use Rattle.run_texts.specs.Setting.{AreOwnReports}
 use Rattle.run_texts.specs.Streaming.{AreOfSources, HaveCome, HaveLines, IsCutAtLine, IsCutShort, IsPartOfMerge, IsStreamed, SourceLine, lane_lines, merged_text, of_source, with_own_terms}
 use Rattle.run_texts.specs.StreamState.{AreCounts, AreLinesOf, AreOut, MovesOut, StreamStart}
 use Rattle.run_texts.specs.LaneText.{event_lines}
 use Rattle.run_texts.specs.declared.lane_count.LaneCount.{LaneCount}
 use Rattle.run_texts.specs.declared.summary.Summary.{Summary}
 use Rattle.run_texts.proofs.EventLemmas.{lane_joined, lines_of_lane}
-use Rattle.run_texts.proofs.ReportLemmas.{HasEnd, are_reported, as_many, end_or, ends_of, reports_of, same_summary, some_end}
+use Rattle.run_texts.proofs.ReportLemmas.{HasEnd, as_many, end_or, ends_of, own_reports, reports_of, same_summary, some_end}
 use Rattle.run_texts.proofs.StreamLemmas.{moves_more}
 use Rattle.run_texts.proofs.StreamSteps.{StandsSo}
 
@@ -129,16 +130,17 @@ module _ {S : Type 0} where
   module _ (to_come : S → Option (List (List ℕ))) (failed : S → Option SourceFault) (version : Version) (events : List Event)
       (sources : List (S × Arc TermsValue Global)) (lanes : List (ClosedLane S)) (before : Option (List ℕ)) (block : List ℕ) where
     -- all was written
-    pub all_streamed : (after : Option (List ℕ)) (counts : List LaneCount) (summary : Summary)
+    pub all_streamed : {O : Type 0} (origin : S → O) (after : Option (List ℕ)) (counts : List LaneCount) (summary : Summary)
         → AreClosed to_come failed events 0 sources lanes → HasNoOthers events (length sources) → All (λ lane. IsSome lane.end) lanes
-        → length counts ≡ length sources → AreCounts events 0 counts → AreOut version events before after block → block ≡ []
+        → AreBack origin sources (map (λ lane. lane.source) lanes) → length counts ≡ length sources → AreCounts events 0 counts
+        → AreOut version events before after block → block ≡ []
         → summary ≡ summary_of_lanes (sum_by (λ count. count.refused) counts) lanes
-        → (reports : List (LaneReport S)) × AreReported to_come failed sources reports × IsStreamed version reports before after × (summary ≡ summary_of_run reports)
-    all_streamed after counts summary closed none whole long are (lines, lined, (written, appends, all)) empty is =
+        → (reports : List (LaneReport S)) × AreOwnReports to_come failed origin sources reports × IsStreamed version reports before after × (summary ≡ summary_of_run reports)
+    all_streamed origin after counts summary closed none whole back long are (lines, lined, (written, appends, all)) empty is =
         let reports : List (LaneReport S) = reports_of 0 events lanes in
         let text : written ≡ head_text version ++ merged_text lines = sym (append-nil written) ∙ ap (λ b. written ++ b) (sym empty) ∙ all in (
           reports,
-          are_reported to_come failed events 0 sources lanes closed whole,
+          own_reports to_come failed origin events sources lanes closed whole back,
           (
             lines,
             (
@@ -207,14 +209,14 @@ module _ {S : Type 0} (to_come : S → Option (List (List ℕ))) (failed : S →
       cut_at_line to_come failed start.version events sources lanes start.before left w' closed none
       (more_out start.version events start.before w w' block left moves stands.4) empty
 
-  pub ends_whole : (r : Result Summary ToolFault) → Came → start.lanes ≡ length sources → MovesOut w block w' left → OnOk r (left ≡ [])
+  pub ends_whole : {O : Type 0} (origin : S → O) (r : Result Summary ToolFault) → AreBack origin sources (map (λ lane. lane.source) lanes) → Came → start.lanes ≡ length sources → MovesOut w block w' left → OnOk r (left ≡ [])
       → OnOk r (All (λ lane. IsSome lane.end) lanes) → IfOk r (λ summary. summary ≡ summary_of_lanes (sum_by (λ count. count.refused) counts) lanes)
-      → IfOk r (λ summary. (reports : List (LaneReport S)) × AreReported to_come failed sources reports
+      → IfOk r (λ summary. (reports : List (LaneReport S)) × AreOwnReports to_come failed origin sources reports
       × IsStreamed start.version reports start.before w' × (summary ≡ summary_of_run reports))
-  ends_whole (Ok summary) (events, stands, closed, none) long moves empty whole is =
-      all_streamed to_come failed start.version events sources lanes start.before left w' counts summary closed none whole (stands.2 ∙ long) stands.3
+  ends_whole origin (Ok summary) back (events, stands, closed, none) long moves empty whole is =
+      all_streamed to_come failed start.version events sources lanes start.before left origin w' counts summary closed none whole back (stands.2 ∙ long) stands.3
       (more_out start.version events start.before w w' block left moves stands.4) empty is
-  ends_whole (Err fault) came long moves empty whole is = empty
+  ends_whole origin (Err fault) back came long moves empty whole is = empty
 
 -- a run that was refused nothing
 pub whole_ends : {S : Type 0} (run : RunEnd S) (r : Result Summary ToolFault) → IsWhole run → OnOk r (run.refusal ≡ None)

@@ -9,14 +9,13 @@ use Rattle.tfm_tables.specs.Font.{FontValue, IsFontOf}
 use Rattle.set_line.specs.declared.policy.Policy.{Policy}
 use Rattle.set_line.specs.declared.version.Version.{Version}
 use Rattle.line_lane.specs.declared.fault.SourceFault.{SourceFault}
-use Rattle.set_run.specs.Reports.{AreReported}
 use Rattle.set_run.specs.declared.report.LaneReport.{LaneReport}
 use Rattle.run_texts.specs.ReportText.{summary_of_run}
-use Rattle.run_texts.specs.Setting.{AreReportedWith, HasTerms}
+use Rattle.run_texts.specs.Setting.{AreOwnReports, AreOwnReportsWith, HasTerms}
 use Rattle.run_texts.specs.Streaming.{IsStreamed, with_own_terms, with_these_terms}
 use Rattle.run_texts.specs.declared.summary.Summary.{Summary}
 use Rattle.run_texts.specs.declared.fault.ToolFault.{ToolFault}
-use Rattle.run_texts.proofs.SettingLemmas.{reported_with}
+use Rattle.run_texts.proofs.SettingLemmas.{own_with}
 
 module _ {S : Type 0} where
   abbrev one_more : TermsValue → S → List (TermsValue × S) → List (TermsValue × S)
@@ -34,14 +33,14 @@ module _ {S : Type 0} where
       ∙ ap (one_more terms s) (same_terms terms sources pairs have.1)
 
   -- a run whose sources share their terms
-  pub all_streamed_with : (to_come : S → Option (List (List ℕ))) (failed : S → Option SourceFault) (bytes : List ℕ) (size : Option ℕ) (font : FontValue)
+  pub all_streamed_with : {O : Type 0} (to_come : S → Option (List (List ℕ))) (failed : S → Option SourceFault) (origin : S → O) (bytes : List ℕ) (size : Option ℕ) (font : FontValue)
       (limit : ℕ) (policy : Policy) (version : Version) (sources : List S) (pairs : List (S × Arc TermsValue Global))
       (before after : Option (List ℕ)) (r : Result Summary ToolFault) → IsFontOf bytes size font
       → AllZip (HasTerms (record { font = font; limit = limit; policy = policy })) sources pairs
-      → IfOk r (λ summary. (reports : List (LaneReport S)) × AreReported to_come failed pairs reports × IsStreamed version reports before after × (summary ≡ summary_of_run reports))
+      → IfOk r (λ summary. (reports : List (LaneReport S)) × AreOwnReports to_come failed origin pairs reports × IsStreamed version reports before after × (summary ≡ summary_of_run reports))
       → IfOk r (λ summary. (f : FontValue) × (reports : List (LaneReport S)) × IsFontOf bytes size f
-      × AreReportedWith to_come failed (record { font = f; limit = limit; policy = policy }) sources reports
+      × AreOwnReportsWith to_come failed origin (record { font = f; limit = limit; policy = policy }) sources reports
       × IsStreamed version reports before after × (summary ≡ summary_of_run reports))
-  all_streamed_with to_come failed bytes size font limit policy version sources pairs before after (Ok summary) is have (reports, are, streamed, short) =
-      (font, reports, is, reported_with to_come failed (record { font = font; limit = limit; policy = policy }) sources pairs reports have are, streamed, short)
-  all_streamed_with to_come failed bytes size font limit policy version sources pairs before after (Err fault) is have all = all
+  all_streamed_with to_come failed origin bytes size font limit policy version sources pairs before after (Ok summary) is have (reports, are, streamed, short) =
+      (font, reports, is, own_with to_come failed origin (record { font = font; limit = limit; policy = policy }) sources pairs reports have are, streamed, short)
+  all_streamed_with to_come failed origin bytes size font limit policy version sources pairs before after (Err fault) is have all = all

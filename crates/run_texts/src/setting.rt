@@ -8,8 +8,7 @@ ghost use Rattle.set_run.specs.declared.run_fault.RunFault.TheVariants.{TooManyS
 ghost use Rattle.tfm_tables.specs.declared.fault.FontFault.{FontFault as Refusal};
 ghost use Rattle.tfm_tables.specs.Acceptance.{font_fault_of};
 ghost use Rattle.tfm_tables.specs.Font.{FontValue, IsFontOf};
-ghost use Rattle.set_run.specs.Reports.{AreReported};
-ghost use Rattle.run_texts.specs.Setting.{AreReportedWith, HasTerms, IsWritten};
+ghost use Rattle.run_texts.specs.Setting.{AreOwnReports, AreOwnReportsWith, HasTerms, IsWritten};
 
 use crate::run_summary::{all_refused, summary_of};
 use crate::run_text::{Kept, RunTexts};
@@ -44,7 +43,7 @@ where
     requires lanes { K.lanes ≡ vec_len sources }
     requires version { K.version ≡ version }
     ensures text { IfOk result (λ summary. (reports : List (Lane S))
-        × AreReported S.to_come S.failed sources.items reports
+        × AreOwnReports S.to_come S.failed S.origin sources.items reports
         × IsWritten version reports (W.contents out.old) (W.contents out.new) summary) }
     ensures few { vec_len sources ≤ 64 → (fault : Fault) → result ≡ Err (ToolFault.Run fault)
         → (fault ≡ NoMemory) ⊎ (fault ≡ Thread) }
@@ -89,7 +88,7 @@ where
     G: Gate + Sync,
     W: Write,
     ensures text { IfOk result (λ summary. (reports : List (Lane S))
-        × AreReported S.to_come S.failed sources.items reports
+        × AreOwnReports S.to_come S.failed S.origin sources.items reports
         × IsWritten version reports (W.contents out.old) (W.contents out.new) summary) }
     ensures many { 64 < vec_len sources → result ≡ Err (ToolFault.Run TooManySources) }
     ensures few { vec_len sources ≤ 64 → (fault : Fault) → result ≡ Err (ToolFault.Run fault)
@@ -199,7 +198,7 @@ where
     W: Write,
     ensures text { IfOk result (λ summary. (f : FontValue) × (reports : List (Lane S))
         × IsFontOf font.now size f
-        × AreReportedWith S.to_come S.failed
+        × AreOwnReportsWith S.to_come S.failed S.origin
         (record { font = f; limit = limit; policy = policy }) sources.items reports
         × IsWritten version reports (W.contents out.old) (W.contents out.new) summary) }
     ensures font { (fault : Refusal) → result ≡ Err (ToolFault.Font fault)

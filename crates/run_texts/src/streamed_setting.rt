@@ -7,7 +7,7 @@ ghost use Rattle.tfm_tables.specs.declared.fault.FontFault.{FontFault as FontRef
 ghost use Rattle.tfm_tables.specs.Acceptance.{font_fault_of};
 ghost use Rattle.tfm_tables.specs.Font.{FontValue, IsFontOf};
 ghost use Rattle.run_texts.specs.ReportText.{summary_of_run};
-ghost use Rattle.run_texts.specs.Setting.{AreReportedWith};
+ghost use Rattle.run_texts.specs.Setting.{AreOwnReportsWith};
 ghost use Rattle.run_texts.specs.Streaming.{IsCutAtLine, IsCutShort, IsStreamed, with_these_terms};
 
 use crate::setting::with_font;
@@ -45,7 +45,7 @@ where
     W: Write,
     ensures text { IfOk result (λ summary. (f : FontValue) × (reports : List (Lane S))
         × IsFontOf font.now size f
-        × AreReportedWith S.to_come S.failed
+        × AreOwnReportsWith S.to_come S.failed S.origin
         (record { font = f; limit = limit; policy = policy }) sources.items reports
         × IsStreamed version reports (W.contents out.old) (W.contents out.new)
         × (summary ≡ summary_of_run reports)) }

@@ -1,12 +1,13 @@
 //! Sources of lines, set in one run, whose lines are written as they come.
-ghost use Rattle.std.specs.Prelude.{◌≡◌, true, ◌<◌, ◌≤◌, ◌⊎◌, ⊤, List, [], Err, None, length, sum_by, IfErr, IfOk, OnOk, vec_len};
+ghost use Rattle.std.specs.Prelude.{◌≡◌, true, ◌<◌, ◌≤◌, ◌⊎◌, ⊤, List, [], Err, None, length, map, sum_by, IfErr, IfOk, OnOk, vec_len};
 ghost use Rattle.set_run.specs.declared.report.LaneReport.{LaneReport as Lane};
 ghost use Rattle.set_run.specs.declared.run_fault.RunFault.{RunFault as Fault};
 ghost use Rattle.set_run.specs.declared.run_fault.RunFault.TheVariants.{TooManySources, OutOfMemory as NoMemory, Thread};
-ghost use Rattle.set_run.specs.Reports.{AreReported, IsCollected, IsWhole};
+ghost use Rattle.set_run.specs.Reports.{AreBack, IsCollected, IsWhole};
 ghost use Rattle.tfm_tables.specs.declared.fault.FontFault.{FontFault as FontRefusal};
 ghost use Rattle.run_texts.specs.ReportText.{summary_of_lanes, summary_of_run};
 ghost use Rattle.run_texts.specs.Endings.{is_text_fault};
+ghost use Rattle.run_texts.specs.Setting.{AreOwnReports};
 ghost use Rattle.run_texts.specs.Streaming.{IsCutAtLine, IsCutShort, IsStreamed, with_own_terms};
 ghost use Rattle.run_texts.specs.StreamState.{IsStreamOf, MovesOut};
 
@@ -90,6 +91,8 @@ where
     ensures collected { IfOk result.1 (λ run. IsCollected S.to_come S.failed
         (IsStreamOf W.contents K.start) sources.items run stream.entry result.0) }
     ensures whole { IfOk result.1 (λ run. IsWhole run) }
+    ensures sources { IfOk result.1 (λ run.
+        AreBack S.origin sources.items (map (λ lane. lane.source) run.lanes.items)) }
     ensures fault { IfErr result.1 (λ fault. result.0 ≡ stream.entry) }
     ensures few { vec_len sources ≤ 64
         → IfErr result.1 (λ fault. (fault ≡ NoMemory) ⊎ (fault ≡ Thread)) }
@@ -152,7 +155,7 @@ where
     G: Gate + Sync,
     W: Write,
     ensures text { IfOk result (λ summary. (reports : List (Lane S))
-        × AreReported S.to_come S.failed sources.items reports
+        × AreOwnReports S.to_come S.failed S.origin sources.items reports
         × IsStreamed version reports (W.contents out.old) (W.contents out.new)
         × (summary ≡ summary_of_run reports)) }
     ensures many { 64 < vec_len sources → result ≡ Err (ToolFault.Run TooManySources) }

@@ -1,5 +1,5 @@
 -- Why nothing was written for a request.
-use Rattle.std.proofs.Common.{arith, rules, ◌≡◌, ◌≢◌, ℕ, zero, suc, ◌+◌, ◌*◌, ◌<◌, ◌≤◌, ◌⊎◌, inl, inr, true, List, [], ◌∷◌, ◌++◌, length, get_or, map, take, Option, Some, None, Bor, refl, ap, sym, subst, ◌∙◌}
+use Rattle.std.proofs.Common.{arith, rules, ◌≡◌, ◌≢◌, ℕ, zero, suc, ◌+◌, ◌*◌, ◌<◌, ◌≤◌, ◌⊎◌, inl, inr, true, List, [], ◌∷◌, ◌++◌, length, get_or, map, take, Option, Some, None, Bor, codes, refl, ap, sym, subst, ◌∙◌}
 use Rattle.std.proofs.lemmas.Bool.{true≢false}
 use Rattle.std.proofs.lemmas.List.Elements.{All-cons}
 use Rattle.std.proofs.lemmas.List.{length-map}
@@ -19,15 +19,18 @@ use Rattle.set_run.specs.declared.run_fault.RunFault.TheVariants.{TooManySources
 use Rattle.run_texts.specs.declared.fault.ToolFault.{ToolFault}
 use Rattle.run_texts.specs.declared.fault.ToolFault.TheVariants.{Font, Run, OutOfMemory, Write}
 use Rattle.command_line.specs.declared.request.Layout.{Layout}
-use Rattle.tfm_tool.specs.Faults.{IsRefused}
+use Rattle.command_line.specs.declared.request.Request.{Request}
+use Rattle.command_line.specs.declared.request.Request.TheVariants.{Counts, List as ListFont, Check, Set, Stream, Each}
+use Rattle.command_line.specs.declared.request.Setting.{Setting}
+use Rattle.tfm_tool.specs.Faults.{IsCauseOf, IsFaultOf, IsFaultOfSet, IsFaultOfStream, IsFontFaultOf, IsRefused}
 use Rattle.tfm_tool.specs.FontFaults.{IsAcceptedJob, IsFirstRefused, IsRefusedFont, IsRefusedHead, IsRefusedJob}
-use Rattle.tfm_tool.specs.Jobs.{AreTermsOf, AreWordsOfJobs, HasTermsOf, IsOpenedWith, JobValue, job_value, jobs_in}
+use Rattle.tfm_tool.specs.Jobs.{AreTermsOf, AreWordsOfJobs, HasTermsOf, IsFaultOfWords, IsOpenedWith, JobValue, job_value, jobs_in}
 use Rattle.tfm_tool.specs.Kept.{HaveSameFont}
-use Rattle.tfm_tool.specs.Named.{OfKnown, file_bytes_of}
+use Rattle.tfm_tool.specs.Named.{OfKnown, file_bytes_of, font_bytes_of}
 use Rattle.tfm_tool.specs.Told.{AreSourcesOf, IsSourceOf, Told}
 use Rattle.tfm_tool.specs.Status.{BeforeText, is_before_output, status_of}
 use Rattle.tfm_tool.specs.declared.exit.Failure.{Failure}
-use Rattle.tfm_tool.specs.declared.exit.Failure.TheVariants.{Tool}
+use Rattle.tfm_tool.specs.declared.exit.Failure.TheVariants.{Tool, FontRefused, FontAndText, TooManyFiles}
 use Rattle.tfm_tool.specs.declared.jobs.Job.{Job}
 use Rattle.tfm_tool.proofs.KnownLemmas.{of_known}
 
@@ -177,3 +180,63 @@ pub served_of : (r : Result ℕ Failure) (Done Served : ℕ → Type 0) (IsFault
     → ((status : ℕ) → Done status → ((failure : Failure) → ¬ IsFault failure) → Served status) → IfOk r Served
 served_of (Ok status) Done Served IsFault Same done refused to = to status done (λ failure is. (refused failure is).0)
 served_of (Err failure) Done Served IsFault Same done refused to = tt
+
+-- ---- a fault of a request comes before one of its fonts
+
+not_of_font_set : (setting : Setting) (bytes : Option (List ℕ)) (failure : Failure) → IsFaultOfSet setting failure → IsRefusedFont bytes failure → ⊥
+not_of_font_set setting bytes TooManyFiles fault font = font
+not_of_font_set setting bytes failure fault font = fault
+
+not_of_font_stream : (setting : Setting) (bytes : Option (List ℕ)) (failure : Failure) → IsFaultOfStream setting failure → IsRefusedFont bytes failure → ⊥
+not_of_font_stream setting bytes FontAndText fault font = font
+not_of_font_stream setting bytes TooManyFiles fault font = font
+not_of_font_stream setting bytes failure fault font = fault
+
+module _ (known : List ℕ → Option (List ℕ)) (input : Option (List ℕ)) where
+  not_of_font_each : (words : List (Bor (List ℕ))) (jobs : List JobValue) (layout : Layout) (failure : Failure) → IsFaultOfWords words failure → IsFirstRefused known layout jobs failure → ⊥
+  not_of_font_each words jobs layout (FontRefused n f) fault font = fault
+  not_of_font_each words jobs layout failure fault font = font.5
+
+  -- no failure is both
+  not_of_font : (request : Request) (failure : Failure) → IsFaultOf request failure → IsFontFaultOf known input request failure → ⊥
+  not_of_font (Counts font) failure fault is = fault
+  not_of_font (ListFont font all) failure fault is = fault
+  not_of_font (Check asked) failure fault is = is
+  not_of_font (Set setting) failure fault is = not_of_font_set setting (font_bytes_of known input setting.font.now) failure fault is
+  not_of_font (Stream setting) failure fault is = not_of_font_stream setting (font_bytes_of known input setting.font.now) failure fault is
+  not_of_font (Each jobs) failure fault is = not_of_font_each jobs.words.items (jobs_in jobs.words.items) jobs.layout failure fault is
+
+  -- refused memory is no fault of a font
+  memory_not_of_font : (request : Request) → IsFontFaultOf known input request (Tool OutOfMemory) → ⊥
+  memory_not_of_font (Counts font) is = is
+  memory_not_of_font (ListFont font all) is = is
+  memory_not_of_font (Check asked) is = is
+  memory_not_of_font (Set setting) is = is
+  memory_not_of_font (Stream setting) is = is
+  memory_not_of_font (Each jobs) is = is.5
+
+  -- so a request with a fault of a font has none of its own
+  pub cause_of : (request : Request) (Same : Type 0) (r : Result ℕ Failure)
+      → BeforeText r (λ failure. IsFaultOf request failure ⊎ IsFontFaultOf known input request failure)
+      → ((failure : Failure) → IsFaultOf request failure → IsRefused (IsFaultOf request) r × Same) → BeforeText r (IsCauseOf known input request)
+  cause_of request Same (Ok status) cause refused = tt
+  cause_of request Same (Err failure) cause refused = λ before.
+      elim (cause before) [
+        | inl fault ↦ inl fault
+        | inr font ↦ inr (
+          λ other fault. elim (refused other fault).0 [
+            | inl memory ↦ memory_not_of_font request (subst (λ f. IsFontFaultOf known input request f) memory font)
+            | inr own ↦ not_of_font request failure own font
+          ],
+          font,
+        )
+      ]
+
+-- what is told of a stream with too many files, or with a font and a text that are both standard input
+pub refused_stream : {A : Type 0} (setting : Setting) (Same : Type 0) (r : Result A Failure) → (64 < length setting.files.items → (r ≡ Err TooManyFiles) × Same)
+    → (setting.files.items ≡ [] → setting.font.now ≡ codes "-" → (r ≡ Err FontAndText) × Same)
+    → (failure : Failure) → IsFaultOfStream setting failure → IsRefused (IsFaultOfStream setting) r × Same
+refused_stream setting Same r many both FontAndText fault =
+    let told = both fault.0 fault.1 in (subst (λ r. IsRefused (IsFaultOfStream setting) r) (sym told.0) (inr fault), told.1)
+refused_stream setting Same r many both TooManyFiles fault = let told = many fault in (subst (λ r. IsRefused (IsFaultOfStream setting) r) (sym told.0) (inr fault), told.1)
+refused_stream setting Same r many both failure fault = absurd fault

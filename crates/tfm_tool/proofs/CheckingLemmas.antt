@@ -55,6 +55,12 @@ by_dash : (dash : Bool) (start now other : Option (List ℕ)) (P : List ℕ → 
 by_dash true start now other P same found = subst (λ input. IfSome input P) (same refl) found
 by_dash false start now other P same found = found
 
+-- without such a name there is none among the first
+pub none_among : (names : List (Bor (List ℕ))) (n : ℕ) → dashes_in names ≡ 0 → dashes_in (take n names) ≡ 0
+none_among names n none =
+    let some : dashes_in (take n names) ≤ dashes_in names = sum_by-take-le (λ name. cond (bytes_eq name.now (codes "-")) 1 0) names n in
+    omega (arith, some, none)
+
 module _ (names : List (Bor (List ℕ))) (i : ℕ) (d : Bor (List ℕ)) (within : i < length names) where
   -- before the only one there is none
   none_before : dashes_in names ≤ 1 → bytes_eq (get_or names i d).now (codes "-") ≡ true → dashes_in (take i names) ≡ 0
@@ -77,12 +83,13 @@ module _ (names : List (Bor (List ℕ))) (i : ℕ) (d : Bor (List ℕ)) (within 
     found_at_start known P few found =
         by_dash (bytes_eq (get_or names i d).now (codes "-")) start now (known (get_or names i d).now) P (λ is. unread (none_before few is)) found
 
-    -- a font of another name leaves it unread
-    pub still_unread : (after : Option (List ℕ)) → (((get_or names i d).now ≡ codes "-" → ⊥) → after ≡ now) → dashes_in (take (i + 1) names) ≡ 0 → after ≡ start
-    still_unread after other none =
-        let is : bytes_eq (get_or names i d).now (codes "-") ≡ false = another_name (bytes_eq (get_or names i d).now (codes "-")) refl none in
-        let more : dashes_in (take (i + 1) names) ≡ dashes_in (take i names) = count_by_more_no (λ name. bytes_eq name.now (codes "-")) names i d within is in
-        other (not_dash (get_or names i d).now is) ∙ unread (sym more ∙ none)
+  -- a font of another name leaves it unread
+  pub still_unread : {I : Type 0} (start now after : I) → (dashes_in (take i names) ≡ 0 → now ≡ start)
+      → (((get_or names i d).now ≡ codes "-" → ⊥) → after ≡ now) → dashes_in (take (i + 1) names) ≡ 0 → after ≡ start
+  still_unread start now after unread other none =
+      let is : bytes_eq (get_or names i d).now (codes "-") ≡ false = another_name (bytes_eq (get_or names i d).now (codes "-")) refl none in
+      let more : dashes_in (take (i + 1) names) ≡ dashes_in (take i names) = count_by_more_no (λ name. bytes_eq name.now (codes "-")) names i d within is in
+      other (not_dash (get_or names i d).now is) ∙ unread (sym more ∙ none)
 
 -- ---- the three statuses of fonts
 

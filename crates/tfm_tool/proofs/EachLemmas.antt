@@ -18,7 +18,7 @@ use Rattle.set_run.specs.Reports.{AreReported, IsReported}
 use Rattle.set_run.specs.declared.report.LaneReport.{LaneReport}
 use Rattle.run_texts.specs.Endings.{summary_status}
 use Rattle.run_texts.specs.ReportText.{run_text}
-use Rattle.run_texts.specs.Setting.{IsWritten}
+use Rattle.run_texts.specs.Setting.{AreOwnReports, IsWritten}
 use Rattle.run_texts.specs.declared.summary.Summary.{Summary}
 use Rattle.tfm_tool.specs.Jobs.{AreTermsOf, HasTermsOf, IsOpenedWith, IsSourceOfJob, JobValue, job_value, jobs_in, told_with_terms}
 use Rattle.tfm_tool.specs.Kept.{kept_of}
@@ -118,19 +118,19 @@ module _ {S : Type 0} (to_come : S → Option (List (List ℕ))) (failed : S →
   reported_each (s ∷ sources) (r ∷ reports) are = (are.0, reported_each sources reports are.1)
 
   -- a run over the sources of jobs, and then its end
-  pub each_then_finished : (r : Result ℕ Failure) (known : List ℕ → Option (List ℕ)) (asked : Jobs) (sources : List (S × Arc TermsValue Global))
+  pub each_then_finished : {O : Type 0} (origin : S → O) (r : Result ℕ Failure) (known : List ℕ → Option (List ℕ)) (asked : Jobs) (sources : List (S × Arc TermsValue Global))
       (w w' w'' : Option (List ℕ)) (summary : Summary)
       → AllZip (IsSourceOfJob known asked.layout) (jobs_in asked.words.items) (map (told_with_terms (told_by to_come failed)) sources)
-      → ((reports : List (LaneReport S)) × AreReported to_come failed sources reports × IsWritten asked.layout.version reports w w' summary)
+      → ((reports : List (LaneReport S)) × AreOwnReports to_come failed origin sources reports × IsWritten asked.layout.version reports w w' summary)
       → Keeps w' w'' → AfterText r (λ status. status ≡ summary_status summary) → AfterText r (IsEachSet known w w'' asked)
-  each_then_finished r known asked sources w w' w'' summary are text kept worst =
+  each_then_finished origin r known asked sources w w' w'' summary are text kept worst =
       after_map r (λ status. status ≡ summary_status summary) (IsEachSet known w w'' asked)
       (λ status is. (
         map (told_with_terms (told_by to_come failed)) sources,
         are,
         (
           map (told_report to_come failed) text.0,
-          reported_each sources text.0 text.1,
+          reported_each sources text.0 text.1.0,
           subst (λ t. Appends w w'' t) (sym (same_text to_come failed asked.layout.version text.0))
               (kept_text w w' w'' (run_text asked.layout.version text.0) text.2.0 kept),
           is ∙ (ap summary_status text.2.1 ∙ sym (same_status to_come failed text.0)),

@@ -11,7 +11,7 @@ use Rattle.run_texts.specs.Endings.{summary_status}
 use Rattle.run_texts.specs.ReportText.{is_unread, is_wanting, lanes_text, run_text, summary_of_run}
 use Rattle.run_texts.specs.RunText.{head_text, is_refused, lane_text, why_of}
 use Rattle.run_texts.specs.Streaming.{HaveLines, IsStreamed, SourceLine, merged_text}
-use Rattle.run_texts.specs.Setting.{AreReportedWith, IsWritten}
+use Rattle.run_texts.specs.Setting.{AreOwnReportsWith, AreReportedWith, IsWritten}
 use Rattle.run_texts.specs.declared.summary.Summary.{Summary}
 use Rattle.set_line.specs.declared.policy.Policy.{Policy}
 use Rattle.tfm_tables.specs.Font.{FontValue, IsFontOf}
@@ -98,30 +98,30 @@ module _ {S : Type 0} (to_come : S → Option (List (List ℕ))) (failed : S →
 -- ---- a run, and then its end
 
 module _ {S : Type 0} (to_come : S → Option (List (List ℕ))) (failed : S → Option SourceFault) (r : Result ℕ Failure) (bytes : List ℕ) (size : Option ℕ) (version : Version) (sources : List S) where
-  pub set_then_finished : (limit : ℕ) (policy : Policy) (w w' w'' : Option (List ℕ)) (summary : Summary)
+  pub set_then_finished : {O : Type 0} (origin : S → O) (limit : ℕ) (policy : Policy) (w w' w'' : Option (List ℕ)) (summary : Summary)
       → ((font : FontValue) × (reports : List (LaneReport S)) × IsFontOf bytes size font
-      × AreReportedWith to_come failed (record { font = font; limit = limit; policy = policy }) sources reports × IsWritten version reports w w' summary)
+      × AreOwnReportsWith to_come failed origin (record { font = font; limit = limit; policy = policy }) sources reports × IsWritten version reports w w' summary)
       → Keeps w' w'' → AfterText r (λ status. status ≡ summary_status summary)
       → AfterText r (λ status. (font : FontValue) × IsFontOf bytes size font
       × IsPrinted to_come failed (record { font = font; limit = limit; policy = policy }) version sources w w'' status)
-  set_then_finished limit policy w w' w'' summary text kept worst =
+  set_then_finished origin limit policy w w' w'' summary text kept worst =
       after_map r (λ status. status ≡ summary_status summary)
       (λ status. (font : FontValue) × IsFontOf bytes size font × IsPrinted to_come failed (record { font = font; limit = limit; policy = policy }) version sources w w'' status)
-      (λ status is. (text.0, text.2, (text.1, text.3, kept_text w w' w'' (run_text version text.1) text.4.0 kept, is ∙ ap summary_status text.4.1))) worst
+      (λ status is. (text.0, text.2, (text.1, text.3.0, kept_text w w' w'' (run_text version text.1) text.4.0 kept, is ∙ ap summary_status text.4.1))) worst
 
-  pub streamed_then_finished : (limit : ℕ) (policy : Policy) (w w' w'' : Option (List ℕ)) (summary : Summary)
+  pub streamed_then_finished : {O : Type 0} (origin : S → O) (limit : ℕ) (policy : Policy) (w w' w'' : Option (List ℕ)) (summary : Summary)
       → ((font : FontValue) × (reports : List (LaneReport S)) × IsFontOf bytes size font
-      × AreReportedWith to_come failed (record { font = font; limit = limit; policy = policy }) sources reports × IsStreamed version reports w w' × (summary ≡ summary_of_run reports))
+      × AreOwnReportsWith to_come failed origin (record { font = font; limit = limit; policy = policy }) sources reports × IsStreamed version reports w w' × (summary ≡ summary_of_run reports))
       → Keeps w' w'' → AfterText r (λ status. status ≡ summary_status summary)
       → AfterText r (λ status. (font : FontValue) × IsFontOf bytes size font
       × IsPrintedAsItComes to_come failed (record { font = font; limit = limit; policy = policy }) version sources w w'' status)
-  streamed_then_finished limit policy w w' w'' summary text kept worst =
+  streamed_then_finished origin limit policy w w' w'' summary text kept worst =
       after_map r (λ status. status ≡ summary_status summary)
       (λ status. (font : FontValue) × IsFontOf bytes size font × IsPrintedAsItComes to_come failed (record { font = font; limit = limit; policy = policy }) version sources w w'' status)
       (λ status is. (
         text.0,
         text.2,
-        (text.1, text.3, (text.4.0, text.4.1, kept_text w w' w'' (head_text version ++ merged_text text.4.0) text.4.2 kept), is ∙ ap summary_status text.5),
+        (text.1, text.3.0, (text.4.0, text.4.1, kept_text w w' w'' (head_text version ++ merged_text text.4.0) text.4.2 kept), is ∙ ap summary_status text.5),
       )) worst
 
   -- ---- the same with the font of a name, and with what its sources tell

@@ -1,6 +1,6 @@
 -- Why a request ends with status 2 or 3: something is wrong with it whatever its files hold, or with a font that it names.
 -- This project's own.
-use Rattle.std.specs.Prelude.{◌≡◌, ◌⊎◌, ℕ, ◌<◌, List, [], codes, length, Option, Result, MatchResult}
+use Rattle.std.specs.Prelude.{◌≡◌, ◌≢◌, ◌⊎◌, ℕ, ◌<◌, List, [], codes, length, Option, Result, MatchResult}
 use Rattle.run_texts.specs.declared.fault.ToolFault.TheVariants.{OutOfMemory}
 use Rattle.command_line.specs.declared.request.Checking.{Checking}
 use Rattle.command_line.specs.declared.request.Request.{Request}
@@ -58,3 +58,12 @@ module _ (known : List ℕ → Option (List ℕ)) (input : Option (List ℕ)) wh
   -- why a request ends with status 2 or 3; its own faults come before those of its fonts
   abbrev pub IsCauseOf : Request → Failure → Type 0
   IsCauseOf request failure = IsFaultOf request failure ⊎ (HasNoFault request × IsFontFaultOf request failure)
+
+-- a request has nothing to do with standard input
+abbrev pub IsWithoutInput : Request → Type 0
+IsWithoutInput (Counts font) = font.now ≢ codes "-"
+IsWithoutInput (ListFont font _) = font.now ≢ codes "-"
+IsWithoutInput (Check asked) = dashes_in asked.fonts.items ≡ 0
+IsWithoutInput (Set setting) = setting.font.now ≢ codes "-"
+IsWithoutInput (Stream setting) = (setting.font.now ≢ codes "-") × (setting.files.items ≢ [])
+IsWithoutInput (Each _) = Unit {0}

@@ -33,6 +33,7 @@ where
     O: Write,
     ensures twice { 1 < dashes_in asked.now.fonts.items
         → (result ≡ Err TwoFonts) × (input.new ≡ input.old) × (out.new ≡ out.old) }
+    ensures none { dashes_in asked.now.fonts.items ≡ 0 → input.new ≡ input.old }
     ensures text { AfterText result (AreChecked (F.known files.now) (I.remaining input.old)
         asked.now.fonts.items (O.contents out.old) (O.contents out.new)) }
     ensures once { result ≡ Err TwoFonts → 1 < dashes_in asked.now.fonts.items }
@@ -80,6 +81,7 @@ where
     ensures text { IfOk result (λ status. dashes_in asked.now.fonts.items ≤ 1
         → AreChecked (F.known files.now) (I.remaining input.old)
         asked.now.fonts.items (O.contents out.old) (O.contents out.new) status) }
+    ensures none { dashes_in asked.now.fonts.items ≡ 0 → input.new ≡ input.old }
     ensures told { IfErr result (λ failure. status_of failure ≡ 5) }
     ensures fault { IfErr result (λ failure. is_after_text failure ≡ false) }
 {

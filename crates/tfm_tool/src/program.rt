@@ -1,4 +1,4 @@
-ghost use Rattle.std.specs.Prelude.{◌≡◌, ◌≢◌, ◌⊎◌, ◌<◌, ℕ, true, List, [], ◌∷◌, map, Contains, Option, Some, None, Err, IfErr, IfOk, OnOk};
+ghost use Rattle.std.specs.Prelude.{◌≡◌, ◌≢◌, ◌⊎◌, ◌<◌, ℕ, true, List, [], ◌∷◌, codes, map, Contains, Option, Some, None, Err, IfErr, IfOk, OnOk};
 ghost use Rattle.std.specs.Io.KnownBytes.{Appends, Keeps};
 ghost use Rattle.std.specs.IoError.{error_kind};
 ghost use Rattle.clap.specs.Words.{kind_of};
@@ -6,7 +6,7 @@ ghost use Rattle.set_run.specs.declared.run_fault.RunFault.{RunFault};
 ghost use Rattle.tfm_tables.specs.Acceptance.{font_fault_of};
 ghost use Rattle.tfm_tables.specs.Font.{FontValue, IsFontOf};
 ghost use Rattle.tfm_tables.specs.declared.fault.FontFault.{FontFault};
-ghost use Rattle.tfm_tool.specs.Faults.{IsCauseOf, IsFaultOf, IsRefused};
+ghost use Rattle.tfm_tool.specs.Faults.{IsCauseOf, IsFaultOf, IsRefused, IsWithoutInput};
 ghost use Rattle.tfm_tool.specs.FontFaults.{IsRefusedFont, IsRefusedHead};
 ghost use Rattle.tfm_tool.specs.Named.{font_bytes_of};
 ghost use Rattle.tfm_tool.specs.Requests.{CountsAreTold, IsDone, IsListed, list_text_of};
@@ -118,6 +118,7 @@ where
         (O.contents out.old) (O.contents out.new) request.now) }
     ensures status { IfOk result (λ status. Contains (0 ∷ 1 ∷ []) status) }
     ensures untouched { IfErr result (λ failure. is_before_output failure ≡ true → out.new ≡ out.old) }
+    ensures unread { IsWithoutInput request.now → input.new ≡ input.old }
     ensures cause { BeforeText result
         (IsCauseOf (F.known files.now) (I.remaining input.old) request.now) }
     ensures refused { (fault : Failure) → IsFaultOf request.now fault
@@ -150,6 +151,7 @@ where
         (O.contents out.old) (O.contents out.new) font.now) }
     ensures status { IfOk result (λ status. status ≡ 0) }
     ensures untouched { IfErr result (λ failure. is_before_output failure ≡ true → out.new ≡ out.old) }
+    ensures unread { font.now ≢ codes "-" → input.new ≡ input.old }
     ensures cause { BeforeText result
         (IsRefusedHead (font_bytes_of (F.known files.now) (I.remaining input.old) font.now)) }
 {
@@ -176,6 +178,7 @@ where
         (O.contents out.old) (O.contents out.new) font.now all) }
     ensures status { IfOk result (λ status. status ≡ 0) }
     ensures untouched { IfErr result (λ failure. is_before_output failure ≡ true → out.new ≡ out.old) }
+    ensures unread { font.now ≢ codes "-" → input.new ≡ input.old }
     ensures cause { BeforeText result
         (IsRefusedFont (font_bytes_of (F.known files.now) (I.remaining input.old) font.now)) }
 {

@@ -72,6 +72,7 @@ where
     ensures cause { BeforeText result (λ failure. IsFaultOfSet setting.now failure
         ⊎ IsRefusedFont (font_bytes_of (F.known files.now) (I.remaining input.old) setting.now.font.now)
         failure) }
+    ensures unread { setting.now.font.now ≢ codes "-" → input.new ≡ input.old }
     ensures many { 64 < length setting.now.files.items → result ≡ Err TooManyFiles }
     ensures few { IfOk result (λ both. length both.1.items ≤ 64) }
 {
@@ -100,6 +101,7 @@ where
         (O.contents out.old) (O.contents out.new) setting.now) }
     ensures status { IfOk result (λ status. Contains (0 ∷ 1 ∷ []) status) }
     ensures untouched { IfErr result (λ failure. is_before_output failure ≡ true → out.new ≡ out.old) }
+    ensures unread { setting.now.font.now ≢ codes "-" → input.new ≡ input.old }
     ensures cause { BeforeText result (λ failure. IsFaultOfSet setting.now failure
         ⊎ IsRefusedFont (font_bytes_of (F.known files.now) (I.remaining input.old) setting.now.font.now)
         failure) }
@@ -166,6 +168,8 @@ where
         (O.contents out.old) (O.contents out.new) setting.now) }
     ensures status { IfOk result (λ status. Contains (0 ∷ 1 ∷ []) status) }
     ensures untouched { IfErr result (λ failure. is_before_output failure ≡ true → out.new ≡ out.old) }
+    ensures unread { setting.now.font.now ≢ codes "-" → setting.now.files.items ≢ []
+        → input.new ≡ input.old }
     ensures cause { BeforeText result (λ failure. IsFaultOfStream setting.now failure
         ⊎ IsRefusedFont (font_bytes_of (F.known files.now) (I.remaining input.old) setting.now.font.now)
         failure) }

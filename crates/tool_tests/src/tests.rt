@@ -10,6 +10,7 @@ use tfm_tool::tool;
 
 mod asked;
 mod checks;
+mod gates;
 mod kept_texts;
 mod settings;
 mod streamed;

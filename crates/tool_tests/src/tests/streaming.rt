@@ -237,3 +237,27 @@ fn sixty_four_sources_and_no_more(rt: HostRuntime) -> Result<(), Fail> {
     assert!(rt; refused && out.is_empty());
     Ok(())
 }
+
+#[test]
+fn a_source_that_fails_beside_good_ones(rt: HostRuntime) -> Result<(), Fail> {
+    let given: [Given; 4] = [(b"a\n", ALL), (b"a\na\n", 3), (b"", ALL), (b"a", ALL)];
+    let mut out = Vec::new(rt.alloc());
+    let summary = streamed(&rt, &given, 100, Policy::Refuse, Version::One, &mut out)?;
+    assert!(rt; summary.read_failed && !summary.memory && summary.refused == 0);
+    let text = String::from_utf8(out)?;
+    for (number, answers, end) in [
+        (1, 1, "complete"),
+        (2, 1, "read"),
+        (3, 0, "complete"),
+        (4, 1, "complete"),
+    ] {
+        let mut wanted = String::new(rt.alloc());
+        for place in 1..=answers {
+            write!(wanted, "{number}:{place} set 327680 c97=327680\n")?;
+        }
+        write!(wanted, "{number} end {end} {answers}\n")?;
+        let own = of_source(&rt, &text, number)?;
+        assert!(rt; own.as_str() == wanted.as_str(), "source {number}");
+    }
+    Ok(())
+}

@@ -1,5 +1,5 @@
-use Rattle.std.proofs.Common.{rules, ◌≡◌, [], None, sum_by}
-use Rattle.set_run.specs.Reports.{IsCollected, IsWhole}
+use Rattle.std.proofs.Common.{rules, ◌≡◌, [], map, None, sum_by}
+use Rattle.set_run.specs.Reports.{AreBack, IsCollected, IsWhole}
 use Rattle.set_run.specs.declared.run_end.RunEnd.{RunEnd}
 use Rattle.run_texts.specs.ReportText.{summary_of_lanes}
 use Rattle.run_texts.specs.declared.run_text.RunTexts.{RunTexts}
@@ -16,10 +16,11 @@ returns-clause-text g c =
     let collected : IsCollected g.S.LineSource.to_come g.S.LineSource.failed
     (Given (λ (texts : RunTexts g.row.K.Denot). texts.version) (λ texts. texts.lanes.items) g.K.Kept.version g.K.Kept.lanes)
     c.args.sources.items run c.in-Ok.texts after = rw c.in-Ok-ran.is at c.run_into-texts.ensures.collected in
+    let back : AreBack g.S.LineSource.origin c.args.sources.items (map (λ lane. lane.source) run.lanes.items) = rw c.in-Ok-ran.is at c.run_into-texts.ensures.sources in
     let begun : Given (λ (texts : RunTexts g.row.K.Denot). texts.version) (λ texts. texts.lanes.items) g.K.Kept.version g.K.Kept.lanes c.in-Ok.texts [] = (search rules, search rules, search rules) in
     let short : c.summary_of-summary.result ≡ summary_of_lanes (sum_by (λ text. text.refused) after.lanes.items) run.lanes.items =
     let of = c.summary_of-summary.ensures (sum_by (λ text. text.refused) after.lanes.items) (search rules) in search rules in
     kept_run (λ (texts : RunTexts g.row.K.Denot). texts.version) (λ texts. texts.lanes.items) g.K.Kept.version
-    g.S.LineSource.to_come g.S.LineSource.failed c.args.sources.items run c.in-Ok.texts after c.args.version g.K.Kept.lanes
+    g.S.LineSource.to_come g.S.LineSource.failed g.S.LineSource.origin c.args.sources.items run c.in-Ok.texts after c.args.version g.K.Kept.lanes
     (g.W.Write.contents c.args.out.now) (g.W.Write.contents c.write.new.out) c.summary_of-summary.result
-    c.requires.version (search rules) begun none whole collected (search rules) short
+    c.requires.version (search rules) begun none whole collected back (search rules) short

@@ -1,6 +1,6 @@
 use Rattle.std.proofs.Common.{◌+◌, ap, take, sym, subst}
 use Rattle.tfm_tool.specs.Checking.{AreChecked, IsFound}
-use Rattle.tfm_tool.proofs.CheckingLemmas.{found_at_start, one_checked, still_unread}
+use Rattle.tfm_tool.proofs.CheckingLemmas.{found_at_start, none_among, one_checked, still_unread}
 use Rattle.tfm_tool.proofs.checking.check_all.Goals as goal
 
 pub loop-name-preserved : goal.loop-name-preserved
@@ -14,8 +14,17 @@ loop-name-preserved g c =
           (sym c.higher-highest.ensures)
           (one_checked (g.F.Opens.known c.args.files.now) (g.I.Read.remaining c.args.input.now) c.args.asked.now.fonts.items c.loop-name.name-index _ c.in_ok-finding.finding (g.O.Write.contents c.args.out.now)
           (g.O.Write.contents c.loop-name.out) (g.O.Write.contents c.check_one.new.out) c.loop-name.highest within (c.loop-name.invariant.0 few)
-          (found_at_start c.args.asked.now.fonts.items c.loop-name.name-index _ within (g.I.Read.remaining c.args.input.now) (g.I.Read.remaining c.loop-name.input) c.loop-name.invariant.1
+          (found_at_start c.args.asked.now.fonts.items c.loop-name.name-index _ within (g.I.Read.remaining c.args.input.now) (g.I.Read.remaining c.loop-name.input) (λ none. ap g.I.Read.remaining (c.loop-name.invariant.1 none))
           (g.F.Opens.known c.args.files.now) (λ all. IsFound all c.in_ok-finding.finding) few found) line),
-      still_unread c.args.asked.now.fonts.items c.loop-name.name-index _ within (g.I.Read.remaining c.args.input.now) (g.I.Read.remaining c.loop-name.input) c.loop-name.invariant.1
-          (g.I.Read.remaining c.check_one.new.input) (λ no. ap g.I.Read.remaining (other no)),
+      still_unread c.args.asked.now.fonts.items c.loop-name.name-index _ within c.args.input.now c.loop-name.input c.check_one.new.input c.loop-name.invariant.1 other,
     )
+
+pub returns-in_err-finding-clause-none : goal.returns-in_err-finding-clause-none
+returns-in_err-finding-clause-none g c = λ none.
+    let within = rw c.deref-name-items.ensures.value at c.loop-name-test.true in
+    let other = rw c.deref-name-items.ensures.value at c.check_one.ensures.other in
+    still_unread c.args.asked.now.fonts.items c.loop-name.name-index _ within c.args.input.now c.loop-name.input c.check_one.new.input c.loop-name.invariant.1 other
+    (none_among c.args.asked.now.fonts.items (c.loop-name.name-index + 1) none)
+
+pub returns-clause-none : goal.returns-clause-none
+returns-clause-none g c = λ none. c.loop-name.invariant.1 (none_among c.args.asked.now.fonts.items c.loop-name.name-index none)

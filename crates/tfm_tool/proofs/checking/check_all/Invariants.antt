@@ -8,4 +8,4 @@ abbrev pub invariant-loop-name : goal.invariant-loop-name
 invariant-loop-name g l =
     (dashes_in l.asked.fonts.items ≤ 1
     → AreChecked (g.F.Opens.known l.files) (g.I.Read.remaining l.fn.input) (take l.name-index l.asked.fonts.items) (g.O.Write.contents l.fn.out) (g.O.Write.contents l.out) l.highest)
-    × (dashes_in (take l.name-index l.asked.fonts.items) ≡ 0 → g.I.Read.remaining l.input ≡ g.I.Read.remaining l.fn.input)
+    × (dashes_in (take l.name-index l.asked.fonts.items) ≡ 0 → l.input ≡ l.fn.input)

@@ -4,6 +4,6 @@ use Rattle.tfm_tool.proofs.each.set_jobs.Goals as goal
 
 pub returns-clause-text : goal.returns-clause-text
 returns-clause-text g c =
-    each_then_finished (reader_lines g.F.File.Read.remaining) reader_fault c.finish.result (g.F.Opens.known c.args.files.now) c.args.asked.now
+    each_then_finished (reader_lines g.F.File.Read.remaining) reader_fault _ c.finish.result (g.F.Opens.known c.args.files.now) c.args.asked.now
     c.in_ok-sources.sources.items (g.O.Write.contents c.args.out.now) (g.O.Write.contents c.set_each.new.out) (g.O.Write.contents c.finish.new.out)
     c.in_ok-summary.summary c.in_ok-sources.ensures.sources c.in_ok-summary.ensures.text c.finish.ensures.kept c.finish.ensures.worst

@@ -1,10 +1,11 @@
-use Rattle.std.proofs.Common.{arith, ◌≡◌, ◌<◌, ◌∙◌, length, subst, sym}
+use Rattle.std.proofs.Common.{arith, ◌≡◌, ◌<◌, ◌∙◌, ℕ, List, Option, inr, length, subst, sym}
 use Rattle.std.proofs.lemmas.Bool.{eqb-false}
 use Rattle.std.specs.Prelude.{IfSome}
 use Rattle.tfm_tool.specs.Kept.{HaveSameFont}
 use Rattle.tfm_tool.specs.Named.{font_bytes_of, stream_bytes_of}
 use Rattle.tfm_tool.specs.Requests.{terms_of_setting}
 use Rattle.tfm_tool.specs.Told.{AreSourcesOf, all_told_by}
+use Rattle.tfm_tool.proofs.CauseLemmas.{before_map, font_cause}
 use Rattle.tfm_tool.proofs.KnownLemmas.{stream_of_files}
 use Rattle.tfm_tool.proofs.ReaderLemmas.{reader_fault, reader_lines}
 use Rattle.tfm_tool.proofs.SourceLemmas.{named_streamed}
@@ -24,3 +25,11 @@ returns-clause-text g c =
     (subst (λ bytes. AreSourcesOf bytes (all_told_by (reader_lines g.F.File.Read.remaining) reader_fault c.in_ok-font.sources.items))
     (stream_of_files (g.F.Opens.known c.args.files.now) (g.I.Read.remaining c.args.input.now) c.args.setting.now.files.items some) c.in_ok-font.ensures.files)
     c.stream_sources.ensures.text
+
+pub returns-clause-cause : goal.returns-clause-cause
+returns-clause-cause g c =
+    let named : Option (List ℕ) = font_bytes_of (g.F.Opens.known c.args.files.now) (g.I.Read.remaining c.args.input.now) c.args.setting.now.font.now in
+    let same : IfSome named (λ all. HaveSameFont c.as_slice.result.now all) =
+    subst (λ b. IfSome named (λ all. HaveSameFont b all)) (sym c.as_slice.ensures.value) c.in_ok-font.ensures.font in
+    before_map c.stream_sources.result _ _ (λ failure is. inr (font_cause named c.as_slice.result.now failure same is))
+    (c.stream_sources.ensures.cause c.in_ok-font.ensures.few)
