@@ -18,11 +18,13 @@ use Rattle.set_run.specs.declared.run_fault.RunFault.{RunFault}
 use Rattle.set_run.specs.declared.run_fault.RunFault.TheVariants.{TooManySources, OutOfMemory as NoMemory, Thread}
 use Rattle.run_texts.specs.declared.fault.ToolFault.{ToolFault}
 use Rattle.run_texts.specs.declared.fault.ToolFault.TheVariants.{Font, Run, OutOfMemory, Write}
+use Rattle.command_line.specs.declared.request.Checking.{Checking}
 use Rattle.command_line.specs.declared.request.Layout.{Layout}
 use Rattle.command_line.specs.declared.request.Request.{Request}
 use Rattle.command_line.specs.declared.request.Request.TheVariants.{Counts, List as ListFont, Check, Set, Stream, Each}
 use Rattle.command_line.specs.declared.request.Setting.{Setting}
-use Rattle.tfm_tool.specs.Faults.{IsCauseOf, IsFaultOf, IsFaultOfSet, IsFaultOfStream, IsFontFaultOf, IsRefused}
+use Rattle.tfm_tool.specs.Checking.{dashes_in}
+use Rattle.tfm_tool.specs.Faults.{IsCauseOf, IsFaultOf, IsFaultOfCheck, IsFaultOfSet, IsFaultOfStream, IsFontFaultOf, IsRefused}
 use Rattle.tfm_tool.specs.FontFaults.{IsAcceptedJob, IsFirstRefused, IsRefusedFont, IsRefusedHead, IsRefusedJob}
 use Rattle.tfm_tool.specs.Jobs.{AreTermsOf, AreWordsOfJobs, HasTermsOf, IsFaultOfWords, IsOpenedWith, JobValue, job_value, jobs_in}
 use Rattle.tfm_tool.specs.Kept.{HaveSameFont}
@@ -30,7 +32,7 @@ use Rattle.tfm_tool.specs.Named.{OfKnown, file_bytes_of, font_bytes_of}
 use Rattle.tfm_tool.specs.Told.{AreSourcesOf, IsSourceOf, Told}
 use Rattle.tfm_tool.specs.Status.{BeforeText, is_before_output, status_of}
 use Rattle.tfm_tool.specs.declared.exit.Failure.{Failure}
-use Rattle.tfm_tool.specs.declared.exit.Failure.TheVariants.{Tool, FontRefused, FontAndText, TooManyFiles}
+use Rattle.tfm_tool.specs.declared.exit.Failure.TheVariants.{Tool, FontRefused, FontAndText, TooManyFiles, TwoFonts}
 use Rattle.tfm_tool.specs.declared.jobs.Job.{Job}
 use Rattle.tfm_tool.proofs.KnownLemmas.{of_known}
 
@@ -231,6 +233,18 @@ module _ (known : List ℕ → Option (List ℕ)) (input : Option (List ℕ)) wh
           font,
         )
       ]
+
+-- what is told of too many files
+pub refused_set : {A : Type 0} (setting : Setting) (Same : Type 0) (r : Result A Failure) → (64 < length setting.files.items → (r ≡ Err TooManyFiles) × Same)
+    → (failure : Failure) → IsFaultOfSet setting failure → IsRefused (IsFaultOfSet setting) r × Same
+refused_set setting Same r many TooManyFiles fault = let told = many fault in (subst (λ r. IsRefused (IsFaultOfSet setting) r) (sym told.0) (inr fault), told.1)
+refused_set setting Same r many failure fault = absurd fault
+
+-- of two fonts that are both standard input
+pub refused_check : {A : Type 0} (asked : Checking) (Read Same : Type 0) (r : Result A Failure) → (1 < dashes_in asked.fonts.items → (r ≡ Err TwoFonts) × Read × Same)
+    → (failure : Failure) → IsFaultOfCheck asked failure → IsRefused (IsFaultOfCheck asked) r × Same
+refused_check asked Read Same r twice TwoFonts fault = let told = twice fault in (subst (λ r. IsRefused (IsFaultOfCheck asked) r) (sym told.0) (inr fault), told.2)
+refused_check asked Read Same r twice failure fault = absurd fault
 
 -- what is told of a stream with too many files, or with a font and a text that are both standard input
 pub refused_stream : {A : Type 0} (setting : Setting) (Same : Type 0) (r : Result A Failure) → (64 < length setting.files.items → (r ≡ Err TooManyFiles) × Same)
