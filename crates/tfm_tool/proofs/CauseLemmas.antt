@@ -30,9 +30,11 @@ use Rattle.tfm_tool.specs.Jobs.{AreTermsOf, AreWordsOfJobs, HasTermsOf, IsFaultO
 use Rattle.tfm_tool.specs.Kept.{HaveSameFont}
 use Rattle.tfm_tool.specs.Named.{OfKnown, file_bytes_of, font_bytes_of}
 use Rattle.tfm_tool.specs.Told.{AreSourcesOf, IsSourceOf, Told}
-use Rattle.tfm_tool.specs.Status.{BeforeText, is_before_output, status_of}
+use Rattle.tfm_tool.specs.Status.{BeforeText, failure_of, is_before_output, status_of}
 use Rattle.tfm_tool.specs.declared.exit.Failure.{Failure}
 use Rattle.tfm_tool.specs.declared.exit.Failure.TheVariants.{Tool, FontRefused, FontAndText, TooManyFiles, TwoFonts}
+use Rattle.tfm_tool.specs.declared.files.ReadFault.{ReadFault}
+use Rattle.tfm_tool.specs.declared.files.ReadFault.TheVariants.{NotRead as Unread, OutOfMemory as NoRoom}
 use Rattle.tfm_tool.specs.declared.jobs.Job.{Job}
 use Rattle.tfm_tool.proofs.KnownLemmas.{of_known}
 
@@ -86,6 +88,18 @@ before_at r failure P is cause = subst (λ told. BeforeText told P) is cause
 pub before_of : (status : ℕ) (failure : Failure) → status ≡ status_of failure → (status ≡ 2) ⊎ (status ≡ 3) → is_before_output failure ≡ true
 before_of status failure is which =
     elim which [ inl two ↦ ap (λ n. (n == 2) || (n == 3)) (sym is ∙ two) | inr three ↦ ap (λ n. (n == 2) || (n == 3)) (sym is ∙ three) ]
+
+-- a font that was not read is told later
+pub unread_later : {A : Type 0} (r : Result A Failure) (fault : ReadFault) (P : Failure → Type 0) → IsErrAnd r (λ told. told ≡ failure_of fault) → BeforeText r P
+unread_later (Ok a) fault P is = tt
+unread_later (Err told) Unread P is = λ before. absurd (true≢false (sym (subst (λ f. is_before_output f ≡ true) is before)))
+unread_later (Err told) NoRoom P is = λ before. absurd (true≢false (sym (subst (λ f. is_before_output f ≡ true) is before)))
+
+-- and so is refused memory or output
+pub five_later : {A : Type 0} (r : Result A Failure) (failure : Failure) (P : Failure → Type 0) → IsErrAnd r (λ told. told ≡ failure) → status_of failure ≡ 5 → BeforeText r P
+five_later (Ok a) failure P is five = tt
+five_later (Err told) failure P is five = λ before.
+    absurd (true≢false (sym before ∙ ap is_before_output is ∙ ap (λ n. (n == 2) || (n == 3)) five))
 
 -- the same of the text of its counts
 pub head_cause : (bytes : List ℕ) (fault : ToolFault) → ((f : FontFault) → fault ≡ Font f → head_fault_of bytes ≡ Some f)
@@ -233,6 +247,11 @@ module _ (known : List ℕ → Option (List ℕ)) (input : Option (List ℕ)) wh
           font,
         )
       ]
+
+-- what is wrong with the files of `set` is wrong with those of `stream`
+pub stream_fault : {Q : Type 0} (setting : Setting) (failure : Failure) → IsFaultOfSet setting failure ⊎ Q → IsFaultOfStream setting failure ⊎ Q
+stream_fault setting FontAndText which = elim which [ inl fault ↦ absurd fault | inr other ↦ inr other ]
+stream_fault setting failure which = which
 
 -- what is told of too many files
 pub refused_set : {A : Type 0} (setting : Setting) (Same : Type 0) (r : Result A Failure) → (64 < length setting.files.items → (r ≡ Err TooManyFiles) × Same)

@@ -1,5 +1,6 @@
 use Rattle.std.proofs.Common.{arith, ◌≤◌, subst}
 use Rattle.tfm_tool.specs.Checking.{dashes_in}
+use Rattle.tfm_tool.proofs.CauseLemmas.{five_later}
 use Rattle.tfm_tool.proofs.CheckingLemmas.{checked_kept, checked_to_4}
 use Rattle.tfm_tool.proofs.checking.check.Goals as goal
 
@@ -18,3 +19,6 @@ returns-in_default-clause-text g c = λ is.
     (g.O.Write.contents c.check_all.new.out) (g.O.Write.contents c.flush.new.self) 4
     (checked_to_4 (g.F.Opens.known c.args.files.now) (g.I.Read.remaining c.args.input.now) c.args.asked.now.fonts.items (g.O.Write.contents c.args.out.now)
     (g.O.Write.contents c.check_all.new.out) c.in_ok-highest.highest (c.in_ok-highest.ensures.text few) (λ zero. omega arith) (λ one. omega arith)) c.flush.ensures.bytes
+
+pub returns-in_err-highest-clause-cause : goal.returns-in_err-highest-clause-cause
+returns-in_err-highest-clause-cause g c = five_later c.from_residual.result c.in_err-highest.field-0.0 _ c.from_residual.ensures.1 c.in_err-highest.ensures.told

@@ -7,7 +7,7 @@ use Rattle.tfm_tool.specs.Named.{font_bytes_of}
 use Rattle.tfm_tool.specs.declared.exit.Failure.TheVariants.{Tool}
 use Rattle.tfm_tool.proofs.FontTextLemmas.{has_no_fault}
 use Rattle.tfm_tool.proofs.KnownLemmas.{of_known}
-use Rattle.tfm_tool.proofs.CauseLemmas.{head_cause, head_cause_known, told_cause}
+use Rattle.tfm_tool.proofs.CauseLemmas.{head_cause, head_cause_known, told_cause, unread_later}
 use Rattle.tfm_tool.proofs.program.counts.Goals as goal
 
 pub returns-clause-text : goal.returns-clause-text
@@ -30,3 +30,6 @@ returns-in_err-counts_text-clause-cause g c =
     head_cause_known (font_bytes_of (g.F.Opens.known c.args.files.now) (g.I.Read.remaining c.args.input.now) c.args.font.now) c.in_ok-bytes.bytes.items (Tool fault)
     c.in_ok-bytes.ensures.bytes (subst (λ b. IsRefusedHead (Some b) (Tool fault)) c.as_slice.ensures.value
     (head_cause c.as_slice.result.now fault (λ f is. (c.counts_text.ensures.font f).0 (was ∙ ap Err is)) (λ f is. c.counts_text.ensures.run f (was ∙ ap Err is)) before)))
+
+pub returns-in_err-bytes-clause-cause : goal.returns-in_err-bytes-clause-cause
+returns-in_err-bytes-clause-cause g c = unread_later c.from_residual.result c.in_err-bytes.field-0.0 _ c.from_residual.ensures.1

@@ -7,7 +7,7 @@ use Rattle.tfm_tool.specs.Named.{font_bytes_of}
 use Rattle.tfm_tool.specs.declared.exit.Failure.TheVariants.{Tool}
 use Rattle.tfm_tool.specs.Requests.{list_text_of}
 use Rattle.tfm_tool.proofs.KnownLemmas.{of_font}
-use Rattle.tfm_tool.proofs.CauseLemmas.{font_cause, told_cause, tool_cause}
+use Rattle.tfm_tool.proofs.CauseLemmas.{font_cause, told_cause, tool_cause, unread_later}
 use Rattle.tfm_tool.proofs.program.list.Goals as goal
 
 pub returns-clause-text : goal.returns-clause-text
@@ -27,3 +27,6 @@ returns-in_err-list_bytes-clause-cause g c =
     font_cause (font_bytes_of (g.F.Opens.known c.args.files.now) (g.I.Read.remaining c.args.input.now) c.args.font.now) c.in_ok-bytes.bytes.items (Tool fault)
     c.in_ok-bytes.ensures.bytes (subst (λ b. IsRefusedFont (Some b) (Tool fault)) c.as_slice.ensures.value
     (tool_cause c.as_slice.result.now fault (λ f is. c.list_bytes.ensures.font f (was ∙ ap Err is)) (λ f is. absurd (c.list_bytes.ensures.run f (was ∙ ap Err is))) before)))
+
+pub returns-in_err-bytes-clause-cause : goal.returns-in_err-bytes-clause-cause
+returns-in_err-bytes-clause-cause g c = unread_later c.from_residual.result c.in_err-bytes.field-0.0 _ c.from_residual.ensures.1

@@ -5,7 +5,7 @@ use Rattle.tfm_tool.specs.Kept.{HaveSameFont}
 use Rattle.tfm_tool.specs.Named.{font_bytes_of, stream_bytes_of}
 use Rattle.tfm_tool.specs.Requests.{terms_of_setting}
 use Rattle.tfm_tool.specs.Told.{AreSourcesOf, all_told_by}
-use Rattle.tfm_tool.proofs.CauseLemmas.{before_map, font_cause}
+use Rattle.tfm_tool.proofs.CauseLemmas.{before_map, font_cause, stream_fault, told_on}
 use Rattle.tfm_tool.proofs.KnownLemmas.{stream_of_files}
 use Rattle.tfm_tool.proofs.ReaderLemmas.{reader_fault, reader_lines}
 use Rattle.tfm_tool.proofs.SourceLemmas.{named_streamed}
@@ -33,3 +33,7 @@ returns-clause-cause g c =
     subst (λ b. IfSome named (λ all. HaveSameFont b all)) (sym c.as_slice.ensures.value) c.in_ok-font.ensures.font in
     before_map c.stream_sources.result _ _ (λ failure is. inr (font_cause named c.as_slice.result.now failure same is))
     (c.stream_sources.ensures.cause c.in_ok-font.ensures.few)
+
+pub returns-in_err-font-clause-cause : goal.returns-in_err-font-clause-cause
+returns-in_err-font-clause-cause g c = told_on c.from_residual.result c.in_err-font.field-0.0 _ c.from_residual.ensures.1
+    (λ before. stream_fault c.args.setting.now c.in_err-font.field-0.0 (c.in_err-font.ensures.cause before))
