@@ -10,7 +10,7 @@ use Rattle.set_line.specs.declared.policy.Policy.{Policy}
 use Rattle.set_line.specs.declared.policy.Policy.TheVariants.{Refuse, Skip}
 use Rattle.set_line.specs.declared.version.Version.{Version}
 use Rattle.set_line.specs.declared.version.Version.TheVariants.{One, Two, Json}
-use Rattle.set_run.specs.declared.plan.Plan.{Plan}
+use Rattle.run_plan.specs.declared.plan.Plan.{Plan}
 use Rattle.command_line.specs.Commands.{AllChoices, tfmset_app}
 use Rattle.command_line.specs.declared.request.Checking.{Checking}
 use Rattle.command_line.specs.declared.request.Jobs.{Jobs}

@@ -1,6 +1,6 @@
 //! What may be asked for.
+use run_plan::Plan;
 use set_line::{Limit, Policy, Version};
-use set_run::Plan;
 use tfm_words::Size;
 
 /// What the words ask for.

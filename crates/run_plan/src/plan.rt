@@ -1,5 +1,4 @@
-use crate::Workers;
-use line_lane::{Block, Capacity};
+use crate::{Block, Capacity, Workers};
 
 /// How a run is laid out.
 #[derive(Clone, Copy, Debug, PartialEq, Eq, Hash)]
