@@ -3,7 +3,7 @@ use Rattle.std.proofs.Common.{◌≡◌, ℕ, suc, zero, ◌+◌, ◌-◌, ◌<�
 use Rattle.std.specs.Prelude.{if◌then◌else◌, is_some, nat_lt, Result, Ok, Err, IfOk}
 use Rattle.std.proofs.Math.Seq.{take-append_seam, take-length}
 use Rattle.std.proofs.lemmas.List.{length-take}
-use Rattle.std.proofs.lemmas.Bool.{ltb-true, ltb-false}
+use Rattle.std.proofs.lemmas.Bool.{ltb-true, ltb-false, true≢false}
 use Rattle.std.specs.List.{slice_get}
 use Rattle.std.specs.Option.{option_map, option_map_or}
 use Rattle.tfm_tables.specs.Font.{FontValue}
@@ -134,6 +134,11 @@ glide_at font run before used further current after out out' way within next tur
     rw next (glide_next font run before used current after (drop used run) (get_or run used 0) (drop (used + 1) run) out out' way here turned front)
 
 -- ---- its ends
+
+-- nothing is there
+pub not_there : {A : Type 0} (o : Option A) → is_some o ≡ false → o ≡ None
+not_there None e = refl
+not_there (Some x) e = absurd (true≢false e)
 
 pub no_result : (font : FontValue) (run : List ℕ) (right : Bool) (before : List Item) (used limit : ℕ) (current : Symbol) (ahead : List Symbol) (out : List Item)
     → IsUnderWay font run right before used current ahead out → is_some (slice_get ahead 0) ≡ true → limit ≤ used → HasNoResultWithin font run right limit

@@ -1,6 +1,8 @@
 -- The lists of a lane's ends, once these have met.
 use Rattle.std.proofs.Common.{arith, ◌≡◌, ℕ, Bool, true, false, List, [], ◌∷◌, ◌++◌, length, take, drop, Option, Some, None, refl, ap, sym, subst, ◌∙◌, append_assoc, append-nil, take-append-drop}
+use Rattle.std.proofs.lemmas.Bool.{true≢false}
 use Rattle.std.proofs.lemmas.List.{map-append, take-map}
+use Rattle.std.proofs.lemmas.Option.{none-some}
 use Rattle.std.proofs.Math.Seq.{take-append_seam}
 use Rattle.std.specs.Prelude.{◌&&◌, not, is_some, if◌then◌else◌}
 use Rattle.std.specs.Option.{option_map}
@@ -61,8 +63,16 @@ seen_of f s t met =
 
 -- ---- a setter that is done
 
+both-first : (a b : Bool) → a && b ≡ true → a ≡ true
+both-first true b e = refl
+both-first false b e = e
+
+both-second : (a b : Bool) → a && b ≡ true → b ≡ true
+both-second true b e = e
+both-second false b e = absurd (true≢false (sym e))
+
 pub done-source : (s : SetterState) → is_done s ≡ true → is_some s.source ≡ true
-done-source s done = grind (arith, done)
+done-source s done = both-first (is_some s.source) (is_some s.made && not s.ready) done
 
 pub done-made : (s : SetterState) → is_done s ≡ true → is_some s.made ≡ true
 done-made s done = by (is_some s.source) (is_some s.made) done
@@ -70,16 +80,16 @@ done-made s done = by (is_some s.source) (is_some s.made) done
     by : (source made : Bool) → source && (made && not s.ready) ≡ true → made ≡ true
     by true true e = refl
     by true false e = e
-    by false made e = absurd (grind (arith, e))
+    by false made e = absurd (true≢false (sym e))
 
 pub done-unready : (s : SetterState) → is_done s ≡ true → s.ready ≡ false
 done-unready s done = by (is_some s.source) (is_some s.made) s.ready done
   where
     by : (source made ready : Bool) → source && (made && not ready) ≡ true → ready ≡ false
     by source made false e = refl
-    by true true true e = absurd (grind (arith, e))
-    by true false true e = absurd (grind (arith, e))
-    by false made true e = absurd (grind (arith, e))
+    by true true true e = sym e
+    by true false true e = sym e
+    by false made true e = sym e
 
 -- one that is done and didn't give up has no line in hand
 done-no_lines : (s : SetterState) → is_done s ≡ true → is_given_up s.made ≡ false → IsOrderly s → s.lines ≡ []
@@ -87,7 +97,7 @@ done-no_lines s done going orderly = by s.lines (sym (orderly.2 going)) (done-ma
   where
     by : (lines : List (List ℕ)) → end_with lines s.source ≡ s.made → is_some s.made ≡ true → lines ≡ []
     by [] e made = refl
-    by (line ∷ lines) e made = let none : is_some s.made ≡ false = ap is_some (sym e) in absurd (grind (arith, none, made))
+    by (line ∷ lines) e made = absurd (true≢false (sym made ∙ ap is_some (sym e)))
 
 -- its end is that of the source
 pub done-end : (s : SetterState) → is_done s ≡ true → is_given_up s.made ≡ false → IsOrderly s → s.made ≡ option_map lane_end_of s.source
@@ -107,20 +117,12 @@ done-given s done going orderly =
 
 -- an end that was given up
 pub given_up-end : (made : Option LaneEnd) (end : LaneEnd) → is_given_up made ≡ true → made ≡ Some end → end ≡ GaveUp
-given_up-end None end up e = absurd (grind (arith, up))
-given_up-end (Some Complete) end up e = absurd (grind (arith, up))
-given_up-end (Some (SourceFailed fault)) end up e = absurd (grind (arith, up))
+given_up-end None end up e = absurd (true≢false (sym up))
+given_up-end (Some Complete) end up e = absurd (true≢false (sym up))
+given_up-end (Some (SourceFailed fault)) end up e = absurd (true≢false (sym up))
 given_up-end (Some GaveUp) end up e = grind (arith, e)
 
 -- ---- the three ends
-
-both-first : (a b : Bool) → a && b ≡ true → a ≡ true
-both-first true b e = refl
-both-first false b e = absurd (grind (arith, e))
-
-both-second : (a b : Bool) → a && b ≡ true → b ≡ true
-both-second true b e = e
-both-second false b e = absurd (grind (arith, e))
 
 pub pipeline_of : (f : Feeder) (s : Setter) (t : Taker) → HaveMet f s t → pipeline (state_of s).terms (fed f) (taken t)
 pipeline_of f s t met =
@@ -129,7 +131,7 @@ pipeline_of f s t met =
 -- the end that was taken is the one that was received
 ended-ending : (ended : Bool) (ending : Option LaneEnd) (end : LaneEnd) → (if ended then ending else None) ≡ Some end → ending ≡ Some end
 ended-ending true ending end e = e
-ended-ending false ending end e = absurd (grind (arith, e))
+ended-ending false ending end e = absurd (none-some end e)
 
 pub settled_of : (f : Feeder) (s : Setter) (t : Taker) (end : LaneEnd) → HaveMet f s t → is_over f s t ≡ true → taker_end t ≡ Some end
     → IsSettled f s t end
@@ -165,17 +167,17 @@ not_given_up (Some GaveUp) end made other = absurd (other (given_up-end (Some Ga
 -- it is made only after that of the source
 end_with-source : (lines : List (List ℕ)) (source : Option SourceEnd) (end : LaneEnd) → end_with lines source ≡ Some end → is_some source ≡ true
 end_with-source [] (Some source) end e = refl
-end_with-source [] None end e = absurd (grind (arith, e))
-end_with-source (line ∷ lines) source end e = absurd (grind (arith, e))
+end_with-source [] None end e = absurd (none-some end e)
+end_with-source (line ∷ lines) source end e = absurd (none-some end e)
 
 -- it was sent, so the message that had it isn't ready any more
 sent-unready : (ready : Bool) (sent : Option LaneEnd) (end : LaneEnd) → (ready ≡ true → sent ≡ None) → sent ≡ Some end → ready ≡ false
 sent-unready false sent end unsent e = refl
-sent-unready true sent end unsent e = let none = unsent refl in absurd (grind (arith, none, e))
+sent-unready true sent end unsent e = absurd (none-some end (sym (unsent refl) ∙ e))
 
 ended-true : (ended : Bool) (ending : Option LaneEnd) (end : LaneEnd) → (if ended then ending else None) ≡ Some end → ended ≡ true
 ended-true true ending end e = refl
-ended-true false ending end e = absurd (grind (arith, e))
+ended-true false ending end e = absurd (none-some end e)
 
 all_true : (a b c : Bool) → a ≡ true → b ≡ true → c ≡ true → a && (b && c) ≡ true
 all_true a b c e f g = rw (e, f, g) refl

@@ -1,5 +1,5 @@
 -- Lemmas on the statuses of failures.
-use Rattle.std.proofs.Common.{arith, ◌≡◌, ◌≤◌, ◌<◌, ℕ, [], ◌∷◌, Contains, lit<, refl}
+use Rattle.std.proofs.Common.{arith, ◌≡◌, ◌≤◌, ◌<◌, ℕ, [], ◌∷◌, Contains, lit<, refl, sym}
 use Rattle.std.specs.Prelude.{IfOk, Result, Ok, Err}
 use Rattle.tfm_tool.specs.declared.exit.Failure.{Failure}
 use Rattle.tfm_tool.specs.declared.exit.Failure.TheVariants.{Usage, NotInThrees, TooManyFiles, LimitRange, FontAndText, TwoFonts, NotRead, FontNotRead, SomeFontNotRead, FontRefused, FileNotOpened, FileNotEnded, Tool}
@@ -56,3 +56,8 @@ no_fault_below status failure is below = absurd (omega (arith, below, is, status
 pub after_text_of_ok : (r : Result ℕ Failure) (P : ℕ → Type 0) → AfterText r P → IfOk r P
 after_text_of_ok (Ok status) P is = is
 after_text_of_ok (Err failure) P is = tt
+
+-- a status that is 0 is 0 or 1
+pub zero_listed : (r : Result ℕ Failure) → IfOk r (λ status. status ≡ 0) → IfOk r (λ status. Contains (0 ∷ 1 ∷ []) status)
+zero_listed (Ok status) zero = (0, lit< tt, sym zero)
+zero_listed (Err failure) zero = tt

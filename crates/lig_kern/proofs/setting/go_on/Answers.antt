@@ -1,5 +1,6 @@
-use Rattle.std.proofs.Common.{◌≡◌, arith}
-use Rattle.lig_kern.proofs.UnderWay.{front_through, under_way_next, no_result, is_result}
+use Rattle.std.proofs.Common.{◌≡◌, arith, sym, ap, ◌∙◌}
+use Rattle.std.specs.Prelude.{is_some}
+use Rattle.lig_kern.proofs.UnderWay.{front_through, is_result, no_result, not_there, under_way_next}
 use Rattle.lig_kern.proofs.setting.go_on.Goals as goal
 
 pub loop-used-preserved : goal.loop-used-preserved
@@ -8,21 +9,21 @@ loop-used-preserved c = record {
   under_way = λ run right before way.
       under_way_next c.args.font.now run right before c.loop-used.used
       c.loop-used.current c.in_ok-current.current c.in-Some.next c.loop-used.ahead c.step.new.ahead c.loop-used.out.items c.step.new.out.items
-      (c.loop-used.invariant.under_way run right before way) (grind arith) c.in_ok-current.ensures.turned c.step.ensures.front;
+      (c.loop-used.invariant.under_way run right before way) (sym c.first.ensures ∙ c.in-Some.is) c.in_ok-current.ensures.turned c.step.ensures.front;
 }
 
 pub returns-in_default-clause-ended : goal.returns-in_default-clause-ended
 returns-in_default-clause-ended c = λ run right before way.
     is_result c.args.font.now run right before c.loop-used.used c.args.steps_left c.loop-used.current c.loop-used.ahead c.loop-used.out.items c.send.new.out.items
-    (c.loop-used.invariant.under_way run right before way) (grind arith) (omega arith) (grind arith)
+    (c.loop-used.invariant.under_way run right before way) (sym c.first.ensures ∙ c.in_default.is) (omega arith) c.in_ok-send.ensures.sent
 
 pub returns-then-is_some-clause-ended : goal.returns-then-is_some-clause-ended
 returns-then-is_some-clause-ended c = λ run right before way.
     no_result c.args.font.now run right before c.loop-used.used c.args.steps_left c.loop-used.current c.loop-used.ahead c.loop-used.out.items
-    (c.loop-used.invariant.under_way run right before way) (grind arith) (omega arith)
+    (c.loop-used.invariant.under_way run right before way) (ap is_some (sym c.first-2.ensures) ∙ sym c.is_some.ensures ∙ c.if-is_some.true) (omega arith)
 
 pub returns-clause-ended : goal.returns-clause-ended
 returns-clause-ended c = λ run right before way.
     is_result c.args.font.now run right before c.args.steps_left c.args.steps_left c.loop-used.current c.loop-used.ahead c.loop-used.out.items c.send-2.new.out.items
     (let end : c.args.steps_left ≡ c.loop-used.used = omega arith in rw end (c.loop-used.invariant.under_way run right before way))
-    (grind arith) (omega arith) (grind arith)
+    (sym c.first-2.ensures ∙ not_there c.first-2.result (sym c.is_some.ensures ∙ c.if-is_some.false)) (omega arith) c.in_ok-send-2.ensures.sent
