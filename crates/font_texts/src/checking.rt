@@ -1,9 +1,8 @@
 ghost use Rattle.std.specs.Prelude.{◌≡◌, ◌++◌, ◌⊎◌, IfOk, IfErr, OnOk};
 ghost use Rattle.std.specs.Io.KnownBytes.{Appends};
-ghost use Rattle.font_texts.specs.Findings.{finding_line, finding_of, finding_words};
+ghost use Rattle.font_texts.specs.Findings.{finding_line, finding_of};
 
 use crate::appending::push_escaped_text;
-use crate::fault_words::push_fault;
 use crate::{Finding, FontTextFault};
 use std::alloc::{AllocError, Global};
 use std::io::Write;
@@ -68,21 +67,7 @@ fn line_of(alloc: Global, name: &str, finding: Finding) -> Result<Vec<u8>, Alloc
     let mut text = Vec::new(alloc);
     push_escaped_text(&mut text, name.as_bytes())?;
     text.extend_from_slice(b": ")?;
-    push_finding(&mut text, finding)?;
+    text.extend_from_slice(finding.to_string(alloc)?.as_bytes())?;
     text.extend_from_slice(b"\n")?;
     Ok(text)
-}
-
-#[tactic(auto, unfolding(crate::specs::Findings::finding_words))]
-fn push_finding(text: &mut Vec<u8>, finding: Finding) -> Result<(), AllocError>
-    ensures { OnOk result (text.new.items ≡ text.old.items ++ finding_words finding) }
-{
-    match finding {
-        Finding::Accepted => text.extend_from_slice(b"accepted"),
-        Finding::Refused(fault) => {
-            text.extend_from_slice(b"refused: ")?;
-            push_fault(text, fault)
-        }
-        Finding::NotRead => text.extend_from_slice(b"not read"),
-    }
 }

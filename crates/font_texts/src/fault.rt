@@ -1,16 +1,32 @@
+ghost use Rattle.std.specs.Prelude.{Some};
+ghost use Rattle.font_texts.specs.FaultWords.{font_text_fault_text};
+
+use std::error::Error;
+use std::fmt;
 use tfm_tables::FontFault;
-use thiserror::Error;
 
 /// Why the text of a font was not written, or not to its end.
-#[derive(Debug, Drop, Error)]
+#[derive(Debug, Drop)]
 pub enum FontTextFault {
     /// The font is refused.
-    #[error("font refused: {0}")]
     Font(FontFault),
     /// A request for memory was refused.
-    #[error("out of memory")]
     OutOfMemory,
     /// The writer failed.
-    #[error("output failed")]
     Write,
 }
+
+impl fmt::Display for FontTextFault {
+    ghost output = { λ fault. Some (font_text_fault_text fault) };
+
+    #[tactic(auto, unfolding(crate::specs::FaultWords::font_text_fault_text))]
+    fn fmt<W: fmt::Write>(&self, f: &mut fmt::Formatter<W>) -> fmt::Result {
+        match self {
+            FontTextFault::Font(fault) => write!(f, "font refused: {fault}"),
+            FontTextFault::OutOfMemory => f.write_str("out of memory"),
+            FontTextFault::Write => f.write_str("output failed"),
+        }
+    }
+}
+
+impl Error for FontTextFault {}

@@ -5,6 +5,7 @@ pub use all_listing::list_all_text;
 pub use checking::{check_text, finding_text};
 pub use counts::counts_text;
 pub use fault::FontTextFault;
+pub use fault_words::Numbered;
 pub use finding::Finding;
 pub use laws::listing_tells_font;
 pub use listing::list_text;

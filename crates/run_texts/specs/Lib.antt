@@ -6,3 +6,4 @@ pub mod Setting
 pub mod Endings
 pub mod Streaming
 pub mod StreamState
+pub mod FaultTexts

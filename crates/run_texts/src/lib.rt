@@ -1,7 +1,7 @@
 //! The texts of runs: the records and end lines of sources, kept until the run is over, or written as they come.
 #![tactic(auto)]
 
-pub use fault::{Numbered, ToolFault};
+pub use fault::ToolFault;
 pub use setting::{accepted, set_each, set_text};
 pub use streamed_setting::stream_text;
 pub use streaming::stream_each;

@@ -9,3 +9,4 @@ pub mod Decoded
 pub mod Pairs
 pub mod Font
 pub mod Inside
+pub mod FaultTexts

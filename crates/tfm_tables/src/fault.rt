@@ -1,3 +1,6 @@
+ghost use Rattle.std.specs.Prelude.{Some};
+ghost use Rattle.tfm_tables.specs.FaultTexts.{font_fault_text, part_name};
+
 use std::error::Error;
 use std::fmt;
 use tfm_words::{CountFault, DesignFault, Table};
@@ -18,6 +21,9 @@ pub enum Part {
 }
 
 impl fmt::Display for Part {
+    ghost output = { λ part. Some (part_name part) };
+
+    #[tactic(auto, unfolding(crate::specs::FaultTexts::part_name))]
     fn fmt<W: fmt::Write>(&self, f: &mut fmt::Formatter<W>) -> fmt::Result {
         f.write_str(match self {
             Part::Restart => "restart",
@@ -55,6 +61,9 @@ pub enum FontFault {
 }
 
 impl fmt::Display for FontFault {
+    ghost output = { λ fault. Some (font_fault_text fault) };
+
+    #[tactic(auto, unfolding(crate::specs::FaultTexts::font_fault_text))]
     fn fmt<W: fmt::Write>(&self, f: &mut fmt::Formatter<W>) -> fmt::Result {
         match self {
             FontFault::Counts(fault) => write!(f, "{fault}"),

@@ -9,3 +9,4 @@ pub mod Requests
 pub mod FontFaults
 pub mod Faults
 pub mod Served
+pub mod FailureTexts

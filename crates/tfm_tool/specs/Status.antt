@@ -39,9 +39,20 @@ abbrev pub failure_of : ReadFault → Failure
 failure_of Unread = NotRead
 failure_of NoRoom = Tool OutOfMemory
 
--- whether a failure comes with nothing written before it: the command line or a font is refused
+-- whether a failure is a refusal: of the command line or of a font
 abbrev pub is_before_output : Failure → Bool
 is_before_output failure = (status_of failure == 2) || (status_of failure == 3)
+
+-- whether a font was not read, or a file not opened, so that there was no run
+abbrev pub is_unread : Failure → Bool
+is_unread NotRead = true
+is_unread (FontNotRead _) = true
+is_unread (FileNotOpened _) = true
+is_unread _ = false
+
+-- whether a failure comes with nothing written before it
+abbrev pub is_without_text : Failure → Bool
+is_without_text failure = is_before_output failure || is_unread failure
 
 -- whether a failure comes after the whole text was written: some file or font was not read
 abbrev pub is_after_text : Failure → Bool

@@ -5,7 +5,7 @@ ghost use Rattle.font_texts.specs.Findings.{finding_line};
 ghost use Rattle.tfm_tool.specs.Checking.{AreChecked, IsFound, dashes_in, finding_status};
 ghost use Rattle.tfm_tool.specs.Faults.{IsFaultOfCheck};
 ghost use Rattle.tfm_tool.specs.Named.{font_bytes_of};
-ghost use Rattle.tfm_tool.specs.Status.{AfterText, BeforeText, is_after_text, is_before_output, status_of};
+ghost use Rattle.tfm_tool.specs.Status.{AfterText, BeforeText, is_after_text, is_without_text, status_of};
 ghost use Rattle.tfm_tool.specs.declared.exit.Failure.TheVariants.{SomeFontNotRead, TwoFonts};
 
 use crate::exit::Failure;
@@ -44,7 +44,7 @@ where
         → AreChecked (F.known files.now) (I.remaining input.old)
         asked.now.fonts.items (O.contents out.old) (O.contents out.new) 4 }
     ensures status { IfOk result (λ status. Contains (0 ∷ 1 ∷ []) status) }
-    ensures untouched { IfErr result (λ failure. is_before_output failure ≡ true → out.new ≡ out.old) }
+    ensures untouched { IfErr result (λ failure. is_without_text failure ≡ true → out.new ≡ out.old) }
 {
     if dashes(asked.fonts.as_slice()) > 1 {
         return Err(Failure::TwoFonts);

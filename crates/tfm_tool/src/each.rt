@@ -5,7 +5,7 @@ ghost use Rattle.tfm_tool.specs.Faults.{IsRefused};
 ghost use Rattle.tfm_tool.specs.FontFaults.{IsFirstRefused};
 ghost use Rattle.tfm_tool.specs.Jobs.{IsFaultOfWords, IsSourceOfJob, jobs_in, told_with_terms};
 ghost use Rattle.tfm_tool.specs.Requests.{IsEachSet};
-ghost use Rattle.tfm_tool.specs.Status.{AfterText, BeforeText, is_after_text, is_before_output};
+ghost use Rattle.tfm_tool.specs.Status.{AfterText, BeforeText, is_after_text, is_without_text};
 ghost use Rattle.tfm_tool.specs.Told.{told_by};
 
 use crate::Opens;
@@ -60,7 +60,7 @@ where
     ensures text { AfterText result (IsEachSet (F.known files.now)
         (O.contents out.old) (O.contents out.new) asked.now) }
     ensures status { IfOk result (λ status. Contains (0 ∷ 1 ∷ []) status) }
-    ensures untouched { IfErr result (λ failure. is_before_output failure ≡ true → out.new ≡ out.old) }
+    ensures untouched { IfErr result (λ failure. is_without_text failure ≡ true → out.new ≡ out.old) }
     ensures cause { BeforeText result (λ failure. IsFaultOfWords asked.now.words.items failure
         ⊎ IsFirstRefused (F.known files.now) asked.now.layout (jobs_in asked.now.words.items) failure) }
     ensures refused { (fault : Failure) → IsFaultOfWords asked.now.words.items fault

@@ -1,46 +1,39 @@
 ghost use Rattle.std.specs.Prelude.{◌≡◌};
+ghost use Rattle.tfm_tool.specs.FailureTexts.{failure_text};
 ghost use Rattle.tfm_tool.specs.declared.exit.Failure.TheVariants.{Tool};
 ghost use Rattle.tfm_tool.specs.Status.{failure_of, status_of};
 
 use crate::files::ReadFault;
-use run_texts::{Numbered, ToolFault};
+use font_texts::Numbered;
+use run_texts::ToolFault;
 use set_run::RunFault;
+use std::error::Error;
+use std::fmt;
 use tfm_tables::FontFault;
-use thiserror::Error;
 
 /// Why the program ends with a status from 2 on. Its message is all that goes to the standard
 /// error.
-#[derive(Debug, Drop, Error)]
+#[derive(Debug, Drop)]
 pub enum Failure {
     /// The words are refused.
-    #[error("{0}")]
     Usage(clap::Error),
     /// The words of `each` don't come in threes.
-    #[error("tfmset: words not in threes\n")]
     NotInThrees,
     /// More than 64 files.
-    #[error("tfmset: more than 64 files\n")]
     TooManyFiles,
     /// A limit of `each` is no number, or out of range; from 1.
-    #[error("tfmset: limit {0} out of range\n")]
     LimitRange(usize),
     /// A font and a text of `stream`, both on standard input.
-    #[error("tfmset: font and text both on standard input\n")]
     FontAndText,
     /// Two fonts of `check`, both on standard input.
-    #[error("tfmset: two fonts on standard input\n")]
     TwoFonts,
     /// The font's bytes were not read.
-    #[error("tfmset: font not read\n")]
     NotRead,
     /// The bytes of a font of `each` were not read; from 1.
-    #[error("tfmset: font {0} not read\n")]
     FontNotRead(usize),
     /// The bytes of some font of `check` were not read; the text was written.
-    #[error("tfmset: some font was not read\n")]
     SomeFontNotRead,
     /// A font of `each` is refused; from 1.
-    #[error("tfmset: font {number} refused: {fault}\n", fault = Numbered(fault))]
     FontRefused {
         /// The font's number.
         number: usize,
@@ -48,15 +41,42 @@ pub enum Failure {
         fault: FontFault,
     },
     /// A file with lines was not opened; from 1.
-    #[error("tfmset: file {0} not read\n")]
     FileNotOpened(usize),
     /// Some file was not read to its end; the text was written.
-    #[error("tfmset: some file was not read to its end\n")]
     FileNotEnded,
     /// The text was not written, or memory was refused on the way.
-    #[error("tfmset: {0}\n")]
     Tool(ToolFault),
 }
+
+impl fmt::Display for Failure {
+    ghost output = { failure_text };
+
+    #[tactic(auto, unfolding(crate::specs::FailureTexts::failure_text))]
+    fn fmt<W: fmt::Write>(&self, f: &mut fmt::Formatter<W>) -> fmt::Result {
+        match self {
+            Failure::Usage(error) => write!(f, "{error}"),
+            Failure::NotInThrees => f.write_str("tfmset: words not in threes\n"),
+            Failure::TooManyFiles => f.write_str("tfmset: more than 64 files\n"),
+            Failure::LimitRange(number) => writeln!(f, "tfmset: limit {number} out of range"),
+            Failure::FontAndText => {
+                f.write_str("tfmset: font and text both on standard input\n")
+            }
+            Failure::TwoFonts => f.write_str("tfmset: two fonts on standard input\n"),
+            Failure::NotRead => f.write_str("tfmset: font not read\n"),
+            Failure::FontNotRead(number) => writeln!(f, "tfmset: font {number} not read"),
+            Failure::SomeFontNotRead => f.write_str("tfmset: some font was not read\n"),
+            Failure::FontRefused { number, fault } => {
+                let numbered = Numbered(*fault);
+                writeln!(f, "tfmset: font {number} refused: {numbered}")
+            }
+            Failure::FileNotOpened(number) => writeln!(f, "tfmset: file {number} not read"),
+            Failure::FileNotEnded => { f.write_str("tfmset: some file was not read to its end\n") }
+            Failure::Tool(fault) => writeln!(f, "tfmset: {fault}"),
+        }
+    }
+}
+
+impl Error for Failure {}
 
 impl Failure {
     /// The status that the program ends with.

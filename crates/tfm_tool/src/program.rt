@@ -12,7 +12,7 @@ ghost use Rattle.tfm_tool.specs.Named.{font_bytes_of};
 ghost use Rattle.tfm_tool.specs.Requests.{CountsAreTold, IsDone, IsListed, list_text_of};
 ghost use Rattle.tfm_tool.specs.Served.{IsServed, IsTurnedDown, IsTurnedDownBy, is_answer, is_usage};
 ghost use Rattle.tfm_tool.specs.declared.exit.Failure.TheVariants.{Usage};
-ghost use Rattle.tfm_tool.specs.Status.{AfterText, BeforeText, is_before_output, status_of};
+ghost use Rattle.tfm_tool.specs.Status.{AfterText, BeforeText, is_before_output, is_without_text, status_of};
 
 use crate::checking::check;
 use crate::each::set_jobs;
@@ -117,7 +117,7 @@ where
     ensures text { AfterText result (IsDone (F.known files.now) (I.remaining input.old)
         (O.contents out.old) (O.contents out.new) request.now) }
     ensures status { IfOk result (λ status. Contains (0 ∷ 1 ∷ []) status) }
-    ensures untouched { IfErr result (λ failure. is_before_output failure ≡ true → out.new ≡ out.old) }
+    ensures untouched { IfErr result (λ failure. is_without_text failure ≡ true → out.new ≡ out.old) }
     ensures unread { IsWithoutInput request.now → input.new ≡ input.old }
     ensures cause { BeforeText result
         (IsCauseOf (F.known files.now) (I.remaining input.old) request.now) }
@@ -150,7 +150,7 @@ where
     ensures text { AfterText result (CountsAreTold (F.known files.now) (I.remaining input.old)
         (O.contents out.old) (O.contents out.new) font.now) }
     ensures status { IfOk result (λ status. status ≡ 0) }
-    ensures untouched { IfErr result (λ failure. is_before_output failure ≡ true → out.new ≡ out.old) }
+    ensures untouched { IfErr result (λ failure. is_without_text failure ≡ true → out.new ≡ out.old) }
     ensures unread { font.now ≢ codes "-" → input.new ≡ input.old }
     ensures cause { BeforeText result
         (IsRefusedHead (font_bytes_of (F.known files.now) (I.remaining input.old) font.now)) }
@@ -177,7 +177,7 @@ where
     ensures text { AfterText result (IsListed (F.known files.now) (I.remaining input.old)
         (O.contents out.old) (O.contents out.new) font.now all) }
     ensures status { IfOk result (λ status. status ≡ 0) }
-    ensures untouched { IfErr result (λ failure. is_before_output failure ≡ true → out.new ≡ out.old) }
+    ensures untouched { IfErr result (λ failure. is_without_text failure ≡ true → out.new ≡ out.old) }
     ensures unread { font.now ≢ codes "-" → input.new ≡ input.old }
     ensures cause { BeforeText result
         (IsRefusedFont (font_bytes_of (F.known files.now) (I.remaining input.old) font.now)) }

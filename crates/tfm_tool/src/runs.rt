@@ -12,7 +12,7 @@ ghost use Rattle.tfm_tool.specs.Requests.{IsSet, IsSetAsItComes, IsSetFrom};
 ghost use Rattle.tfm_tool.specs.Runs.{IsPrinted, IsPrintedAsItComes};
 ghost use Rattle.tfm_tool.specs.Told.{AreSourcesOf, all_told_by};
 ghost use Rattle.tfm_tool.specs.declared.exit.Failure.TheVariants.{FontAndText, TooManyFiles, Tool};
-ghost use Rattle.tfm_tool.specs.Status.{AfterText, BeforeText, is_after_text, is_before_output, status_of};
+ghost use Rattle.tfm_tool.specs.Status.{AfterText, BeforeText, is_after_text, is_before_output, is_unread, is_without_text, status_of};
 ghost use Rattle.run_texts.specs.Endings.{summary_status};
 
 use crate::Opens;
@@ -100,7 +100,7 @@ where
     ensures text { AfterText result (IsSet (F.known files.now) (I.remaining input.old)
         (O.contents out.old) (O.contents out.new) setting.now) }
     ensures status { IfOk result (λ status. Contains (0 ∷ 1 ∷ []) status) }
-    ensures untouched { IfErr result (λ failure. is_before_output failure ≡ true → out.new ≡ out.old) }
+    ensures untouched { IfErr result (λ failure. is_without_text failure ≡ true → out.new ≡ out.old) }
     ensures unread { setting.now.font.now ≢ codes "-" → input.new ≡ input.old }
     ensures cause { BeforeText result (λ failure. IsFaultOfSet setting.now failure
         ⊎ IsRefusedFont (font_bytes_of (F.known files.now) (I.remaining input.old) setting.now.font.now)
@@ -130,7 +130,7 @@ where
         (record { font = f; limit = setting.now.limit; policy = setting.now.layout.policy })
         setting.now.layout.version sources.items (O.contents out.old) (O.contents out.new) status) }
     ensures status { IfOk result (λ status. Contains (0 ∷ 1 ∷ []) status) }
-    ensures untouched { IfErr result (λ failure. is_before_output failure ≡ true → out.new ≡ out.old) }
+    ensures untouched { IfErr result (λ failure. is_without_text failure ≡ true → out.new ≡ out.old) }
     ensures cause { length sources.items ≤ 64 → BeforeText result (IsRefusedFont (Some font.now)) }
 {
     let layout = setting.layout;
@@ -167,7 +167,7 @@ where
     ensures text { AfterText result (IsSetAsItComes (F.known files.now) (I.remaining input.old)
         (O.contents out.old) (O.contents out.new) setting.now) }
     ensures status { IfOk result (λ status. Contains (0 ∷ 1 ∷ []) status) }
-    ensures untouched { IfErr result (λ failure. is_before_output failure ≡ true → out.new ≡ out.old) }
+    ensures untouched { IfErr result (λ failure. is_without_text failure ≡ true → out.new ≡ out.old) }
     ensures unread { setting.now.font.now ≢ codes "-" → setting.now.files.items ≢ []
         → input.new ≡ input.old }
     ensures cause { BeforeText result (λ failure. IsFaultOfStream setting.now failure
@@ -222,7 +222,7 @@ where
     ensures text { AfterText result (IsSetFrom (F.known files.now) (I.remaining input.old)
         (O.contents out.old) (O.contents out.new) (I.remaining input.old ∷ []) setting.now) }
     ensures status { IfOk result (λ status. Contains (0 ∷ 1 ∷ []) status) }
-    ensures untouched { IfErr result (λ failure. is_before_output failure ≡ true → out.new ≡ out.old) }
+    ensures untouched { IfErr result (λ failure. is_without_text failure ≡ true → out.new ≡ out.old) }
     ensures cause { BeforeText result (λ failure.
         ((failure ≡ FontAndText) × (setting.now.font.now ≡ codes "-"))
         ⊎ IsRefusedFont (font_bytes_of (F.known files.now) (I.remaining input.old) setting.now.font.now)
@@ -256,7 +256,7 @@ where
     ensures refused { (fault : Refusal) → font_fault_of font.now ≡ Some fault
         → result ≡ Err (Tool (ToolFault.Font fault)) }
     ensures status { IfOk result (λ status. Contains (0 ∷ 1 ∷ []) status) }
-    ensures untouched { IfErr result (λ failure. is_before_output failure ≡ true → out.new ≡ out.old) }
+    ensures untouched { IfErr result (λ failure. is_without_text failure ≡ true → out.new ≡ out.old) }
     ensures cause { length sources.items ≤ 64 → BeforeText result (IsRefusedFont (Some font.now)) }
 {
     let layout = setting.layout;
@@ -282,6 +282,7 @@ pub(crate) fn finish<O: Write>(summary: &Summary, out: &mut O) -> Result<u8, Fai
     ensures worst { AfterText result (λ status. status ≡ summary_status summary.now) }
     ensures kept { Keeps (O.contents out.old) (O.contents out.new) }
     ensures told { IfErr result (λ failure. is_before_output failure ≡ false) }
+    ensures written { IfErr result (λ failure. is_unread failure ≡ false) }
     ensures status_told { IfErr result (λ failure. (failure ≡ Tool ToolFault.Write)
         ⊎ (status_of failure ≡ summary_status summary.now)) }
 {

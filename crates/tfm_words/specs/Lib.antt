@@ -3,3 +3,4 @@ pub mod Scaling
 pub mod Counts
 pub mod CountFaults
 pub mod DesignSize
+pub mod FaultTexts

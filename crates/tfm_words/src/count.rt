@@ -1,3 +1,6 @@
+ghost use Rattle.std.specs.Prelude.{Some};
+ghost use Rattle.tfm_words.specs.FaultTexts.{count_name};
+
 use std::fmt;
 
 /// One of the twelve counts at the head of a TFM file, in the file's order (tftopl.web, section 8).
@@ -30,6 +33,9 @@ pub enum Count {
 }
 
 impl fmt::Display for Count {
+    ghost output = { λ count. Some (count_name count) };
+
+    #[tactic(auto, unfolding(crate::specs::FaultTexts::count_name))]
     fn fmt<W: fmt::Write>(&self, f: &mut fmt::Formatter<W>) -> fmt::Result {
         f.write_str(match self {
             Count::Lf => "lf",

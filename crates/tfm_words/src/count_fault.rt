@@ -1,3 +1,6 @@
+ghost use Rattle.std.specs.Prelude.{Some};
+ghost use Rattle.tfm_words.specs.FaultTexts.{count_fault_text};
+
 use crate::{Count, Table};
 use std::error::Error;
 use std::fmt;
@@ -23,6 +26,9 @@ pub enum CountFault {
 }
 
 impl fmt::Display for CountFault {
+    ghost output = { λ fault. Some (count_fault_text fault) };
+
+    #[tactic(auto, unfolding(crate::specs::FaultTexts::count_fault_text))]
     fn fmt<W: fmt::Write>(&self, f: &mut fmt::Formatter<W>) -> fmt::Result {
         match self {
             CountFault::Truncated { need } => write!(f, "truncated, {need} bytes needed"),

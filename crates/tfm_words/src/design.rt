@@ -1,4 +1,4 @@
-ghost use Rattle.std.specs.Prelude.{◌≡◌};
+ghost use Rattle.std.specs.Prelude.{◌≡◌, Some, codes};
 ghost use Rattle.tfm_words.specs.Counts.{AreCountsOf};
 ghost use Rattle.tfm_words.specs.DesignSize.{design_size_of};
 
@@ -17,6 +17,8 @@ pub enum DesignFault {
 }
 
 impl fmt::Display for DesignFault {
+    ghost output = { λ _. Some (codes "design size") };
+
     fn fmt<W: fmt::Write>(&self, f: &mut fmt::Formatter<W>) -> fmt::Result {
         f.write_str("design size")
     }

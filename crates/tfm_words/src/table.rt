@@ -1,3 +1,6 @@
+ghost use Rattle.std.specs.Prelude.{Some};
+ghost use Rattle.tfm_words.specs.FaultTexts.{table_name};
+
 use std::fmt;
 
 /// One of the ten tables after the counts, in the file's order (tftopl.web, section 9).
@@ -26,6 +29,9 @@ pub enum Table {
 }
 
 impl fmt::Display for Table {
+    ghost output = { λ table. Some (table_name table) };
+
+    #[tactic(auto, unfolding(crate::specs::FaultTexts::table_name))]
     fn fmt<W: fmt::Write>(&self, f: &mut fmt::Formatter<W>) -> fmt::Result {
         f.write_str(match self {
             Table::Header => "header",

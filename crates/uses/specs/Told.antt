@@ -1,7 +1,9 @@
--- What is told of a line: its width, or why it has none.
+-- What is told of a line, its width or why it has none; and of a refused font.
 -- This project's own.
-use Rattle.std.specs.Prelude.{ℕ, ℤ, List, Result, Ok, Err}
+use Rattle.std.specs.Prelude.{ℕ, ℤ, List, ◌++◌, codes, Result, Ok, Err}
+use Rattle.tfm_tables.specs.FaultTexts.{font_fault_text}
 use Rattle.tfm_tables.specs.Font.{FontValue}
+use Rattle.tfm_tables.specs.declared.fault.FontFault.{FontFault}
 use Rattle.set_line.specs.declared.policy.Policy.{Policy}
 use Rattle.set_line.specs.declared.outcome.LineRefusal.{LineRefusal}
 use Rattle.set_line.specs.declared.outcome.Outcome.{Outcome}
@@ -16,3 +18,7 @@ told_of (Refused refusal) = Err refusal
 -- the width of a line, or its refusal, with a font, a limit on the steps and a policy
 abbrev pub width_told : FontValue → ℕ → Policy → List ℕ → Result ℤ LineRefusal
 width_told font limit policy line = told_of (outcome_of (record { font = font; limit = limit; policy = policy }) line)
+
+-- what is said of a font with this fault
+abbrev pub refusal_text : FontFault → List ℕ
+refusal_text fault = codes "The font is refused: " ++ font_fault_text fault ++ codes "."

@@ -1,13 +1,15 @@
 //! A refused font is told.
-ghost use Rattle.std.specs.Prelude.{◌≡◌, IfOk, None, is_some};
+ghost use Rattle.std.specs.Prelude.{◌≡◌, IfOk, option_map, string_bytes};
 ghost use Rattle.tfm_tables.specs.Acceptance.{font_fault_of};
+ghost use Rattle.uses.specs.Told.{refusal_text};
 
 use std::alloc::{AllocError, Global};
 use tfm_tables::{Font, FontFault};
 
 /// Words for a user whose font is refused: what is wrong with it. `None` if nothing is.
 pub fn refusal_words(alloc: Global, bytes: &[u8]) -> Result<Option<String>, AllocError>
-    ensures { IfOk result (λ words. is_some words ≡ is_some (font_fault_of bytes.now)) }
+    ensures { IfOk result (λ words. option_map string_bytes words
+        ≡ option_map refusal_text (font_fault_of bytes.now)) }
 {
     match Font::read(alloc, bytes, None) {
         Ok(_) => Ok(None),

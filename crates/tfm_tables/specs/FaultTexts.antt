@@ -1,0 +1,28 @@
+-- The words for what is wrong with a font, and where.
+-- This project's own; the rules that are broken are in Acceptance.
+use Rattle.std.specs.Prelude.{ℕ, List, ◌++◌, codes, decimal}
+use Rattle.tfm_words.specs.FaultTexts.{count_fault_text, table_name}
+use Rattle.tfm_tables.specs.declared.fault.FontFault.{FontFault}
+use Rattle.tfm_tables.specs.declared.fault.FontFault.TheVariants.{Counts, Design, CharIndex, LigStart, FirstNotZero, FixWordRange, Step, OutOfMemory}
+use Rattle.tfm_tables.specs.declared.fault.Part.{Part}
+use Rattle.tfm_tables.specs.declared.fault.Part.TheVariants.{Restart, Next, Ligature, Kern, Skip}
+
+-- the name of a part of an instruction
+unfoldable pub part_name : Part → List ℕ
+part_name Restart = codes "restart"
+part_name Next = codes "next"
+part_name Ligature = codes "ligature"
+part_name Kern = codes "kern"
+part_name Skip = codes "skip"
+
+-- what is wrong with a font, and where
+unfoldable pub font_fault_text : FontFault → List ℕ
+font_fault_text (Counts fault) = count_fault_text fault
+font_fault_text (Design _) = codes "design size"
+font_fault_text (CharIndex code table) = codes "character " ++ decimal code ++ codes ", table " ++ table_name table
+font_fault_text (LigStart code) = codes "character " ++ decimal code ++ codes ", program start"
+font_fault_text (FirstNotZero table) = codes "table " ++ table_name table ++ codes ", first entry"
+font_fault_text (FixWordRange table index) =
+    codes "table " ++ table_name table ++ codes ", entry " ++ decimal index
+font_fault_text (Step index part) = codes "instruction " ++ decimal index ++ codes ", " ++ part_name part
+font_fault_text OutOfMemory = codes "out of memory"
