@@ -1,7 +1,9 @@
 -- A level of a run: its lane begins, the levels below come back, and its lane ends.
-use Rattle.std.proofs.Common.{rules, arith, ◌≡◌, ℕ, ◌+◌, ◌%◌, zero, suc, Bool, true, false, List, [], ◌∷◌, ◌++◌, length, get_or, Option, None, refl, ap, sym, subst, ◌∙◌}
+use Rattle.std.proofs.Common.{rules, arith, ◌≡◌, ℕ, ◌+◌, ◌<◌, ◌≤◌, ◌%◌, zero, suc, Bool, true, false, List, [], ◌∷◌, ◌++◌, length, get_or, Option, None, refl, ap, sym, subst, ◌∙◌}
 use Rattle.std.proofs.lemmas.List.{length-append, map-append}
-use Rattle.std.specs.Prelude.{map, set, All, IsSome, IsTrue, is_none}
+use Rattle.std.specs.Prelude.{map, set, All, IsSome, IsTrue, is_none, Result, Ok, Err, IfOk, IfErr, IsOk, IsOkAnd, OnOk}
+use Rattle.std.specs.Result.{is_err}
+use Rattle.std.proofs.lemmas.Bool.{false≢true}
 use Rattle.std.specs.List.{AllZip}
 use Rattle.std.specs.Arc.{arc_value}
 use Rattle.std.specs.declared.sync.Arc.{Arc}
@@ -26,6 +28,72 @@ use Rattle.set_run.proofs.Zips.{zip_length, zip_last, zip_none, zip_place, zip_t
 use Rattle.set_run.proofs.SameEnds.{still_lane}
 use Rattle.set_run.proofs.LaneLemmas.{closed_of}
 use Rattle.set_run.proofs.TakerLemmas.{told_first}
+
+-- ---- what came back from the levels below
+
+module _ {A B E : Type 0} where
+  -- what came back, and what was done to it
+  pub after_below : (below : Result B E) (result : Result A E) (P : B → Type 0) (Q : B → A → Type 0) (R : A → Type 0) → IfOk below P
+      → IfOk result (λ a. IsOkAnd below (λ b. Q b a)) → ((b : B) (a : A) → P b → Q b a → R a) → IfOk result R
+  after_below below (Err e) P Q R has done step = tt
+  after_below (Ok b) (Ok a) P Q R has done step = step b a has done
+  after_below (Err e) (Ok a) P Q R has done step = absurd done
+
+  -- two things that were done to it
+  pub both_done : (below : Result B E) (result : Result A E) (P Q : B → A → Type 0) → IfOk result (λ a. IsOkAnd below (λ b. P b a))
+      → IfOk result (λ a. IsOkAnd below (λ b. Q b a)) → IfOk result (λ a. IsOkAnd below (λ b. P b a × Q b a))
+  both_done below (Err e) P Q one two = tt
+  both_done (Ok b) (Ok a) P Q one two = (one, two)
+  both_done (Err e) (Ok a) P Q one two = absurd one
+
+  -- what came back, of which something is added
+  pub from_started : (below : Result B E) (result : Result A E) (f : A → B) (P : B → Type 0) (R : A → Type 0) → IfOk below P
+      → IfOk result (λ a. below ≡ Ok (f a)) → ((a : A) → P (f a) → R a) → IfOk result R
+  from_started below (Err e) f P R has is step = tt
+  from_started below (Ok a) f P R has is step = step a (subst (λ r. IfOk r P) is has)
+
+  -- the error is that of the levels below
+  pub err_below : (below : Result B E) (result : Result A E) (P : E → Type 0) → IfErr below P → IfErr result (λ e. below ≡ Err e)
+      → IfErr result P
+  err_below below (Ok a) P has is = tt
+  err_below below (Err e) P has is = subst (λ r. IfErr r P) is has
+
+  -- there is none, if they had none
+  pub ok_below : (below : Result B E) (result : Result A E) → IsOk below → IfErr result (λ e. below ≡ Err e) → IsOk result
+  ok_below below (Ok a) has is = refl
+  ok_below below (Err e) has is = subst (λ r. IsOk r) is has
+
+-- two things that hold of what came back
+pub both_ok : {T E : Type 0} (r : Result T E) (P Q : T → Type 0) → IfOk r P → IfOk r Q → IfOk r (λ x. P x × Q x)
+both_ok (Ok x) P Q one two = (one, two)
+both_ok (Err e) P Q one two = tt
+
+-- what holds of a call that gave no error
+pub reserved : {T E : Type 0} (r : Result T E) (P : Type 0) (failed : Bool) → failed ≡ is_err r → failed ≡ false → OnOk r P → P
+reserved (Ok x) P failed is none has = has
+reserved (Err e) P failed is none has = absurd (false≢true (sym none ∙ is))
+
+-- ---- numbers of a level
+
+-- there is a source
+pub no_more : {P : Type 0} (a n : ℕ) → a + 1 ≡ n → n ≡ 0 → P
+no_more a n e none = absurd (omega arith)
+
+-- there is room for the lane of this level
+pub room_left : (n more room long room' : ℕ) → n + 1 ≡ more → more ≤ room → long ≡ n → room ≤ room' → long < room'
+room_left n more room long room' a b d e = omega arith
+
+-- as many lanes as sources
+pub one_more : (n more long long' : ℕ) → n + 1 ≡ more → long ≡ n → long' ≡ long + 1 → long' ≡ more
+one_more n more long long' a b d = omega arith
+
+-- no less than at first
+pub no_less : (a b d : ℕ) → a ≤ b → b ≤ d → a ≤ d
+no_less a b d e f = omega arith
+
+-- places for a part
+pub part_fits : (a b d : ℕ) → a + b ≤ d → b ≤ d
+part_fits a b d e = omega arith
 
 -- ---- one worker among workers
 

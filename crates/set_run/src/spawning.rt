@@ -1,8 +1,9 @@
 //! The threads of a run. Each level starts one, goes on to the level below, and joins it: so what a
 //! thread promises stands beside what it was given.
-ghost use Rattle.std.specs.Prelude.{◌≡◌, ◌+◌, ◌<◌, ◌≤◌, ◌++◌, ◌∷◌, [], None, vec_capacity, vec_len, IfErr, IfOk, IsOk};
+ghost use Rattle.std.specs.Prelude.{◌≡◌, ◌+◌, ◌<◌, ◌≤◌, ◌%◌, ◌++◌, ◌∷◌, [], None, Ok, Err, length, vec_capacity, vec_len, IfErr, IfOk, IsOk, IsOkAnd};
 ghost use Rattle.std.specs.List.{AllZip};
 ghost use Rattle.set_run.specs.Gathering.{Collects, Gathers};
+ghost use Rattle.set_run.specs.Lanes.{CanEnd, Ends};
 ghost use Rattle.set_run.specs.Workers.{IsWorked};
 
 use crate::collector_thread::{Collected, collect};
@@ -10,7 +11,7 @@ use crate::lane::{begin, end};
 use crate::lane_taker::LaneTaker;
 use crate::shortage::{Shortage, Unbegun};
 use crate::signals::Signals;
-use crate::source_thread::{FedFrom, feed};
+use crate::source_thread::{FedFrom, Feeding, feed};
 use crate::worker::Worker;
 use crate::worker_thread::{WorkedFrom, work};
 use crate::{ClosedLane, Collector, Gate, LineSource, Plan};
@@ -43,6 +44,41 @@ fn put_back(workers: &mut Vec<Worker>, worker: Worker)
     }
 }
 
+/// A worker comes back, if the levels below it did.
+fn come_back<C>(
+    worker: Worker,
+    below: Result<(Vec<Worker>, Collected<C>), Unbegun<C>>,
+) -> Result<(Vec<Worker>, Collected<C>), Unbegun<C>>
+    requires { IfOk below (λ back. vec_len back.0 < vec_capacity back.0) }
+    ensures items { IfOk result (λ after. IsOkAnd below (λ back. after.0.items ≡ back.0.items ++ worker ∷ [])) }
+    ensures room { IfOk result (λ after. IsOkAnd below (λ back. vec_capacity back.0 ≤ vec_capacity after.0)) }
+    ensures collected { IfOk result (λ after. IsOkAnd below (λ back. after.1 ≡ back.1)) }
+    ensures unbegun { IfErr result (λ unbegun. below ≡ Err unbegun) }
+{
+    let (mut workers, collected) = below?;
+    put_back(&mut workers, worker);
+    Ok((workers, collected))
+}
+
+/// Collects the answers. If the collector refused something, the run is stopped.
+fn collect_or_stop<R: Wait, G: Gate, C: Collector>(
+    rt: &R,
+    gate: &G,
+    signals: &Signals,
+    lanes: Vec<LaneTaker>,
+    collector: C,
+) -> Collected<C>
+    requires places { vec_len lanes ≤ C.lanes collector }
+    requires willing { C.refused collector None }
+    ensures { Collects C.lanes C.given C.refused lanes.items collector result }
+{
+    let collected = collect(rt, gate, signals, lanes, collector);
+    if collected.refusal.is_some() {
+        signals.stop();
+    }
+    collected
+}
+
 /// A thread for each worker, from the last one on; then the answers are collected, and if the
 /// collector refused something the run is stopped. From then on nothing can be refused any more.
 pub(crate) fn start_workers<'s, E, R: Threads + Wait + Sync, G: Gate + Sync, C: Collector + Drop>(
@@ -64,10 +100,7 @@ pub(crate) fn start_workers<'s, E, R: Threads + Wait + Sync, G: Gate + Sync, C: 
 {
     let mut workers = workers;
     let Some(worker) = workers.pop() else {
-        let collected = collect(rt, gate, signals, lanes, collector);
-        if collected.refusal.is_some() {
-            signals.stop();
-        }
+        let collected = collect_or_stop(rt, gate, signals, lanes, collector);
         return Ok((workers, collected));
     };
     if workers.reserve(1).is_err() {
@@ -81,9 +114,51 @@ pub(crate) fn start_workers<'s, E, R: Threads + Wait + Sync, G: Gate + Sync, C: 
     };
     let below = start_workers(scope, rt, gate, signals, workers, lanes, collector);
     let worker = child.join(rt);
-    let (mut workers, collected) = below?;
-    put_back(&mut workers, worker);
-    Ok((workers, collected))
+    come_back(worker, below)
+}
+
+/// What the workers' threads gave, if there is no source.
+fn with_no_source<S: Drop, C>(
+    closed: Vec<ClosedLane<S>>,
+    started: Result<(Vec<Worker>, Collected<C>), Unbegun<C>>,
+) -> Result<(Vec<ClosedLane<S>>, Vec<Worker>, Collected<C>), Unbegun<C>>
+    ensures closed { IfOk result (λ back. back.0 ≡ closed) }
+    ensures ok { IfOk result (λ back. started ≡ Ok (back.1, back.2)) }
+    ensures unbegun { IfErr result (λ unbegun. started ≡ Err unbegun) }
+{
+    let (workers, collected) = started?;
+    Ok((closed, workers, collected))
+}
+
+/// A lane ends, if the levels below it came back.
+fn end_after<S: Drop, C>(
+    number: usize,
+    feeding: Feeding<S>,
+    below: Result<(Vec<ClosedLane<S>>, Vec<Worker>, Collected<C>), Unbegun<C>>,
+) -> Result<(Vec<ClosedLane<S>>, Vec<Worker>, Collected<C>), Unbegun<C>>
+    requires some { IfOk below (λ back. 0 < vec_len back.1) }
+    requires room { IfOk below (λ back. vec_len back.0 < vec_capacity back.0) }
+    requires lane { IfOk below (λ back. CanEnd (number % length back.1.items) feeding.feeder
+        (record { workers = back.1.items; lanes = back.2.lanes.items })) }
+    ensures ended { IfOk result (λ after. IsOkAnd below (λ back.
+        Ends (number % length back.1.items) feeding back.0.items after.0.items
+        (record { workers = back.1.items; lanes = back.2.lanes.items })
+        (record { workers = after.1.items; lanes = after.2.lanes.items }))) }
+    ensures count { IfOk result (λ after. IsOkAnd below (λ back. vec_len after.0 ≡ vec_len back.0 + 1)) }
+    ensures room { IfOk result (λ after. IsOkAnd below (λ back. vec_capacity back.0 ≤ vec_capacity after.0)) }
+    ensures collector { IfOk result (λ after. IsOkAnd below (λ back.
+        (after.2.collector ≡ back.2.collector) × (after.2.refusal ≡ back.2.refusal))) }
+    ensures unbegun { IfErr result (λ unbegun. below ≡ Err unbegun) }
+{
+    let (mut closed, mut workers, mut collected) = below?;
+    end(
+        number,
+        feeding,
+        &mut closed,
+        &mut workers,
+        &mut collected.lanes,
+    );
+    Ok((closed, workers, collected))
 }
 
 /// A thread for each source, from the last one on, with a lane each; then the threads of the workers,
@@ -123,10 +198,8 @@ pub(crate) fn start_sources<
 {
     let (mut sources, mut workers, mut lanes) = (sources, workers, lanes);
     let Some(source) = sources.pop() else {
-        let (workers, collected) = start_workers(
-            scope, rt, gate, signals, workers, lanes, collector,
-        )?;
-        return Ok((closed, workers, collected));
+        let started = start_workers(scope, rt, gate, signals, workers, lanes, collector);
+        return with_no_source(closed, started);
     };
     let number = sources.len();
     let Ok(feeding) = begin(alloc, plan, number, source, &mut workers, &mut lanes) else {
@@ -141,13 +214,5 @@ pub(crate) fn start_sources<
         scope, rt, gate, signals, alloc, plan, sources, closed, workers, lanes, collector,
     );
     let feeding = child.join(rt);
-    let (mut closed, mut workers, mut collected) = below?;
-    end(
-        number,
-        feeding,
-        &mut closed,
-        &mut workers,
-        &mut collected.lanes,
-    );
-    Ok((closed, workers, collected))
+    end_after(number, feeding, below)
 }

@@ -1,36 +1,121 @@
-use Rattle.std.proofs.Common.{rules, arith, ◌≡◌, length, refl, subst}
+use Rattle.std.proofs.Common.{rules, arith, ◌≡◌, length, refl, subst, [], vec_len, vec_capacity}
+use Rattle.std.proofs.lemmas.Result.{IfOk-weaker}
 use Rattle.set_run.specs.Given.{HandsBack}
-use Rattle.set_run.proofs.SpawningLemmas.{as_many, can_end, gathers_none, has_ended, workers_back}
+use Rattle.set_run.proofs.SpawningLemmas.{after_below, as_many, both_done, both_ok, can_end, err_below, from_started, gathers_none, has_ended, no_less, no_more, ok_below, one_more, part_fits, room_left, workers_back}
 use Rattle.set_run.proofs.spawning.+start_sources.Goals as goal
+
+pub returns-in_default-begin-clause-workers : goal.returns-in_default-begin-clause-workers
+returns-in_default-begin-clause-workers g t c = tt
+
+pub returns-in_default-spawn_with-clause-workers : goal.returns-in_default-spawn_with-clause-workers
+returns-in_default-spawn_with-clause-workers g t c = tt
+
+pub returns-in_default-begin-clause-count : goal.returns-in_default-begin-clause-count
+returns-in_default-begin-clause-count g t c = tt
+
+pub returns-in_default-spawn_with-clause-count : goal.returns-in_default-spawn_with-clause-count
+returns-in_default-spawn_with-clause-count g t c = tt
+
+pub returns-in_default-begin-clause-room : goal.returns-in_default-begin-clause-room
+returns-in_default-begin-clause-room g t c = tt
+
+pub returns-in_default-spawn_with-clause-room : goal.returns-in_default-spawn_with-clause-room
+returns-in_default-spawn_with-clause-room g t c = tt
+
+pub returns-in_default-begin-clause-gathered : goal.returns-in_default-begin-clause-gathered
+returns-in_default-begin-clause-gathered g t c = tt
+
+pub returns-in_default-spawn_with-clause-gathered : goal.returns-in_default-spawn_with-clause-gathered
+returns-in_default-spawn_with-clause-gathered g t c = tt
+
+pub returns-in_default-begin-clause-begun : goal.returns-in_default-begin-clause-begun
+returns-in_default-begin-clause-begun g t c = λ none _. no_more (vec_len c.pop.new.self) (vec_len c.args.sources) c.in-Some.ensures.len none
+
+pub returns-in_default-spawn_with-clause-begun : goal.returns-in_default-spawn_with-clause-begun
+returns-in_default-spawn_with-clause-begun g t c = λ none _. no_more (vec_len c.pop.new.self) (vec_len c.args.sources) c.in-Some.ensures.len none
+
+pub returns-in_default-begin-clause-unbegun : goal.returns-in_default-begin-clause-unbegun
+returns-in_default-begin-clause-unbegun g t c = c.stopped.ensures
+
+pub returns-in_default-spawn_with-clause-unbegun : goal.returns-in_default-spawn_with-clause-unbegun
+returns-in_default-spawn_with-clause-unbegun g t c = c.stopped-in_default-spawn_with.ensures
+
+pub begin-requires : goal.begin-requires
+begin-requires g t c = c.requires.some (c.in-Some.ensures.variant.0 refl)
+
+pub start_workers-started-requires-clause-willing : goal.start_workers-started-requires-clause-willing
+start_workers-started-requires-clause-willing g t c κs within = c.requires.willing
+
+pub start_workers-started-requires-clause-places : goal.start_workers-started-requires-clause-places
+start_workers-started-requires-clause-places g t c κs within = part_fits (vec_len c.args.sources) _ _ c.requires.places
+
+pub returns-in_default-clause-workers : goal.returns-in_default-clause-workers
+returns-in_default-clause-workers g t c =
+    from_started c.start_workers-started.result c.with_no_source.result (λ a. (a.1, a.2)) _ _ c.start_workers-started.ensures.workers
+    c.with_no_source.ensures.ok (λ a has. has)
+
+pub returns-in_default-clause-begun : goal.returns-in_default-clause-begun
+returns-in_default-clause-begun g t c = λ _ none. ok_below c.start_workers-started.result c.with_no_source.result (c.start_workers-started.ensures.begun none) c.with_no_source.ensures.unbegun
+
+pub returns-in_default-clause-unbegun : goal.returns-in_default-clause-unbegun
+returns-in_default-clause-unbegun g t c = err_below c.start_workers-started.result c.with_no_source.result (λ u. u.collector ≡ c.args.collector) c.start_workers-started.ensures.unbegun c.with_no_source.ensures.unbegun
 
 pub returns-in_default-clause-gathered : goal.returns-in_default-clause-gathered
 returns-in_default-clause-gathered g t c =
+    let of_closed = both_ok c.with_no_source.result _ _ c.with_no_source.ensures.closed
+    (from_started c.start_workers-started.result c.with_no_source.result (λ a. (a.1, a.2)) _ _
+    c.start_workers-started.ensures.collected c.with_no_source.ensures.ok (λ a has. has)) in
+    let none : c.args.sources.items ≡ [] = search rules in
+    IfOk-weaker c.with_no_source.result _ _ (λ a both.
+    let no_lane : a.0.items ≡ [] = cc in
     gathers_none g.S.LineSource.to_come g.S.LineSource.failed g.S.LineSource.origin g.C.Collector.lanes g.C.Collector.given g.C.Collector.refused c.args.sources.items c.args.lanes.items
-    c.args.collector c.args.closed.items c.in_ok-workers.collected (search rules) c.requires.none c.in_ok-workers.ensures.collected
+    c.args.collector a.0.items a.2 none no_lane both.1) of_closed
 
-pub end-requires-clause-some : goal.end-requires-clause-some
-end-requires-clause-some g t c =
+pub end_after-requires-clause-some : goal.end_after-requires-clause-some
+end_after-requires-clause-some g t c =
+    IfOk-weaker c.start_sources-below.result _ _ (λ b same.
     let begun = c.in-Ok.ensures in
-    let long : length c.args.workers.items ≡ length c.in_ok-closed.workers.items =
-    as_many c.len-number.result begun.1.0 c.args.workers.items c.begin.new.workers.items c.in_ok-closed.workers.items begun.1.3
-    c.in_ok-closed.ensures.workers
-    in omega (arith, long, c.requires.some)
+    let long : length c.args.workers.items ≡ length b.1.items = as_many c.len-number.result begun.1.0 c.args.workers.items c.begin.new.workers.items b.1.items begun.1.3 same in
+    omega (arith, long, c.requires.some)) c.start_sources-below.ensures.workers
 
-pub end-requires-clause-lane : goal.end-requires-clause-lane
-end-requires-clause-lane g t c =
+pub end_after-requires-clause-room : goal.end_after-requires-clause-room
+end_after-requires-clause-room g t c =
+    IfOk-weaker c.start_sources-below.result _ _ (λ b both. room_left (vec_len c.pop.new.self) (vec_len c.args.sources) (vec_capacity c.args.closed) (vec_len b.0) (vec_capacity b.0) c.in-Some.ensures.len c.requires.room both.0 both.1)
+    (both_ok c.start_sources-below.result _ _ c.start_sources-below.ensures.count c.start_sources-below.ensures.room)
+
+pub end_after-requires-clause-lane : goal.end_after-requires-clause-lane
+end_after-requires-clause-lane g t c =
     let from : c.in-Ok-spawn_with.child.promise.0.value ≡ c.in-Ok.feeding = search rules in
     let handed : HandsBack g.S.LineSource.to_come g.S.LineSource.failed g.S.LineSource.origin c.in-Ok.feeding c.join-feeding.result =
     subst (λ f. HandsBack g.S.LineSource.to_come g.S.LineSource.failed g.S.LineSource.origin f c.join-feeding.result) from c.join-feeding.ensures
     in
+    IfOk-weaker c.start_sources-below.result _ _ (λ b both.
     can_end c.in-Some.source c.len-number.result c.in-Ok.feeding c.join-feeding.result c.args.workers.items c.begin.new.workers.items
-    c.in_ok-closed.workers.items c.args.lanes.items c.begin.new.lanes.items c.in_ok-closed.collected.lanes.items c.in-Ok.ensures
-    c.in_ok-closed.ensures.workers c.in_ok-closed.ensures.gathered.same handed.0
+    b.1.items c.args.lanes.items c.begin.new.lanes.items b.2.lanes.items c.in-Ok.ensures both.0 both.1.same handed.0)
+    (both_ok c.start_sources-below.result _ _ c.start_sources-below.ensures.workers c.start_sources-below.ensures.gathered)
 
 pub returns-clause-workers : goal.returns-clause-workers
 returns-clause-workers g t c =
-    workers_back c.in-Some.source c.len-number.result c.in-Ok.feeding c.join-feeding.result c.in_ok-closed.closed.items c.end.new.closed.items
-    c.args.workers.items c.begin.new.workers.items c.in_ok-closed.workers.items c.end.new.workers.items c.args.lanes.items c.begin.new.lanes.items
-    c.in_ok-closed.collected.lanes.items c.end.new.lanes.items c.in-Ok.ensures c.in_ok-closed.ensures.workers c.end.ensures.ended
+    after_below c.start_sources-below.result c.end_after.result _ _ _ c.start_sources-below.ensures.workers c.end_after.ensures.ended (λ b a same ended.
+    workers_back c.in-Some.source c.len-number.result c.in-Ok.feeding c.join-feeding.result b.0.items a.0.items
+    c.args.workers.items c.begin.new.workers.items b.1.items a.1.items c.args.lanes.items c.begin.new.lanes.items
+    b.2.lanes.items a.2.lanes.items c.in-Ok.ensures same ended)
+
+pub returns-clause-count : goal.returns-clause-count
+returns-clause-count g t c =
+    after_below c.start_sources-below.result c.end_after.result _ _ _ c.start_sources-below.ensures.count c.end_after.ensures.count
+    (λ b a had more. one_more (vec_len c.pop.new.self) (vec_len c.args.sources) (vec_len b.0) (vec_len a.0) c.in-Some.ensures.len had more)
+
+pub returns-clause-room : goal.returns-clause-room
+returns-clause-room g t c =
+    after_below c.start_sources-below.result c.end_after.result _ _ _ c.start_sources-below.ensures.room c.end_after.ensures.room
+    (λ b a had more. no_less (vec_capacity c.args.closed) (vec_capacity b.0) (vec_capacity a.0) had more)
+
+pub returns-clause-begun : goal.returns-clause-begun
+returns-clause-begun g t c = λ none _. no_more (vec_len c.pop.new.self) (vec_len c.args.sources) c.in-Some.ensures.len none
+
+pub returns-clause-unbegun : goal.returns-clause-unbegun
+returns-clause-unbegun g t c = err_below c.start_sources-below.result c.end_after.result (λ u. u.collector ≡ c.args.collector) c.start_sources-below.ensures.unbegun c.end_after.ensures.unbegun
 
 pub returns-clause-gathered : goal.returns-clause-gathered
 returns-clause-gathered g t c =
@@ -38,9 +123,11 @@ returns-clause-gathered g t c =
     let handed : HandsBack g.S.LineSource.to_come g.S.LineSource.failed g.S.LineSource.origin c.in-Ok.feeding c.join-feeding.result =
     subst (λ f. HandsBack g.S.LineSource.to_come g.S.LineSource.failed g.S.LineSource.origin f c.join-feeding.result) from c.join-feeding.ensures
     in
+    after_below c.start_sources-below.result c.end_after.result _ _ _
+    (both_ok c.start_sources-below.result _ _ c.start_sources-below.ensures.workers c.start_sources-below.ensures.gathered)
+    (both_done c.start_sources-below.result c.end_after.result _ _ c.end_after.ensures.ended c.end_after.ensures.collector)
+    (λ b a had ended.
     has_ended g.S.LineSource.to_come g.S.LineSource.failed g.S.LineSource.origin g.C.Collector.lanes g.C.Collector.given g.C.Collector.refused c.args.sources.items c.pop.new.self.items
-    c.in-Some.source c.len-number.result c.in-Ok.feeding c.join-feeding.result c.in_ok-closed.closed.items c.end.new.closed.items
-    c.args.workers.items c.begin.new.workers.items c.in_ok-closed.workers.items c.end.new.workers.items c.args.lanes.items c.begin.new.lanes.items
-    c.args.collector c.in_ok-closed.collected
-    (record { lanes = c.end.new.lanes; collector = c.in_ok-closed.collected.collector; refusal = c.in_ok-closed.collected.refusal })
-    c.in-Some.ensures.items c.in-Ok.ensures c.in_ok-closed.ensures.workers handed c.in_ok-closed.ensures.gathered c.end.ensures.ended refl refl
+    c.in-Some.source c.len-number.result c.in-Ok.feeding c.join-feeding.result b.0.items a.0.items
+    c.args.workers.items c.begin.new.workers.items b.1.items a.1.items c.args.lanes.items c.begin.new.lanes.items
+    c.args.collector b.2 a.2 c.in-Some.ensures.items c.in-Ok.ensures had.0 handed had.1 ended.0 ended.1.0 ended.1.1)

@@ -1,15 +1,76 @@
-use Rattle.std.proofs.Common.{rules, ◌≡◌, [], ◌∷◌, ◌++◌, subst, sym}
+use Rattle.std.proofs.Common.{rules, arith, ◌≡◌, ◌+◌, ◌≤◌, [], ◌∷◌, ◌++◌, length, refl, subst, sym, vec_len, vec_capacity}
 use Rattle.std.specs.List.{AllZip}
+use Rattle.std.proofs.lemmas.Result.{IfOk-weaker}
+use Rattle.set_run.specs.Gathering.{Collects}
 use Rattle.set_run.specs.Workers.{IsWorked}
-use Rattle.set_run.proofs.Zips.{zip_append}
+use Rattle.set_run.proofs.SpawningLemmas.{after_below, both_ok, err_below, no_more, reserved}
+use Rattle.set_run.proofs.Zips.{zip_append, zip_length}
 use Rattle.set_run.proofs.spawning.+start_workers.Goals as goal
+
+pub returns-then-is_err-clause-workers : goal.returns-then-is_err-clause-workers
+returns-then-is_err-clause-workers g t c = tt
+
+pub returns-in_default-spawn_with-clause-workers : goal.returns-in_default-spawn_with-clause-workers
+returns-in_default-spawn_with-clause-workers g t c = tt
+
+pub returns-then-is_err-clause-room : goal.returns-then-is_err-clause-room
+returns-then-is_err-clause-room g t c = tt
+
+pub returns-in_default-spawn_with-clause-room : goal.returns-in_default-spawn_with-clause-room
+returns-in_default-spawn_with-clause-room g t c = tt
+
+pub returns-then-is_err-clause-collected : goal.returns-then-is_err-clause-collected
+returns-then-is_err-clause-collected g t c = tt
+
+pub returns-in_default-spawn_with-clause-collected : goal.returns-in_default-spawn_with-clause-collected
+returns-in_default-spawn_with-clause-collected g t c = tt
+
+pub returns-then-is_err-clause-begun : goal.returns-then-is_err-clause-begun
+returns-then-is_err-clause-begun g t c = λ none. no_more (vec_len c.pop.new.self) (vec_len c.args.workers) c.in-Some.ensures.len none
+
+pub returns-in_default-spawn_with-clause-begun : goal.returns-in_default-spawn_with-clause-begun
+returns-in_default-spawn_with-clause-begun g t c = λ none. no_more (vec_len c.pop.new.self) (vec_len c.args.workers) c.in-Some.ensures.len none
+
+pub returns-then-is_err-clause-unbegun : goal.returns-then-is_err-clause-unbegun
+returns-then-is_err-clause-unbegun g t c = c.stopped.ensures
+
+pub returns-in_default-spawn_with-clause-unbegun : goal.returns-in_default-spawn_with-clause-unbegun
+returns-in_default-spawn_with-clause-unbegun g t c = c.stopped-in_default-spawn_with.ensures
+
+pub returns-in_default-clause-collected : goal.returns-in_default-clause-collected
+returns-in_default-clause-collected g t c = c.collect_or_stop-collected.ensures
+
+pub returns-in_default-clause-begun : goal.returns-in_default-clause-begun
+returns-in_default-clause-begun g t c = λ _. refl
+
+pub returns-in_default-clause-unbegun : goal.returns-in_default-clause-unbegun
+returns-in_default-clause-unbegun g t c = tt
+
+pub come_back-requires : goal.come_back-requires
+come_back-requires g t c =
+    let room : vec_len c.reserve.new.self + 1 ≤ vec_capacity c.reserve.new.self = reserved c.reserve.result _ c.is_err.result c.is_err.ensures.value c.if-is_err.false c.reserve.ensures.ok in
+    IfOk-weaker c.start_workers-below.result _ _ (λ b both.
+    let long : length c.reserve.new.self.items ≡ length b.0.items = zip_length (AllZip IsWorked) c.reserve.new.self.items b.0.items both.0 in
+    omega (arith, long, room, both.1))
+    (both_ok c.start_workers-below.result (λ b. AllZip (AllZip IsWorked) c.reserve.new.self.items b.0.items) (λ b. vec_capacity c.reserve.new.self ≤ vec_capacity b.0)
+    c.start_workers-below.ensures.workers c.start_workers-below.ensures.room)
 
 pub returns-clause-workers : goal.returns-clause-workers
 returns-clause-workers g t c =
     let was : c.args.workers.items ≡ c.reserve.new.self.items ++ c.in-Some.worker ∷ [] = search rules in
-    let now : c.put_back.new.workers.items ≡ c.in_ok-workers.workers.items ++ c.join-worker.result ∷ [] = search rules in
     let kept : AllZip IsWorked c.in-Some.worker c.join-worker.result = search rules in
-    let both = zip_append (AllZip IsWorked) c.reserve.new.self.items c.in_ok-workers.workers.items c.in-Some.worker c.join-worker.result
-    c.in_ok-workers.ensures.workers kept
-    in subst (λ workers. AllZip (AllZip IsWorked) workers c.put_back.new.workers.items) (sym was)
-    (subst (λ workers. AllZip (AllZip IsWorked) (c.reserve.new.self.items ++ c.in-Some.worker ∷ []) workers) (sym now) both)
+    after_below c.start_workers-below.result c.come_back.result (λ b. AllZip (AllZip IsWorked) c.reserve.new.self.items b.0.items) (λ b a. a.0.items ≡ b.0.items ++ c.join-worker.result ∷ []) _ c.start_workers-below.ensures.workers c.come_back.ensures.items (λ b a same is.
+    subst (λ xs. AllZip (AllZip IsWorked) xs a.0.items) (sym was)
+    (subst (λ ys. AllZip (AllZip IsWorked) (c.reserve.new.self.items ++ c.in-Some.worker ∷ []) ys) (sym is)
+    (zip_append (AllZip IsWorked) c.reserve.new.self.items b.0.items c.in-Some.worker c.join-worker.result same kept)))
+
+pub returns-clause-collected : goal.returns-clause-collected
+returns-clause-collected g t c =
+    after_below c.start_workers-below.result c.come_back.result (λ b. Collects g.C.Collector.lanes g.C.Collector.given g.C.Collector.refused c.args.lanes.items c.args.collector b.1) (λ b a. a.1 ≡ b.1) _ c.start_workers-below.ensures.collected c.come_back.ensures.collected
+    (λ b a has is. subst (λ x. Collects g.C.Collector.lanes g.C.Collector.given g.C.Collector.refused c.args.lanes.items c.args.collector x) (sym is) has)
+
+pub returns-clause-begun : goal.returns-clause-begun
+returns-clause-begun g t c = λ none. no_more (vec_len c.pop.new.self) (vec_len c.args.workers) c.in-Some.ensures.len none
+
+pub returns-clause-unbegun : goal.returns-clause-unbegun
+returns-clause-unbegun g t c = err_below c.start_workers-below.result c.come_back.result (λ u. u.collector ≡ c.args.collector) c.start_workers-below.ensures.unbegun c.come_back.ensures.unbegun
