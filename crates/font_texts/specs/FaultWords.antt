@@ -1,5 +1,5 @@
--- The words of a font's fault after its number among all that can be wrong, and why a font's text isn't there.
--- This project's own; the words after the number are in FaultTexts of `tfm_tables`.
+-- The words of a font's fault: its number among all that can be wrong, and what is wrong; and why a font's text isn't there.
+-- This project's own; what is wrong is told by FaultTexts of `tfm_tables`.
 use Rattle.std.specs.Prelude.{ℕ, ◌==◌, List, ◌++◌, codes, decimal, if◌then◌else◌}
 use Rattle.tfm_words.specs.declared.count_fault.CountFault.{CountFault}
 use Rattle.tfm_words.specs.declared.count_fault.CountFault.TheVariants.{Truncated, CountRange, CharRange, HeaderShort, EmptyTable, TooManyRecipes, LengthEquation}
@@ -30,12 +30,12 @@ fault_number (FixWordRange _ _) = 13
 fault_number (Step _ _) = 14
 fault_number OutOfMemory = 15
 
--- the words of a fault after its number
+-- the words of a fault: its number, and what is wrong
 unfoldable pub fault_words : FontFault → List ℕ
 fault_words fault = decimal (fault_number fault) ++ codes " " ++ font_fault_text fault
 
 -- why the text of a font was not written, or not to its end
 unfoldable pub font_text_fault_text : FontTextFault → List ℕ
-font_text_fault_text (Font fault) = codes "font refused: " ++ font_fault_text fault
+font_text_fault_text (Font fault) = codes "font refused: " ++ fault_words fault
 font_text_fault_text NoMemory = codes "out of memory"
 font_text_fault_text Write = codes "output failed"

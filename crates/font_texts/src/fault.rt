@@ -1,6 +1,7 @@
 ghost use Rattle.std.specs.Prelude.{Some};
 ghost use Rattle.font_texts.specs.FaultWords.{font_text_fault_text};
 
+use crate::Numbered;
 use std::error::Error;
 use std::fmt;
 use tfm_tables::FontFault;
@@ -22,7 +23,10 @@ impl fmt::Display for FontTextFault {
     #[tactic(auto, unfolding(crate::specs::FaultWords::font_text_fault_text))]
     fn fmt<W: fmt::Write>(&self, f: &mut fmt::Formatter<W>) -> fmt::Result {
         match self {
-            FontTextFault::Font(fault) => write!(f, "font refused: {fault}"),
+            FontTextFault::Font(fault) => {
+                let numbered = Numbered(*fault);
+                write!(f, "font refused: {numbered}")
+            }
             FontTextFault::OutOfMemory => f.write_str("out of memory"),
             FontTextFault::Write => f.write_str("output failed"),
         }

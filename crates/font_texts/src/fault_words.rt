@@ -1,4 +1,4 @@
-//! The words of a font's fault, after its number.
+//! The words of a font's fault: its number, and what is wrong.
 ghost use Rattle.std.specs.Prelude.{◌≡◌, Some};
 ghost use Rattle.font_texts.specs.FaultWords.{count_fault_number, fault_number, fault_words};
 
@@ -6,7 +6,7 @@ use std::fmt;
 use tfm_tables::FontFault;
 use tfm_words::CountFault;
 
-/// A fault after its number among all that can be wrong with a font. A file that ends within its
+/// A fault told with its number among all that can be wrong with a font. A file that ends within its
 /// counts has number 1, and one that ends after them number 8.
 #[derive(Clone, Copy, Debug, PartialEq, Eq, Hash)]
 pub struct Numbered(pub FontFault);

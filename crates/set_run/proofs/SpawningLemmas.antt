@@ -75,7 +75,7 @@ reserved (Err e) P failed is none has = absurd (false≢true (sym none ∙ is))
 
 -- ---- numbers of a level
 
--- there is a source
+-- one was taken, so there was one
 pub no_more : {P : Type 0} (a n : ℕ) → a + 1 ≡ n → n ≡ 0 → P
 no_more a n e none = absurd (omega arith)
 

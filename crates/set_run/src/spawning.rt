@@ -50,8 +50,10 @@ fn come_back<C>(
     below: Result<(Vec<Worker>, Collected<C>), Unbegun<C>>,
 ) -> Result<(Vec<Worker>, Collected<C>), Unbegun<C>>
     requires { IfOk below (λ back. vec_len back.0 < vec_capacity back.0) }
-    ensures items { IfOk result (λ after. IsOkAnd below (λ back. after.0.items ≡ back.0.items ++ worker ∷ [])) }
-    ensures room { IfOk result (λ after. IsOkAnd below (λ back. vec_capacity back.0 ≤ vec_capacity after.0)) }
+    ensures items { IfOk result (λ after.
+        IsOkAnd below (λ back. after.0.items ≡ back.0.items ++ worker ∷ [])) }
+    ensures room { IfOk result (λ after.
+        IsOkAnd below (λ back. vec_capacity back.0 ≤ vec_capacity after.0)) }
     ensures collected { IfOk result (λ after. IsOkAnd below (λ back. after.1 ≡ back.1)) }
     ensures unbegun { IfErr result (λ unbegun. below ≡ Err unbegun) }
 {
@@ -94,7 +96,8 @@ pub(crate) fn start_workers<'s, E, R: Threads + Wait + Sync, G: Gate + Sync, C: 
     requires willing { C.refused collector None }
     ensures workers { IfOk result (λ back. AllZip (AllZip IsWorked) workers.items back.0.items) }
     ensures room { IfOk result (λ back. vec_capacity workers ≤ vec_capacity back.0) }
-    ensures collected { IfOk result (λ back. Collects C.lanes C.given C.refused lanes.items collector back.1) }
+    ensures collected { IfOk result (λ back.
+        Collects C.lanes C.given C.refused lanes.items collector back.1) }
     ensures begun { vec_len workers ≡ 0 → IsOk result }
     ensures unbegun { IfErr result (λ unbegun. unbegun.collector ≡ collector) }
 {
@@ -144,8 +147,10 @@ fn end_after<S: Drop, C>(
         Ends (number % length back.1.items) feeding back.0.items after.0.items
         (record { workers = back.1.items; lanes = back.2.lanes.items })
         (record { workers = after.1.items; lanes = after.2.lanes.items }))) }
-    ensures count { IfOk result (λ after. IsOkAnd below (λ back. vec_len after.0 ≡ vec_len back.0 + 1)) }
-    ensures room { IfOk result (λ after. IsOkAnd below (λ back. vec_capacity back.0 ≤ vec_capacity after.0)) }
+    ensures count { IfOk result (λ after.
+        IsOkAnd below (λ back. vec_len after.0 ≡ vec_len back.0 + 1)) }
+    ensures room { IfOk result (λ after.
+        IsOkAnd below (λ back. vec_capacity back.0 ≤ vec_capacity after.0)) }
     ensures collector { IfOk result (λ after. IsOkAnd below (λ back.
         (after.2.collector ≡ back.2.collector) × (after.2.refusal ≡ back.2.refusal))) }
     ensures unbegun { IfErr result (λ unbegun. below ≡ Err unbegun) }

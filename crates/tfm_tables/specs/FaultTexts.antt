@@ -1,7 +1,7 @@
 -- The words for what is wrong with a font, and where.
 -- This project's own; the rules that are broken are in Acceptance.
 use Rattle.std.specs.Prelude.{ℕ, List, ◌++◌, codes, decimal}
-use Rattle.tfm_words.specs.FaultTexts.{count_fault_text, table_name}
+use Rattle.tfm_words.specs.FaultTexts.{count_fault_text, design_fault_text, table_name}
 use Rattle.tfm_tables.specs.declared.fault.FontFault.{FontFault}
 use Rattle.tfm_tables.specs.declared.fault.FontFault.TheVariants.{Counts, Design, CharIndex, LigStart, FirstNotZero, FixWordRange, Step, OutOfMemory}
 use Rattle.tfm_tables.specs.declared.fault.Part.{Part}
@@ -18,7 +18,7 @@ part_name Skip = codes "skip"
 -- what is wrong with a font, and where
 unfoldable pub font_fault_text : FontFault → List ℕ
 font_fault_text (Counts fault) = count_fault_text fault
-font_fault_text (Design _) = codes "design size"
+font_fault_text (Design fault) = design_fault_text fault
 font_fault_text (CharIndex code table) = codes "character " ++ decimal code ++ codes ", table " ++ table_name table
 font_fault_text (LigStart code) = codes "character " ++ decimal code ++ codes ", program start"
 font_fault_text (FirstNotZero table) = codes "table " ++ table_name table ++ codes ", first entry"

@@ -30,7 +30,7 @@ use Rattle.tfm_tool.specs.Jobs.{AreTermsOf, AreWordsOfJobs, HasTermsOf, IsFaultO
 use Rattle.tfm_tool.specs.Kept.{HaveSameFont}
 use Rattle.tfm_tool.specs.Named.{OfKnown, file_bytes_of, font_bytes_of}
 use Rattle.tfm_tool.specs.Told.{AreSourcesOf, IsSourceOf, Told}
-use Rattle.tfm_tool.specs.Status.{BeforeText, failure_of, is_before_output, status_of}
+use Rattle.tfm_tool.specs.Status.{BeforeText, failure_of, is_refusal, status_of}
 use Rattle.tfm_tool.specs.declared.exit.Failure.{Failure}
 use Rattle.tfm_tool.specs.declared.exit.Failure.TheVariants.{Tool, FontRefused, FontAndText, TooManyFiles, TwoFonts}
 use Rattle.tfm_tool.specs.declared.files.ReadFault.{ReadFault}
@@ -42,7 +42,7 @@ use Rattle.tfm_tool.proofs.KnownLemmas.{of_known}
 
 -- of the faults of a text that was not begun only the font's is told before any output
 pub tool_cause : (bytes : List ℕ) (fault : ToolFault) → ((f : FontFault) → fault ≡ Font f → font_fault_of bytes ≡ Some f)
-    → ((f : RunFault) → fault ≡ Run f → (f ≡ NoMemory) ⊎ (f ≡ Thread)) → is_before_output (Tool fault) ≡ true → IsRefusedFont (Some bytes) (Tool fault)
+    → ((f : RunFault) → fault ≡ Run f → (f ≡ NoMemory) ⊎ (f ≡ Thread)) → is_refusal (Tool fault) ≡ true → IsRefusedFont (Some bytes) (Tool fault)
 tool_cause bytes (Font f) has few before = has f refl
 tool_cause bytes (Run TooManySources) has few before = elim (few TooManySources refl) [ inl is ↦ absurd (search rules) | inr is ↦ absurd (search rules) ]
 tool_cause bytes (Run NoMemory) has few before = absurd (true≢false (sym before))
@@ -52,7 +52,7 @@ tool_cause bytes Write has few before = absurd (true≢false (sym before))
 
 -- the same of a font that was only read
 pub accepted_cause : (bytes : List ℕ) (fault : ToolFault) → ((f : FontFault) → fault ≡ Font f → font_fault_of bytes ≡ Some f)
-    → (fault ≡ OutOfMemory) ⊎ ((f : FontFault) × (fault ≡ Font f)) → is_before_output (Tool fault) ≡ true → IsRefusedFont (Some bytes) (Tool fault)
+    → (fault ≡ OutOfMemory) ⊎ ((f : FontFault) × (fault ≡ Font f)) → is_refusal (Tool fault) ≡ true → IsRefusedFont (Some bytes) (Tool fault)
 accepted_cause bytes (Font f) has which before = has f refl
 accepted_cause bytes (Run f) has which before = elim which [ inl is ↦ absurd (search rules) | inr is ↦ absurd (search rules) ]
 accepted_cause bytes OutOfMemory has which before = absurd (true≢false (sym before))
@@ -60,15 +60,15 @@ accepted_cause bytes Write has which before = absurd (true≢false (sym before))
 
 -- a fault that was handed on is the text's
 pub told_cause : {A : Type 0} (r : Result A Failure) (fault : ToolFault) (P : Failure → Type 0) → IsErrAnd r (λ told. told ≡ Tool fault)
-    → (is_before_output (Tool fault) ≡ true → P (Tool fault)) → BeforeText r P
+    → (is_refusal (Tool fault) ≡ true → P (Tool fault)) → BeforeText r P
 told_cause (Ok a) fault P is to = tt
-told_cause (Err told) fault P is to = λ before. subst P (sym is) (to (subst (λ f. is_before_output f ≡ true) is before))
+told_cause (Err told) fault P is to = λ before. subst P (sym is) (to (subst (λ f. is_refusal f ≡ true) is before))
 
 -- and so is one that a call told
 pub told_on : {A : Type 0} (r : Result A Failure) (failure : Failure) (P : Failure → Type 0) → IsErrAnd r (λ told. told ≡ failure)
-    → (is_before_output failure ≡ true → P failure) → BeforeText r P
+    → (is_refusal failure ≡ true → P failure) → BeforeText r P
 told_on (Ok a) failure P is to = tt
-told_on (Err told) failure P is to = λ before. subst P (sym is) (to (subst (λ f. is_before_output f ≡ true) is before))
+told_on (Err told) failure P is to = λ before. subst P (sym is) (to (subst (λ f. is_refusal f ≡ true) is before))
 
 pub refused_on : {A : Type 0} (r : Result A Failure) (failure : Failure) (IsFault : Failure → Type 0) → IsErrAnd r (λ told. told ≡ failure)
     → (failure ≡ Tool OutOfMemory) ⊎ IsFault failure → IsRefused IsFault r
@@ -81,29 +81,29 @@ before_map (Ok a) P Q to is = tt
 before_map (Err failure) P Q to is = λ before. to failure (is before)
 
 -- and what holds of the failure that is told
-pub before_at : {A : Type 0} (r : Result A Failure) (failure : Failure) (P : Failure → Type 0) → r ≡ Err failure → BeforeText r P → is_before_output failure ≡ true → P failure
+pub before_at : {A : Type 0} (r : Result A Failure) (failure : Failure) (P : Failure → Type 0) → r ≡ Err failure → BeforeText r P → is_refusal failure ≡ true → P failure
 before_at r failure P is cause = subst (λ told. BeforeText told P) is cause
 
 -- status 2 or 3 comes before any output
-pub before_of : (status : ℕ) (failure : Failure) → status ≡ status_of failure → (status ≡ 2) ⊎ (status ≡ 3) → is_before_output failure ≡ true
+pub before_of : (status : ℕ) (failure : Failure) → status ≡ status_of failure → (status ≡ 2) ⊎ (status ≡ 3) → is_refusal failure ≡ true
 before_of status failure is which =
     elim which [ inl two ↦ ap (λ n. (n == 2) || (n == 3)) (sym is ∙ two) | inr three ↦ ap (λ n. (n == 2) || (n == 3)) (sym is ∙ three) ]
 
 -- a font that was not read is told later
 pub unread_later : {A : Type 0} (r : Result A Failure) (fault : ReadFault) (P : Failure → Type 0) → IsErrAnd r (λ told. told ≡ failure_of fault) → BeforeText r P
 unread_later (Ok a) fault P is = tt
-unread_later (Err told) Unread P is = λ before. absurd (true≢false (sym (subst (λ f. is_before_output f ≡ true) is before)))
-unread_later (Err told) NoRoom P is = λ before. absurd (true≢false (sym (subst (λ f. is_before_output f ≡ true) is before)))
+unread_later (Err told) Unread P is = λ before. absurd (true≢false (sym (subst (λ f. is_refusal f ≡ true) is before)))
+unread_later (Err told) NoRoom P is = λ before. absurd (true≢false (sym (subst (λ f. is_refusal f ≡ true) is before)))
 
 -- and so is refused memory or output
 pub five_later : {A : Type 0} (r : Result A Failure) (failure : Failure) (P : Failure → Type 0) → IsErrAnd r (λ told. told ≡ failure) → status_of failure ≡ 5 → BeforeText r P
 five_later (Ok a) failure P is five = tt
 five_later (Err told) failure P is five = λ before.
-    absurd (true≢false (sym before ∙ ap is_before_output is ∙ ap (λ n. (n == 2) || (n == 3)) five))
+    absurd (true≢false (sym before ∙ ap is_refusal is ∙ ap (λ n. (n == 2) || (n == 3)) five))
 
 -- the same of the text of its counts
 pub head_cause : (bytes : List ℕ) (fault : ToolFault) → ((f : FontFault) → fault ≡ Font f → head_fault_of bytes ≡ Some f)
-    → ((f : RunFault) → fault ≢ Run f) → is_before_output (Tool fault) ≡ true → IsRefusedHead (Some bytes) (Tool fault)
+    → ((f : RunFault) → fault ≢ Run f) → is_refusal (Tool fault) ≡ true → IsRefusedHead (Some bytes) (Tool fault)
 head_cause bytes (Font f) has none before = has f refl
 head_cause bytes (Run f) has none before = absurd (none f refl)
 head_cause bytes OutOfMemory has none before = absurd (true≢false (sym before))

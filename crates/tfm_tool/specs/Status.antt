@@ -39,11 +39,12 @@ abbrev pub failure_of : ReadFault → Failure
 failure_of Unread = NotRead
 failure_of NoRoom = Tool OutOfMemory
 
--- whether a failure is a refusal: of the command line or of a font
-abbrev pub is_before_output : Failure → Bool
-is_before_output failure = (status_of failure == 2) || (status_of failure == 3)
+-- whether a failure is a refusal, with status 2 or 3: of the words or of a font
+abbrev pub is_refusal : Failure → Bool
+is_refusal failure = (status_of failure == 2) || (status_of failure == 3)
 
--- whether a font was not read, or a file not opened, so that there was no run
+-- whether a font of a request or of a job was not read, or a file not opened, so that nothing was done; a font of `check`
+-- that was not read has its own line in place of this
 abbrev pub is_unread : Failure → Bool
 is_unread NotRead = true
 is_unread (FontNotRead _) = true
@@ -52,7 +53,7 @@ is_unread _ = false
 
 -- whether a failure comes with nothing written before it
 abbrev pub is_without_text : Failure → Bool
-is_without_text failure = is_before_output failure || is_unread failure
+is_without_text failure = is_refusal failure || is_unread failure
 
 -- whether a failure comes after the whole text was written: some file or font was not read
 abbrev pub is_after_text : Failure → Bool
@@ -64,6 +65,6 @@ is_after_text _ = false
 abbrev pub AfterText : Result ℕ Failure → (ℕ → Type 0) → Type 0
 AfterText result P = MatchResult result P (λ failure. is_after_text failure ≡ true → P (status_of failure))
 
--- what holds of a failure with status 2 or 3
+-- what holds of a failure that is a refusal
 abbrev pub BeforeText : {A : Type 0} → Result A Failure → (Failure → Type 0) → Type 0
-BeforeText result P = IfErr result (λ failure. is_before_output failure ≡ true → P failure)
+BeforeText result P = IfErr result (λ failure. is_refusal failure ≡ true → P failure)

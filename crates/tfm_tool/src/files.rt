@@ -5,7 +5,7 @@ ghost use Rattle.std.specs.List.{AllZip};
 ghost use Rattle.tfm_tool.specs.Jobs.{IsOpenedWith};
 ghost use Rattle.tfm_tool.specs.Kept.{HaveSameFont, kept_of};
 ghost use Rattle.tfm_tool.specs.Named.{file_bytes_of, font_bytes_of};
-ghost use Rattle.tfm_tool.specs.Status.{is_after_text, is_before_output};
+ghost use Rattle.tfm_tool.specs.Status.{is_after_text, is_refusal};
 ghost use Rattle.tfm_tool.specs.Told.{AreSourcesOf, IsSourceOf, all_told_by, told_by};
 
 use crate::exit::Failure;
@@ -121,7 +121,7 @@ fn open_file<F: Opens>(
         (told_by ⟦<ReaderSource<F::File> as LineSource>⟧.to_come
         ⟦<ReaderSource<F::File> as LineSource>⟧.failed source)) }
     ensures fault { IfErr result (λ failure. is_after_text failure ≡ false) }
-    ensures later { IfErr result (λ failure. is_before_output failure ≡ false) }
+    ensures later { IfErr result (λ failure. is_refusal failure ≡ false) }
 {
     match opened(files, name) {
         Ok(file) => Ok(ReaderSource::new(alloc, file)),
@@ -140,7 +140,7 @@ pub(crate) fn open_files<F: Opens>(
         (all_told_by ⟦<ReaderSource<F::File> as LineSource>⟧.to_come
         ⟦<ReaderSource<F::File> as LineSource>⟧.failed sources.items)) }
     ensures fault { IfErr result (λ failure. is_after_text failure ≡ false) }
-    ensures later { IfErr result (λ failure. is_before_output failure ≡ false) }
+    ensures later { IfErr result (λ failure. is_refusal failure ≡ false) }
 {
     let mut sources = Vec::new(alloc);
     for name in names {
@@ -162,7 +162,7 @@ pub(crate) fn open_each<F: Opens>(
         (told_by ⟦<ReaderSource<F::File> as LineSource>⟧.to_come
         ⟦<ReaderSource<F::File> as LineSource>⟧.failed)) jobs.entry.items sources.items) }
     ensures fault { IfErr result (λ failure. is_after_text failure ≡ false) }
-    ensures later { IfErr result (λ failure. is_before_output failure ≡ false) }
+    ensures later { IfErr result (λ failure. is_refusal failure ≡ false) }
 {
     let mut sources = Vec::new(alloc);
     for (name, terms) in jobs {

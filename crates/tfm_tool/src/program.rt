@@ -1,4 +1,4 @@
-ghost use Rattle.std.specs.Prelude.{◌≡◌, ◌≢◌, ◌⊎◌, ◌<◌, ℕ, true, List, [], ◌∷◌, codes, map, Contains, Option, Some, None, Err, IfErr, IfOk, OnOk};
+ghost use Rattle.std.specs.Prelude.{◌≡◌, ◌≢◌, ◌⊎◌, ◌<◌, ℕ, true, List, [], ◌∷◌, codes, map, Contains, Option, Some, None, Err, IfErr, IfOk, IfSome, OnOk};
 ghost use Rattle.std.specs.Io.KnownBytes.{Appends, Keeps};
 ghost use Rattle.std.specs.IoError.{error_kind};
 ghost use Rattle.clap.specs.Words.{kind_of};
@@ -7,12 +7,13 @@ ghost use Rattle.tfm_tables.specs.Acceptance.{font_fault_of};
 ghost use Rattle.tfm_tables.specs.Font.{FontValue, IsFontOf};
 ghost use Rattle.tfm_tables.specs.declared.fault.FontFault.{FontFault};
 ghost use Rattle.tfm_tool.specs.Faults.{IsCauseOf, IsFaultOf, IsRefused, IsWithoutInput};
+ghost use Rattle.tfm_tool.specs.FailureTexts.{failure_text};
 ghost use Rattle.tfm_tool.specs.FontFaults.{IsRefusedFont, IsRefusedHead};
 ghost use Rattle.tfm_tool.specs.Named.{font_bytes_of};
 ghost use Rattle.tfm_tool.specs.Requests.{CountsAreTold, IsDone, IsListed, list_text_of};
 ghost use Rattle.tfm_tool.specs.Served.{IsServed, IsTurnedDown, IsTurnedDownBy, is_answer, is_usage};
 ghost use Rattle.tfm_tool.specs.declared.exit.Failure.TheVariants.{Usage};
-ghost use Rattle.tfm_tool.specs.Status.{AfterText, BeforeText, is_before_output, is_without_text, status_of};
+ghost use Rattle.tfm_tool.specs.Status.{AfterText, BeforeText, is_refusal, is_without_text, status_of};
 
 use crate::checking::check;
 use crate::each::set_jobs;
@@ -88,7 +89,7 @@ where
     ensures served { IfOk result (IsServed (map S.text words.now) (I.remaining input.old)
         (O.contents out.old) (O.contents out.new)) }
     ensures status { IfOk result (λ status. Contains (0 ∷ 1 ∷ []) status) }
-    ensures untouched { IfErr result (λ failure. is_before_output failure ≡ true → out.new ≡ out.old) }
+    ensures untouched { IfErr result (λ failure. is_refusal failure ≡ true → out.new ≡ out.old) }
     ensures cause { BeforeText result (IsTurnedDownBy (map S.text words.now) (I.remaining input.old)) }
 {
     match requested(rt.alloc(), words) {
@@ -210,7 +211,7 @@ fn list_bytes<O: Write>(
 /// Help and the version are an answer; any other error is why there is none.
 fn show<O: Write>(error: clap::Error, out: &mut O) -> Result<(), Failure>
     ensures answer { OnOk result (is_answer (kind_of error) ≡ true) }
-    ensures untouched { IfErr result (λ failure. is_before_output failure ≡ true → out.new ≡ out.old) }
+    ensures untouched { IfErr result (λ failure. is_refusal failure ≡ true → out.new ≡ out.old) }
     ensures cause { BeforeText result (λ failure. (is_usage (kind_of error) ≡ true) × (failure ≡ Usage error)) }
 {
     match error.kind() {
@@ -226,7 +227,15 @@ fn show<O: Write>(error: clap::Error, out: &mut O) -> Result<(), Failure>
 fn fail<E: Write>(failure: Failure, err: &mut E) -> u8
     ensures { result ≡ status_of failure }
 {
-    let _ = write!(err, "{failure}");
+    let _ = say(&failure, err);
     let _ = err.flush();
     failure.status()
+}
+
+/// Says why: the line of the failure.
+fn say<E: Write>(failure: &Failure, err: &mut E) -> io::Result<()>
+    ensures { IfSome (failure_text failure.now)
+        (λ text. OnOk result (Appends (E.contents err.old) (E.contents err.new) text)) }
+{
+    write!(err, "{failure}")
 }

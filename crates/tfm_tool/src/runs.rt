@@ -12,7 +12,7 @@ ghost use Rattle.tfm_tool.specs.Requests.{IsSet, IsSetAsItComes, IsSetFrom};
 ghost use Rattle.tfm_tool.specs.Runs.{IsPrinted, IsPrintedAsItComes};
 ghost use Rattle.tfm_tool.specs.Told.{AreSourcesOf, all_told_by};
 ghost use Rattle.tfm_tool.specs.declared.exit.Failure.TheVariants.{FontAndText, TooManyFiles, Tool};
-ghost use Rattle.tfm_tool.specs.Status.{AfterText, BeforeText, is_after_text, is_before_output, is_unread, is_without_text, status_of};
+ghost use Rattle.tfm_tool.specs.Status.{AfterText, BeforeText, is_after_text, is_refusal, is_unread, is_without_text, status_of};
 ghost use Rattle.run_texts.specs.Endings.{summary_status};
 
 use crate::Opens;
@@ -195,7 +195,7 @@ fn input_source<'a, I: Read>(
         ⟦<ReaderSource<&'a mut I> as LineSource>⟧.failed sources.items)) }
     ensures fault { IfErr result (λ failure. is_after_text failure ≡ false) }
     ensures few { IfOk result (λ sources. length sources.items ≤ 64) }
-    ensures status { IfErr result (λ failure. is_before_output failure ≡ false) }
+    ensures status { IfErr result (λ failure. is_refusal failure ≡ false) }
 {
     let mut sources = Vec::new(alloc);
     sources
@@ -281,7 +281,7 @@ pub(crate) fn finish<O: Write>(summary: &Summary, out: &mut O) -> Result<u8, Fai
     ensures status { IfOk result (λ status. Contains (0 ∷ 1 ∷ []) status) }
     ensures worst { AfterText result (λ status. status ≡ summary_status summary.now) }
     ensures kept { Keeps (O.contents out.old) (O.contents out.new) }
-    ensures told { IfErr result (λ failure. is_before_output failure ≡ false) }
+    ensures told { IfErr result (λ failure. is_refusal failure ≡ false) }
     ensures written { IfErr result (λ failure. is_unread failure ≡ false) }
     ensures status_told { IfErr result (λ failure. (failure ≡ Tool ToolFault.Write)
         ⊎ (status_of failure ≡ summary_status summary.now)) }

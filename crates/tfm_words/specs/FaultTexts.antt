@@ -1,4 +1,4 @@
--- The words for counts, tables and what is wrong with the counts of a file.
+-- The words for counts, tables and what is wrong with the counts of a file, or with its design size.
 -- Public source: the names of counts and tables are those of tftopl.web, sections 8 and 9; the rest is this project's
 -- own.
 use Rattle.std.specs.Prelude.{ℕ, List, ◌++◌, codes, decimal}
@@ -6,6 +6,8 @@ use Rattle.tfm_words.specs.declared.count.Count.{Count}
 use Rattle.tfm_words.specs.declared.count.Count.TheVariants.{Lf, Lh, Bc, Ec, Nw, Nh, Nd, Ni, Nl, Nk, Ne, Np}
 use Rattle.tfm_words.specs.declared.count_fault.CountFault.{CountFault}
 use Rattle.tfm_words.specs.declared.count_fault.CountFault.TheVariants.{Truncated, CountRange, CharRange, HeaderShort, EmptyTable, TooManyRecipes, LengthEquation}
+use Rattle.tfm_words.specs.declared.design.DesignFault.{DesignFault}
+use Rattle.tfm_words.specs.declared.design.DesignFault.TheVariants.{DesignSize}
 use Rattle.tfm_words.specs.declared.table.Table.{Table}
 use Rattle.tfm_words.specs.declared.table.Table.TheVariants.{Header, CharInfo, Width, Height, Depth, Italic, LigKern, Kern, Exten, Param}
 
@@ -46,3 +48,7 @@ count_fault_text HeaderShort = codes "header too short"
 count_fault_text (EmptyTable table) = codes "table " ++ table_name table ++ codes " is empty"
 count_fault_text TooManyRecipes = codes "more than 256 recipes"
 count_fault_text LengthEquation = codes "length equation"
+
+-- what is wrong with the design size
+unfoldable pub design_fault_text : DesignFault → List ℕ
+design_fault_text DesignSize = codes "design size"

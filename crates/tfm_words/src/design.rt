@@ -1,6 +1,7 @@
-ghost use Rattle.std.specs.Prelude.{◌≡◌, Some, codes};
+ghost use Rattle.std.specs.Prelude.{◌≡◌, Some};
 ghost use Rattle.tfm_words.specs.Counts.{AreCountsOf};
 ghost use Rattle.tfm_words.specs.DesignSize.{design_size_of};
+ghost use Rattle.tfm_words.specs.FaultTexts.{design_fault_text};
 
 use crate::{Counts, FixWord, Size, word_at};
 use std::error::Error;
@@ -17,10 +18,13 @@ pub enum DesignFault {
 }
 
 impl fmt::Display for DesignFault {
-    ghost output = { λ _. Some (codes "design size") };
+    ghost output = { λ fault. Some (design_fault_text fault) };
 
+    #[tactic(auto, unfolding(crate::specs::FaultTexts::design_fault_text))]
     fn fmt<W: fmt::Write>(&self, f: &mut fmt::Formatter<W>) -> fmt::Result {
-        f.write_str("design size")
+        match self {
+            DesignFault::DesignSize => f.write_str("design size"),
+        }
     }
 }
 

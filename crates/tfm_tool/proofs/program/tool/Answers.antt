@@ -1,5 +1,5 @@
 use Rattle.std.proofs.Common.{◌≡◌, true}
-use Rattle.tfm_tool.specs.Status.{is_before_output}
+use Rattle.tfm_tool.specs.Status.{is_refusal}
 use Rattle.tfm_tool.specs.declared.exit.Failure.{Failure}
 use Rattle.tfm_tool.proofs.CauseLemmas.{before_at, before_of}
 use Rattle.tfm_tool.proofs.StatusLemmas.{no_fault_below, status_listed}
@@ -14,5 +14,5 @@ returns-in-Err-default-clause-silent g c = λ below. absurd (no_fault_below _ _ 
 pub returns-in-Err-default-clause-cause : goal.returns-in-Err-default-clause-cause
 returns-in-Err-default-clause-cause g c = λ which.
     let failure : Failure = c.in-Err-default.failure in
-    let before : is_before_output failure ≡ true = before_of c.fail-in-Err-default.result failure c.fail-in-Err-default.ensures which in
+    let before : is_refusal failure ≡ true = before_of c.fail-in-Err-default.result failure c.fail-in-Err-default.ensures which in
     (failure, before_at c.answer-answered.result failure _ c.in-Err-default.is-0 c.answer-answered.ensures.cause before, c.fail-in-Err-default.ensures)
