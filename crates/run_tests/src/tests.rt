@@ -1,3 +1,4 @@
+mod callers;
 mod collectors;
 mod entries;
 mod failing;
