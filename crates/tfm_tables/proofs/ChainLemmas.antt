@@ -1,4 +1,5 @@
--- A chain is walked an instruction at a time, and what is found so far comes before what is left to find.
+-- A chain is followed one instruction at a time, and an address that was found before has priority over one
+-- that is found in the rest of the chain.
 use Rattle.std.proofs.Common.{◌≡◌, ℕ, zero, suc, ◌+◌, ◌<◌, ◌≤◌, ◌==◌, ◌&&◌, true, false, cond, List, [], ◌∷◌, length, Option, Some, None, arith, refl, sym}
 use Rattle.std.specs.Prelude.{nat_le, if◌then◌else◌}
 use Rattle.std.specs.List.{slice_get, find}
@@ -8,12 +9,12 @@ use Rattle.std.proofs.lemmas.Bool.{le-leb, lt-leb}
 use Rattle.tfm_tables.specs.declared.step.Step.{Step}
 use Rattle.tfm_tables.specs.Program.{chain_within, chain_from, serves, address_of}
 
--- an address past the program ends a chain
+-- a chain ends at an address without an instruction
 chain_past : (n : ℕ) (program : List Step) (address : ℕ) → slice_get program address ≡ None → chain_within n program address ≡ []
 chain_past zero program address past = refl
 chain_past (suc n) program address past = rw past refl
 
--- a limit that no chain reaches doesn't matter: addresses rise
+-- a limit that the chain can't reach makes no difference, since addresses increase
 chain_enough : (n m : ℕ) (program : List Step) (address : ℕ)
     → length program ≤ n + address → length program ≤ m + address → chain_within n program address ≡ chain_within m program address
 chain_enough zero zero program address enough enough' = refl
@@ -27,18 +28,18 @@ chain_enough (suc n) (suc m) program address enough enough' =
       | Some step ↦ rw (chain_enough n m program (address + step.skip + 1) (omega arith) (omega arith)) refl
     ]
 
--- one step of a chain
+-- the first instruction of a chain, and the rest of the chain
 chain_step : (n : ℕ) (program : List Step) (address : ℕ) (step : Step) → length program ≤ n + address → slice_get program address ≡ Some step
     → chain_within n program address ≡ address ∷ (if nat_le 128 step.skip then [] else chain_within n program (address + step.skip + 1))
 chain_step zero program address step enough here = absurd (omega (arith, slice_get_within program address step here))
 chain_step (suc n) program address step enough here =
     rw here (rw (chain_enough n (suc n) program (address + step.skip + 1) (omega arith) (omega arith)) refl)
 
--- the address of an instruction that serves a code
+-- the address of an instruction if it matches a code; otherwise none
 abbrev pub served_by : Step → ℕ → ℕ → Option ℕ
 served_by step code address = if nat_le step.skip 128 && (step.next == code) then Some address else None
 
--- if the chain ends, nothing serves
+-- no code has a match in a chain that begins at an address without an instruction
 address_past : (program : List Step) (address code : ℕ) → slice_get program address ≡ None → address_of program address code ≡ None
 unfolding address_of chain_from
 address_past program address code past = rw (chain_past (length program) program address past) refl
@@ -60,7 +61,10 @@ address_step program address code step here =
           [ true ↦ refl | false ↦ refl ]
     ]))
 
--- ---- what a walk keeps: the mark of a code, or what the rest of the chain has for it, is what the whole chain has
+-- ---- the invariant of a walk
+
+-- the address recorded for a code, or otherwise the match in the rest of the chain, is the match in the
+-- whole chain
 
 pub walk_past : (mark : Option ℕ) (program : List Step) (address code : ℕ) → slice_get program address ≡ None
     → option_or mark (address_of program address code) ≡ mark

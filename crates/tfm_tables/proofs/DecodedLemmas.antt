@@ -1,4 +1,5 @@
--- A decoded list grows by one entry at a time, and each entry is the function's value there.
+-- A decoded list grows by one entry at a time, and each entry is the value of the decoding function at its
+-- index.
 use Rattle.std.proofs.Common.{◌≡◌, ℕ, ℤ, pos, ◌+◌, ◌<◌, ◌≤◌, ◌^◌, Bool, true, false, ◌&&◌, if◌then◌else◌, nat_lt, nat_le, List, [], ◌∷◌, ◌++◌, length, length-append, map, get_or, ap, ◌∙◌, arith, refl, sym, subst}
 use Rattle.std.specs.Prelude.{Ok, Option, Some, None}
 use Rattle.std.proofs.Math.ListN.{set}
@@ -29,10 +30,10 @@ use Rattle.tfm_tables.specs.Inside.{IsDecoded}
 
 pub ruleset grown = (map-range_with_len_more)
 
--- the same for signed entries, which a push has cast to bits and back
+-- the same for signed entries, which a push converts to bits and back
 pub ruleset grown_signed = (map-range_with_len_more, to_z-of_z)
 
--- an entry of such a list
+-- an entry of a decoded list
 pub entry_of_map : {X : Type 0} (f : ℕ → X) (n i : ℕ) (d : X) → i < n → get_or (map f (range_with_len 0 n)) i d ≡ f i
 entry_of_map f n i d h = get_or-map-range_with_len f 0 n i i d h (omega arith)
 
@@ -41,7 +42,7 @@ entry_of_map_from_1 f n i j d h e = get_or-map-range_with_len f 1 n i j d h (ome
 
 pub ruleset entries = (entry_of_map, entry_of_map_from_1, length-map-range_with_len)
 
--- the same for what is kept of a code
+-- an entry of the list of decoded characters
 pub entry_of_characters : (words : List ℕ) (size code : ℕ) (d : Character) → code < 256 → get_or (characters_of words size) code d ≡ character_of words size code
 unfolding characters_of
 entry_of_characters words size code d h = entry_of_map (character_of words size) 256 code d h
@@ -54,7 +55,7 @@ pub ruleset characters = (entry_of_characters, length-characters_of)
 
 -- ---- widths
 
--- one width more
+-- the list of widths, after one more width
 pub widths_more : (words : List ℕ) (size : ℕ) (characters : List Character) (widths : List ℤ) (at : ℕ) (width : ℤ) (d : Character)
     → characters ≡ characters_of words size → at < length widths → at < 256 → width ≡ width_in (get_or characters at d).metrics
     → ((code : ℕ) → code < at → get_or widths code (pos 0) ≡ character_width_of words size code)
@@ -65,7 +66,7 @@ widths_more words size characters widths at width d is long small here before =
     (λ code below. get_or-set_other widths at code width (pos 0) (λ same. absurd (omega arith)) ∙ before code below)
     (get_or-set_same widths at width (pos 0) long ∙ here ∙ ap width_in (ap (λ character. character.metrics) (ap (λ all. get_or all at d) is ∙ entry_of_characters words size at d small)))
 
--- ---- parameters that aren't there
+-- ---- numbers without a parameter
 
 pub parameter_zero : (words : List ℕ) (size : ℕ) → parameter_of words size 0 ≡ pos 0
 unfolding parameter_of
@@ -88,7 +89,7 @@ pub ruleset parameters = (entry_of_map_from_1, length-map-range_with_len, parame
 length-front : (words : List ℕ) (size : ℕ) → length (map (λ (character : Character). character.start) (characters_of words size)) ≡ 256
 length-front words size = length-map (characters_of words size) (λ (character : Character). character.start) ∙ length-characters_of words size
 
--- the start of a code stands at its place among the starts
+-- the entry of a code among the starting addresses is the starting address of that code
 pub start_of_code : (words : List ℕ) (size code : ℕ) → code < 256
     → slice_get (starts_of (characters_of words size) (start_of words Boundary)) code ≡ Some (start_of words (Char code))
 unfolding starts_of character_of
@@ -100,7 +101,7 @@ start_of_code words size code h =
     ∙ (get_or-map (λ (character : Character). character.start) (characters_of words size) code (character_of words size code) None (omega (arith, length-characters_of words size))
     ∙ ap (λ (character : Character). character.start) (entry_of_characters words size code (character_of words size code) h)))
 
--- and the boundary's after them
+-- entry 256 of the starting addresses is that of the left boundary
 pub start_of_boundary : (words : List ℕ) (size : ℕ)
     → slice_get (starts_of (characters_of words size) (start_of words Boundary)) 256 ≡ Some (start_of words Boundary)
 unfolding starts_of
@@ -129,7 +130,7 @@ pub ruleset sized = (few_steps, length-characters_of)
 
 -- ---- a font from its parts
 
--- what is decoded of words is decoded of a font's own copy of them
+-- data that was decoded from words is the decoded data of the font's own copy of these words
 pub decoded_of : (f : Inside) (words : List ℕ) → f.words.items ≡ words → AreCountsOf words f.counts → HasSoundTables words
     → design_size_of words ≡ Ok f.design → f.right ≡ right_code_of (program_of words) → f.left ≡ start_of words Boundary
     → f.characters.items ≡ characters_of words f.size → AreWidthsOf words f.size f.widths → f.program.items ≡ program_of words → f.kerns.items ≡ kerns_of words f.size
@@ -162,7 +163,7 @@ decoded_of f words own counts sound design right left characters widths program 
       pairs = subst paired back pairs;
     }
 
--- ---- finding
+-- ---- lookups in the table of pairs
 
 pub side_within : (f : Inside) → IsDecoded f → (side : ℕ) → side ≤ 256 → side < length (starts_of f.characters.items f.left)
 side_within f decoded side h =

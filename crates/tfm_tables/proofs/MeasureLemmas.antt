@@ -1,4 +1,4 @@
--- A measure whose first byte is 0 or 255 can be scaled, and what can be scaled has an amount.
+-- A word whose first byte is 0 or 255 can be scaled, and an entry that can be scaled has a scaled value.
 use Rattle.std.proofs.Common.{◌≡◌, ℕ, zero, suc, ◌-◌, ◌*◌, ◌^◌, ◌<◌, ◌≤◌, ◌==◌, ◌||◌, Bool, true, false, List, [], ◌∷◌, take, drop, Some, w32, arith, refl, sym, subst}
 use Rattle.std.specs.Prelude.{slice_index}
 use Rattle.std.specs.Int.{cast_signed}
@@ -13,11 +13,11 @@ use Rattle.tfm_tables.specs.Measure.{measure_at, measure_of, scaled_entry}
 use Rattle.tfm_tables.specs.Sound.{IsScalableEntry}
 use Rattle.tfm_tables.specs.Acceptance.{is_measure}
 
--- every byte of a list is one
+-- every number in a list is a byte: it is below 256
 abbrev pub AreBytes : List ℕ → Type 0
 AreBytes xs = (k : ℕ) → slice_index xs k < 256
 
--- so are those of a part
+-- the first n elements of a list of bytes are bytes
 pub bytes-take : (n : ℕ) (xs : List ℕ) → AreBytes xs → AreBytes (take n xs)
 bytes-take zero xs are k = omega arith
 bytes-take (suc n) [] are k = omega arith
@@ -33,7 +33,7 @@ pub bytes-entry_at : (words : List ℕ) (table : Table) (i : ℕ) → AreBytes w
 unfolding entry_at table_of
 bytes-entry_at words table i are = bytes-take 4 _ (bytes-drop (4 * i) _ (bytes-take _ _ (bytes-drop _ words are)))
 
--- the number of a word whose first byte is 0, and of one whose first byte is 255
+-- the number in a word whose first byte is 0 can be scaled, and so can that in a word whose first byte is 255
 low_number : (n : ℕ) → n < 2 ^ 24 → is_scalable (cast_signed w32 n) ≡ true
 low_number n small = rw (to_z_pos w32 n (omega arith)) (lt-ltb n (2 ^ 24) small)
 
@@ -43,7 +43,7 @@ high_number n large small =
     let of_number : ℕ → Type 0 = λ m. is_scalable (cast_signed w32 m) ≡ true in
     subst of_number (sym is) (rw (to_z-neg w32 (2 ^ 32 - suc n) (omega arith)) (lt-ltb (2 ^ 32 - suc n) (2 ^ 24) (omega arith)))
 
--- a word of bytes, of which the first is 0 or 255
+-- a word of bytes that is a valid dimension can be scaled
 pub scalable_word : (word : List ℕ) → AreBytes word → is_measure word ≡ true → is_scalable (value_of word) ≡ true
 unfolding is_measure
 scalable_word word are is = by (slice_index word 0 == 0) refl is
@@ -52,7 +52,7 @@ scalable_word word are is = by (slice_index word 0 == 0) refl is
     by true zero_is e = let zeroth : slice_index word 0 ≡ 0 = grind (arith, zero_is) in low_number (unsigned_of word) (omega (arith, zeroth, are 1, are 2, are 3))
     by false other e = let last : slice_index word 0 ≡ 255 = grind (arith, e) in high_number (unsigned_of word) (omega (arith, last, are 1, are 2, are 3)) (omega (arith, last, are 1, are 2, are 3))
 
--- what can be scaled has an amount
+-- an entry that can be scaled has a scaled value
 pub entry_scaled : (words : List ℕ) (size : ℕ) (table : Table) (i : ℕ) → IsScalableEntry words table i → scaled_entry words size table i ≡ Some (measure_at words size table i)
 unfolding measure_of
 entry_scaled words size table i can = rw can refl

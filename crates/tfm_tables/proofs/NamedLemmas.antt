@@ -1,4 +1,4 @@
--- Every fault in the table of faults is one of the file: none says that memory was refused.
+-- Every error in the rows for a font is an error of the file: none is the error that an allocation failed.
 use Rattle.std.proofs.Common.{◌≡◌, ◌≢◌, ◌-◌, ℕ, Bool, true, false, List, [], ◌∷◌, ◌++◌, flat_map, Some, None, Ok, arith, refl, if◌then◌else◌, ap, sym, ◌∙◌}
 use Rattle.std.specs.List.{range_with_len}
 use Rattle.tfm_words.specs.declared.table.Table.{Table}
@@ -13,7 +13,7 @@ use Rattle.tfm_tables.specs.Program.{step_at}
 use Rattle.tfm_tables.specs.Acceptance.{after_counts, after_design, all_measure_faults, codes_of, first_entry_faults, font_fault_of, index_faults, instruction_faults, measure_faults, parameter_faults, plain_faults, restart_faults, start_faults, table_fault_of, table_faults, table_measure_faults, words_of}
 use Rattle.tfm_tables.specs.Font.{IsRefusalOf}
 
--- of these rows the first fault doesn't say that memory was refused
+-- the first error of these rows isn't the error that an allocation failed
 AreNamed : List (Bool × FontFault) → Type 0
 AreNamed rows = (fault : FontFault) → first_fault rows ≡ Some fault → fault ≢ OutOfMemory
 
@@ -90,12 +90,12 @@ tables words =
     both _ _ (both _ _ (both _ _ (both _ _ (every (index_faults words) (indices words) (codes_of words)) (every (start_faults words) (starts words) (codes_of words)))
     (first_entries words)) (all_measures words)) (every (instruction_faults words) (instructions words) (range_with_len 0 (entries_of words LigKern)))
 
--- the fault of a font's tables doesn't say that memory was refused
+-- the first error in the tables of a font isn't the error that an allocation failed
 pub named : (words : List ℕ) (fault : FontFault) → table_fault_of words ≡ Some fault → fault ≢ OutOfMemory
 unfolding AreNamed
 named words fault found = tables words fault found
 
--- a fault that doesn't say so is the refusal of the bytes that have it
+-- a first font error that isn't a failed allocation is a possible error of reading the bytes that have it
 pub refusal : (bytes : List ℕ) (fault : FontFault) → fault ≢ OutOfMemory → font_fault_of bytes ≡ Some fault → IsRefusalOf bytes fault
 refusal bytes (Counts fault) other is = is
 refusal bytes (Design fault) other is = is
@@ -106,7 +106,7 @@ refusal bytes (FixWordRange table index) other is = is
 refusal bytes (Step index part) other is = is
 refusal bytes OutOfMemory other is = absurd (other refl)
 
--- the first fault of a file whose counts and design size have none is that of its tables
+-- the first font error of a file whose counts and design size have no error is the first error in its tables
 pub fault_of_tables : (bytes : List ℕ) (words : List ℕ) (size : ℕ) (fault : FontFault) → count_fault_of bytes ≡ None → words ≡ words_of bytes
     → design_size_of words ≡ Ok size → table_fault_of words ≡ Some fault → font_fault_of bytes ≡ Some fault
 fault_of_tables bytes words size fault counts same design tables =

@@ -1,4 +1,4 @@
--- The rows of the table of pairs, and what stands in them.
+-- The rows of the table of pairs, and their entries.
 use Rattle.std.proofs.Common.{◌≡◌, ℕ, ◌<◌, ◌≤◌, ◌^◌, ◌==◌, ◌&&◌, true, false, List, length, map, get_or, Option, Some, None, IfSome, arith, rules, refl, ap, sym, subst, ◌∙◌}
 use Rattle.std.specs.Prelude.{nat_le}
 use Rattle.std.specs.List.{range_with_len, slice_get}
@@ -11,11 +11,11 @@ use Rattle.tfm_tables.specs.Program.{address_of, chain_from, serves}
 use Rattle.tfm_tables.specs.Pairs.{entry_for, row_of}
 use Rattle.tfm_tables.proofs.ServingLemmas.{found_passes}
 
--- where a row is for a left side and a code
+-- the address of the match for a starting address and a code
 abbrev pub address_for : List Step → Option ℕ → ℕ → Option ℕ
 address_for program start code = option_and_then (λ at. address_of program at code) start
 
--- a row is known by its entries
+-- a list with the entries of a row is that row
 pub row_is : (program : List Step) (start : Option ℕ) (row : List ℕ) → length row ≡ 256
     → ((code : ℕ) → code < 256 → get_or row code 0 ≡ entry_for (address_for program start code)) → row ≡ row_of program start
 unfolding row_of
@@ -38,7 +38,7 @@ entry_of_table program starts rows side code start d is here small =
     ∙ (ap (λ s. get_or (row_of program s) code 0) (same_Some _ _ (sym (slice_get-get_or starts side start (slice_get_within starts side start here)) ∙ here))
     ∙ entry_of_row program start code small))
 
--- what serves a code is an instruction
+-- an address that matches a code is that of an instruction
 address_within : (program : List Step) (start code address : ℕ) → address_of program start code ≡ Some address → address < length program
 unfolding address_of
 address_within program start code address is =
@@ -49,7 +49,7 @@ address_within program start code address is =
     by None e passes = absurd (search rules)
     by (Some step) e passes = slice_get_within program address step e
 
--- an address below 32,768 isn't taken for none
+-- an entry of 65535 means that there is no address, since addresses are below 32,768
 pub entry_none : (program : List Step) (start : Option ℕ) (code : ℕ) → length program ≤ 2 ^ 15 → entry_for (address_for program start code) ≡ 65535 → address_for program start code ≡ None
 entry_none program None code few none = refl
 entry_none program (Some at) code few none = by (address_of program at code) refl none

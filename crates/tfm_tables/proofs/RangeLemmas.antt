@@ -1,4 +1,4 @@
--- The first fault of the rows of a range of numbers, from the rows of each.
+-- The first error in the rows of a range of numbers, computed from the rows of each number.
 use Rattle.std.proofs.Common.{◌≡◌, ℕ, zero, suc, ◌+◌, ◌<◌, ◌≤◌, Bool, List, Option, Some, None, arith, refl, ap, sym, subst, ◌∙◌, ◌⊎◌, inl, inr}
 use Rattle.std.proofs.lemmas.Bool.{cases_lt}
 use Rattle.std.specs.List.{range_with_len, flat_map}
@@ -39,7 +39,7 @@ fault_in_range rows a (suc n) i f low high before here =
     (λ behind. fault_in_range rows (a + 1) n i f (omega arith) (omega arith) (λ k low' high'. before k (omega arith) high') here)
     (cases_lt a i) low
 
--- ---- from 0, and the sets of lemmas that a loop's exits take
+-- ---- ranges from 0, and the sets of lemmas for the exits of loops
 
 pub none_below : {F : Type 0} (rows : ℕ → List (Bool × F)) (n : ℕ)
     → ((k : ℕ) → k < n → first_fault (rows k) ≡ None) → first_fault (flat_map rows (range_with_len 0 n)) ≡ None

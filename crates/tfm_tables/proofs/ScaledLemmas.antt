@@ -1,4 +1,5 @@
--- In words with sound tables each measure that a font tells is what its entry is scaled to, and no 0 in its place.
+-- In words with sound tables each dimension that a font returns is the scaled value of its entry, and no 0
+-- takes the place of an entry that can't be scaled.
 use Rattle.std.proofs.Common.{◌≡◌, ℕ, ℤ, ◌-◌, ◌<◌, ◌≤◌, ◌==◌, nat_lt, nat_le, Bool, true, false, List, Option, Some, None, IfSome, arith, refl, sym, subst, ap, ◌∙◌, if◌then◌else◌, lt-ltb, le-leb}
 use Rattle.tfm_words.specs.declared.table.Table.TheVariants.{Width, Height, Depth, Italic, Kern, Param}
 use Rattle.tfm_tables.specs.declared.metrics.Metrics.{Metrics}
@@ -17,7 +18,7 @@ kern_scaled words size k amount sound within is = entry_scaled words size Kern k
 
 pub ruleset kern = (kern_scaled)
 
--- the measures of a character
+-- the dimensions of a character
 measures_scaled : (words : List ℕ) (size code : ℕ) → HasSoundTables words → exists words code ≡ true → AreScaled words size code (measures_of words size code)
 measures_scaled words size code sound is =
     let there = sound.indices code (coded_of_exists words code is) in
@@ -36,14 +37,14 @@ metrics_scaled words size code metrics sound is = subst (λ (o : Option Metrics)
     by true there = measures_scaled words size code sound there
     by false there = tt
 
--- its width alone
+-- the width of a character alone
 pub width_scaled : (words : List ℕ) (size code : ℕ) (width : ℤ) → HasSoundTables words → exists words code ≡ true → width ≡ character_width_of words size code
     → scaled_entry words size Width (width_index (char_info_of words code)) ≡ Some width
 width_scaled words size code width sound there is =
     let same : width ≡ (measures_of words size code).width = rw there at is in
     (measures_scaled words size code sound there).width ∙ ap Some (sym same)
 
--- a parameter
+-- a parameter from number 2 upward
 pub parameter_scaled : (words : List ℕ) (size n : ℕ) (amount : ℤ) → HasSoundTables words → 2 ≤ n → n ≤ entries_of words Param → amount ≡ parameter_of words size n
     → scaled_entry words size Param (n - 1) ≡ Some amount
 unfolding parameter_of

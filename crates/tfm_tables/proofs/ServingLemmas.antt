@@ -1,4 +1,4 @@
--- What a search answers is the address of an instruction for the code.
+-- The result of a search is the address of an instruction for the code.
 use Rattle.std.proofs.Common.{◌≡◌, ℕ, ◌<◌, ◌==◌, ◌&&◌, Bool, true, false, cond, List, [], ◌∷◌, Option, Some, None, IfSome, arith, rules, refl}
 use Rattle.std.specs.Prelude.{nat_le}
 use Rattle.std.specs.List.{slice_get, find}
@@ -11,7 +11,7 @@ use Rattle.tfm_tables.specs.declared.left_side.LeftSide.{LeftSide}
 use Rattle.tfm_tables.specs.Program.{IsServing, program_of, step_at, start_of, chain_from, serves, address_of, address_between}
 use Rattle.tfm_tables.proofs.ProgramLemmas.{length-program_of, program_of-get}
 
--- what is found passes the test
+-- an element that `find` returns passes the test
 pub found_passes : {X : Type 0} (p : X → Bool) (xs : List X) → IfSome (find p xs) (λ x. p x ≡ true)
 found_passes p [] = tt
 found_passes {X} p (x ∷ xs) = by (p x) refl (found_passes p xs)
@@ -20,7 +20,7 @@ found_passes {X} p (x ∷ xs) = by (p x) refl (found_passes p xs)
     by true passes rest = passes
     by false fails rest = rest
 
--- an address that serves a code is that of an instruction
+-- an address that matches a code is that of an instruction for this code
 serving_at : (words : List ℕ) (code address : ℕ) (here : Option Step) → slice_get (program_of words) address ≡ here
     → option_map_or (λ step. nat_le step.skip 128 && (step.next == code)) here false ≡ true → IsServing words code address
 serving_at words code address None e passes = absurd (search rules)
@@ -41,7 +41,7 @@ serving_of words code start = by (find (serves (program_of words) code) (chain_f
     by None passes = tt
     by (Some address) passes = serving_at words code address (slice_get (program_of words) address) refl passes
 
--- what a search between a left side and a code answers
+-- the result of a search for a left side and a code
 pub serving_between : (words : List ℕ) (left : LeftSide) (code : ℕ) → IfSome (address_between words left code) (IsServing words code)
 unfolding address_between
 serving_between words left code = by (start_of words left)

@@ -1,4 +1,4 @@
--- Where none of the faults of a font's tables holds, the tables are sound.
+-- If the tables of a font have no error, they are sound.
 use Rattle.std.proofs.Common.{◌≡◌, ℕ, zero, suc, ◌+◌, ◌-◌, ◌⊎◌, inl, inr, subst, if◌then◌else◌, ◌<◌, ◌≤◌, Bool, true, false, not, ◌||◌, ◌&&◌, nat_lt, nat_le, ◌==◌, List, ◌++◌, Option, Some, None, arith, refl, sym, ◌∙◌, eq-eqb}
 use Rattle.std.proofs.lemmas.Bool.{cases_lt, ltb-true, ltb-false, leb-true, leb-false, lt-ltb, le-leb}
 use Rattle.std.specs.List.{range_with_len, flat_map}
@@ -35,7 +35,7 @@ not_false : (b : Bool) → not b ≡ false → b ≡ true
 not_false true e = refl
 not_false false e = let bad : true ≡ false = e in cc
 
--- ---- no fault in a list is no fault in its parts
+-- ---- a list of rows without an error has parts without an error
 
 none_of_front : {T : Type 0} (a b : Option T) → option_or a b ≡ None → a ≡ None
 none_of_front None b e = refl
@@ -93,7 +93,7 @@ row_of_code words rows e code is =
     let high = coded_high words code is in
     each_none rows (counts_of words).bc (entries_of words CharInfo) e code low (omega arith)
 
--- ---- what each kind of row says if it doesn't hold
+-- ---- the property that follows where the condition of each kind of row doesn't hold
 
 sound_indices : (words : List ℕ) (code : ℕ) → first_fault (index_faults words code) ≡ None → HasSoundIndices words code
 unfolding index_faults
@@ -141,7 +141,7 @@ sound_by_skip words i step false below e =
 sound_step : (words : List ℕ) (i : ℕ) (step : Step) → first_fault (step_faults words i step) ≡ None → IsSoundStep words i step
 sound_step words i step e = sound_by_skip words i step (nat_lt 128 step.skip) refl e
 
--- ---- measures
+-- ---- dimensions
 
 scalable_of : (words : List ℕ) (table : Table) (i : ℕ) → AreBytes words → not (is_measure (entry_at words table i)) ≡ false → IsScalableEntry words table i
 scalable_of words table i bytes passed =

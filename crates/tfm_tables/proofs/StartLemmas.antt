@@ -1,4 +1,4 @@
--- A program that a font names begins at an instruction.
+-- In a font with sound tables, every starting address is that of an instruction.
 use Rattle.std.proofs.Common.{◌≡◌, ℕ, zero, suc, ◌&&◌, ◌-◌, ◌<◌, ◌==◌, Bool, true, false, List, length, Option, Some, None, IfSome, arith, refl, sym, ap, subst, if◌then◌else◌}
 use Rattle.std.specs.Prelude.{nat_lt}
 use Rattle.std.specs.List.{slice_get}
@@ -15,14 +15,14 @@ use Rattle.tfm_tables.specs.Program.{begin_at, left_start_of, program_of, start_
 use Rattle.tfm_tables.specs.Sound.{HasSoundTables}
 use Rattle.tfm_tables.proofs.ProgramLemmas.{length-program_of, program_of-get}
 
--- where an instruction that only points elsewhere points
+-- the target of an instruction with a skip above 128 is the address of an instruction
 target_within : (words : List ℕ) (i : ℕ) (step : Step) → HasSoundTables words → i < entries_of words LigKern → step ≡ step_at words i
     → 128 < step.skip → target_of step < entries_of words LigKern
 target_within words i step sound within is above =
     let same : target_of (step_at words i) ≡ target_of step = ap target_of (sym is) in
     omega (arith, (sound.steps i within).restart (subst (λ (s : Step). 128 < s.skip) is above), same)
 
--- a program that is said to begin at an instruction
+-- the starting address that `begin_at` computes from the address of an instruction
 by_step : (words : List ℕ) (first : ℕ) (step : Step) (b : Bool) → HasSoundTables words → first < entries_of words LigKern → step ≡ step_at words first
     → nat_lt 128 step.skip ≡ b → (if b then target_of step else first) < entries_of words LigKern
 by_step words first step true sound within is above = target_within words first step sound within is (grind (arith, nat_tests, above))
@@ -32,7 +32,7 @@ begin_within : (words : List ℕ) (first : ℕ) → HasSoundTables words → fir
 unfolding begin_at
 begin_within words first sound within = rw (program_of-get words first within) (by_step words first (step_at words first) (nat_lt 128 (step_at words first).skip) sound within refl refl)
 
--- the program of the left boundary
+-- the starting address of the left boundary's program
 by_last : (words : List ℕ) (step : Step) (b : Bool) → HasSoundTables words → length (program_of words) - 1 < length (program_of words)
     → step ≡ step_at words (length (program_of words) - 1) → (step.skip == 255) ≡ b
     → IfSome (if b then Some (target_of step) else None) (λ at. at < entries_of words LigKern)
@@ -53,7 +53,7 @@ left_within : (words : List ℕ) → HasSoundTables words → IfSome (left_start
 unfolding left_start_of
 left_within words sound = left_by words (slice_get (program_of words) (length (program_of words) - 1)) sound refl
 
--- the program of a character
+-- the starting address of a character's program
 coded_of : (b c : Bool) → (b && c) ≡ true → b ≡ true
 coded_of true c is = refl
 coded_of false c is = is
@@ -75,13 +75,13 @@ by_existence : (words : List ℕ) (code : ℕ) (b : Bool) → HasSoundTables wor
 by_existence words code true sound is = by_tag words code (tag_number (char_info_of words code)) sound (exists_coded words code is) refl
 by_existence words code false sound is = tt
 
--- the program of a left side
+-- the starting address of a left side's program
 pub start_within : (words : List ℕ) (left : LeftSide) → HasSoundTables words → IfSome (start_of words left) (λ at. at < entries_of words LigKern)
 unfolding start_of
 start_within words Boundary sound = left_within words sound
 start_within words (Char code) sound = by_existence words code (exists words code) sound refl
 
--- said of an address that was read from a font's fields
+-- the same for a starting address that was read from the fields of a font
 pub begun_within : (words now : List ℕ) (left : LeftSide) (start : Option ℕ) → words ≡ now → HasSoundTables words → start ≡ start_of words left
     → IfSome start (λ at. at < entries_of now LigKern)
 begun_within words now left start same sound is =

@@ -1,4 +1,4 @@
--- The bytes of a table, cut out of a font's words.
+-- The bytes of a table, as a part of the words of a font.
 use Rattle.std.proofs.Common.{◌≡◌, ℕ, ◌+◌, ◌-◌, ◌*◌, List, take, drop, arith, refl}
 use Rattle.tfm_words.specs.declared.numbers.Numbers.{Numbers}
 use Rattle.tfm_words.specs.declared.table.Table.{Table}

@@ -1,5 +1,5 @@
--- The words for what is wrong with a font, and where.
--- This project's own; the rules that are broken are in Acceptance.
+-- The texts of font errors, which include the position of the error in the font.
+-- This project's own; Acceptance states the rules for fonts.
 use Rattle.std.specs.Prelude.{ℕ, List, ◌++◌, codes, decimal}
 use Rattle.tfm_words.specs.FaultTexts.{count_fault_text, design_fault_text, table_name}
 use Rattle.tfm_tables.specs.declared.fault.FontFault.{FontFault}
@@ -7,7 +7,7 @@ use Rattle.tfm_tables.specs.declared.fault.FontFault.TheVariants.{Counts, Design
 use Rattle.tfm_tables.specs.declared.fault.Part.{Part}
 use Rattle.tfm_tables.specs.declared.fault.Part.TheVariants.{Restart, Next, Ligature, Kern, Skip}
 
--- the name of a part of an instruction
+-- the text of the part of an instruction that has an error
 unfoldable pub part_name : Part → List ℕ
 part_name Restart = codes "restart"
 part_name Next = codes "next"
@@ -15,7 +15,7 @@ part_name Ligature = codes "ligature"
 part_name Kern = codes "kern"
 part_name Skip = codes "skip"
 
--- what is wrong with a font, and where
+-- the text of a font error, with its position
 unfoldable pub font_fault_text : FontFault → List ℕ
 font_fault_text (Counts fault) = count_fault_text fault
 font_fault_text (Design fault) = design_fault_text fault

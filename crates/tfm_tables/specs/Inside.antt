@@ -1,4 +1,5 @@
--- What is true of every font's fields: the words are accepted, and all that was decoded is what the definitions say.
+-- The invariant of the fields of a font: its words have lawful counts, sound tables and an accepted design
+-- size, and the decoded data is as the definitions state.
 -- This project's own representation.
 use Rattle.std.specs.Prelude.{◌≡◌, Ok}
 use Rattle.tfm_words.specs.Counts.{AreCountsOf}
@@ -10,6 +11,8 @@ use Rattle.tfm_tables.specs.Sound.{HasSoundTables}
 use Rattle.tfm_tables.specs.Decoded.{AreWidthsOf, characters_of, kerns_of, parameters_of, starts_of}
 use Rattle.tfm_tables.specs.Pairs.{IsTableOf}
 
+-- the fields of a font agree with its words: counts, design size, boundaries, and all decoded data, at the
+-- font's size
 pub record IsDecoded (f : Inside) : Type 0 where
   pub counts : AreCountsOf f.words.items f.counts
   pub sound : HasSoundTables f.words.items

@@ -1,4 +1,4 @@
--- What the measures of a font come to at a size: widths and their kin, kerns and parameters.
+-- The scaled values of the table entries of a font at a size: dimensions of characters, kerns and parameters.
 -- Public source: tex.web, sections 571 to 573 and 575.
 use Rattle.std.specs.Prelude.{ℕ, ℤ, pos, ◌-◌, ◌==◌, ◌&&◌, nat_lt, nat_le, List, unwrap_or, Option, if◌then◌else◌}
 use Rattle.tfm_words.specs.declared.table.Table.{Table}
@@ -7,24 +7,26 @@ use Rattle.tfm_words.specs.Word.{value_of}
 use Rattle.tfm_words.specs.Scaling.{scaled_at}
 use Rattle.tfm_tables.specs.Table.{entries_of, entry_at}
 
--- entry i of a table at a size, in scaled points; none if it is too large. In an accepted font there is such an
--- amount for each kern, each measure of a character, and each parameter but the slant (HasScalableMeasures)
+-- the scaled value of entry i of a table at a size, in sp; none if the entry can't be scaled. In an
+-- accepted font every kern, every dimension of a character and every parameter except the slant can be
+-- scaled (HasScalableMeasures)
 abbrev pub scaled_entry : List ℕ → ℕ → Table → ℕ → Option ℤ
 scaled_entry words size table i = scaled_at (value_of (entry_at words table i)) size
 
--- the amount of a word as a number, which would be 0 for a word that is too large
+-- the scaled value of a word at a size, in sp; 0 for a word that can't be scaled
 unfoldable pub measure_of : List ℕ → ℕ → ℤ
 measure_of word size = unwrap_or (scaled_at (value_of word) size) (pos 0)
 
--- the same for entry i of a table
+-- the scaled value of entry i of a table at a size, in sp; 0 for an entry that can't be scaled
 abbrev pub measure_at : List ℕ → ℕ → Table → ℕ → ℤ
 measure_at words size table i = measure_of (entry_at words table i) size
 
--- kern k, from 0
+-- kern k, counted from 0, in sp at a size
 unfoldable pub kern_at : List ℕ → ℕ → ℕ → ℤ
 kern_at words size k = measure_at words size Kern k
 
--- parameter n, from 1: the slant, number 1, is a plain number in units of 2^-20 and isn't scaled; one that isn't there is 0
+-- parameter n, counted from 1, in sp at a size, except that parameter 1, the slant, is a plain number in
+-- units of 2^-20 that isn't scaled; 0 for a number without a parameter
 unfoldable pub parameter_of : List ℕ → ℕ → ℕ → ℤ
 parameter_of words size n =
     if nat_lt 0 n && nat_le n (entries_of words Param)

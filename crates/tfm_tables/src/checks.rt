@@ -12,8 +12,8 @@ use crate::tables::entry;
 use crate::{FontFault, Part, Step};
 use tfm_words::{Counts, Table};
 
+/// Returns the char_info word of a code from `bc` to `ec`.
 #[tactic(auto, unfolding(crate::specs::Character::char_info_of))]
-/// The char_info word of a code that has one.
 pub fn char_info(words: &[u8], counts: &Counts, code: u16) -> [u8; 4]
     requires lawful { AreCountsOf words.now counts.now }
     requires coded { (counts.now.bc ≤ code) × (code ≤ counts.now.ec) }
@@ -90,8 +90,8 @@ fn check_starts(words: &[u8], counts: &Counts) -> Result<(), FontFault>
     Ok(())
 }
 
+/// Checks that the four bytes of entry 0 of a table are zero. The table must have an entry 0.
 #[tactic(auto, unfolding(crate::specs::Acceptance::is_zero))]
-/// Whether entry 0 of a table is zero. Each of the four tables has one.
 fn check_first_entry(words: &[u8], counts: &Counts, table: Table) -> Result<(), FontFault>
     requires lawful { AreCountsOf words.now counts.now }
     requires entry { 0 < entries_of words.now table }
@@ -104,8 +104,8 @@ fn check_first_entry(words: &[u8], counts: &Counts, table: Table) -> Result<(), 
     }
 }
 
+/// Checks entry 0 of each of the four tables that characters index.
 #[tactic(auto, unfolding(crate::specs::Acceptance::first_entry_faults))]
-/// Entry 0 of each of the four tables that characters index.
 fn check_first_entries(words: &[u8], counts: &Counts) -> Result<(), FontFault>
     requires { AreCountsOf words.now counts.now }
     ensures { AnswersFirst (first_entry_faults words.now) result }
@@ -161,7 +161,7 @@ fn check_parameter(words: &[u8], counts: &Counts, number: usize) -> Result<(), F
     )
 }
 
-/// Each parameter but the slant.
+/// Checks each parameter except number 1, the slant, which is never scaled.
 #[tactic(auto, using(crate::proofs::RangeLemmas::ranges))]
 fn check_parameters(words: &[u8], counts: &Counts) -> Result<(), FontFault>
     requires { AreCountsOf words.now counts.now }
@@ -173,7 +173,7 @@ fn check_parameters(words: &[u8], counts: &Counts) -> Result<(), FontFault>
     Ok(())
 }
 
-/// Whether a character exists.
+/// Returns whether the font has a character with this code: a char_info word whose width index isn't 0.
 #[tactic(auto, unfolding(crate::specs::Character::exists, crate::specs::Character::is_coded))]
 pub fn exists(words: &[u8], counts: &Counts, code: u8) -> bool
     requires { AreCountsOf words.now counts.now }
@@ -183,6 +183,7 @@ pub fn exists(words: &[u8], counts: &Counts, code: u8) -> bool
     counts.bc() <= code && code <= counts.ec() && char_info(words, counts, code)[0] != 0
 }
 
+/// Returns the instruction at address `i`.
 #[tactic(auto, unfolding(crate::specs::Program::step_at))]
 pub fn step_at(words: &[u8], counts: &Counts, i: usize) -> Step
     requires lawful { AreCountsOf words.now counts.now }
@@ -192,7 +193,7 @@ pub fn step_at(words: &[u8], counts: &Counts, i: usize) -> Step
     Step::of(entry(words, counts, Table::LigKern, i))
 }
 
-/// The code of the right boundary character.
+/// Returns the code of the right boundary character, which the first instruction may specify.
 #[tactic(auto, using(crate::proofs::ProgramLemmas::instructions), unfolding(crate::specs::Program::right_code_of))]
 pub fn right_code(words: &[u8], counts: &Counts) -> Option<u8>
     requires { AreCountsOf words.now counts.now }
@@ -219,7 +220,8 @@ fn check_part(index: usize, part: Part, is_wrong: bool) -> Result<(), FontFault>
     }
 }
 
-/// Whether an instruction may name this code to its right.
+/// Returns whether an instruction may be for this code on its right: the code is that of a character of
+/// the font, or of the right boundary character.
 #[tactic(auto, unfolding(crate::specs::Acceptance::is_right_code))]
 fn is_right(words: &[u8], counts: &Counts, right: Option<u8>, code: u8) -> bool
     requires lawful { AreCountsOf words.now counts.now }
@@ -301,7 +303,7 @@ fn check_measures(words: &[u8], counts: &Counts) -> Result<(), FontFault>
     check_parameters(words, counts)
 }
 
-/// The first fault of a font's tables.
+/// Checks all tables of a font. The error is the first one in the order of `FontFault`.
 #[tactic(auto, using(crate::proofs::RangeLemmas::appended), unfolding(crate::specs::Acceptance::table_faults))]
 pub fn check_tables(words: &[u8], counts: &Counts) -> Result<(), FontFault>
     requires { AreCountsOf words.now counts.now }

@@ -19,7 +19,7 @@ use crate::{Metrics, Step, Tag};
 use std::alloc::{AllocError, Global};
 use tfm_words::{Counts, FixWord, Size, Table};
 
-/// Entry `i` of a table, scaled, which can be.
+/// Returns entry `i` of a table in sp. The entry must be one that can be scaled.
 #[tactic(auto, unfolding(crate::specs::Measure::measure_of))]
 fn measure(words: &[u8], counts: &Counts, size: Size, table: Table, i: usize) -> i32
     requires lawful { AreCountsOf words.now counts.now }
@@ -56,7 +56,7 @@ fn parameter(words: &[u8], counts: &Counts, size: Size, number: usize) -> i32
     }
 }
 
-/// The instructions, by address.
+/// Returns the instructions, by address. The error means that an allocation failed.
 #[tactic(auto, using(crate::proofs::DecodedLemmas::grown), unfolding(crate::specs::Program::program_of))]
 pub fn program(alloc: Global, words: &[u8], counts: &Counts) -> Result<Vec<Step>, AllocError>
     requires { AreCountsOf words.now counts.now }
@@ -70,7 +70,7 @@ pub fn program(alloc: Global, words: &[u8], counts: &Counts) -> Result<Vec<Step>
     Ok(steps)
 }
 
-/// The kerns, scaled.
+/// Returns the kerns in sp, by index. The error means that an allocation failed.
 #[tactic(auto, using(crate::proofs::DecodedLemmas::grown_signed))]
 pub fn kerns(
     alloc: Global,
@@ -90,7 +90,8 @@ pub fn kerns(
     Ok(kerns)
 }
 
-/// The parameters, number 1 first.
+/// Returns the parameters from number 1: the slant as a plain number in units of 2^-20, and the
+/// others in sp. The error means that an allocation failed.
 #[tactic(auto, using(crate::proofs::DecodedLemmas::grown_signed))]
 pub fn parameters(
     alloc: Global,
@@ -146,7 +147,7 @@ fn start(program: &[Step], tag: Tag) -> Option<usize>
     }
 }
 
-/// Where the program of the left boundary begins.
+/// Returns the starting address of the left boundary's program, which the last instruction may specify.
 #[tactic(auto, unfolding(crate::specs::Program::left_start_of))]
 pub fn left_start(program: &[Step]) -> Option<usize>
     ensures { result ≡ left_start_of program.now }
@@ -214,7 +215,7 @@ fn character(words: &[u8], counts: &Counts, size: Size, program: &[Step], code: 
     }
 }
 
-/// What is kept of each of the 256 codes.
+/// Returns the decoded data of each of the 256 codes. The error means that an allocation failed.
 #[tactic(auto, using(crate::proofs::DecodedLemmas::grown), unfolding(crate::specs::Decoded::characters_of))]
 pub fn characters(
     alloc: Global,
@@ -241,7 +242,7 @@ fn width(metrics: Option<Metrics>) -> i32
     metrics.map_or(0, |metrics| metrics.width)
 }
 
-/// The width of each code, 0 if there is no character.
+/// Returns the width of each code in sp, or 0 for a code without a character.
 pub fn widths(characters: &[Character]) -> [i32; 256]
     requires { length characters.now ≡ 256 }
     ensures { (words : List ℕ) (size : ℕ) → characters.now ≡ characters_of words size → AreWidthsOf words size result }
@@ -253,7 +254,8 @@ pub fn widths(characters: &[Character]) -> [i32; 256]
     widths
 }
 
-/// The table of pairs.
+/// Builds the table of pairs. `left` is the starting address of the left boundary's program. The error
+/// means that an allocation failed.
 #[tactic(auto, using(crate::proofs::DecodedLemmas::started))]
 pub fn pairs(
     alloc: Global,
@@ -269,7 +271,8 @@ pub fn pairs(
     PairTable::build(alloc, program, &starts)
 }
 
-/// Where the program of each left side begins: each of the 256 codes, and then the boundary.
+/// Returns the starting address of each left side: of the 256 codes, and then of the left boundary. The
+/// error means that an allocation failed.
 #[tactic(auto, using(crate::proofs::DecodedLemmas::started), unfolding(crate::specs::Decoded::starts_of))]
 fn starts(
     alloc: Global,

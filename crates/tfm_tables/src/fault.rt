@@ -5,18 +5,20 @@ use std::error::Error;
 use std::fmt;
 use tfm_words::{CountFault, DesignFault, Table};
 
-/// Which part of an instruction is wrong: the first that applies, in this order.
+/// The part of an instruction that has an error: the first one that applies, in the order of these
+/// variants. It prints as a name, for example `restart`.
 #[derive(Clone, Copy, Debug, PartialEq, Eq, Hash)]
 pub enum Part {
-    /// It points at an instruction that isn't there.
+    /// The skip is above 128, and the instruction points to an address without an instruction.
     Restart,
-    /// The code to its right doesn't exist, and isn't the right boundary character.
+    /// The code to the right is neither that of a character of the font nor that of the right boundary
+    /// character.
     Next,
-    /// The character that it inserts doesn't exist.
+    /// The font doesn't have the character that the instruction inserts.
     Ligature,
-    /// The kern that it inserts isn't there.
+    /// The font doesn't have the kern that the instruction inserts.
     Kern,
-    /// The instruction after its skip isn't there.
+    /// The skip is below 128, and there is no instruction where the search would go on.
     Skip,
 }
 
@@ -35,28 +37,29 @@ impl fmt::Display for Part {
     }
 }
 
-/// Why a font is refused: the first fault in this order. Each kind is looked for everywhere before
-/// the next. Of its places the first counts: codes upward, tables as they lie in the file, entries
-/// upward.
+/// Why a font is refused: its first font error, in the order of these variants. The whole font is
+/// checked for one kind of error before the next kind. Within a kind, smaller character codes are
+/// checked before larger ones, tables in the file's order, and the entries of a table and the
+/// instructions from 0 upward (tex.web, sections 565 to 575; the order is this project's own).
 #[derive(Clone, Copy, Debug, PartialEq, Eq, Hash)]
 pub enum FontFault {
-    /// The counts are at fault.
+    /// The counts have this error.
     Counts(CountFault),
-    /// The design size is at fault.
+    /// The design size has this error.
     Design(DesignFault),
-    /// An index in the char_info word of this code isn't below the length of this table.
+    /// The index into this table, in the char_info word of this code, isn't below the table's length.
     CharIndex { code: u8, table: Table },
-    /// The program of this code begins beyond the last instruction.
+    /// The char_info word of this code has the tag of a lig/kern program, and its starting address
+    /// isn't below the number of instructions.
     LigStart(u8),
-    /// Entry 0 of this table isn't zero.
+    /// The four bytes of entry 0 of this table aren't all zero.
     FirstNotZero(Table),
-    /// This entry is below -16 times the size, or 16 times it or more. The index of a parameter is
-    /// its number.
+    /// This entry, as a fix_word, is below -16, or is 16 or more. The index counts from 0; for a
+    /// parameter it is the number of the parameter, from 2, as the slant isn't checked.
     FixWordRange { table: Table, index: usize },
-    /// This part of an instruction names what isn't there; the code to its right may also be that of the
-    /// right boundary character.
+    /// This part of the instruction at this address refers to something that the font doesn't have.
     Step { index: usize, part: Part },
-    /// A growth was refused.
+    /// An allocation failed. `Font::read` returns this only for a file without a font error.
     OutOfMemory,
 }
 

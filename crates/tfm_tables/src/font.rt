@@ -20,8 +20,8 @@ use std::alloc::{AllocError, Global};
 use std::marker::Model;
 use tfm_words::{Counts, Size, design_size};
 
-/// A font that was accepted, at a size. Contracts see it as its words, the first `4 * lf` bytes of
-/// the file, and that size.
+/// An accepted font, at the size that it was read at. In contracts it is its words, which are the first
+/// `4 * lf` bytes of the file, and that size.
 #[derive(Debug, Drop)]
 pub struct Font {
     words: Vec<u8>,
@@ -51,8 +51,11 @@ impl Model for Font {
 }
 
 impl Font {
-    /// The font in a file, at `size`, else at its design size, which is checked in either case.
-    /// The error is the first fault in order; that memory was refused is answered in place of none.
+    /// Reads the font in the bytes of a TFM file, at `size`, or at the design size if `size` is
+    /// `None`. The design size is checked in both cases; bytes after the `lf` words of the file are
+    /// ignored. The error is the first font error of the file in the order of `FontFault`; it is
+    /// `OutOfMemory` only if the file has no font error and an allocation failed (tex.web, sections
+    /// 565 to 575).
     pub fn read(alloc: Global, bytes: &[u8], size: Option<Size>) -> Result<Font, FontFault>
         ensures ok { IfOk result (IsFontOf bytes.now size) }
         ensures fault { IfErr result (IsRefusalOf bytes.now) }
@@ -119,7 +122,7 @@ impl Font {
         self.characters[usize::from(code)]
     }
 
-    /// Whether a character exists.
+    /// Returns whether the font has a character with this code.
     #[tactic(auto, unfolding(crate::specs::Decoded::character_of))]
     pub fn exists(&self, code: u8) -> bool
         ensures { result ≡ exists_in self.now.words code }
@@ -127,8 +130,9 @@ impl Font {
         self.character(code).tag.is_some()
     }
 
-    /// The measures of a character; `None` if it doesn't exist. Each is what its entry is scaled to, never
-    /// a 0 in its place.
+    /// Returns the dimensions of a character in sp, or `None` if it doesn't exist. Each dimension is
+    /// the scaled value of its table entry, and no 0 takes the place of an entry that can't be
+    /// scaled: the tables of an accepted font have no such entry.
     #[tactic(auto, unfolding(crate::specs::Decoded::character_of))]
     pub fn metrics(&self, code: u8) -> Option<Metrics>
         ensures value { result ≡ metrics_of self.now.words self.now.size code }
@@ -137,8 +141,8 @@ impl Font {
         self.character(code).metrics
     }
 
-    /// The width of a character, in scaled points: what its entry is scaled to; 0 for a code that doesn't
-    /// exist. It is one look into a table.
+    /// Returns the width of a character in sp: the scaled value of its table entry, or 0 for a code
+    /// without a character. A call is one lookup in a table.
     pub fn width(&self, code: u8) -> i32
         ensures value { result ≡ character_width_of self.now.words self.now.size code }
         ensures scaled { exists_in self.now.words code ≡ true →
@@ -147,7 +151,7 @@ impl Font {
         self.widths[usize::from(code)]
     }
 
-    /// The tag of a character; `None` if it doesn't exist.
+    /// Returns the tag of a character, or `None` if it doesn't exist.
     #[tactic(auto, unfolding(crate::specs::Decoded::character_of))]
     pub fn tag(&self, code: u8) -> Option<Tag>
         ensures { result ≡ tag_of self.now.words code }
@@ -155,9 +159,10 @@ impl Font {
         self.character(code).tag
     }
 
-    /// The address at which the program of a left side begins, after one indirection for a
-    /// character and none for the boundary; `None` if there is no program, also for a code that
-    /// doesn't exist. What it answers is below `steps`.
+    /// Returns the starting address of a left side's program. For a character it is the address after
+    /// an indirect start, which redirects once; for the left boundary it is the address to which the
+    /// last instruction points, without another redirection. The address is below `steps`. Returns
+    /// `None` for a left side without a program, and for a code without a character.
     #[tactic(auto, unfolding(crate::specs::Decoded::character_of))]
     pub fn start(&self, left: LeftSide) -> Option<usize>
         ensures value { result ≡ start_of self.now.words left }
@@ -169,10 +174,11 @@ impl Font {
         }
     }
 
-    /// The address of the instruction for a left side and the code to its right: the first in the
-    /// chain of the left side's program that is for this code and has a skip of at most 128. `None`
-    /// if there is none, also for a code that doesn't exist or has no program. It is one
-    /// look into a table. What it answers is below `steps`.
+    /// Returns the address of the match for a left side and the code to its right: the first
+    /// instruction, in the chain of the left side's program, that is for this code and has a skip of
+    /// at most 128. The address is below `steps`. Returns `None` if there is no such instruction,
+    /// which includes a left side without a program and a code without a character. A call is one
+    /// lookup in a table.
     #[tactic(auto, using(crate::proofs::ServingLemmas::served))]
     pub fn find(&self, left: LeftSide, code: u8) -> Option<usize>
         ensures value { result ≡ address_between self.now.words left code }
@@ -181,7 +187,8 @@ impl Font {
         self.look_up(left, code)
     }
 
-    /// The same, without a word on the instruction.
+    /// Returns the result of `find`. For the proof: this contract states only the address; the
+    /// contract of `find` also states properties of the instruction there.
     fn look_up(&self, left: LeftSide, code: u8) -> Option<usize>
         ensures { result ≡ address_between self.now.words left code }
     {
@@ -191,7 +198,7 @@ impl Font {
         }
     }
 
-    /// How many instructions there are.
+    /// Returns the number of instructions.
     #[tactic(auto, using(crate::proofs::ProgramLemmas::reads))]
     pub fn steps(&self) -> usize
         ensures { result ≡ entries_of self.now.words LigKern }
@@ -199,8 +206,11 @@ impl Font {
         self.program.len()
     }
 
-    /// The instruction at an address. All that it names is there, but for the code of the right
-    /// boundary character, which needn't exist.
+    /// Returns the instruction at address `i`, which must be below `steps`. All that it refers to
+    /// exists: with a skip above 128 the instruction to which it points; otherwise the character or
+    /// the kern that it inserts, and, with a skip below 128, the instruction at which the search goes
+    /// on. With a skip of at most 128 its code on the right is that of a character of the font or of
+    /// the right boundary character, which needn't be a character of the font.
     #[tactic(auto, using(crate::proofs::ProgramLemmas::reads))]
     pub fn step(&self, i: usize) -> Step
         requires { i < entries_of self.now.words LigKern }
@@ -210,14 +220,15 @@ impl Font {
         self.program[i]
     }
 
-    /// The code of the right boundary character, which needn't exist.
+    /// Returns the code of the right boundary character, or `None` if the font doesn't specify one. The
+    /// font needn't have a character with this code.
     pub fn right_boundary(&self) -> Option<u8>
         ensures { result ≡ right_code_of (program_of self.now.words) }
     {
         self.right
     }
 
-    /// How many kerns there are.
+    /// Returns the number of kerns.
     #[tactic(auto, using(crate::proofs::DecodedLemmas::entries))]
     pub fn kerns(&self) -> usize
         ensures { result ≡ entries_of self.now.words Kern }
@@ -225,7 +236,8 @@ impl Font {
         self.kerns.len()
     }
 
-    /// Kern `k`, in scaled points: what its entry is scaled to, never a 0 in its place.
+    /// Returns kern `k`, from 0, in sp; `k` must be below `kerns`. The kern is the scaled value of
+    /// its table entry, and no 0 takes the place of an entry that can't be scaled.
     #[tactic(auto, using(crate::proofs::DecodedLemmas::entries, crate::proofs::ScaledLemmas::kern))]
     pub fn kern(&self, k: usize) -> i32
         requires { k < entries_of self.now.words Kern }
@@ -235,7 +247,7 @@ impl Font {
         self.kerns[k]
     }
 
-    /// How many parameters there are.
+    /// Returns the number of parameters.
     #[tactic(auto, using(crate::proofs::DecodedLemmas::entries))]
     pub fn params(&self) -> usize
         ensures { result ≡ entries_of self.now.words Param }
@@ -243,9 +255,9 @@ impl Font {
         self.parameters.len()
     }
 
-    /// Parameter `number`, from 1, in scaled points, but for the slant, number 1, which is a plain
-    /// number in units of 2^-20; 0 if there is no such parameter. Each but the slant is what its entry is
-    /// scaled to.
+    /// Returns parameter `number`, counted from 1, or 0 if the font has no parameter with this number.
+    /// Parameter 1, the slant, is a plain number in units of 2^-20; every other parameter is the scaled
+    /// value of its table entry, in sp.
     #[tactic(auto, using(crate::proofs::DecodedLemmas::parameters, crate::proofs::ScaledLemmas::parameter))]
     pub fn param(&self, number: usize) -> i32
         ensures value { result ≡ parameter_of self.now.words self.now.size number }
@@ -261,7 +273,7 @@ impl Font {
         self.parameters[number - 1]
     }
 
-    /// The width of a space: parameter 2, in scaled points; 0 if there is no such parameter.
+    /// Returns the width of a space in sp: parameter 2, or 0 if the font has no parameter 2.
     pub fn space(&self) -> i32
         ensures value { result ≡ parameter_of self.now.words self.now.size 2 }
         ensures scaled { 2 ≤ entries_of self.now.words Param →
@@ -270,49 +282,52 @@ impl Font {
         self.param(2)
     }
 
-    /// The size that the font was read at.
+    /// Returns the size that the font was read at.
     pub fn size(&self) -> Size
         ensures { result ≡ self.now.size }
     {
         self.size
     }
 
-    /// The design size.
+    /// Returns the design size of the font.
     pub fn design(&self) -> Size
         ensures { design_size_of self.now.words ≡ Ok result }
     {
         self.design
     }
 
-    /// The check sum, as it stands in the file.
+    /// Returns the check sum: the first word of the header, as an unsigned number.
     pub fn check_sum(&self) -> u32
         ensures { result ≡ check_sum_of self.now.words }
     {
         header::check_sum(&self.words, &self.counts)
     }
 
-    /// The coding scheme; `None` if the header is too short for one.
+    /// Returns the coding scheme, at most 39 bytes, or `None` if the header has fewer than 12 words. A
+    /// length byte above 39 is read as 39.
     pub fn coding(&self) -> Option<&[u8]>
         ensures { option_map (λ text. text.now) result ≡ coding_of self.now.words }
     {
         header::coding(&self.words, &self.counts)
     }
 
-    /// The family; `None` if the header is too short for one.
+    /// Returns the family, at most 19 bytes, or `None` if the header has fewer than 17 words. A
+    /// length byte above 19 is read as 19.
     pub fn family(&self) -> Option<&[u8]>
         ensures { option_map (λ text. text.now) result ≡ family_of self.now.words }
     {
         header::family(&self.words, &self.counts)
     }
 
-    /// Whether the font says that it is seven-bit safe; `None` if the header is too short.
+    /// Returns whether the header marks the font as seven-bit safe, or `None` if the header has fewer
+    /// than 18 words.
     pub fn seven_bit(&self) -> Option<bool>
         ensures { result ≡ seven_bit_of self.now.words }
     {
         header::seven_bit(&self.words, &self.counts)
     }
 
-    /// The face; `None` if the header is too short.
+    /// Returns the face byte, or `None` if the header has fewer than 18 words.
     pub fn face(&self) -> Option<u8>
         ensures { result ≡ face_of self.now.words }
     {

@@ -6,7 +6,7 @@ ghost use Rattle.tfm_tables.specs.Header.{check_sum_of, coding_of, face_of, fami
 use crate::tables::{bytes_of, entry};
 use tfm_words::{Counts, FixWord, Table};
 
-/// The text after a length, which counts no more than `most`.
+/// Returns the text after a length byte; a length above `most` is read as `most`.
 fn text(bytes: &[u8], most: usize) -> &[u8]
     requires { most + 1 ≤ length bytes.now }
     ensures { result.now ≡ text_in most bytes.now }
@@ -15,6 +15,7 @@ fn text(bytes: &[u8], most: usize) -> &[u8]
     &bytes[1..1 + len]
 }
 
+/// Returns the check sum: the first word of the header, as an unsigned number.
 pub fn check_sum(words: &[u8], counts: &Counts) -> u32
     requires { AreCountsOf words.now counts.now }
     ensures { result ≡ check_sum_of words.now }
@@ -23,6 +24,7 @@ pub fn check_sum(words: &[u8], counts: &Counts) -> u32
     bits.cast_unsigned()
 }
 
+/// Returns the coding scheme, or `None` if the header is too short.
 pub fn coding<'a>(words: &'a [u8], counts: &Counts) -> Option<&'a [u8]>
     requires { AreCountsOf words.now counts.now }
     ensures { option_map (λ text. text.now) result ≡ coding_of words.now }
@@ -33,6 +35,7 @@ pub fn coding<'a>(words: &'a [u8], counts: &Counts) -> Option<&'a [u8]>
     Some(text(&bytes_of(words, counts, Table::Header)[8..], 39))
 }
 
+/// Returns the family, or `None` if the header is too short.
 pub fn family<'a>(words: &'a [u8], counts: &Counts) -> Option<&'a [u8]>
     requires { AreCountsOf words.now counts.now }
     ensures { option_map (λ text. text.now) result ≡ family_of words.now }
@@ -43,6 +46,7 @@ pub fn family<'a>(words: &'a [u8], counts: &Counts) -> Option<&'a [u8]>
     Some(text(&bytes_of(words, counts, Table::Header)[48..], 19))
 }
 
+/// Returns the seven-bit flag, or `None` if the header is too short.
 pub fn seven_bit(words: &[u8], counts: &Counts) -> Option<bool>
     requires { AreCountsOf words.now counts.now }
     ensures { result ≡ seven_bit_of words.now }
@@ -54,6 +58,7 @@ pub fn seven_bit(words: &[u8], counts: &Counts) -> Option<bool>
     Some(flag >= 128)
 }
 
+/// Returns the face byte, or `None` if the header is too short.
 pub fn face(words: &[u8], counts: &Counts) -> Option<u8>
     requires { AreCountsOf words.now counts.now }
     ensures { result ≡ face_of words.now }

@@ -1,8 +1,8 @@
-/// What stands to the left of a place where instructions may apply.
+/// The left one of two neighbours, whose lig/kern program is searched for a match.
 #[derive(Clone, Copy, Debug, PartialEq, Eq, Hash)]
 pub enum LeftSide {
-    /// The boundary before the first character of a run.
+    /// The left boundary: the virtual element before the first character of a run.
     Boundary,
-    /// A character.
+    /// The character with this code.
     Char(u8),
 }

@@ -1,5 +1,6 @@
-//! A TeX Font Metric font as a whole: it is accepted exactly under the rules, or refused with its
-//! first fault, and then tells what it holds without taking memory.
+//! Reads a whole TeX Font Metric (TFM) file as a font. `Font::read` refuses a file that has a font
+//! error with its first one, and otherwise accepts it, unless an allocation fails. The methods of an
+//! accepted `Font` return its data and allocate no memory.
 #![tactic(auto)]
 
 pub use fault::{FontFault, Part};

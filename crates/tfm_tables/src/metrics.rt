@@ -1,4 +1,4 @@
-/// The measures of a character, in scaled points at the font's size (tftopl.web, section 11).
+/// The dimensions of a character, in sp at the font's size (tftopl.web, section 11).
 #[derive(Clone, Copy, Debug, PartialEq, Eq, Hash)]
 pub struct Metrics {
     pub width: i32,

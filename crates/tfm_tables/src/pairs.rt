@@ -1,4 +1,5 @@
-//! The table of pairs: what the chains of a program come to, for each left side.
+//! The table of pairs: for each left side and each code on its right, the address of the match in the
+//! lig/kern program. It is computed once for a font, so that a search is one lookup.
 ghost use Rattle.std.specs.Prelude.{◌≡◌, ℕ, ◌^◌, ◌<◌, ◌≤◌, ◌==◌, ◌&&◌, List, length, map, get_or, nat_le, Option, Some, None, IfOk, if◌then◌else◌};
 ghost use Rattle.std.specs.List.{slice_get};
 ghost use Rattle.std.specs.Option.{option_and_then, option_or};
@@ -9,16 +10,18 @@ ghost use Rattle.tfm_tables.specs.Pairs.{IsTableOf, entry_for, row_of};
 use crate::Step;
 use std::alloc::{AllocError, Global};
 
-/// What stands in a row for a code that nothing serves: no address is so large.
+/// The entry of a code that no instruction matches. Every address is smaller: it is below 2^15.
 const NOWHERE: u16 = u16::MAX;
 
-/// A row for each left side: the address of the first instruction that serves each code on the right.
+/// A row for each left side. Entry `code` of a row is the address of the first instruction, in the
+/// chain of the left side's program, that matches this code on the right, or `NOWHERE`.
 #[derive(Debug, Drop)]
 pub(crate) struct PairTable {
     pub rows: Vec<[u16; 256]>,
 }
 
-/// Notes the address for the code that an instruction serves, unless an earlier one does.
+/// Records `address` for the code of the instruction, unless an earlier instruction has this code. An
+/// instruction with a skip above 128 matches no code.
 fn mark(marks: &mut [Option<u16>; 256], step: &Step, address: u16)
     ensures { (code : ℕ) → code < 256 → get_or marks.new code None ≡ option_or (get_or marks.old code None) (if nat_le step.now.skip 128 && (step.now.next == code) then Some address else None) }
 {
@@ -28,7 +31,8 @@ fn mark(marks: &mut [Option<u16>; 256], step: &Step, address: u16)
     }
 }
 
-/// The first address of a chain for each code, in one walk.
+/// Returns for each code the first address, in the chain from `start`, that matches the code. The
+/// chain is followed once for all codes.
 fn first_addresses(program: &[Step], start: usize) -> [Option<u16>; 256]
     requires { length program.now ≤ 2 ^ 15 }
     ensures { (code : ℕ) → code < 256 → get_or result code None ≡ address_of program.now start code }
@@ -45,7 +49,7 @@ fn first_addresses(program: &[Step], start: usize) -> [Option<u16>; 256]
     marks
 }
 
-/// A row of what a walk has marked.
+/// Returns the row of these addresses, with `NOWHERE` for `None`.
 fn row(marks: &[Option<u16>; 256]) -> [u16; 256]
     ensures { (code : ℕ) → code < 256 → get_or result code 0 ≡ entry_for (get_or marks.now code None) }
 {
@@ -58,7 +62,7 @@ fn row(marks: &[Option<u16>; 256]) -> [u16; 256]
     row
 }
 
-/// The row of a left side, by a walk.
+/// Computes the row of a left side from the chain of its program.
 fn walked_row(program: &[Step], start: Option<usize>) -> [u16; 256]
     requires { length program.now ≤ 2 ^ 15 }
     ensures { result ≡ row_of program.now start }
@@ -70,7 +74,8 @@ fn walked_row(program: &[Step], start: Option<usize>) -> [u16; 256]
     row(&marks)
 }
 
-/// The row of a left side: that of one before it that begins at the same address, if there is one.
+/// Returns the row of a left side. The row of an earlier left side with the same starting address is
+/// copied, since following the chain again would give the same row.
 fn next_row(
     program: &[Step],
     starts: &[Option<usize>],
@@ -90,7 +95,8 @@ fn next_row(
 }
 
 impl PairTable {
-    /// One walk for each address at which programs begin.
+    /// Builds the row of each left side from its starting address, and follows the chain once for each
+    /// different address. The error means that an allocation failed.
     pub fn build(
         alloc: Global,
         program: &[Step],
@@ -108,7 +114,8 @@ impl PairTable {
         Ok(PairTable { rows })
     }
 
-    /// The address for a left side, by its place among the starts, and the code to its right.
+    /// Returns the address of the match for a left side and the code to its right. `side` is the
+    /// index of the left side among the `starts` of `build`.
     pub fn find(&self, side: usize, code: u8) -> Option<usize>
         requires { (program : List Instruction) × (starts : List (Option ℕ)) × IsTableOf program starts self.now × (side < length starts) }
         ensures { (program : List Instruction) (starts : List (Option ℕ)) → length program ≤ 2 ^ 15 → IsTableOf program starts self.now → (start : Option ℕ) → slice_get starts side ≡ Some start → result ≡ option_and_then (λ at. address_of program at code) start }

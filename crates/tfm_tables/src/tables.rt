@@ -4,7 +4,7 @@ ghost use Rattle.tfm_tables.specs.Table.{entries_of, entry_at, table_of};
 
 use tfm_words::{Counts, Table, word_at};
 
-/// The bytes of a table.
+/// Returns the bytes of a table.
 pub fn bytes_of<'a>(words: &'a [u8], counts: &Counts, table: Table) -> &'a [u8]
     requires { AreCountsOf words.now counts.now }
     ensures bytes { result.now ≡ table_of words.now table }
@@ -14,7 +14,7 @@ pub fn bytes_of<'a>(words: &'a [u8], counts: &Counts, table: Table) -> &'a [u8]
     &words[4 * first..4 * (first + size)]
 }
 
-/// Entry `i` of a table.
+/// Returns entry `i` of a table, counted from 0.
 #[tactic(auto, unfolding(crate::specs::Table::entry_at))]
 pub fn entry(words: &[u8], counts: &Counts, table: Table, i: usize) -> [u8; 4]
     requires lawful { AreCountsOf words.now counts.now }

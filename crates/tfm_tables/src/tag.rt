@@ -1,12 +1,13 @@
-/// What the remainder of a character's char_info word stands for (tftopl.web, section 12).
+/// The tag of a character: the meaning of the remainder of its char_info word (tftopl.web, section 12).
 #[derive(Clone, Copy, Debug, PartialEq, Eq, Hash)]
 pub enum Tag {
-    /// Nothing.
+    /// The remainder has no meaning.
     Plain,
-    /// The address at which the character's lig/kern program begins, or is said to.
+    /// The address of the first instruction of the character's lig/kern program, or of an indirect
+    /// start.
     Lig(u8),
-    /// The next larger character in a list.
+    /// The code of the next larger character in a charlist.
     List(u8),
-    /// The recipe of an extensible character.
+    /// The index of the extensible recipe of the character.
     Ext(u8),
 }

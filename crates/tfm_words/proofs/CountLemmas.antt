@@ -1,4 +1,5 @@
--- Which fault the table of counts gives, from what its parts give, and that it gives none exactly for lawful counts.
+-- The first error in the list of count errors, computed from the parts of the list; and there is none
+-- exactly where the counts are lawful and the bytes contain the whole file.
 use Rattle.std.proofs.Common.{◌≡◌, ◌≢◌, eq-eqb, ℕ, ◌+◌, ◌*◌, ◌^◌, ◌<◌, ◌≤◌, Bool, true, false, not, ◌||◌, ◌==◌, nat_lt, List, [], ◌∷◌, ◌++◌, length, Option, Some, None, arith, refl, ap, sym, ◌∙◌, IsOk}
 use Rattle.std.proofs.lemmas.Bool.{ltb-false, le-ltb, lt-ltb, leb-false, lt-leb, eqb-false, eqb-true, ne_eqb}
 use Rattle.std.specs.Option.{option_or}
@@ -10,7 +11,7 @@ use Rattle.tfm_words.specs.Counts.{counts_of, whole_length, IsLawful, HasLawfulC
 use Rattle.tfm_words.specs.CountFaults.{count_faults, faults_within, first_fault, range_faults, shape_faults, is_too_large}
 use Rattle.tfm_words.proofs.FirstFault.{AllPassed, first_fault-append, passed_of_none, none_of_passed}
 
--- ---- the parts
+-- ---- the parts of the list
 
 rest : ℕ → Numbers → List (Bool × CountFault)
 rest size c = (nat_lt size (4 * c.lf), Truncated (4 * c.lf)) ∷ []
@@ -54,7 +55,7 @@ no_fault bytes enough none none' long =
     let s : nat_lt (length bytes) (4 * (counts_of bytes).lf) ≡ false = le-ltb (length bytes) (4 * (counts_of bytes).lf) long in
     joined (length bytes) (counts_of bytes) enough ∙ rw (none, none', s) refl
 
--- for `grind` at the exits of a reading
+-- the lemmas that `grind` needs: one for each way in which `Numbers::checked` returns
 pub ruleset exits = (fault_of_head, fault_of_ranges, fault_of_shape, fault_of_length, no_fault)
 
 -- ---- lawful counts
@@ -209,7 +210,8 @@ passed_of_lawful size c enough lawful long =
       ),
     )
 
--- counts are without fault exactly if they are lawful, and the bytes reach far enough
+-- the counts have no error exactly if they are lawful and the bytes contain the whole file: the two
+-- directions
 pub accepted_is : (bytes : List ℕ) → first_fault (count_faults bytes) ≡ None → HasLawfulCounts bytes
 accepted_is bytes e =
     let all = lawful_of_passed (length bytes) (counts_of bytes) (passed_of_none (count_faults bytes) e) in
@@ -218,7 +220,7 @@ accepted_is bytes e =
 pub none_of_accepted : (bytes : List ℕ) → HasLawfulCounts bytes → first_fault (count_faults bytes) ≡ None
 none_of_accepted bytes h = none_of_passed (count_faults bytes) (passed_of_lawful (length bytes) (counts_of bytes) h.head h.lawful h.whole)
 
--- what a reading of the counts answers, if its fault is the first
+-- bytes whose counts have an error don't have lawful counts
 pub fault_is_not_accepted : (bytes : List ℕ) (f : CountFault) → first_fault (count_faults bytes) ≡ Some f → HasLawfulCounts bytes → ⊥
 fault_is_not_accepted bytes f e h = let none = none_of_accepted bytes h in cc
 

@@ -1,10 +1,10 @@
--- The first fault of rows: over two lists of rows, and if there is none.
+-- The first error of a list of rows: for two lists joined, and for a list in which no condition holds.
 use Rattle.std.proofs.Common.{◌≡◌, Bool, true, false, List, [], ◌∷◌, ◌++◌, None, refl}
 use Rattle.std.specs.List.{AllByRecursion}
 use Rattle.std.specs.Option.{option_or}
 use Rattle.tfm_words.specs.CountFaults.{first_fault}
 
--- rows none of which holds
+-- the condition of no row holds
 abbrev pub AllPassed : {F : Type 0} → List (Bool × F) → Type 0
 AllPassed rows = AllByRecursion (λ row. row.0 ≡ false) rows
 

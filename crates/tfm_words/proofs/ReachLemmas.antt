@@ -1,4 +1,4 @@
--- The counts stand in the first 24 bytes: what follows the bytes that a file needs changes nothing.
+-- The counts are in the first 24 bytes: bytes after the words of a file don't change them.
 use Rattle.std.proofs.Common.{◌≡◌, ℕ, ◌+◌, ◌*◌, ◌≤◌, ◌<◌, List, take, drop, length, get_or, arith, refl, sym, ◌∙◌, ap, subst}
 use Rattle.std.proofs.lemmas.List.{get_or-take, get_or-drop, length-take-le}
 use Rattle.tfm_words.specs.declared.numbers.Numbers.{Numbers}

@@ -1,4 +1,4 @@
--- Worked examples, computed on the definitions alone.
+-- Worked examples, computed from the definitions alone.
 use Rattle.std.proofs.Common.{◌≡◌, ℕ, List, [], ◌∷◌, ◌++◌, take, pos, negsuc, Option, Some, None, refl}
 use Rattle.std.specs.Prelude.{Result, Ok, Err}
 use Rattle.std.specs.List.{flat_map}
@@ -25,7 +25,7 @@ half_of_ten_points = refl
 least_positive : scaled_at (value_of (0 ∷ 0 ∷ 0 ∷ 1 ∷ [])) 655360 ≡ Some (pos 0)
 least_positive = refl
 
--- rounded down, and not toward zero
+-- the value is rounded down, and not toward zero
 minus_one : scaled_at (value_of (255 ∷ 255 ∷ 255 ∷ 255 ∷ [])) 655360 ≡ Some (negsuc 0)
 minus_one = refl
 
@@ -38,7 +38,7 @@ above_the_range = refl
 below_the_range : scaled_at (value_of (254 ∷ 255 ∷ 255 ∷ 255 ∷ [])) 655360 ≡ None
 below_the_range = refl
 
--- the halvings of the size lose its lowest bits
+-- halving a large size drops its lowest bits
 at_the_greatest_size : scaled_at (value_of (0 ∷ 16 ∷ 0 ∷ 0 ∷ [])) 134217727 ≡ Some (pos 134217712)
 at_the_greatest_size = refl
 
@@ -50,15 +50,16 @@ no_halving = refl
 
 -- ---- counts
 
--- the bytes of twelve counts and of the words after them
+-- the bytes of a file: its twelve counts, and the words after them
 abbrev file : List ℕ → List ℕ → List ℕ
 file counts words = flat_map (big_bytes 2) counts ++ flat_map (big_bytes 4) words
 
--- after the counts of a font without characters: check sum, design size of 5 points, and entry 0 of four tables
+-- the words after the counts of a font without characters: check sum, design size of 5 pt, and entry 0 of
+-- four tables
 abbrev words : List ℕ
 words = 0 ∷ 5242880 ∷ 0 ∷ 0 ∷ 0 ∷ 0 ∷ []
 
--- the fault of the counts of a file
+-- the first error in the counts of a file
 abbrev fault : List ℕ → List ℕ → Option CountFault
 fault counts words = count_fault_of (file counts words)
 
@@ -117,17 +118,17 @@ ne_257 : fault (12 ∷ 2 ∷ 1 ∷ 0 ∷ 1 ∷ 1 ∷ 1 ∷ 1 ∷ 0 ∷ 0 ∷ 257
 unfolding counts_of range_faults shape_faults faults_within
 ne_257 = refl
 
--- the first that holds is the fault
+-- two conditions hold: the first of them gives the error
 nh_0_and_ne_257 : fault (12 ∷ 2 ∷ 1 ∷ 0 ∷ 1 ∷ 0 ∷ 1 ∷ 1 ∷ 0 ∷ 0 ∷ 257 ∷ 0 ∷ []) words ≡ Some (EmptyTable Height)
 unfolding counts_of range_faults shape_faults faults_within
 nh_0_and_ne_257 = refl
 
--- ---- the places of tables, in a font of the characters 97 to 99 with three instructions and two kerns
+-- ---- the positions of tables, in a font with the characters 97 to 99, three instructions and two kerns
 
 abbrev ligature : Numbers
 ligature = record { lf = 25; lh = 2; bc = 97; ec = 99; nw = 4; nh = 1; nd = 1; ni = 1; nl = 3; nk = 2; ne = 0; np = 2 }
 
--- the first word and the number of words
+-- the first word of a table, and its length in words
 abbrev place : Table → ℕ × ℕ
 place table = (first_word_of ligature table, length_of ligature table)
 
@@ -142,7 +143,7 @@ place_of_parameters = refl
 
 -- ---- design sizes
 
--- the design size of a font without characters with this header word
+-- the design size of a font without characters, whose header[1] is this number
 abbrev design : ℕ → Result ℕ DesignFault
 design word = design_size_of (file (12 ∷ 2 ∷ 1 ∷ 0 ∷ 1 ∷ 1 ∷ 1 ∷ 1 ∷ 0 ∷ 0 ∷ 0 ∷ 0 ∷ []) (0 ∷ word ∷ 0 ∷ 0 ∷ 0 ∷ 0 ∷ []))
 
@@ -152,10 +153,10 @@ five_points = refl
 one_point : design 1048576 ≡ Ok 65536
 one_point = refl
 
--- 00 0F FF FF
+-- the word is 00 0F FF FF
 below_one_point : design 1048575 ≡ Err DesignSize
 below_one_point = refl
 
--- 80 00 00 00
+-- the word is 80 00 00 00
 below_zero : design 2147483648 ≡ Err DesignSize
 below_zero = refl

@@ -1,6 +1,7 @@
--- What can be wrong with the counts of a file, as a table of conditions in order: the first that holds is the fault.
--- Public source: tftopl.web, sections 20 and 21, and tex.web, sections 565 and 568, which the order of the tests here does not follow: the order is this
--- project's own.
+-- The errors in the counts of a file, as a list of conditions in order: the first condition that holds
+-- gives the error.
+-- Public source: tftopl.web, sections 20 and 21; tex.web, sections 565 and 568. The order of the tests is
+-- this project's own and differs from the order in these sources.
 use Rattle.std.specs.Prelude.{◌≡◌, ℕ, ◌+◌, ◌*◌, ◌^◌, ◌||◌, ◌==◌, Bool, not, nat_lt, nat_le, List, [], ◌∷◌, ◌++◌, length, Option, Some, None, if◌then◌else◌, Result, MatchResult}
 use Rattle.tfm_words.specs.declared.numbers.Numbers.{Numbers}
 use Rattle.tfm_words.specs.declared.count_fault.CountFault.{CountFault}
@@ -9,16 +10,17 @@ use Rattle.tfm_words.specs.declared.count.Count.TheVariants.{Lf, Lh, Bc, Ec, Nw,
 use Rattle.tfm_words.specs.declared.table.Table.TheVariants.{Width, Height, Depth, Italic}
 use Rattle.tfm_words.specs.Counts.{counts_of, whole_length}
 
--- of rows of a condition and a fault, the fault of the first row whose condition holds
+-- in a list of rows, each of a condition and an error: the error of the first row whose condition holds, or
+-- none if no condition holds
 abbrev pub first_fault : {F : Type 0} → List (Bool × F) → Option F
 first_fault [] = None
 first_fault (row ∷ rows) = if row.0 then Some row.1 else first_fault rows
 
--- a count needs its highest bit clear
+-- whether a count is too large: it is 2^15 or more, so that its highest bit is set
 abbrev pub is_too_large : ℕ → Bool
 is_too_large n = nat_le (2 ^ 15) n
 
--- for each count, in the file's order, that it is too large
+-- one row for each count, in the file's order: the count is too large
 unfoldable pub range_faults : Numbers → List (Bool × CountFault)
 range_faults c =
     (is_too_large c.lf, CountRange Lf)
@@ -35,7 +37,8 @@ range_faults c =
     ∷ (is_too_large c.np, CountRange Np)
     ∷ []
 
--- what else is wrong with counts that are in range: single ones, and all together
+-- the rows after those of range_faults: the character range, the length of the header, four tables without
+-- an entry 0, the number of extensible recipes, and the length equation
 unfoldable pub shape_faults : Numbers → List (Bool × CountFault)
 shape_faults c =
     (nat_lt (c.ec + 1) c.bc || nat_lt 255 c.ec, CharRange)
@@ -48,7 +51,7 @@ shape_faults c =
     ∷ (not (c.lf == whole_length c), LengthEquation)
     ∷ []
 
--- all that can be wrong with these counts at the head of this many bytes, in order
+-- all rows for these counts at the start of a file of this many bytes, in order
 unfoldable pub faults_within : ℕ → Numbers → List (Bool × CountFault)
 faults_within byte_count c =
     (nat_lt byte_count 24, Truncated 24)
@@ -56,14 +59,15 @@ faults_within byte_count c =
     ++ shape_faults c
     ++ (nat_lt byte_count (4 * c.lf), Truncated (4 * c.lf)) ∷ []
 
--- all that can be wrong with the counts of these bytes, in order
+-- all rows for the counts of these bytes, in order
 abbrev pub count_faults : List ℕ → List (Bool × CountFault)
 count_faults bytes = faults_within (length bytes) (counts_of bytes)
 
--- the fault of the counts of these bytes
+-- the first error in the counts of these bytes, or none if they have no error
 abbrev pub count_fault_of : List ℕ → Option CountFault
 count_fault_of bytes = first_fault (count_faults bytes)
 
--- an answer that is the first fault of the rows, or no fault if none of them holds
+-- the result of a check of these rows: if it is an error, it is that of the first row whose condition
+-- holds; if it is a success, no row's condition holds
 abbrev pub AnswersFirst : {T F : Type 0} → List (Bool × F) → Result T F → Type 0
 AnswersFirst rows answer = MatchResult answer (λ _. first_fault rows ≡ None) (λ fault. first_fault rows ≡ Some fault)

@@ -1,4 +1,4 @@
--- The design size, in scaled points.
+-- The design size of a font, in scaled points (sp).
 -- Public source: tftopl.web, section 10; tex.web, sections 542 and 568.
 use Rattle.std.specs.Prelude.{ℕ, ℤ, pos, negsuc, nat_lt, List, Result, Ok, Err, if◌then◌else◌}
 use Rattle.tfm_words.specs.declared.design.DesignFault.{DesignFault}
@@ -6,16 +6,16 @@ use Rattle.tfm_words.specs.declared.design.DesignFault.TheVariants.{DesignSize}
 use Rattle.tfm_words.specs.Word.{word_at, value_of}
 use Rattle.tfm_words.specs.Scaling.{floor_of}
 
--- header[1], word 7 of the file, is the design size in units of 2^-20 points: a sixteenth of it, rounded down, is in
--- scaled points
+-- the number in header[1], word 7 of the file, in sp: the word is in units of 2^-20 pt, and an sp is 16 of
+-- these units; the quotient is rounded down
 abbrev pub design_scaled_points : List ℕ → ℤ
 design_scaled_points bytes = floor_of (value_of (word_at bytes 7)) 16
 
--- a design size is at least 1.0 point, which is 65,536 scaled points
+-- this number of sp as a design size; it is an error if it is below 65,536 sp, which is 1 pt, or negative
 abbrev pub accepted_size : ℤ → Result ℕ DesignFault
 accepted_size (pos amount) = if nat_lt amount 65536 then Err DesignSize else Ok amount
 accepted_size (negsuc _) = Err DesignSize
 
--- the design size of a file, or its fault
+-- the design size of a file in sp, or the error in it
 abbrev pub design_size_of : List ℕ → Result ℕ DesignFault
 design_size_of bytes = accepted_size (design_scaled_points bytes)

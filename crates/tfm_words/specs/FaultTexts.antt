@@ -1,6 +1,6 @@
--- The words for counts, tables and what is wrong with the counts of a file, or with its design size.
--- Public source: the names of counts and tables are those of tftopl.web, sections 8 and 9; the rest is this project's
--- own.
+-- The texts of counts, of tables, and of the errors in the counts and the design size of a file.
+-- Public source: the names of counts and tables are those of tftopl.web, sections 8 and 9; the other texts
+-- are this project's own.
 use Rattle.std.specs.Prelude.{ℕ, List, ◌++◌, codes, decimal}
 use Rattle.tfm_words.specs.declared.count.Count.{Count}
 use Rattle.tfm_words.specs.declared.count.Count.TheVariants.{Lf, Lh, Bc, Ec, Nw, Nh, Nd, Ni, Nl, Nk, Ne, Np}
@@ -39,7 +39,7 @@ table_name Kern = codes "kern"
 table_name Exten = codes "exten"
 table_name Param = codes "param"
 
--- what is wrong with the counts
+-- the text of an error in the counts
 unfoldable pub count_fault_text : CountFault → List ℕ
 count_fault_text (Truncated need) = codes "truncated, " ++ decimal need ++ codes " bytes needed"
 count_fault_text (CountRange count) = codes "count " ++ count_name count ++ codes " out of range"
@@ -49,6 +49,6 @@ count_fault_text (EmptyTable table) = codes "table " ++ table_name table ++ code
 count_fault_text TooManyRecipes = codes "more than 256 recipes"
 count_fault_text LengthEquation = codes "length equation"
 
--- what is wrong with the design size
+-- the text of an error in the design size
 unfoldable pub design_fault_text : DesignFault → List ℕ
 design_fault_text DesignSize = codes "design size"

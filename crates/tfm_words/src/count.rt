@@ -3,7 +3,8 @@ ghost use Rattle.tfm_words.specs.FaultTexts.{count_name};
 
 use std::fmt;
 
-/// One of the twelve counts at the head of a TFM file, in the file's order (tftopl.web, section 8).
+/// One of the twelve counts at the start of a TFM file, in the file's order. It prints as its name in
+/// the format, for example `lf` (tftopl.web, section 8).
 #[derive(Clone, Copy, Debug, PartialEq, Eq, Hash)]
 pub enum Count {
     /// The length of the whole file, in words.
@@ -14,21 +15,21 @@ pub enum Count {
     Bc,
     /// The largest character code in the font.
     Ec,
-    /// How many words the width table has.
+    /// The number of words in the width table.
     Nw,
-    /// How many words the height table has.
+    /// The number of words in the height table.
     Nh,
-    /// How many words the depth table has.
+    /// The number of words in the depth table.
     Nd,
-    /// How many words the italic correction table has.
+    /// The number of words in the table of italic corrections.
     Ni,
-    /// How many instructions the lig/kern program has.
+    /// The number of instructions in the lig/kern program.
     Nl,
-    /// How many words the kern table has.
+    /// The number of words in the kern table.
     Nk,
-    /// How many recipes of extensible characters there are.
+    /// The number of extensible recipes.
     Ne,
-    /// How many parameters there are.
+    /// The number of parameters.
     Np,
 }
 

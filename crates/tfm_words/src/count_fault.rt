@@ -5,23 +5,25 @@ use crate::{Count, Table};
 use std::error::Error;
 use std::fmt;
 
-/// What is wrong with the counts of a file: the first that applies, in this order, with
-/// `Truncated` first for less than the 24 bytes of the counts and last for less than the whole.
+/// The first error in the counts of a TFM file, in the order of these variants. `Truncated` is checked
+/// twice: before all others for the 24 bytes of the counts, and after all others for the whole file
+/// (tftopl.web, sections 20 and 21; the order is this project's own).
 #[derive(Clone, Copy, Debug, PartialEq, Eq, Hash)]
 pub enum CountFault {
-    /// There are fewer bytes than this.
+    /// The file has fewer than `need` bytes: 24, or `4 * lf`.
     Truncated { need: usize },
-    /// This count, the first such one, is 2^15 or more.
+    /// This count is 2^15 or more. It is the first such count in the file's order.
     CountRange(Count),
     /// `bc` is above `ec + 1`, or `ec` is above 255.
     CharRange,
-    /// `lh` is below 2, so the header lacks the check sum or the design size.
+    /// `lh` is below 2: the header lacks the check sum or the design size.
     HeaderShort,
-    /// This table, the first such one, has no entry 0.
+    /// This table has no entries. It is the first such table among those of widths, heights, depths and
+    /// italic corrections.
     EmptyTable(Table),
     /// `ne` is above 256.
     TooManyRecipes,
-    /// `lf` is not the length of the counts and the ten tables together.
+    /// `lf` isn't 6, for the words of the counts, plus the lengths of the ten tables.
     LengthEquation,
 }
 

@@ -6,9 +6,11 @@ use crate::numbers::Numbers;
 use crate::{CountFault, Table};
 use std::marker::Model;
 
-/// The twelve counts at the head of a TFM file. They are lawful: each is below 2^15, codes go up to
-/// 255, the header has at least two words, the four tables of measures have an entry 0, there are at
-/// most 256 recipes, and `lf` is 6 and the tables together (tftopl.web, sections 8, 9 and 21).
+/// The twelve counts at the start of a TFM file. Every value of this type follows the rules of the
+/// format: each count is below 2^15, `bc` is at most `ec + 1` and `ec` at most 255, the header has at
+/// least two words, the tables of widths, heights, depths and italic corrections have an entry 0, there
+/// are at most 256 extensible recipes, and `lf` is 6 plus the lengths of the ten tables (tftopl.web,
+/// sections 8, 9 and 21).
 #[derive(Clone, Copy, Debug, PartialEq, Eq, Hash)]
 pub struct Counts {
     numbers: Numbers,
@@ -28,9 +30,9 @@ impl Model for Counts {
 }
 
 impl Counts {
-    /// The counts in the first 24 bytes of a file, which has to hold all the words that they speak
-    /// of; what stands after the first `lf` words is not looked at. The error is the first fault in
-    /// order.
+    /// Reads the counts in the first 24 bytes of a file, and checks them and the length of the file.
+    /// `bytes` has to contain the `lf` words of the file; bytes after these words are ignored. The
+    /// error is the first one in the order of `CountFault`.
     pub fn read(bytes: &[u8]) -> Result<Self, CountFault>
         ensures accepted { IsOk result ↔ HasLawfulCounts bytes.now }
         ensures value { IfOk result (AreCountsOf bytes.now) }
@@ -41,8 +43,9 @@ impl Counts {
         Ok(Counts { numbers })
     }
 
-    /// Where a table stands: the word it begins at, counted from the start of the file, and its
-    /// length in words. The header is at word 6; the table of parameters begins with the slant.
+    /// Returns the position of a table: its first word, counted from 0 at the start of the file, and
+    /// its length in words. The sum of the two is at most `lf`. The header begins at word 6; the
+    /// table of parameters begins with the slant.
     pub fn table(&self, table: Table) -> (usize, usize)
         ensures place { result ≡ (first_word_of self.now table, length_of self.now table) }
         ensures within { result.0 + result.1 ≤ self.now.lf }
@@ -54,8 +57,8 @@ impl Counts {
         )
     }
 
-    /// The length of the whole file, in words. The clause on all the counts, which holds of every
-    /// value, stands here.
+    /// Returns the length of the whole file, in words. The clause `lawful` states the rules for all
+    /// twelve counts, which every value of this type follows.
     pub fn lf(&self) -> u16
         ensures value { result ≡ self.now.lf }
         ensures lawful { IsLawful self.now }
@@ -63,77 +66,78 @@ impl Counts {
         self.numbers.lf
     }
 
-    /// The length of the header, in words: 2 or more.
+    /// Returns the length of the header, in words: at least 2.
     pub fn lh(&self) -> u16
         ensures { result ≡ self.now.lh }
     {
         self.numbers.lh
     }
 
-    /// The smallest character code, up to 256.
+    /// Returns the smallest character code: at most 256.
     pub fn bc(&self) -> u16
         ensures { result ≡ self.now.bc }
     {
         self.numbers.bc
     }
 
-    /// The largest character code, up to 255; one less than `bc` in a font without characters.
+    /// Returns the largest character code: at most 255. In a font without characters it is one less
+    /// than `bc`.
     pub fn ec(&self) -> u16
         ensures { result ≡ self.now.ec }
     {
         self.numbers.ec
     }
 
-    /// How many widths there are: 1 or more.
+    /// Returns the number of words in the width table: at least 1.
     pub fn nw(&self) -> u16
         ensures { result ≡ self.now.nw }
     {
         self.numbers.nw
     }
 
-    /// How many heights there are: 1 or more.
+    /// Returns the number of words in the height table: at least 1.
     pub fn nh(&self) -> u16
         ensures { result ≡ self.now.nh }
     {
         self.numbers.nh
     }
 
-    /// How many depths there are: 1 or more.
+    /// Returns the number of words in the depth table: at least 1.
     pub fn nd(&self) -> u16
         ensures { result ≡ self.now.nd }
     {
         self.numbers.nd
     }
 
-    /// How many italic corrections there are: 1 or more.
+    /// Returns the number of words in the table of italic corrections: at least 1.
     pub fn ni(&self) -> u16
         ensures { result ≡ self.now.ni }
     {
         self.numbers.ni
     }
 
-    /// How many instructions the lig/kern program has.
+    /// Returns the number of instructions in the lig/kern program.
     pub fn nl(&self) -> u16
         ensures { result ≡ self.now.nl }
     {
         self.numbers.nl
     }
 
-    /// How many kerns there are.
+    /// Returns the number of kerns.
     pub fn nk(&self) -> u16
         ensures { result ≡ self.now.nk }
     {
         self.numbers.nk
     }
 
-    /// How many recipes of extensible characters there are: up to 256.
+    /// Returns the number of extensible recipes: at most 256.
     pub fn ne(&self) -> u16
         ensures { result ≡ self.now.ne }
     {
         self.numbers.ne
     }
 
-    /// How many parameters there are.
+    /// Returns the number of parameters.
     pub fn np(&self) -> u16
         ensures { result ≡ self.now.np }
     {

@@ -7,13 +7,13 @@ use crate::{Counts, FixWord, Size, word_at};
 use std::error::Error;
 use std::fmt;
 
-/// 1.0 as a fix_word.
+/// 1.0 as a fix_word: as a design size, 1 pt.
 const ONE_POINT: i32 = 0x10_0000;
 
-/// What is wrong with the design size of a file.
+/// The error in the design size of a TFM file.
 #[derive(Clone, Copy, Debug, PartialEq, Eq, Hash)]
 pub enum DesignFault {
-    /// It is negative or below 1.0 point.
+    /// The design size is below 1 pt, or negative.
     DesignSize,
 }
 
@@ -30,8 +30,10 @@ impl fmt::Display for DesignFault {
 
 impl Error for DesignFault {}
 
-/// The size that the font was drawn for, from the header's second word, which counts sixteenths of
-/// a scaled point; less than one point is refused (tex.web, section 568).
+/// Returns the design size of a TFM file, which is the size that the font was drawn for. It is the
+/// second word of the header, a number of points in units of 2^-20, rounded down to whole sp. The
+/// error is `DesignSize` for a design size below 1 pt, which includes negative numbers (tex.web,
+/// section 568).
 pub fn design_size(bytes: &[u8], counts: &Counts) -> Result<Size, DesignFault>
     requires { AreCountsOf bytes.now counts.now }
     ensures { result ≡ design_size_of bytes.now }

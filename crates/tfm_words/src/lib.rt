@@ -1,7 +1,8 @@
-//! The ground of a TeX Font Metric (TFM) file: its twelve counts, its words of four bytes, its
-//! fix_words and how they scale, and its design size.
+//! The lowest layer of a TeX Font Metric (TFM) file: its twelve counts, its words of four bytes, its
+//! fix_words and their scaling, and its design size.
 //!
-//! Nothing here allocates, and every call ends, whatever the bytes are, if its `requires` holds.
+//! No function of this crate allocates memory. Every call whose `requires` holds returns, whatever the
+//! bytes are.
 #![tactic(auto)]
 
 pub use count::Count;

@@ -5,10 +5,10 @@ ghost use Rattle.tfm_words.specs.CountFaults.{AnswersFirst, count_faults, is_too
 use crate::{Count, CountFault, Table};
 use byteorder::{BigEndian, ByteOrder};
 
-/// What a count has to be below.
+/// Every valid count is below this number: its highest bit is 0.
 const LIMIT: u16 = 0x8000;
 
-/// The twelve counts as they stand in a file, lawful or not.
+/// The twelve counts as a file has them, whether or not they follow the rules of the format.
 #[derive(Clone, Copy, Debug, PartialEq, Eq, Hash)]
 pub(crate) struct Numbers {
     pub lf: u16,
@@ -43,7 +43,8 @@ fn count_at(bytes: &[u8], k: usize) -> u16
 }
 
 impl Numbers {
-    /// The counts in the first 24 bytes, if nothing is wrong with them; else the first fault.
+    /// Reads the counts in the first 24 bytes of a file, and checks them and the length of the file.
+    /// The error is the first one in the order of `CountFault`.
     #[tactic(auto, using(crate::proofs::CountLemmas::exits))]
     pub fn checked(bytes: &[u8]) -> Result<Self, CountFault>
         ensures value { IfOk result (λ c. c ≡ counts_of bytes.now) }
@@ -132,7 +133,7 @@ impl Numbers {
         Ok(())
     }
 
-    /// How many words each of the ten tables has, in the file's order.
+    /// Returns the lengths of the ten tables, in words, in the file's order.
     pub fn lengths(&self) -> [u16; 10]
         requires codes { self.now.ec ≤ 255 }
         requires characters { self.now.bc ≤ self.now.ec + 1 }
@@ -145,7 +146,7 @@ impl Numbers {
         ]
     }
 
-    /// The word at which the first `tables` of the ten end.
+    /// Returns the number of the word, from 0, that follows the first `tables` of the ten tables.
     pub fn end_of(&self, tables: usize) -> usize
         requires codes { self.now.ec ≤ 255 }
         requires characters { self.now.bc ≤ self.now.ec + 1 }

@@ -3,8 +3,8 @@ ghost use Rattle.tfm_words.specs.Scaling.{halvings_of};
 
 use std::marker::Model;
 
-/// A size that a font is read at, in scaled points (65,536 to the point): from 1 to 134,217,727,
-/// which is less than 2,048 points (tex.web, sections 571 and 1259).
+/// The size that a font is read at, in scaled points (65,536 sp = 1 pt): from 1 to 134,217,727 sp,
+/// which is less than 2,048 pt (tex.web, sections 571 and 1259).
 #[derive(Clone, Copy, Debug, PartialEq, Eq, PartialOrd, Ord, Hash)]
 pub struct Size {
     scaled_points: u32,
@@ -23,7 +23,7 @@ impl Model for Size {
 }
 
 impl Size {
-    /// The size of this many scaled points, or `None` outside 1 to 134,217,727.
+    /// Returns the size of this many sp, or `None` for a number outside 1 to 134,217,727.
     pub fn new(scaled_points: u32) -> Option<Self>
         ensures range { IsSome result ↔ ((1 ≤ scaled_points) × (scaled_points ≤ 134217727)) }
         ensures value { IfSome result (λ size. size ≡ scaled_points) }
@@ -35,7 +35,7 @@ impl Size {
         }
     }
 
-    /// The size in scaled points.
+    /// Returns the size in sp.
     pub fn get(self) -> u32
         ensures value { result ≡ self }
         ensures range { (1 ≤ result) × (result ≤ 134217727) }
@@ -43,7 +43,8 @@ impl Size {
         self.scaled_points
     }
 
-    /// How many halvings bring the size below 2^23, as scaling wants it.
+    /// Returns the smallest number of halvings, each rounded down, that brings the size below 2^23, as
+    /// scaling requires. It is at most 4.
     pub(crate) fn halvings(self) -> u32
         ensures count { result ≡ halvings_of self }
         ensures few { result ≤ 4 }

@@ -3,28 +3,30 @@ ghost use Rattle.tfm_words.specs.FaultTexts.{table_name};
 
 use std::fmt;
 
-/// One of the ten tables after the counts, in the file's order (tftopl.web, section 9).
+/// One of the ten tables after the counts, in the file's order. It prints as its name in the format,
+/// for example `char_info` (tftopl.web, section 9).
 #[derive(Clone, Copy, Debug, PartialEq, Eq, Hash)]
 pub enum Table {
-    /// The check sum, the design size and what else the font says of itself.
+    /// The check sum, the design size, and, if the header is long enough, the coding scheme, the
+    /// family, the seven-bit flag and the face.
     Header,
-    /// One word for each code from `bc` to `ec`.
+    /// One word for each character code from `bc` to `ec`.
     CharInfo,
-    /// The widths that characters name.
+    /// The widths, to which characters refer by index.
     Width,
-    /// The heights that characters name.
+    /// The heights, to which characters refer by index.
     Height,
-    /// The depths that characters name.
+    /// The depths, to which characters refer by index.
     Depth,
-    /// The italic corrections that characters name.
+    /// The italic corrections, to which characters refer by index.
     Italic,
     /// The instructions of the lig/kern program.
     LigKern,
-    /// The kerns that instructions name.
+    /// The kerns, to which instructions refer by index.
     Kern,
-    /// The recipes of extensible characters.
+    /// The extensible recipes.
     Exten,
-    /// The parameters, the first of which is the slant, number 1.
+    /// The parameters; the first, number 1, is the slant.
     Param,
 }
 

@@ -7,7 +7,7 @@ use Rattle.tfm_tables.specs.Program.{address_of}
 use Rattle.tfm_tables.proofs.ChainLemmas.{walk_past, walk_on, walk_end}
 use Rattle.tfm_tables.proofs.pairs.first_addresses.Goals as goal
 
--- no code is marked yet
+-- before the walk no code has an address
 pub loop-step-init : goal.loop-step-init
 loop-step-init c = λ code small. ap (λ o. option_or o (address_of c.args.program.now c.args.start code)) (get_or-replicate 256 code None None small)
 
