@@ -65,7 +65,6 @@ address_step program address code step here =
 
 -- the address recorded for a code, or otherwise the match in the rest of the chain, is the match in the
 -- whole chain
-
 pub walk_past : (mark : Option ℕ) (program : List Step) (address code : ℕ) → slice_get program address ≡ None
     → option_or mark (address_of program address code) ≡ mark
 walk_past mark program address code past =

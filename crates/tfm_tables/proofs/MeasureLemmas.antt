@@ -33,7 +33,7 @@ pub bytes-entry_at : (words : List ℕ) (table : Table) (i : ℕ) → AreBytes w
 unfolding entry_at table_of
 bytes-entry_at words table i are = bytes-take 4 _ (bytes-drop (4 * i) _ (bytes-take _ _ (bytes-drop _ words are)))
 
--- the number in a word whose first byte is 0 can be scaled, and so can that in a word whose first byte is 255
+-- the number in a word whose first byte is 0 or 255 can be scaled: a lemma for each of the two bytes
 low_number : (n : ℕ) → n < 2 ^ 24 → is_scalable (cast_signed w32 n) ≡ true
 low_number n small = rw (to_z_pos w32 n (omega arith)) (lt-ltb n (2 ^ 24) small)
 

@@ -2,8 +2,8 @@
 -- the font error.
 -- The sentence above a list states the rule, and the rows of the list are the violations of it.
 -- Public source: tex.web, sections 565 to 575; the order, and the rule for entry 0 of tables, are this
--- project's own. The characters and recipes that charlists and tags of extensible characters refer to
--- aren't checked. This is this project's own choice too: TeX rejects a font if they don't exist.
+-- project's own. The characters of charlists, the extensible recipes, and the characters to which recipes
+-- refer aren't checked, which is this project's own choice; TeX checks them.
 use Rattle.std.specs.Prelude.{ℕ, ◌+◌, ◌-◌, ◌*◌, ◌==◌, ◌&&◌, ◌||◌, nat_lt, nat_le, not, Bool, false, List, [], ◌∷◌, ◌++◌, take, slice_index, Option, Some, None, if◌then◌else◌, Result, Ok, Err}
 use Rattle.std.specs.List.{range_with_len, flat_map}
 use Rattle.std.specs.Option.{option_map_or}
@@ -26,7 +26,7 @@ use Rattle.tfm_tables.specs.Program.{program_of, step_at, target_of, right_code_
 abbrev pub words_of : List ℕ → List ℕ
 words_of bytes = take (4 * (counts_of bytes).lf) bytes
 
--- the codes that have a char_info word, from bc upward, whether or not the characters exist
+-- the codes from bc to ec, which have a char_info word, whether or not the characters exist
 unfoldable pub codes_of : List ℕ → List ℕ
 codes_of words = range_with_len (counts_of words).bc (entries_of words CharInfo)
 

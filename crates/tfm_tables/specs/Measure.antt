@@ -7,9 +7,9 @@ use Rattle.tfm_words.specs.Word.{value_of}
 use Rattle.tfm_words.specs.Scaling.{scaled_at}
 use Rattle.tfm_tables.specs.Table.{entries_of, entry_at}
 
--- the scaled value of entry i of a table at a size, in sp; none if the entry can't be scaled. In an
--- accepted font every kern, every dimension of a character and every parameter except the slant can be
--- scaled (HasScalableMeasures)
+-- the scaled value of entry i of a table, counted from 0, at a size, in sp; none if the entry can't be
+-- scaled. In an accepted font every kern, every dimension of a character and every parameter except the
+-- slant can be scaled (HasScalableMeasures)
 abbrev pub scaled_entry : List ℕ → ℕ → Table → ℕ → Option ℤ
 scaled_entry words size table i = scaled_at (value_of (entry_at words table i)) size
 

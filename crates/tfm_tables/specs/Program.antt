@@ -65,8 +65,8 @@ chain_within zero program address = []
 chain_within (suc most) program address =
     option_map_or (λ step. address ∷ (if nat_le 128 step.skip then [] else chain_within most program (address + step.skip + 1))) (slice_get program address) []
 
--- the chain from an address: all addresses that a search visits if nothing matches. They increase, so that
--- there are at most as many as instructions
+-- the chain from an address: all addresses that a search visits if nothing matches. The addresses increase;
+-- therefore there are at most as many as instructions
 unfoldable pub chain_from : List Step → ℕ → List ℕ
 chain_from program address = chain_within (length program) program address
 

@@ -303,7 +303,8 @@ fn check_measures(words: &[u8], counts: &Counts) -> Result<(), FontFault>
     check_parameters(words, counts)
 }
 
-/// Checks all tables of a font. The error is the first one in the order of `FontFault`.
+/// Checks all tables of a font with lawful counts. The error is the first one in the order of
+/// `FontFault`.
 #[tactic(auto, using(crate::proofs::RangeLemmas::appended), unfolding(crate::specs::Acceptance::table_faults))]
 pub fn check_tables(words: &[u8], counts: &Counts) -> Result<(), FontFault>
     requires { AreCountsOf words.now counts.now }

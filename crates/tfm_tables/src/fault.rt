@@ -49,13 +49,13 @@ pub enum FontFault {
     Design(DesignFault),
     /// The index into this table, in the char_info word of this code, isn't below the table's length.
     CharIndex { code: u8, table: Table },
-    /// The char_info word of this code has the tag of a lig/kern program, and its starting address
-    /// isn't below the number of instructions.
+    /// The char_info word of this code has the tag of a lig/kern program, and the address in it isn't
+    /// below the number of instructions.
     LigStart(u8),
     /// The four bytes of entry 0 of this table aren't all zero.
     FirstNotZero(Table),
-    /// This entry, as a fix_word, is below -16, or is 16 or more. The index counts from 0; for a
-    /// parameter it is the number of the parameter, from 2, as the slant isn't checked.
+    /// This entry, as a fix_word, is below -16, or is 16 or more. The index counts from 0. For a
+    /// parameter it is the number of the parameter, which is at least 2, since the slant isn't checked.
     FixWordRange { table: Table, index: usize },
     /// This part of the instruction at this address refers to something that the font doesn't have.
     Step { index: usize, part: Part },

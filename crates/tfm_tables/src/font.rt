@@ -187,8 +187,8 @@ impl Font {
         self.look_up(left, code)
     }
 
-    /// Returns the result of `find`. For the proof: this contract states only the address; the
-    /// contract of `find` also states properties of the instruction there.
+    /// Returns the result of `find`. For the proof: this contract states only the address, from which
+    /// `find` derives the properties of the instruction there.
     fn look_up(&self, left: LeftSide, code: u8) -> Option<usize>
         ensures { result ≡ address_between self.now.words left code }
     {

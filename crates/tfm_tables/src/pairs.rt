@@ -1,5 +1,5 @@
 //! The table of pairs: for each left side and each code on its right, the address of the match in the
-//! lig/kern program. It is computed once for a font, so that a search is one lookup.
+//! lig/kern program. It is computed once, when a font is read; a search is then one lookup.
 ghost use Rattle.std.specs.Prelude.{◌≡◌, ℕ, ◌^◌, ◌<◌, ◌≤◌, ◌==◌, ◌&&◌, List, length, map, get_or, nat_le, Option, Some, None, IfOk, if◌then◌else◌};
 ghost use Rattle.std.specs.List.{slice_get};
 ghost use Rattle.std.specs.Option.{option_and_then, option_or};
@@ -95,8 +95,8 @@ fn next_row(
 }
 
 impl PairTable {
-    /// Builds the row of each left side from its starting address, and follows the chain once for each
-    /// different address. The error means that an allocation failed.
+    /// Builds the row of each left side from its starting address, and follows one chain for each
+    /// different starting address. The error means that an allocation failed.
     pub fn build(
         alloc: Global,
         program: &[Step],

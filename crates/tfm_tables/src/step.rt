@@ -4,11 +4,11 @@ ghost use Rattle.tfm_tables.specs.Program.{step_of};
 /// An instruction of the lig/kern program: its four bytes in the file (tftopl.web, section 13).
 #[derive(Clone, Copy, Debug, PartialEq, Eq, Hash)]
 pub struct Step {
-    /// Below 128: a search that doesn't match here goes on at the instruction `skip + 1` further on.
-    /// 128: the search ends here. Above 128: the search ends here, and the instruction matches
-    /// nothing; as the first instruction of a character's program it is an indirect start, and with a
-    /// skip of 255 the first of all instructions specifies the right boundary character, and the last
-    /// the program of the left boundary.
+    /// Below 128: a search that has no match here goes on `skip + 1` instructions further on. 128: the
+    /// search ends here, with or without a match. Above 128: the search ends here without a match. As the
+    /// first instruction of a character's program such an instruction is an indirect start. With a skip
+    /// of 255 the first of all instructions specifies the right boundary character, and the last one the
+    /// start of the left boundary's program.
     pub skip: u8,
     /// The code to the right that the instruction is for.
     pub next: u8,

@@ -16,7 +16,7 @@ abbrev pub first_fault : {F : Type 0} → List (Bool × F) → Option F
 first_fault [] = None
 first_fault (row ∷ rows) = if row.0 then Some row.1 else first_fault rows
 
--- whether a count is too large: it is 2^15 or more, so that its highest bit is set
+-- whether a count is too large: it is 2^15 or more, which means that its highest bit is set
 abbrev pub is_too_large : ℕ → Bool
 is_too_large n = nat_le (2 ^ 15) n
 

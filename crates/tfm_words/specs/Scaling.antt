@@ -1,5 +1,5 @@
--- The scaled value of a fix_word at a size, in scaled points (sp): the product of the fix_word and the
--- size, where a large size is halved first, divided and rounded down once.
+-- The scaled value of a fix_word at a size, in scaled points (sp): a large size is halved first, and then one
+-- product is divided and rounded down.
 -- Public source: tex.web, sections 571 and 572, where the formula precedes the code.
 use Rattle.std.specs.Prelude.{ℕ, ℤ, pos, negsuc, ◌*◌, ◌/◌, ◌-◌, ◌^◌, ◌*ℤ◌, ◌+ℤ◌, ◌≤ℤ◌, ◌<ℤ◌, [], ◌∷◌, Option, Some, None, find, unwrap_or, nat_lt, Bool, if◌then◌else◌}
 
@@ -26,7 +26,7 @@ halved size = size / 2 ^ halvings_of size
 abbrev pub beta_of : ℕ → ℕ
 beta_of size = 2 ^ (4 - halvings_of size)
 
--- whether a fix_word can be scaled: it is from -2^24 to 2^24 - 1, so that its first byte is 0 or 255
+-- whether a fix_word can be scaled: it is from -2^24 to 2^24 - 1, which means that its first byte is 0 or 255
 abbrev pub is_scalable : ℤ → Bool
 is_scalable (pos n) = nat_lt n (2 ^ 24)
 is_scalable (negsuc n) = nat_lt n (2 ^ 24)

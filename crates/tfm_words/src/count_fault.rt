@@ -23,7 +23,7 @@ pub enum CountFault {
     EmptyTable(Table),
     /// `ne` is above 256.
     TooManyRecipes,
-    /// `lf` isn't 6, for the words of the counts, plus the lengths of the ten tables.
+    /// `lf` isn't 6 (the number of words that contain the counts) plus the lengths of the ten tables.
     LengthEquation,
 }
 
