@@ -1,10 +1,10 @@
--- Lemmas on the lines of rows.
+-- Lemmas about the text of rows.
 use Rattle.std.proofs.Common.{◌≡◌, ℕ, ◌+◌, ◌<◌, List, [], ◌∷◌, ◌++◌, ◌∙◌, length, map, take, get_or, Bor, ap, sym, add-one}
 use Rattle.std.proofs.Math.Seq.{take-suc}
 use Rattle.std.proofs.lemmas.List.{flat_map_more, map-append}
 use Rattle.font_texts.specs.CountsText.{count_row_of, count_row_text, count_rows_text}
 
--- one row more is one line more
+-- the text of one more row is the text so far and one more line
 pub row_more : (text : List ℕ) (rows : List (Bor (List ℕ) × ℕ)) (i : ℕ) (d : Bor (List ℕ) × ℕ) → i < length rows
     → (text ++ count_rows_text (map count_row_of (take i rows))) ++ count_row_text (count_row_of (get_or rows i d)) ≡ text ++ count_rows_text (map count_row_of (take (i + 1) rows))
 row_more text rows i d h =

@@ -1,4 +1,4 @@
--- Equal listings of all are those of fonts with the same words.
+-- Proofs that fonts with equal full listings have the same words and the same size.
 use Rattle.std.proofs.Common.{arith, ◌≡◌, ℕ, ◌+◌, ◌*◌, ◌^◌, ◌<◌, ◌≤◌, Bool, true, false, List, [], ◌∷◌, ◌++◌, ◌∙◌, Option, Some, None, length, map, not, take, drop, refl, ap, sym, subst}
 use Rattle.std.proofs.lemmas.Bool.{leb-false, ltb-false}
 use Rattle.std.proofs.lemmas.Bool.Decides.{nat_tests}
@@ -26,24 +26,24 @@ use Rattle.font_texts.proofs.TextLemmas.{hex_equal, length-hex_text, numbers_equ
 
 -- ---- the words of an accepted font
 
--- if no row holds, none of the first ones does
+-- if the condition of no row holds, none of the rows at the front does
 none_before : {F : Type 0} (a b : List (Bool × F)) → first_fault (a ++ b) ≡ None → first_fault a ≡ None
 none_before [] b none = refl
 none_before ((true, f) ∷ a) b none = absurd (cc)
 none_before ((false, f) ∷ a) b none = none_before a b none
 
--- nor of the others
+-- if the condition of no row holds, none of the rows after those at the front does
 none_after : {F : Type 0} (a b : List (Bool × F)) → first_fault (a ++ b) ≡ None → first_fault b ≡ None
 none_after [] b none = none
 none_after ((true, f) ∷ a) b none = absurd (cc)
 none_after ((false, f) ∷ a) b none = none_after a b none
 
--- nor the one at the head
+-- if the condition of no row holds, that of the first row doesn't
 holds_not : {F : Type 0} (holds : Bool) (f : F) (rows : List (Bool × F)) → first_fault ((holds, f) ∷ rows) ≡ None → holds ≡ false
 holds_not false f rows none = refl
 holds_not true f rows none = absurd (cc)
 
--- a font without a fault has none of its counts
+-- a font without an error has no error of its counts
 no_count_fault : (bytes : List ℕ) → font_fault_of bytes ≡ None → count_fault_of bytes ≡ None
 no_count_fault bytes none = by (count_fault_of bytes) none
   where
@@ -51,7 +51,7 @@ no_count_fault bytes none = by (count_fault_of bytes) none
     by None e = refl
     by (Some fault) e = absurd (cc)
 
--- lf is in range and no less than the counts need, and the file has so many words
+-- without an error of the counts, lf is below 2^15 and at least 6, and the file has at least lf words
 lawful : (bytes : List ℕ) → count_fault_of bytes ≡ None
     → ((counts_of bytes).lf < 2 ^ 15) × (6 ≤ (counts_of bytes).lf) × (4 * (counts_of bytes).lf ≤ length bytes)
 unfolding faults_within range_faults shape_faults
@@ -71,7 +71,7 @@ lawful bytes none =
     at_least : (lf more : ℕ) → not (lf == 6 + more) ≡ false → 6 ≤ lf
     at_least lf more equation = grind (arith, nat_tests)
 
--- the first count is in the first two bytes
+-- the first count depends only on the first two bytes
 same_lf : (bytes : List ℕ) (n : ℕ) → 2 ≤ n → (counts_of (take n bytes)).lf ≡ (counts_of bytes).lf
 unfolding counts_of
 same_lf bytes n long =
@@ -79,13 +79,13 @@ same_lf bytes n long =
     let second = get_or-take n bytes 1 0 (omega arith) in
     cc
 
--- words as many as their counts say
+-- a list of bytes that consists of as many words as its own count lf, which is below 2^15
 record AreWhole (words : List ℕ) : Type 0 where
   pub small : (counts_of words).lf < 2 ^ 15
   pub whole : length words ≡ 4 * (counts_of words).lf
   pub bytes : All (λ byte. byte < 256) words
 
--- those of an accepted font are
+-- the words of an accepted font are such a list
 whole : (font : FontValue) → IsAccepted font → AreWhole font.words
 whole font (bytes, size, small, read) =
     let has = lawful bytes (no_count_fault bytes read.accepted) in
@@ -98,17 +98,17 @@ whole font (bytes, size, small, read) =
 
 -- ---- the text
 
--- parts that are grouped to the right
+-- the parts of the full listing, grouped to the right, with the first count at the front
 grouped : (d r l e w : List ℕ) → ((((d ++ 10 ∷ []) ++ r) ++ l) ++ e) ++ w ≡ d ++ 10 ∷ (r ++ (l ++ (e ++ w)))
 grouped d r l e w = simp append_assoc
 
--- what stands after the line of the first count
+-- the text after the line of the first count
 abbrev after_lf : FontValue → List ℕ
 after_lf font =
     count_rows_text (drop 1 (count_rows (counts_of font.words)))
     ++ (listing_of font ++ (listing_rows_text (recipe_rows font) ++ listing_rows_text (word_rows font)))
 
--- a listing of all begins with lf
+-- a full listing begins with the line of lf
 starts : (font : FontValue) → all_listing_of font ≡ 108 ∷ 102 ∷ 32 ∷ (decimal (counts_of font.words).lf ++ 10 ∷ after_lf font)
 unfolding all_listing_of count_rows
 starts font =
@@ -116,18 +116,18 @@ starts font =
     (grouped (decimal (counts_of font.words).lf) (count_rows_text (drop 1 (count_rows (counts_of font.words)))) (listing_of font)
     (listing_rows_text (recipe_rows font)) (listing_rows_text (word_rows font)))
 
--- so it tells lf
+-- equal full listings have the same lf
 same_count : (font other : FontValue) → (counts_of font.words).lf < 2 ^ 15 → (counts_of other.words).lf < 2 ^ 15
     → all_listing_of font ≡ all_listing_of other → (counts_of font.words).lf ≡ (counts_of other.words).lf
 same_count font other small few same =
     numbers_equal (counts_of font.words).lf (counts_of other.words).lf (after_lf font) (after_lf other) (omega arith) (omega arith)
     (ap (drop 3) (sym (starts font) ∙ same ∙ starts other))
 
--- the same within a row
+-- the parts of the row of a word, grouped to the right
 row_grouped : (d h : List ℕ) → (d ++ 32 ∷ (h ++ [])) ++ 10 ∷ [] ≡ d ++ 32 ∷ (h ++ 10 ∷ [])
 row_grouped d h = simp (append_assoc, append-nil)
 
--- the text of a word
+-- the text of the row of a word
 row_text : (words : List ℕ) (i : ℕ)
     → listing_row_text (word_row words i) ≡ 119 ∷ 111 ∷ 114 ∷ 100 ∷ 32 ∷ (decimal i ++ 32 ∷ (hex_text (word_at words i) ++ 10 ∷ []))
 unfolding listing_row_text word_row
@@ -137,7 +137,7 @@ row_text words i = ap (λ t. 119 ∷ 111 ∷ 114 ∷ 100 ∷ 32 ∷ t) (row_grou
 length-word_at : (words : List ℕ) (n i : ℕ) → length words ≡ 4 * n → i < n → length (word_at words i) ≡ 4
 length-word_at words n i long below = length-take-le 4 (drop (4 * i) words) (omega (arith, length-drop (4 * i) words))
 
--- rows of words differ in length only by their numbers
+-- the length of the row of a word depends only on the index of the word
 length-row : (words : List ℕ) (n i : ℕ) → length words ≡ 4 * n → i < n
     → length (listing_row_text (word_row words i)) ≡ 15 + length (decimal i)
 length-row words n i long below =
@@ -150,7 +150,7 @@ length-row words n i long below =
       length-word_at words n i long below,
     ))
 
--- equal rows are those of equal words
+-- words with equal rows are equal
 word_equal : (xs ys : List ℕ) (n i : ℕ) → All (λ byte. byte < 256) xs → All (λ byte. byte < 256) ys
     → length xs ≡ 4 * n → length ys ≡ 4 * n → i < n → listing_row_text (word_row xs i) ≡ listing_row_text (word_row ys i) → word_at xs i ≡ word_at ys i
 word_equal xs ys n i small few long wide below same =
@@ -166,7 +166,8 @@ word_equal xs ys n i small few long wide below same =
 
 -- ---- the law
 
--- lf is told first, so as many rows at the end are those of words, and each row tells its word
+-- equal full listings have the same words: they begin with lf, so that the same number of rows at their ends
+-- are those of words, and equal rows are those of equal words
 pub listing_tells : (font : FontValue) (other : FontValue) → ListingTellsWords font other
 unfolding all_listing_of word_rows
 listing_tells font other accepted read same =
@@ -186,25 +187,25 @@ listing_tells font other accepted read same =
 
 -- ---- the size
 
--- what stands before the size hangs on the words alone
+-- the text before the line of the size, which depends only on the words
 abbrev before_size : List ℕ → List ℕ
 before_size words =
     count_rows_text (count_rows (counts_of words))
     ++ (listing_row_text (listing_row_of (codes "checksum") (decimal (check_sum_of words)))
     ++ listing_row_text (listing_row_of (codes "design") (decimal (result_unwrap_or (design_size_of words) 0))))
 
--- what stands after its line
+-- the text after the line of the size
 abbrev after_size : FontValue → List ℕ
 after_size font =
     listing_rows_text (header_rows font ++ boundary_rows font ++ char_rows font ++ step_rows font ++ kern_rows font ++ param_rows font)
     ++ (listing_rows_text (recipe_rows font) ++ listing_rows_text (word_rows font))
 
--- parts around a number, grouped to the right
+-- the parts of the full listing, grouped to the right, with the number of the size apart
 size_grouped : (c t u d l e w : List ℕ)
     → ((c ++ (t ++ (u ++ ((115 ∷ 105 ∷ 122 ∷ 101 ∷ 32 ∷ ((d ++ []) ++ 10 ∷ [])) ++ l)))) ++ e) ++ w ≡ (c ++ (t ++ u)) ++ 115 ∷ 105 ∷ 122 ∷ 101 ∷ 32 ∷ (d ++ 10 ∷ (l ++ (e ++ w)))
 size_grouped c t u d l e w = simp (append_assoc, append-nil)
 
--- the line of the size in the listing of all
+-- the full listing is the text before the size, the line of the size, and the text after it
 sized : (font : FontValue)
     → all_listing_of font ≡ before_size font.words ++ 115 ∷ 105 ∷ 122 ∷ 101 ∷ 32 ∷ (decimal font.size ++ 10 ∷ after_size font)
 unfolding all_listing_of listing_of listing_row_text size_rows
@@ -215,12 +216,13 @@ sized font =
     (listing_rows_text (header_rows font ++ boundary_rows font ++ char_rows font ++ step_rows font ++ kern_rows font ++ param_rows font))
     (listing_rows_text (recipe_rows font)) (listing_rows_text (word_rows font))
 
--- fonts of the same words and size
+-- fonts with the same words and the same size are the same font
 same_font : (font other : FontValue) → font.words ≡ other.words → font.size ≡ other.size → font ≡ other
 same_font font other words size =
     ap (λ (w : List ℕ). record font { words = w }) words ∙ ap (λ (s : ℕ). record other { size = s }) size
 
--- the words tell what stands before the size, so the listing tells that too
+-- equal full listings are those of the same font: they have the same words, therefore the same text before
+-- the size, and therefore the same size
 pub listing_tells_all : (font : FontValue) (other : FontValue) → ListingTellsFont font other
 listing_tells_all font other accepted read small few same =
     let words = listing_tells font other accepted read same in

@@ -1,4 +1,4 @@
--- Lemmas on the lines of a listing.
+-- Lemmas about the lines of a listing.
 use Rattle.std.proofs.Common.{◌≡◌, ℕ, ◌+◌, Bool, true, false, if◌then◌else◌, List, [], ◌∷◌, ◌++◌, ◌∙◌, map, filter, refl, ap, sym, arith}
 use Rattle.std.proofs.lemmas.Int.{to_z-of_z}
 use Rattle.std.proofs.lemmas.List.{append-nil, append_assoc, flat_map_more, map-append, map-id}
@@ -6,21 +6,21 @@ use Rattle.std.proofs.lemmas.List.FromFn.{map-range_with_len_more, filter_of_map
 use Rattle.std.specs.List.{range_with_len}
 use Rattle.font_texts.specs.Listing.{Row, all_codes, listing_row_text, listing_rows_text}
 
--- one row more is one line more, with rows numbered from 0
+-- the text of one more row is the text so far and one more line, if the rows are numbered from 0
 pub rows_more : (row : ℕ → Row) (n : ℕ)
     → listing_rows_text (map row (range_with_len 0 (n + 1))) ≡ listing_rows_text (map row (range_with_len 0 n)) ++ listing_row_text (row n)
 rows_more row n =
     ap listing_rows_text (map-range_with_len_more row 0 n n (omega arith))
     ∙ sym (flat_map_more listing_row_text [] (map row (range_with_len 0 n)) (row n))
 
--- and numbered from 1
+-- the text of one more row is the text so far and one more line, if the rows are numbered from 1
 pub rows_more_from_1 : (row : ℕ → Row) (n : ℕ)
     → listing_rows_text (map row (range_with_len 1 (n + 1))) ≡ listing_rows_text (map row (range_with_len 1 n)) ++ listing_row_text (row (n + 1))
 rows_more_from_1 row n =
     ap listing_rows_text (map-range_with_len_more row 1 n (n + 1) (omega arith))
     ∙ sym (flat_map_more listing_row_text [] (map row (range_with_len 1 n)) (row (n + 1)))
 
--- the numbers of a range that pass a test, with one number more
+-- the numbers of a range that pass a test, if the range has one more number
 filter-range_more : (p : ℕ → Bool) (n : ℕ)
     → filter p (range_with_len 0 (n + 1)) ≡ filter p (range_with_len 0 n) ++ (if p n then n ∷ [] else [])
 filter-range_more p n = simp map-id at (filter_of_map_range_with_len_more p (λ (k : ℕ). k) 0 n n (omega arith))
@@ -32,18 +32,18 @@ with_or_without row numbers n true =
 with_or_without row numbers n false =
     ap (λ l. listing_rows_text (map row l)) (append-nil numbers) ∙ sym (append-nil (listing_rows_text (map row numbers)))
 
--- one number more is one line more if it passes the test
+-- one more number in the range is one more line if the number passes the test, and no line otherwise
 pub rows_where_more : (row : ℕ → Row) (p : ℕ → Bool) (n : ℕ)
     → listing_rows_text (map row (filter p (range_with_len 0 (n + 1)))) ≡ listing_rows_text (map row (filter p (range_with_len 0 n))) ++ (if p n then listing_row_text (row n) else [])
 rows_where_more row p n =
     ap (λ l. listing_rows_text (map row l)) (filter-range_more p n) ∙ with_or_without row (filter p (range_with_len 0 n)) n (p n)
 
--- a range of 256 numbers from 0 has all the codes
+-- the range of 256 numbers from 0 consists of all codes
 pub range-all_codes : (n : ℕ) → n ≡ 256 → range_with_len 0 n ≡ all_codes
 unfolding all_codes
 range-all_codes n e = ap (range_with_len 0) e
 
 pub ruleset more = (rows_more, rows_more_from_1, rows_where_more, range-all_codes, append_assoc, append-nil)
 
--- a signed number that is passed by value is cast to bits and back
+-- a signed number that is passed by value is converted to bits and back
 pub ruleset signed = (to_z-of_z, append_assoc, append-nil)

@@ -1,4 +1,4 @@
--- What equal texts say of their parts.
+-- Lemmas that equal texts have equal parts.
 use Rattle.std.proofs.Common.{arith, ◌≡◌, ◌⊎◌, inl, inr, ℕ, zero, suc, ◌+◌, ◌*◌, ◌/◌, ◌%◌, ◌^◌, ◌<◌, false, List, [], ◌∷◌, ◌++◌, ◌∙◌, length, map, take, drop, refl, ap, sym, subst}
 use Rattle.std.proofs.Math.Seq.{take-add, take-append_seam, drop-append_seam}
 use Rattle.std.proofs.lemmas.Bool.Decides.{nat_tests}
@@ -13,7 +13,7 @@ use Rattle.font_texts.specs.AllListing.{hex_byte, hex_text}
 use Rattle.font_texts.specs.Listing.{Row, listing_row_text, listing_rows_text}
 use Rattle.font_texts.proofs.ListingLemmas.{rows_more}
 
--- equal lists whose last parts have one length have equal parts
+-- if two lists are equal and their last parts have the same length, the parts are equal
 pub parts_equal : (a b x y : List ℕ) → length x ≡ length y → a ++ x ≡ b ++ y → (a ≡ b) × (x ≡ y)
 parts_equal a b x y long same =
     let whole : length a + length x ≡ length b + length y = sym (length-append a x) ∙ ap length same ∙ length-append b y in
@@ -22,7 +22,7 @@ parts_equal a b x y long same =
       sym (drop-append_seam a x) ∙ ap (drop (length a)) same ∙ ap (λ n. drop n (b ++ y)) first ∙ drop-append_seam b y,
     )
 
--- digits before a line feed are the same in equal texts
+-- if two texts that begin with digits and a line feed are equal, their digits are equal
 digits_equal : (a b x y : List ℕ) → AllDigits 10 a → AllDigits 10 b → a ++ 10 ∷ x ≡ b ++ 10 ∷ y → a ≡ b
 digits_equal [] [] x y da db same = refl
 digits_equal [] (d ∷ b) x y da db same =
@@ -33,7 +33,7 @@ digits_equal (d ∷ a) (e ∷ b) x y da db same =
     let here : d ≡ e = cc in let rest : a ++ 10 ∷ x ≡ b ++ 10 ∷ y = cc in
     let more = digits_equal a b x y da.1 db.1 rest in cc
 
--- so is the number that they are
+-- if two texts that begin with a number and a line feed are equal, their numbers are equal
 pub numbers_equal : (m n : ℕ) (x y : List ℕ) → m < 2 ^ 64 → n < 2 ^ 64 → decimal m ++ 10 ∷ x ≡ decimal n ++ 10 ∷ y → m ≡ n
 numbers_equal m n x y small few same =
     decimal_injective m n small few
@@ -41,11 +41,11 @@ numbers_equal m n x y small few same =
 
 -- ---- hexadecimal digits
 
--- a digit tells its number
+-- equal hexadecimal digits have the same value
 digit_told : (d e : ℕ) → d < 16 → e < 16 → digit_glyph false d ≡ digit_glyph false e → d ≡ e
 digit_told d e small few same = grind (arith, nat_tests)
 
--- two of them tell a byte
+-- bytes with the same two hexadecimal digits are equal
 byte_told : (a b : ℕ) → a < 256 → b < 256 → hex_byte a ≡ hex_byte b → a ≡ b
 unfolding hex_byte
 byte_told a b small few same =
@@ -55,11 +55,11 @@ byte_told a b small few same =
     let low = digit_told (a % 16) (b % 16) (omega arith) (omega arith) second in
     omega arith
 
--- what holds of all holds of the rest
+-- if all elements are bytes, so are those after the first one
 rest_too : (x : ℕ) (xs : List ℕ) → All (λ byte. byte < 256) (x ∷ xs) → All (λ byte. byte < 256) xs
 rest_too x xs all k d below = all (suc k) d (omega (arith, below))
 
--- so the digits of bytes tell these
+-- lists of bytes of the same length with the same hexadecimal digits are equal
 pub hex_equal : (xs ys : List ℕ) → All (λ byte. byte < 256) xs → All (λ byte. byte < 256) ys → length xs ≡ length ys → hex_text xs ≡ hex_text ys → xs ≡ ys
 unfolding hex_byte
 hex_equal [] [] small few long same = refl
@@ -72,7 +72,7 @@ hex_equal (x ∷ xs) (y ∷ ys) small few long same =
     let here : x ≡ y = byte_told x y (small 0 0 (omega arith)) (few 0 0 (omega arith)) (ap (λ d. d ∷ digit_glyph false (x % 16) ∷ []) first ∙ ap (λ d. digit_glyph false (y / 16) ∷ d ∷ []) second) in
     let more = hex_equal xs ys (rest_too x xs small) (rest_too y ys few) (omega arith) rest in cc
 
--- each byte has two digits
+-- each byte has two hexadecimal digits
 pub length-hex_text : (xs : List ℕ) → length (hex_text xs) ≡ 2 * length xs
 unfolding hex_byte
 length-hex_text [] = refl
@@ -80,7 +80,7 @@ length-hex_text (x ∷ xs) = omega (arith, length-hex_text xs)
 
 -- ---- rows
 
--- a number below the next one is this one or below it
+-- a number below n + 1 is n or below n
 last_or_less : (i n : ℕ) → i < suc n → (i ≡ n) ⊎ (i < n)
 last_or_less zero zero below = inl refl
 last_or_less zero (suc n) below = inr (omega arith)
@@ -91,23 +91,23 @@ last_or_less (suc i) (suc n) below = next (last_or_less i n (omega arith))
     next (inl is) = inl (ap suc is)
     next (inr less) = inr (omega arith)
 
--- the lines of so many rows, numbered from 0
+-- the text of the first n rows, numbered from 0
 abbrev lines : (ℕ → Row) → ℕ → List ℕ
 lines row n = listing_rows_text (map row (range_with_len 0 n))
 
--- the last row apart
+-- the text of n + 1 rows is the text of n rows and the last row
 split_last : (row : ℕ → Row) (n : ℕ) (a : List ℕ) → a ++ lines row (suc n) ≡ (a ++ lines row n) ++ listing_row_text (row n)
 split_last row n a =
     let more : n + 1 ≡ suc n = omega arith in
     ap (λ k. a ++ lines row k) (sym more) ∙ ap (λ l. a ++ l) (rows_more row n) ∙ sym (append_assoc a (lines row n) (listing_row_text (row n)))
 
--- rows that are the same at the last place and before it
+-- if the rows at index n are the same, and those below n are, then those at every index up to n are
 same_rows : (row other : ℕ → Row) (n i : ℕ) → listing_row_text (row n) ≡ listing_row_text (other n)
     → (i < n → listing_row_text (row i) ≡ listing_row_text (other i)) → (i ≡ n) ⊎ (i < n) → listing_row_text (row i) ≡ listing_row_text (other i)
 same_rows row other n i last before (inl is) = subst (λ k. listing_row_text (row k) ≡ listing_row_text (other k)) (sym is) last
 same_rows row other n i last before (inr less) = before less
 
--- after whatever stands before them, rows of the same lengths are the same
+-- if two texts that end with rows are equal, and the rows have the same lengths, then the rows are the same
 pub rows_equal : (row other : ℕ → Row) (n : ℕ) (a b : List ℕ)
     → ((i : ℕ) → i < n → length (listing_row_text (row i)) ≡ length (listing_row_text (other i)))
     → a ++ lines row n ≡ b ++ lines other n
@@ -122,7 +122,7 @@ rows_equal row other (suc n) a b long same i below =
 
 -- ---- words
 
--- so many bytes are their words
+-- if the first n words of two lists are the same, their first 4 * n bytes are the same
 pub words_equal : (xs ys : List ℕ) (n : ℕ) → ((i : ℕ) → i < n → take 4 (drop (4 * i) xs) ≡ take 4 (drop (4 * i) ys)) → take (4 * n) xs ≡ take (4 * n) ys
 words_equal xs ys zero each = refl
 words_equal xs ys (suc n) each =

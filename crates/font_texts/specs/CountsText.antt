@@ -1,5 +1,6 @@
 -- The text of the counts of a font: twelve lines for the counts, and one for the design size.
--- Public source: the names and their order are those of tftopl.web, section 8; the text is this project's own.
+-- Public source: the names and their order are those of tftopl.web, section 8; the text is this project's
+-- own.
 use Rattle.std.specs.Prelude.{ℕ, List, [], ◌∷◌, ◌++◌, codes, decimal, flat_map, Option, Some, None, Result, Ok, Err}
 use Rattle.std.specs.Borrow.{Bor}
 use Rattle.std.specs.Result.{result_unwrap_or}
@@ -12,7 +13,7 @@ use Rattle.tfm_words.specs.declared.design.DesignFault.{DesignFault}
 use Rattle.tfm_tables.specs.declared.fault.FontFault.{FontFault}
 use Rattle.tfm_tables.specs.declared.fault.FontFault.TheVariants.{Counts, Design}
 
--- each count after its name, in the file's order
+-- each count with its name, in the order of the file
 unfoldable pub count_rows : Numbers → List (List ℕ × ℕ)
 count_rows c =
     (codes "lf", c.lf)
@@ -29,36 +30,36 @@ count_rows c =
     ∷ (codes "np", c.np)
     ∷ []
 
--- the line of a row: the name, a space, the number in decimal and a line feed
+-- the text of a row: the name, a space, the number in decimal and a line feed
 abbrev pub count_row_text : List ℕ × ℕ → List ℕ
 count_row_text row = row.0 ++ codes " " ++ decimal row.1 ++ codes "\n"
 
--- the lines of rows, one after the other
+-- the text of rows, one after the other
 abbrev pub count_rows_text : List (List ℕ × ℕ) → List ℕ
 count_rows_text rows = flat_map count_row_text rows
 
--- the rows of counts and a design size
+-- the rows of the twelve counts and of the design size, in scaled points (sp)
 abbrev pub head_rows : Numbers → ℕ → List (List ℕ × ℕ)
 head_rows c points = count_rows c ++ (codes "design", points) ∷ []
 
--- the text of the counts of a font, whose counts and whose design size are accepted
+-- the text of the counts and the design size of a font, which has no error in either
 abbrev pub counts_text_of : List ℕ → List ℕ
 counts_text_of bytes = count_rows_text (head_rows (counts_of bytes) (result_unwrap_or (design_size_of bytes) 0))
 
--- the row of a name, of which only a reference is there, and a number
+-- the row with this number and the name that a reference refers to
 abbrev pub count_row_of : Bor (List ℕ) × ℕ → List ℕ × ℕ
 count_row_of shown = (shown.0.now, shown.1)
 
--- a refused design size as a font's fault
+-- the font error for the design size, if that has an error
 abbrev pub design_fault : Result ℕ DesignFault → Option FontFault
 design_fault (Ok _) = None
 design_fault (Err fault) = Some (Design fault)
 
--- the same of refused counts, after which the design size isn't looked at
+-- the font error for the counts, if they have an error, and otherwise the font error that is found after them
 abbrev pub counts_fault : Option CountFault → Option FontFault → Option FontFault
 counts_fault (Some fault) after = Some (Counts fault)
 counts_fault None after = after
 
--- the first fault of a font's counts and its design size, before its tables
+-- the first error of a font's counts and of its design size, before its tables are checked
 abbrev pub head_fault_of : List ℕ → Option FontFault
 head_fault_of bytes = counts_fault (count_fault_of bytes) (design_fault (design_size_of bytes))

@@ -1,5 +1,6 @@
--- The words of a font's fault: its number among all that can be wrong, and what is wrong; and why a font's text isn't there.
--- This project's own; what is wrong is told by FaultTexts of `tfm_tables`.
+-- The text of a font error: its number among all font errors, and what is wrong; and the text for the reason
+-- why a text about a font wasn't written.
+-- This project's own; what is wrong is described by FaultTexts of `tfm_tables`.
 use Rattle.std.specs.Prelude.{ℕ, ◌==◌, List, ◌++◌, codes, decimal, if◌then◌else◌}
 use Rattle.tfm_words.specs.declared.count_fault.CountFault.{CountFault}
 use Rattle.tfm_words.specs.declared.count_fault.CountFault.TheVariants.{Truncated, CountRange, CharRange, HeaderShort, EmptyTable, TooManyRecipes, LengthEquation}
@@ -9,7 +10,7 @@ use Rattle.tfm_tables.specs.declared.fault.FontFault.TheVariants.{Counts, Design
 use Rattle.font_texts.specs.declared.fault.FontTextFault.{FontTextFault}
 use Rattle.font_texts.specs.declared.fault.FontTextFault.TheVariants.{Font, OutOfMemory as NoMemory, Write}
 
--- the number of a fault of the counts: 1 if the file ends within them, 8 if it ends after them
+-- the number of an error of the counts: 1 if the file ends within them, 8 if it ends after them
 unfoldable pub count_fault_number : CountFault → ℕ
 count_fault_number (Truncated need) = if need == 24 then 1 else 8
 count_fault_number (CountRange _) = 2
@@ -19,7 +20,8 @@ count_fault_number (EmptyTable _) = 5
 count_fault_number TooManyRecipes = 6
 count_fault_number LengthEquation = 7
 
--- the number of a fault; the checks are made in the order of these numbers
+-- the number of a font error; the checks are made in the order of the numbers 1 to 14, and 15 means that
+-- allocation failed
 unfoldable pub fault_number : FontFault → ℕ
 fault_number (Counts fault) = count_fault_number fault
 fault_number (Design _) = 9
@@ -30,11 +32,11 @@ fault_number (FixWordRange _ _) = 13
 fault_number (Step _ _) = 14
 fault_number OutOfMemory = 15
 
--- the words of a fault: its number, and what is wrong
+-- the text of a font error: its number, and what is wrong
 unfoldable pub fault_words : FontFault → List ℕ
 fault_words fault = decimal (fault_number fault) ++ codes " " ++ font_fault_text fault
 
--- why the text of a font was not written, or not to its end
+-- the reason why the text about a font wasn't written, or not completely
 unfoldable pub font_text_fault_text : FontTextFault → List ℕ
 font_text_fault_text (Font fault) = codes "font refused: " ++ fault_words fault
 font_text_fault_text NoMemory = codes "out of memory"

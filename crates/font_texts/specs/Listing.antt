@@ -1,5 +1,5 @@
--- The listing of a font: its lines, each a name and the words after it.
--- This project's own text; the words of tags and instructions are defined in ListingWords.
+-- The listing of a font: its lines, each with a name and the fields after it.
+-- This project's own text; the fields of tags and instructions are defined in ListingWords.
 use Rattle.std.specs.Prelude.{ℕ, ℤ, Bool, List, [], ◌∷◌, ◌++◌, map, filter, flat_map, codes, decimal, Option, Some, None}
 use Rattle.std.specs.Fmt.{signed_decimal}
 use Rattle.std.specs.List.{range_with_len}
@@ -16,44 +16,45 @@ use Rattle.tfm_tables.specs.Program.{program_of, right_code_of, start_of, step_a
 use Rattle.tfm_tables.specs.Font.{FontValue}
 use Rattle.font_texts.specs.ListingWords.{char_words, escaped_text, number_or_none, step_words, yes_or_no}
 
--- a line is a name and the words after it
+-- a line of a listing: its name, and the fields after it
 abbrev pub Row : Type 0
 Row = List ℕ × List (List ℕ)
 
--- words after a name, each with a space before it
+-- the text of the fields of a line, with a space before each
 abbrev pub spaced : List (List ℕ) → List ℕ
 spaced words = flat_map (λ word. 32 ∷ word) words
 
--- the text of a line, which a line feed ends
+-- the text of a line: its name, its fields and a line feed
 unfoldable pub listing_row_text : Row → List ℕ
 listing_row_text row = row.0 ++ spaced row.1 ++ codes "\n"
 
--- the lines, one after the other
+-- the text of several lines, one after the other
 abbrev pub listing_rows_text : List Row → List ℕ
 listing_rows_text rows = flat_map listing_row_text rows
 
--- a line with one word
+-- a line with one field
 abbrev pub listing_row_of : List ℕ → List ℕ → Row
 listing_row_of name word = (name, word ∷ [])
 
--- the same if the word is there; else no line
+-- a line with one field if that exists, and no line otherwise
 abbrev pub row_where : List ℕ → Option (List ℕ) → List Row
 row_where name None = []
 row_where name (Some word) = listing_row_of name word ∷ []
 
--- a text of the header, if it is there
+-- the line of a text of the header, if the header contains it
 unfoldable pub text_where : List ℕ → Option (List ℕ) → List Row
 text_where name text = row_where name (option_map escaped_text text)
 
--- a flag of the header, if it is there
+-- the line of a flag of the header, if the header contains it
 unfoldable pub flag_where : List ℕ → Option Bool → List Row
 flag_where name flag = row_where name (option_map yes_or_no flag)
 
--- a number of the header, if it is there
+-- the line of a number of the header, if the header contains it
 unfoldable pub number_where : List ℕ → Option ℕ → List Row
 number_where name number = row_where name (option_map decimal number)
 
--- the check sum, the design size and the size that the font is read at
+-- the lines of the check sum, of the design size and of the size that the font is read at; both sizes are in
+-- scaled points (sp)
 unfoldable pub size_rows : FontValue → List Row
 size_rows font =
     listing_row_of (codes "checksum") (decimal (check_sum_of font.words))
@@ -61,7 +62,8 @@ size_rows font =
     ∷ listing_row_of (codes "size") (decimal font.size)
     ∷ []
 
--- what only a longer header tells
+-- the lines of those header entries that a header may be too short to contain: coding scheme, family,
+-- seven-bit flag and face
 unfoldable pub header_rows : FontValue → List Row
 header_rows font =
     text_where (codes "coding") (coding_of font.words)
@@ -69,14 +71,15 @@ header_rows font =
     ++ flag_where (codes "sevenbit") (seven_bit_of font.words)
     ++ number_where (codes "face") (face_of font.words)
 
--- the code of the right boundary character, and where the left boundary's program begins
+-- the lines of the code of the right boundary character and of the starting address of the left boundary's
+-- program
 unfoldable pub boundary_rows : FontValue → List Row
 boundary_rows font =
     listing_row_of (codes "right") (number_or_none (right_code_of (program_of font.words)))
     ∷ listing_row_of (codes "left") (number_or_none (start_of font.words Boundary))
     ∷ []
 
--- a character that exists
+-- the line of an existing character
 unfoldable pub char_row : FontValue → ℕ → Row
 char_row font code = (
   codes "char",
@@ -84,39 +87,40 @@ char_row font code = (
       (tag_with (tag_number (char_info_of font.words code)) (remainder_of (char_info_of font.words code))),
 )
 
--- an instruction
+-- the line of the instruction at an address
 unfoldable pub step_row : FontValue → ℕ → Row
 step_row font i = (codes "step", step_words font i (step_at font.words i))
 
--- an amount with its number
+-- a line with an index and a signed amount
 abbrev pub amount_row : List ℕ → ℕ → ℤ → Row
 amount_row name number amount = (name, decimal number ∷ signed_decimal amount ∷ [])
 
--- a kern
+-- the line of kern k, in scaled points (sp)
 unfoldable pub kern_row : FontValue → ℕ → Row
 kern_row font k = amount_row (codes "kern") k (kern_at font.words font.size k)
 
--- a parameter
+-- the line of parameter n; the slant, number 1, is in units of 2^-20, and every other parameter is in scaled
+-- points (sp)
 unfoldable pub param_row : FontValue → ℕ → Row
 param_row font n = amount_row (codes "param") n (parameter_of font.words font.size n)
 
--- the codes that a character may have
+-- the codes that a character may have, 0 to 255
 unfoldable pub all_codes : List ℕ
 all_codes = range_with_len 0 256
 
--- the characters that exist, by code
+-- the lines of the existing characters, in the order of their codes
 unfoldable pub char_rows : FontValue → List Row
 char_rows font = map (char_row font) (filter (exists font.words) all_codes)
 
--- the instructions, by address
+-- the lines of the instructions, in the order of their addresses
 unfoldable pub step_rows : FontValue → List Row
 step_rows font = map (step_row font) (range_with_len 0 (entries_of font.words LigKern))
 
--- the kerns, from 0
+-- the lines of the kerns, from 0
 unfoldable pub kern_rows : FontValue → List Row
 kern_rows font = map (kern_row font) (range_with_len 0 (entries_of font.words Kern))
 
--- the parameters, from 1
+-- the lines of the parameters, from 1
 unfoldable pub param_rows : FontValue → List Row
 param_rows font = map (param_row font) (range_with_len 1 (entries_of font.words Param))
 
@@ -131,6 +135,6 @@ listing_rows font =
     ++ kern_rows font
     ++ param_rows font
 
--- the listing of a font
+-- the text of the listing of a font
 unfoldable pub listing_of : FontValue → List ℕ
 listing_of font = listing_rows_text (listing_rows font)

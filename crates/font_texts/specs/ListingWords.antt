@@ -1,6 +1,6 @@
--- The words that a listing has for what isn't a plain number: texts, flags, tags and instructions.
--- Public source: the eight names are those of tftopl.web, section 13, and The METAFONTbook, Appendix F; the rest is this
--- project's own.
+-- The fields of a listing that aren't plain numbers: texts, flags, tags and instructions.
+-- Public source: the eight names are those of tftopl.web, section 13, and The METAFONTbook, Appendix F; the
+-- rest is this project's own.
 use Rattle.std.specs.Prelude.{ℕ, ◌/◌, ◌%◌, ◌==◌, ◌&&◌, not, nat_lt, nat_le, Bool, List, [], ◌∷◌, ◌++◌, codes, decimal, find, flat_map, Option, if◌then◌else◌, false}
 use Rattle.std.specs.Fmt.{signed_decimal, digit_glyph}
 use Rattle.std.specs.Option.{option_map_or}
@@ -13,34 +13,34 @@ use Rattle.tfm_tables.specs.Font.{FontValue}
 use Rattle.tfm_tables.specs.Measure.{kern_at}
 use Rattle.tfm_tables.specs.Program.{target_of}
 
--- a byte that a listing shows as it is: printable ASCII but for the backslash
+-- a byte that a listing contains unescaped: printable ASCII except the backslash
 abbrev pub is_plain : ℕ → Bool
 is_plain byte = nat_le 32 byte && nat_le byte 126 && not (byte == 92)
 
--- any other byte is shown by a backslash, an x and two hexadecimal digits
+-- a byte in a listing; one that isn't plain is escaped as a backslash, an x and two hexadecimal digits
 unfoldable pub escaped : ℕ → List ℕ
 escaped byte = if is_plain byte then byte ∷ [] else codes "\\x" ++ digit_glyph false (byte / 16) ∷ digit_glyph false (byte % 16) ∷ []
 
--- a text of the header
+-- a text of the header, with each byte escaped if necessary
 abbrev pub escaped_text : List ℕ → List ℕ
 escaped_text text = flat_map escaped text
 
--- a flag
+-- a flag as `yes` or `no`
 abbrev pub yes_or_no : Bool → List ℕ
 yes_or_no flag = if flag then codes "yes" else codes "no"
 
--- a number that may be missing
+-- a number in decimal, or `none` if there is no number
 abbrev pub number_or_none : Option ℕ → List ℕ
 number_or_none number = option_map_or decimal number (codes "none")
 
--- a tag, with its remainder
+-- the fields of a tag: its name, and its remainder if it has one
 unfoldable pub tag_words : Tag → List (List ℕ)
 tag_words Plain = codes "none" ∷ []
 tag_words (Lig remainder) = codes "lig" ∷ decimal remainder ∷ []
 tag_words (ListOf remainder) = codes "list" ∷ decimal remainder ∷ []
 tag_words (Ext remainder) = codes "ext" ∷ decimal remainder ∷ []
 
--- the four measures of a character
+-- the fields of the four dimensions of a character, in scaled points (sp), each with its name before it
 unfoldable pub measure_words : Metrics → List (List ℕ)
 measure_words metrics =
     codes "width" ∷ signed_decimal metrics.width
@@ -49,11 +49,11 @@ measure_words metrics =
     ∷ codes "italic" ∷ signed_decimal metrics.italic
     ∷ []
 
--- a character: its code, its measures and its tag
+-- the fields of a character: its code, its dimensions and its tag
 unfoldable pub char_words : ℕ → Metrics → Tag → List (List ℕ)
 char_words code metrics tag = (decimal code ∷ measure_words metrics) ++ codes "tag" ∷ tag_words tag
 
--- the ligature operations by their names in a property list
+-- the ligature operations with their names in a property list
 abbrev pub operation_names : List (ℕ × List ℕ)
 operation_names =
     (0, codes "LIG")
@@ -66,11 +66,13 @@ operation_names =
     ∷ (11, codes "/LIG/>>")
     ∷ []
 
--- an operation that isn't among them is treated as number 0, and has its name
+-- the name of the ligature operation of an op code; a code that isn't listed is treated as 0 and has the name
+-- of 0
 unfoldable pub operation_name : ℕ → List ℕ
 operation_name op = option_map_or (λ row. row.1) (find (λ row. row.0 == op) operation_names) (codes "LIG")
 
--- what an instruction does: it points elsewhere, inserts a kern, or a ligature's character
+-- the fields of what an instruction does: it points to another instruction, or inserts a kern or a ligature
+-- character
 unfoldable pub action_words : FontValue → Step → List (List ℕ)
 action_words font step =
     if nat_lt 128 step.skip then codes "goto" ∷ decimal (target_of step) ∷ []
@@ -78,7 +80,7 @@ action_words font step =
     then codes "KRN" ∷ decimal (kern_index_of step) ∷ signed_decimal (kern_at font.words font.size (kern_index_of step)) ∷ []
     else operation_name step.op ∷ decimal step.remainder ∷ []
 
--- an instruction: its address, its skip, the code to its right, and what it does
+-- the fields of an instruction: its address, its skip, the code to its right, and what it does
 unfoldable pub step_words : FontValue → ℕ → Step → List (List ℕ)
 step_words font i step =
     decimal i

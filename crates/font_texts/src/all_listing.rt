@@ -1,4 +1,4 @@
-//! The listing of all that the file of a font says.
+//! The full listing of a font: its counts, listing, extensible recipes, and each of its lf words.
 ghost use Rattle.std.specs.Prelude.{◌≡◌, ◌≢◌, ◌+◌, ◌*◌, ◌<◌, ◌≤◌, ◌++◌, ◌⊎◌, codes, length, map, take, Some, Ok, Err, IfOk, IfErr, OnOk};
 ghost use Rattle.std.specs.Io.KnownBytes.{Appends};
 ghost use Rattle.std.specs.List.{range_with_len};
@@ -19,8 +19,14 @@ use std::io::Write;
 use tfm_tables::{Font, FontFault};
 use tfm_words::{Counts, Size, Table, word_at};
 
-/// Reads a font at a size, else at its design size, and writes its listing with all that its file says,
-/// in one piece: the twelve counts, the listing, the recipes, and each word.
+/// Reads a font at `size`, or at its design size for `None`, and writes its full listing: the lines of
+/// the twelve counts, the listing, a line for each extensible recipe (tftopl.web, section 14), and a
+/// line for each of the lf words of the file (bytes after these aren't part of the font). All of it is
+/// written by one call of `write_all`, after the font is accepted.
+///
+/// The error is `Font` with the first font error exactly if the font isn't accepted, `OutOfMemory` if
+/// allocation failed, and `Write` if the writer failed. After an error other than `Write`, `out` is
+/// unchanged.
 pub fn list_all_text<W: Write>(
     alloc: Global,
     bytes: &[u8],
@@ -41,7 +47,7 @@ pub fn list_all_text<W: Write>(
         .map_err(|_| FontTextFault::Write)
 }
 
-/// The counts of these bytes and the font in them, at a size.
+/// Returns the counts in these bytes, and the font, read at `size` or at its design size.
 fn accepted(
     alloc: Global,
     bytes: &[u8],
@@ -66,7 +72,7 @@ fn accepted(
     }
 }
 
-/// The listing of all that these words say, which are those of the font.
+/// Returns the full listing of a font. `words` are the bytes of its file, and `counts` are its counts.
 #[tactic(auto, unfolding(crate::specs::AllListing::all_listing_of, crate::specs::AllListing::recipe_rows, crate::specs::AllListing::word_rows))]
 fn text_of(alloc: Global, words: &[u8], counts: &Counts, font: &Font) -> Result<Vec<u8>, AllocError>
     requires counts { AreCountsOf words.now counts.now }
@@ -82,7 +88,7 @@ fn text_of(alloc: Global, words: &[u8], counts: &Counts, font: &Font) -> Result<
     Ok(text)
 }
 
-/// Appends the lines of the recipes.
+/// Appends a line for each extensible recipe.
 fn push_recipes(text: &mut Vec<u8>, words: &[u8], counts: &Counts) -> Result<(), AllocError>
     requires { AreCountsOf words.now counts.now }
     ensures { OnOk result (text.new.items ≡ text.old.items
@@ -92,7 +98,7 @@ fn push_recipes(text: &mut Vec<u8>, words: &[u8], counts: &Counts) -> Result<(),
     push_recipe_rows(text, recipes, recipes.len() / 4)
 }
 
-/// The bytes of the recipes.
+/// Returns the bytes of the table of extensible recipes, four for each.
 #[tactic(auto, unfolding(tfm_tables::specs::Table::table_of))]
 fn recipes_of<'a>(words: &'a [u8], counts: &Counts) -> &'a [u8]
     requires { AreCountsOf words.now counts.now }
@@ -136,7 +142,7 @@ fn push_pieces(text: &mut Vec<u8>, recipe: [u8; 4]) -> Result<(), AllocError>
     push_number(text, b" rep ", recipe[3])
 }
 
-/// Appends the lines of so many words.
+/// Appends a line for each of the first `count` words.
 #[tactic(auto, using(crate::proofs::ListingLemmas::more))]
 fn push_words(text: &mut Vec<u8>, words: &[u8], count: usize) -> Result<(), AllocError>
     requires { 4 * count ≤ length words.now }

@@ -6,7 +6,7 @@ ghost use Rattle.font_texts.specs.ListingWords.{escaped, escaped_text};
 use itoa::{Buffer, Integer};
 use std::alloc::AllocError;
 
-/// Appends some bytes, and a number in decimal.
+/// Appends the bytes `before`, and then a number in decimal.
 pub fn push_number<I: Integer>(
     text: &mut Vec<u8>,
     before: &[u8],
@@ -40,7 +40,8 @@ fn push_escaped(text: &mut Vec<u8>, byte: u8) -> Result<(), AllocError>
     text.extend_from_slice(&[b'\\', b'x', hex_digit(byte / 16), hex_digit(byte % 16)])
 }
 
-/// Appends a text, whose unprintable bytes and backslashes are escaped.
+/// Appends a text in which every backslash, and every byte that isn't printable ASCII, is escaped as
+/// `\x` and two hexadecimal digits.
 pub fn push_escaped_text(text: &mut Vec<u8>, bytes: &[u8]) -> Result<(), AllocError>
     ensures { OnOk result (text.new.items ≡ text.old.items ++ escaped_text bytes.now) }
 {
@@ -57,7 +58,7 @@ fn push_hex_byte(text: &mut Vec<u8>, byte: u8) -> Result<(), AllocError>
     text.extend_from_slice(&[hex_digit(byte / 16), hex_digit(byte % 16)])
 }
 
-/// Appends bytes, each as two hexadecimal digits.
+/// Appends bytes, each as two hexadecimal digits in lower case, the higher digit first.
 pub fn push_hex(text: &mut Vec<u8>, bytes: &[u8]) -> Result<(), AllocError>
     ensures { OnOk result (text.new.items ≡ text.old.items ++ hex_text bytes.now) }
 {

@@ -9,8 +9,13 @@ use std::io::Write;
 use tfm_tables::{Font, FontFault};
 use tfm_words::Size;
 
-/// Reads a font at a size, else at its design size, and writes a line, in one piece: the name that it is
-/// given, and whether it is accepted or by which fault it is refused. That is the same at every size.
+/// Reads a font at `size`, or at its design size for `None`, and writes one line: the name given for
+/// the font, and `accepted` or `refused:` with the number and the text of its first font error. The
+/// name is escaped as in a listing. Returns the same finding; it doesn't depend on the size. The line
+/// is written by one call of `write_all`.
+///
+/// A refused font is not an error. The error is `OutOfMemory` if allocation failed, with `out`
+/// unchanged, or `Write` if the writer failed.
 pub fn check_text<W: Write>(
     alloc: Global,
     name: &str,
@@ -30,7 +35,8 @@ pub fn check_text<W: Write>(
     Ok(finding)
 }
 
-/// Writes the line of a font with this name, in one piece.
+/// Writes the line of a font with this name and this finding, by one call of `write_all`. The error is
+/// `OutOfMemory` if allocation failed, with `out` unchanged, or `Write` if the writer failed.
 pub fn finding_text<W: Write>(
     alloc: Global,
     name: &str,
@@ -48,7 +54,8 @@ pub fn finding_text<W: Write>(
         .map_err(|_| FontTextFault::Write)
 }
 
-/// What a look at these bytes finds.
+/// Returns whether the font in these bytes is accepted, or its first font error. The error is that
+/// allocation failed.
 fn found(alloc: Global, bytes: &[u8], size: Option<Size>) -> Result<Finding, AllocError>
     ensures { IfOk result (λ finding. finding ≡ finding_of bytes.now) }
 {
@@ -59,7 +66,7 @@ fn found(alloc: Global, bytes: &[u8], size: Option<Size>) -> Result<Finding, All
     }
 }
 
-/// The line of a font.
+/// Returns the line of a font: its name, escaped, and the finding.
 #[tactic(auto, unfolding(crate::specs::Findings::finding_line))]
 fn line_of(alloc: Global, name: &str, finding: Finding) -> Result<Vec<u8>, AllocError>
     ensures { IfOk result (λ text. text.items ≡ finding_line (name.now, finding)) }

@@ -10,10 +10,17 @@ use std::io::Write;
 use tfm_tables::FontFault;
 use tfm_words::{Counts, Size, design_size};
 
-/// Room for the longest text: twelve lines of at most 9 bytes, and one of 17.
+/// The capacity for the longest text: twelve lines of at most 9 bytes, and one of at most 17, are 125
+/// bytes.
 const TEXT_ROOM: usize = 128;
 
-/// Writes the twelve counts and the design size of a font, a line each, in one piece.
+/// Writes the twelve counts of a font and its design size in scaled points (sp), one per line, by one
+/// call of `write_all`. The names and the order of the counts are those of tftopl.web, section 8. The
+/// tables of the font aren't checked.
+///
+/// The error is `Font` exactly if the counts or the design size have an error; it is the first one. It
+/// is `OutOfMemory` if allocation failed, and `Write` if the writer failed. After an error other than
+/// `Write`, `out` is unchanged.
 pub fn counts_text<W: Write>(alloc: Global, bytes: &[u8], out: &mut W) -> Result<(), FontTextFault>
     ensures text { OnOk result
         (Appends (W.contents out.old) (W.contents out.new) (counts_text_of bytes.now)) }
@@ -32,7 +39,7 @@ pub fn counts_text<W: Write>(alloc: Global, bytes: &[u8], out: &mut W) -> Result
         .map_err(|_| FontTextFault::Write)
 }
 
-/// The text of these counts and this design size.
+/// Returns the text of these counts and this design size.
 fn text_of(alloc: Global, counts: &Counts, design: Size) -> Result<Vec<u8>, AllocError>
     ensures { IfOk result (λ text. text.items ≡ count_rows_text (head_rows counts.now design)) }
 {
@@ -42,7 +49,7 @@ fn text_of(alloc: Global, counts: &Counts, design: Size) -> Result<Vec<u8>, Allo
     Ok(text)
 }
 
-/// The names and the numbers of the twelve counts, in the file's order.
+/// Returns the names and the values of the twelve counts, in the order of the file.
 #[tactic(auto, unfolding(crate::specs::CountsText::count_rows))]
 fn rows_of(counts: &Counts) -> [(&'static str, u16); 12]
     ensures { map count_row_of result ≡ count_rows counts.now }
@@ -63,14 +70,14 @@ fn rows_of(counts: &Counts) -> [(&'static str, u16); 12]
     ]
 }
 
-/// Appends the lines of the twelve counts.
+/// Appends one line for each of the twelve counts.
 pub fn push_counts(text: &mut Vec<u8>, counts: &Counts) -> Result<(), AllocError>
     ensures { OnOk result (text.new.items ≡ text.old.items ++ count_rows_text (count_rows counts.now)) }
 {
     push_rows(text, &rows_of(counts))
 }
 
-/// Appends a line for each name and its number.
+/// Appends one line for each name and its number.
 #[tactic(auto, using(crate::proofs::CountsTextLemmas::row_more))]
 fn push_rows(text: &mut Vec<u8>, rows: &[(&str, u16)]) -> Result<(), AllocError>
     ensures { OnOk result (text.new.items ≡ text.old.items ++ count_rows_text (map count_row_of rows.now)) }
@@ -81,7 +88,7 @@ fn push_rows(text: &mut Vec<u8>, rows: &[(&str, u16)]) -> Result<(), AllocError>
     Ok(())
 }
 
-/// Appends a line: a name, a space and a number.
+/// Appends one line: a name, a space and a number in decimal.
 fn push_row(text: &mut Vec<u8>, name: &str, number: u32) -> Result<(), AllocError>
     ensures { OnOk result (text.new.items ≡ text.old.items ++ count_row_text (name.now, number)) }
 {

@@ -6,14 +6,14 @@ use std::error::Error;
 use std::fmt;
 use tfm_tables::FontFault;
 
-/// Why the text of a font was not written, or not to its end.
+/// The reason why the text of a font wasn't written, or not completely.
 #[derive(Debug, Drop)]
 pub enum FontTextFault {
-    /// The font is refused.
+    /// The font isn't accepted; this is its first font error.
     Font(FontFault),
-    /// A request for memory was refused.
+    /// Allocation failed.
     OutOfMemory,
-    /// The writer failed.
+    /// The writer failed; a part of the text may have been written.
     Write,
 }
 

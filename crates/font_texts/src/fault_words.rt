@@ -1,4 +1,4 @@
-//! The words of a font's fault: its number, and what is wrong.
+//! The text of a font error: its number, and what is wrong.
 ghost use Rattle.std.specs.Prelude.{◌≡◌, Some};
 ghost use Rattle.font_texts.specs.FaultWords.{count_fault_number, fault_number, fault_words};
 
@@ -6,8 +6,9 @@ use std::fmt;
 use tfm_tables::FontFault;
 use tfm_words::CountFault;
 
-/// A fault told with its number among all that can be wrong with a font. A file that ends within its
-/// counts has number 1, and one that ends after them number 8.
+/// Formats a font error with its number before it. The numbers 1 to 14 are in the order in which a font
+/// is checked; 15 means that allocation failed. A file that ends within its counts has number 1, and a
+/// file that ends after its counts has number 8.
 #[derive(Clone, Copy, Debug, PartialEq, Eq, Hash)]
 pub struct Numbered(pub FontFault);
 

@@ -5,14 +5,14 @@ use crate::Numbered;
 use std::fmt;
 use tfm_tables::FontFault;
 
-/// What a look at a font finds.
+/// The result of the check of a font.
 #[derive(Clone, Copy, Debug, PartialEq, Eq, Hash)]
 pub enum Finding {
-    /// It is accepted.
+    /// The font is accepted.
     Accepted,
-    /// It is refused, and this is its first fault.
+    /// The font is refused; this is its first font error.
     Refused(FontFault),
-    /// Its bytes were not read.
+    /// The bytes of the font weren't read.
     NotRead,
 }
 

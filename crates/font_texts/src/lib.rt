@@ -1,4 +1,5 @@
-//! The texts of a font: its counts and its design size, listings of what it holds, and whether it is accepted.
+//! Writes texts about a font: its counts and design size, its listing, its full listing, and whether it
+//! is accepted.
 #![tactic(auto)]
 
 pub use all_listing::list_all_text;

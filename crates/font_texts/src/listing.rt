@@ -14,7 +14,12 @@ use std::alloc::{AllocError, Global};
 use std::io::Write;
 use tfm_tables::{Font, LeftSide};
 
-/// Writes the listing of a font, in one piece.
+/// Writes the listing of a font, by one call of `write_all`: its check sum, design size and size; what
+/// its header contains beyond these; the boundaries; the characters, instructions, kerns and
+/// parameters. Dimensions are in scaled points (sp), except the slant, which is in units of 2^-20.
+///
+/// The error is `OutOfMemory` if allocation failed, with `out` unchanged, or `Write` if the writer
+/// failed.
 pub fn list_text<W: Write>(alloc: Global, font: &Font, out: &mut W) -> Result<(), FontTextFault>
     ensures text { OnOk result
         (Appends (W.contents out.old) (W.contents out.new) (listing_of font.now)) }
@@ -27,7 +32,7 @@ pub fn list_text<W: Write>(alloc: Global, font: &Font, out: &mut W) -> Result<()
         .map_err(|_| FontTextFault::Write)
 }
 
-/// The listing of a font.
+/// Returns the listing of a font. The error is that allocation failed.
 #[tactic(auto, unfolding(crate::specs::Listing::listing_of))]
 pub fn text_of(alloc: Global, font: &Font) -> Result<Vec<u8>, AllocError>
     ensures { IfOk result (λ text. text.items ≡ listing_of font.now) }

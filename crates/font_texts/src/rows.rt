@@ -11,7 +11,7 @@ use itoa::Integer;
 use std::alloc::AllocError;
 use tfm_tables::{Font, Metrics, Step, Tag};
 
-/// Appends a line with one number.
+/// Appends one line: a name and a number.
 #[tactic(auto, unfolding(crate::specs::Listing::listing_row_text))]
 pub fn push_number_row<I: Integer>(
     text: &mut Vec<u8>,
@@ -25,7 +25,7 @@ pub fn push_number_row<I: Integer>(
     text.extend_from_slice(b"\n")
 }
 
-/// Appends a line with one word.
+/// Appends one line: a name and this text, unescaped.
 #[tactic(auto, unfolding(crate::specs::Listing::listing_row_text))]
 pub fn push_word_row(text: &mut Vec<u8>, name: &[u8], word: &[u8]) -> Result<(), AllocError>
     ensures { OnOk result (text.new.items ≡ text.old.items ++ listing_row_text (listing_row_of name.now word.now)) }
@@ -36,7 +36,7 @@ pub fn push_word_row(text: &mut Vec<u8>, name: &[u8], word: &[u8]) -> Result<(),
     text.extend_from_slice(b"\n")
 }
 
-/// Appends a line with a number, or with the word `none`.
+/// Appends one line: a name and a number, or `none` if there is no number.
 pub fn push_number_or_none<I: Integer>(
     text: &mut Vec<u8>,
     name: &[u8],
@@ -61,7 +61,7 @@ fn push_text_row(text: &mut Vec<u8>, name: &[u8], bytes: &[u8]) -> Result<(), Al
     text.extend_from_slice(b"\n")
 }
 
-/// Appends a line with a text, if there is one.
+/// Appends one line with a name and a text, escaped, or nothing if there is no text.
 #[tactic(auto, unfolding(crate::specs::Listing::text_where))]
 pub fn push_text_where(
     text: &mut Vec<u8>,
@@ -77,7 +77,7 @@ pub fn push_text_where(
     }
 }
 
-/// Appends a line with `yes` or `no`, if it is known which.
+/// Appends one line with a name and `yes` or `no`, or nothing if there is no flag.
 #[tactic(auto, unfolding(crate::specs::Listing::flag_where))]
 pub fn push_flag_where(
     text: &mut Vec<u8>,
@@ -94,7 +94,7 @@ pub fn push_flag_where(
     }
 }
 
-/// Appends a line with a number, if there is one.
+/// Appends one line with a name and a number, or nothing if there is no number.
 #[tactic(auto, unfolding(crate::specs::Listing::number_where))]
 pub fn push_number_where(
     text: &mut Vec<u8>,
@@ -110,7 +110,7 @@ pub fn push_number_where(
     }
 }
 
-/// Appends a line with a number and an amount.
+/// Appends one line: a name, an index and a signed amount.
 #[tactic(auto, using(crate::proofs::ListingLemmas::signed), unfolding(crate::specs::Listing::listing_row_text))]
 pub fn push_amount_row(
     text: &mut Vec<u8>,
@@ -148,7 +148,7 @@ fn push_measures(text: &mut Vec<u8>, metrics: Metrics) -> Result<(), AllocError>
     push_number(text, b" italic ", metrics.italic)
 }
 
-/// Appends the line of a character.
+/// Appends the line of a character: its code, dimensions and tag.
 #[tactic(auto, unfolding(crate::specs::Listing::listing_row_text, crate::specs::ListingWords::char_words))]
 pub fn push_char_row(
     text: &mut Vec<u8>,
@@ -207,7 +207,8 @@ fn push_action(text: &mut Vec<u8>, font: &Font, step: Step) -> Result<(), AllocE
     push_number(text, b" ", font.kern(kern))
 }
 
-/// Appends the line of an instruction.
+/// Appends the line of the instruction at address `i`: its address, its skip, the code to its right,
+/// and its action.
 #[tactic(auto, unfolding(crate::specs::Listing::listing_row_text, crate::specs::ListingWords::step_words))]
 pub fn push_step_row(
     text: &mut Vec<u8>,

@@ -1,4 +1,4 @@
--- The laws of the rewriting.
+-- Proofs of the laws of the rewriting.
 use Rattle.std.proofs.Common.{◌≡◌, ℕ, suc, zero, ◌+◌, ◌*◌, ◌<◌, ◌≤◌, Bool, true, false, cond, List, [], ◌∷◌, ◌++◌, length, map, take, Option, Some, None, IfSome, arith, rules, refl, ap, sym, subst, ◌∙◌, length-append}
 use Rattle.std.specs.Prelude.{is_some, nat_lt, if◌then◌else◌}
 use Rattle.std.proofs.lemmas.Bool.{ltb-true, ltb-false}
@@ -23,7 +23,7 @@ use Rattle.lig_kern.proofs.TurnLemmas.{StaysWithin, bit, between_within, items_o
 
 -- ---- one result
 
--- only one number of steps leads to the end
+-- at most one number of further steps reaches the end of a run
 finish_once : (font : FontValue) (n m : ℕ) (current : Symbol) (ahead : List Symbol) (xs ys : List Item)
     → finish font n current ahead ≡ Some xs → finish font m current ahead ≡ Some ys → n ≡ m
 unfolding finish
@@ -70,7 +70,7 @@ one_result font run right = λ a b is_a is_b.
 abbrev has_result : FontValue → List ℕ → Bool → ℕ → Bool
 has_result font run right n = is_some (result_after font run right n)
 
--- what a search of a range finds
+-- a number that a search of a range finds is in the range and passes the test
 found_in_range : (p : ℕ → Bool) (from count : ℕ) → IfSome (find p (range_with_len from count)) (λ k. (k < from + count) × (p k ≡ true))
 found_in_range p from zero = tt
 found_in_range p from (suc count) = by (p from) refl (found_in_range p (from + 1) count)
@@ -84,7 +84,7 @@ found_in_range p from (suc count) = by (p from) refl (found_in_range p (from + 1
         onward None h = tt
         onward (Some k) h = (omega (arith, h.0), h.1)
 
--- the only one in a range that passes is found
+-- if a number in a range passes a test and no smaller number does, a search of the range finds it
 find_only : (p : ℕ → Bool) (from count k : ℕ) → from ≤ k → k < from + count → p k ≡ true → ((j : ℕ) → j < k → p j ≡ false)
     → find p (range_with_len from count) ≡ Some k
 find_only p from zero k low high here before = absurd (omega arith)
@@ -94,14 +94,14 @@ find_only p from (suc count) k low high here before = by (nat_lt from k) refl (�
     by true below rest = let fails : p from ≡ false = before from (ltb-true from k below) in rw fails (rest (ltb-true from k below))
     by false above rest = let same : from ≡ k = omega (arith, ltb-false from k above) in rw same (rw here refl)
 
--- if none passes, none is found
+-- if no number in a range passes a test, a search of the range finds none
 find_none : (p : ℕ → Bool) (from count : ℕ) → ((k : ℕ) → from ≤ k → k < from + count → p k ≡ false) → find p (range_with_len from count) ≡ None
 find_none p from zero never = refl
 find_none p from (suc count) never =
     let fails : p from ≡ false = never from (omega arith) (omega arith) in
     rw fails (find_none p (from + 1) count (λ k low high. never k (omega arith) (omega arith)))
 
--- a number of steps below that of the result has none
+-- no smaller number of steps than the result's leads to a result
 none_before : (font : FontValue) (run : List ℕ) (right : Bool) (result : Setting) → IsResultOf font run right result
     → (j : ℕ) → j < result.steps → has_result font run right j ≡ false
 none_before font run right result is j below = by (result_after font run right j) refl

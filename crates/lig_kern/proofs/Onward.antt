@@ -1,4 +1,5 @@
--- What is still to be done from a current symbol and the symbols ahead of it, and that it is the rewriting of the whole list.
+-- The steps from a current symbol and the symbols ahead of it, and the proof that they rewrite the whole list
+-- of elements.
 use Rattle.std.proofs.Common.{◌≡◌, ℕ, suc, zero, ◌+◌, Bool, true, false, List, [], ◌∷◌, ◌++◌, length, map, take, drop, Option, Some, None, IfSome, arith, refl, ap, sym, ◌∙◌, append_assoc, length-append, eq-eqb}
 use Rattle.std.specs.List.{slice_get}
 use Rattle.std.specs.Option.{option_map, option_and_then}
@@ -17,13 +18,13 @@ use Rattle.lig_kern.specs.Result.{result_after}
 use Rattle.lig_kern.specs.Ahead.{finish, put_in, turn_by, turn_of}
 use Rattle.lig_kern.proofs.TurnLemmas.{StaysWithin, bit, between_within, items_of-append}
 
--- a configuration, by what is done, the current symbol and the symbols ahead
+-- the configuration with these elements before the current symbol, and these symbols ahead of it
 abbrev pub at : List Element → Symbol → List Symbol → Configuration
 at done current ahead = record { elements = done ++ of_symbol current ∷ map of_symbol ahead; cursor = length done }
 
 -- ---- one step
 
--- what a splice does after what is done
+-- the configuration after a replacement, whose first elements are added to those before the current symbol
 spliced_at : (done : List Element) (current next : Symbol) (rest : List Symbol) (splice : Splice) (sent : List Element) (current' : Symbol) (ahead' : List Symbol)
     → splice.elements ++ map of_symbol rest ≡ sent ++ of_symbol current' ∷ map of_symbol ahead' → splice.pass ≡ length sent
     → spliced (at done current (next ∷ rest)) splice ≡ at (done ++ sent) current' ahead'
@@ -50,13 +51,14 @@ kept_is code true false current next rest = refl
 kept_is code false true current next rest = refl
 kept_is code false false current next rest = refl
 
--- what is sent by a splice, as elements
+-- the elements that a replacement leaves before the current one
 abbrev pub sent_by : Option Action → Symbol → Symbol → List Element
 sent_by None current next = of_symbol current ∷ []
 sent_by (Some (Kern amount)) current next = of_symbol current ∷ of_kern amount ∷ []
 sent_by (Some (Lig code keep_left keep_right pass)) current next = map of_symbol (take pass (put_in code keep_left keep_right current next))
 
--- what a splice puts in is what it sends, the current symbol, and what it leaves ahead
+-- the elements of a replacement and the elements after it are, in this order, those before the new current
+-- one, the current one, and those ahead of it
 put_by : (font : FontValue) (action : Option Action) (current next : Symbol) (rest : List Symbol) → IfSome action StaysWithin
     → (splice_by action (of_symbol current) (of_symbol next)).elements ++ map of_symbol rest
     ≡ sent_by action current next ++ of_symbol (turn_by font action current next rest).current ∷ map of_symbol (turn_by font action current next rest).ahead
@@ -85,7 +87,7 @@ passed_by (Some (Lig code keep_left keep_right pass)) current next within =
       length-take-le pass (put_in code keep_left keep_right current next),
     )
 
--- a turn sends the items of these elements
+-- the items that a step appends are those of the elements that it leaves before the current one
 items_of-sent_by : (font : FontValue) (action : Option Action) (current next : Symbol) (rest : List Symbol)
     → items_of font (sent_by action current next) ≡ (turn_by font action current next rest).sent
 items_of-sent_by font None current next rest = refl
@@ -119,7 +121,8 @@ stops_at font done current =
 
 -- ---- all steps
 
--- mapping twice over what may be there
+-- putting two lists in front of an optional list, one after the other, puts their concatenation in front of
+-- it
 pub option_map-twice : (xs ys : List Item) (o : Option (List Item))
     → option_map (λ items. xs ++ items) (option_map (λ items. ys ++ items) o) ≡ option_map (λ items. (xs ++ ys) ++ items) o
 option_map-twice xs ys None = refl
@@ -132,7 +135,8 @@ option_map-none (Some items) = refl
 abbrev pub settled : FontValue → ℕ → Configuration → Option (List Item)
 settled font n c = option_and_then (final_items font) (after_steps font n c)
 
--- what this many steps lead to is what is done and what is still to come
+-- the result after this many steps is the items of the elements before the current one, followed by those
+-- that are still to be appended
 pub settled_at : (font : FontValue) (n : ℕ) (done : List Element) (current : Symbol) (ahead : List Symbol)
     → settled font n (at done current ahead) ≡ option_map (λ items. items_of font done ++ items) (finish font n current ahead)
 unfolding after_steps finish turn_of
@@ -154,7 +158,7 @@ settled_at font (suc n) done current (next ∷ rest) =
     (items_of-append font done (sent_by action current next) ∙ ap (λ sent. items_of font done ++ sent) (items_of-sent_by font action current next rest))
     ∙ sym (option_map-twice (items_of font done) turn.sent (finish font n turn.current turn.ahead)))
 
--- ---- the opening
+-- ---- the opening configuration
 
 pub opening_is : (font : FontValue) (run : List ℕ) (right : Bool) → opening font run right ≡ at [] Left (map Char run ++ right_end font right)
 unfolding opening

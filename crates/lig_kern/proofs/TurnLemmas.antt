@@ -1,4 +1,4 @@
--- What a step leaves, by the action between the current symbol and the next.
+-- The effect of a step, by the action between the current symbol and the next one.
 use Rattle.std.proofs.Common.{◌≡◌, ℕ, suc, zero, ◌+◌, ◌<◌, ◌≤◌, ◌==◌, Bool, true, false, cond, ℤ, List, [], ◌∷◌, ◌++◌, map, drop, Option, Some, None, IfSome, arith, rules, refl, ap, sym, subst, ◌∙◌, append_assoc, append-nil}
 use Rattle.std.specs.Prelude.{nat_le, unwrap_or, if◌then◌else◌}
 use Rattle.std.specs.List.{slice_get, find}
@@ -19,14 +19,14 @@ use Rattle.tfm_tables.specs.Program.{step_at}
 use Rattle.lig_kern.specs.Rewriting.{Element, of_symbol, of_kern, items_of, item_of}
 use Rattle.lig_kern.specs.Ahead.{HasTurned, stays, turn_by, turn_of}
 
--- ---- an operation passes over what is there
+-- ---- an operation passes over existing elements only
 
--- how many elements a ligature leaves before the last one
+-- 1 for a neighbour that a ligature keeps, 0 for one that it deletes
 abbrev pub bit : Bool → ℕ
 bit true = 1
 bit false = 0
 
--- an action passes over fewer elements than it leaves
+-- a ligature passes over fewer elements than it puts in the place of the two neighbours
 abbrev pub StaysWithin : Action → Type 0
 StaysWithin (Kern amount) = Unit {0}
 StaysWithin (Lig code keep_left keep_right pass) = pass ≤ bit keep_left + bit keep_right
@@ -38,7 +38,8 @@ abbrev AllWithin : List Operation → Type 0
 AllWithin [] = Unit {0}
 AllWithin (x ∷ xs) = IsWithin x × AllWithin xs
 
--- what is found in a list is one of it
+-- if every operation in a list passes over fewer elements than it leaves, so does the one that a search
+-- finds, or LIG if it finds none
 found_within : (p : Operation → Bool) (xs : List Operation) → AllWithin xs → IsWithin (unwrap_or (find p xs) plain_ligature)
 found_within p [] each = omega arith
 found_within p (x ∷ xs) each = by (p x) (found_within p xs each.1)
@@ -69,9 +70,9 @@ between_within font left right = by (match_of font.words left right)
     by None = tt
     by (Some at) = action_within font (step_at font.words at)
 
--- ---- what a step leaves
+-- ---- the effect of a step
 
--- the symbols ahead, from the first one
+-- the symbols ahead are the first one and the symbols after it
 pub first_and_rest : (ahead : List Symbol) (next : Symbol) → slice_get ahead 0 ≡ Some next → ahead ≡ next ∷ drop 1 ahead
 first_and_rest [] next e = absurd (search rules)
 first_and_rest (x ∷ xs) next e = grind arith
@@ -86,7 +87,7 @@ turn_at font current next (x ∷ xs) action first is =
 
 -- ---- a step that was made
 
--- the items of two lists in a row
+-- the items of two lists, one after the other, are those of the first followed by those of the second
 pub items_of-append : (font : FontValue) (xs ys : List Element) → items_of font (xs ++ ys) ≡ items_of font xs ++ items_of font ys
 unfolding items_of
 items_of-append font xs ys = filter_map-append (item_of font) xs ys

@@ -1,4 +1,4 @@
--- What holds between two steps of the body, and what each end of the loop makes of it.
+-- The invariant between two steps of the code, and the outcome at each end of the loop.
 use Rattle.std.proofs.Common.{◌≡◌, ℕ, suc, zero, ◌+◌, ◌-◌, ◌<◌, ◌≤◌, Bool, true, false, List, [], ◌∷◌, ◌++◌, length, length-drop, drop-cons, get_or, map, take, drop, Option, Some, None, arith, rules, refl, ap, sym, subst, ◌∙◌, ◌&&◌}
 use Rattle.std.specs.Prelude.{if◌then◌else◌, is_some, nat_lt, Result, Ok, Err, IfOk}
 use Rattle.std.proofs.Math.Seq.{take-append_seam, take-length}
@@ -16,7 +16,7 @@ use Rattle.lig_kern.specs.Result.{HasNoResultWithin, IsAppendedResult, StaysInFr
 use Rattle.lig_kern.specs.Ahead.{EndsAfter, HasTurned, IsUnderWay, finish, turn_of, symbols_ahead}
 use Rattle.lig_kern.proofs.Onward.{option_map-twice, result_is}
 
--- ---- what stays in front
+-- ---- the items at the front
 
 pub front_at_once : (xs : List Item) → StaysInFront xs xs
 front_at_once xs = take-length xs
@@ -101,9 +101,9 @@ under_way_next font run right before used current current' next (x ∷ rest) ahe
       front = front_through before out out' way.front front;
     }
 
--- ---- along a run
+-- ---- the fast path along a run
 
--- under way between two plain steps: whether the right boundary stands after the run or not
+-- the state of a run between two steps of the fast path, whether the right boundary follows the run or not
 abbrev pub IsGliding : FontValue → List ℕ → List Item → ℕ → Symbol → List ℕ → List Item → Type 0
 IsGliding font run before used current rest out =
     (right stands : Bool) → stands ≡ (right && is_some (right_code_of (program_of font.words)))
@@ -123,7 +123,7 @@ glide_next font run before used current after rest code more out out' way is tur
     subst (λ rest. IsUnderWay font run right before used current (symbols_ahead [] rest stands) out) is (way right stands e) in
     under_way_next font run right before used current after (Char code) (Char code ∷ symbols) symbols out out' here refl (turned symbols) front
 
--- the same if what is left of the run is told by a place
+-- a step of the fast path leads to the next state; the remainder of the run is given by an index in the run
 pub glide_at : (font : FontValue) (run : List ℕ) (before : List Item) (used further : ℕ) (current after : Symbol) (out out' : List Item)
     → IsGliding font run before used current (drop used run) out → used < length run → further ≡ used + 1
     → ((symbols : List Symbol) → HasTurned (turn_of font current (Char (get_or run used 0) ∷ symbols)) after symbols out out') → StaysInFront out out'
@@ -133,9 +133,9 @@ glide_at font run before used further current after out out' way within next tur
     drop-cons run used 0 within ∙ ap (λ k. get_or run used 0 ∷ drop k run) {x = suc used} {y = used + 1} (omega arith) in
     rw next (glide_next font run before used current after (drop used run) (get_or run used 0) (drop (used + 1) run) out out' way here turned front)
 
--- ---- its ends
+-- ---- the ends of the loop
 
--- nothing is there
+-- an option that has no value is None
 pub not_there : {A : Type 0} (o : Option A) → is_some o ≡ false → o ≡ None
 not_there None e = refl
 not_there (Some x) e = absurd (true≢false e)
@@ -159,11 +159,11 @@ is_result font run right before used limit current [] out after way last within 
     by None is whole = absurd (search rules)
     by (Some items) is whole = record { items = items; result = is; within = within; appended = grind arith }
 
--- a slice from a place to the end
+-- a slice from an index to the end is what is left without the elements before the index
 pub rest_whole : (xs : List ℕ) (n : ℕ) → take (length xs - n) (drop n xs) ≡ drop n xs
 rest_whole xs n = ap (λ k. take k (drop n xs)) (sym (length-drop n xs)) ∙ take-length (drop n xs)
 
--- nothing is left of the run, and no boundary stands after it
+-- if nothing is left of the run and no boundary follows it, the current symbol is the last one
 pub ends_here : (font : FontValue) (run : List ℕ) (right : Bool) (before : List Item) (used limit : ℕ) (current : Symbol) (stands : Bool) (rest : List ℕ) (out after : List Item)
     → IsUnderWay font run right before used current (symbols_ahead [] rest stands) out → length rest ≡ 0 → stands ≡ false → used ≤ limit
     → after ≡ out ++ items_of font (of_symbol current ∷ []) → IsAppendedResult font run right limit before after used
@@ -173,7 +173,7 @@ ends_here font run right before used limit current false (code ∷ rest) out aft
 ends_here font run right before used limit current false [] out after way none alone within sent =
     is_result font run right before used limit current [] out after way refl within sent
 
--- what comes of each run that may be under way, of one that is
+-- an outcome that is given for every run that may be in this state is the outcome of a run that is in it
 pub ended_of : {E : Type 0} (font : FontValue) (run : List ℕ) (right : Bool) (before : List Item) (used limit : ℕ) (current : Symbol) (ahead : List Symbol) (out after : List Item)
     → (r : Result (Option ℕ) E)
     → IfOk r (λ steps. (run : List ℕ) (right : Bool) (before : List Item) → IsUnderWay font run right before used current ahead out → EndsAfter font run right limit before after steps)

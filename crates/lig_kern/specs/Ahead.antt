@@ -1,5 +1,6 @@
--- What the body keeps of a run that is being set: the current symbol and the symbols ahead of it; all that stands to the
--- left is items already. This project's own representation; what it stands for is a configuration (Rewriting).
+-- How the code represents a run that is being set: the current symbol and the symbols ahead of it. Everything
+-- to the left of the current symbol is already in the list of items. This project's own; each such state
+-- represents a configuration (defined in Rewriting).
 use Rattle.std.specs.Prelude.{◌≡◌, ℕ, zero, suc, ◌+◌, ◌<◌, Bool, true, false, List, [], ◌∷◌, ◌++◌, map, take, drop, reverse, get_or, Option, Some, None, MatchOption, if◌then◌else◌}
 use Rattle.tfm_tables.specs.Font.{FontValue}
 use Rattle.lig_kern.specs.declared.symbol.Symbol.{Symbol}
@@ -12,27 +13,29 @@ use Rattle.lig_kern.specs.Matching.{action_between}
 use Rattle.lig_kern.specs.Rewriting.{of_symbol, of_kern, items_of}
 use Rattle.lig_kern.specs.Result.{HasNoResultWithin, IsAppendedResult, StaysInFront, result_after}
 
--- the symbols ahead: characters that operations put there, the last one first, then the rest of the run, then perhaps the
--- right boundary
+-- the symbols ahead of the current one: the characters that operations put there (the last one comes first),
+-- then the remainder of the run, then the right boundary if `right` is true
 unfoldable pub symbols_ahead : List ℕ → List ℕ → Bool → List Symbol
 symbols_ahead pending rest right = map Char (reverse pending) ++ map Char rest ++ (if right then Right ∷ [] else [])
 
--- what one step sends out, and what it leaves
+-- the effect of one step: the items that it appends, the symbol that is current afterwards, and the symbols
+-- that are ahead of it
 pub record Turn : Type 0 where
   pub sent : List Item
   pub current : Symbol
   pub ahead : List Symbol
 
--- a symbol that stays or goes
+-- the symbol alone if it is kept, and nothing if it is deleted
 abbrev pub stays : Bool → Symbol → List Symbol
 stays true one = one ∷ []
 stays false one = []
 
--- what a ligature puts in the place of two symbols
+-- the symbols that a ligature puts in the place of two neighbours
 abbrev pub put_in : ℕ → Bool → Bool → Symbol → Symbol → List Symbol
 put_in code keep_left keep_right current next = stays keep_left current ++ Char code ∷ stays keep_right next
 
--- a step between two symbols with some more after them
+-- the effect of a step between the current symbol and the next one with this action; `rest` are the symbols
+-- after the next one
 abbrev pub turn_by : FontValue → Option Action → Symbol → Symbol → List Symbol → Turn
 turn_by font None current next rest = record { sent = items_of font (of_symbol current ∷ []); current = next; ahead = rest }
 turn_by font (Some (Kern amount)) current next rest =
@@ -43,18 +46,21 @@ turn_by font (Some (Lig code keep_left keep_right pass)) current next rest = rec
   ahead = drop (pass + 1) (put_in code keep_left keep_right current next) ++ rest;
 }
 
--- a step from the current symbol; nothing if none is ahead of it
+-- the effect of a step from the current symbol; if no symbol is ahead of it, nothing is appended and nothing
+-- changes
 unfoldable pub turn_of : FontValue → Symbol → List Symbol → Turn
 turn_of font current [] = record { sent = []; current = current; ahead = [] }
 turn_of font current (next ∷ rest) = turn_by font (action_between font current next) current next rest
 
--- a step was made: its items were appended, and this is what it leaves
+-- a step with this effect was made: these are the current symbol and the symbols ahead of it afterwards, and
+-- the items of the step were appended
 pub record HasTurned (turn : Turn) (symbol : Symbol) (symbols : List Symbol) (before after : List Item) : Type 0 where
   pub current : symbol ≡ turn.current
   pub ahead : symbols ≡ turn.ahead
   pub sent : after ≡ before ++ turn.sent
 
--- the items that are still to come, if just this many more steps lead to the end
+-- the items that are still to be appended if exactly this many further steps reach the end of the run, and
+-- none otherwise
 unfoldable pub finish : FontValue → ℕ → Symbol → List Symbol → Option (List Item)
 finish font zero current [] = Some (items_of font (of_symbol current ∷ []))
 finish font zero current (next ∷ rest) = None
@@ -63,12 +69,15 @@ finish font (suc n) current (next ∷ rest) =
     option_map (λ items. (turn_of font current (next ∷ rest)).sent ++ items)
     (finish font n (turn_of font current (next ∷ rest)).current (turn_of font current (next ∷ rest)).ahead)
 
--- after this many steps of a run: no fewer led to the end, and what is still to come, after what was sent out, is the result
+-- the state of a run after `used` steps: no smaller number of steps leads to a result; the results after
+-- further steps, with `before` in front of them, are exactly `out` followed by the items that those further
+-- steps still append; and `before` is still at the front of `out`
 pub record IsUnderWay (font : FontValue) (run : List ℕ) (right : Bool) (before : List Item) (used : ℕ) (current : Symbol) (ahead : List Symbol) (out : List Item) : Type 0 where
   pub not_before : (n : ℕ) → n < used → result_after font run right n ≡ None
   pub onward : (n m : ℕ) → m ≡ used + n → option_map (λ items. before ++ items) (result_after font run right m) ≡ option_map (λ items. out ++ items) (finish font n current ahead)
   pub front : StaysInFront before out
 
--- what becomes of a run within a limit: its result was appended, after this many steps, or it has none
+-- the outcome of a run within a limit: its result was appended, after this number of steps; or, if there is
+-- no number, the run has no result within the limit
 abbrev pub EndsAfter : FontValue → List ℕ → Bool → ℕ → List Item → List Item → Option ℕ → Type 0
 EndsAfter font run right limit before after steps = MatchOption steps (HasNoResultWithin font run right limit) (IsAppendedResult font run right limit before after)

@@ -1,4 +1,5 @@
--- Laws of the rewriting, in its own words: this project's own, on the rewriting of The METAFONTbook, Appendix F.
+-- Laws of the rewriting, stated with its definitions. This project's own, about the rewriting of The
+-- METAFONTbook, Appendix F.
 use Rattle.std.specs.Prelude.{◌≡◌, ℕ, ◌+◌, ◌*◌, ◌≤◌, Bool, List, length, map, Some, None}
 use Rattle.std.specs.List.{slice_get}
 use Rattle.tfm_tables.specs.Font.{FontValue}
@@ -9,28 +10,29 @@ use Rattle.lig_kern.specs.Matching.{action_between}
 use Rattle.lig_kern.specs.Rewriting.{character_width, right_end, symbols_of}
 use Rattle.lig_kern.specs.Result.{Setting, IsResultOf, HasNoResultWithin, result_of}
 
--- a run has one result at most
+-- a run has at most one result
 abbrev pub HasOneResult : FontValue → List ℕ → Bool → Type 0
 HasOneResult font run right = (a b : Setting) → IsResultOf font run right a → IsResultOf font run right b → a ≡ b
 
--- the result within a limit is the result, if that takes no more steps than the limit; else there is none
+-- the result within a limit is the result of the run if that takes no more steps than the limit; otherwise
+-- there is none
 pub record FindsResult (font : FontValue) (run : List ℕ) (right : Bool) (limit : ℕ) : Type 0 where
   pub found : (setting : Setting) → IsResultOf font run right setting → setting.steps ≤ limit → result_of font run right limit ≡ Some setting
   pub is_result : (setting : Setting) → result_of font run right limit ≡ Some setting → IsResultOf font run right setting × (setting.steps ≤ limit)
   pub none : HasNoResultWithin font run right limit → result_of font run right limit ≡ None
   pub none_within : result_of font run right limit ≡ None → HasNoResultWithin font run right limit
 
--- the font's program does nothing between any two neighbours
+-- the font's program has no match for any two neighbours in a list of symbols
 abbrev pub HasNoMatches : FontValue → List Symbol → Type 0
 HasNoMatches font symbols =
     (i : ℕ) (left right : Symbol) → slice_get symbols i ≡ Some left → slice_get symbols (i + 1) ≡ Some right → action_between font left right ≡ None
 
--- the characters of a run as items
+-- the characters of a run as items, each with its width
 abbrev pub plain_items : FontValue → List ℕ → List Item
 plain_items font run = map (λ code. CharItem code (character_width font code)) run
 
--- a run in which nothing matches is set as itself, with one step for each character and one more if the right boundary
--- stands after it
+-- a run in which no two neighbours match is set as itself, with one step for each character, and one more if
+-- the right boundary follows the run
 abbrev pub SetsAsItself : FontValue → List ℕ → Bool → Type 0
 SetsAsItself font run right =
     HasNoMatches font (symbols_of font run right)

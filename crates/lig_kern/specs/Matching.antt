@@ -1,6 +1,8 @@
--- What a font's program does between two neighbours: the instruction that serves them, and its action.
--- Public source: The METAFONTbook, Appendix F; tftopl.web, section 13; tex.web, sections 545, 557, 1039 and 1040. The
--- codes below 128 that aren't listed stand for LIG, as tftopl.web changes them and tex.web performs them.
+-- What the lig/kern program of a font does between two neighbours: the instruction that matches them, and its
+-- action.
+-- Public source: The METAFONTbook, Appendix F; tftopl.web, section 13; tex.web, sections 545, 557, 1039 and
+-- 1040. An op code below 128 that isn't listed here means LIG: tftopl.web changes it to LIG, and tex.web
+-- performs it as LIG.
 use Rattle.std.specs.Prelude.{ℕ, ◌==◌, nat_le, Bool, true, false, List, [], ◌∷◌, Option, Some, None, unwrap_or, if◌then◌else◌}
 use Rattle.std.specs.List.{find}
 use Rattle.std.specs.Option.{option_and_then, option_map}
@@ -16,38 +18,39 @@ use Rattle.lig_kern.specs.declared.symbol.Symbol.TheVariants.{Left, Char, Right}
 use Rattle.lig_kern.specs.declared.action.Action.{Action}
 use Rattle.lig_kern.specs.declared.action.Action.TheVariants.{Kern, Lig}
 
--- a symbol as the left one of two; the right boundary has nothing to its right
+-- a symbol as the left one of two neighbours; the right boundary is never the left one, because nothing
+-- follows it
 abbrev pub left_side_of : Symbol → Option LeftSide
 left_side_of Left = Some Boundary
 left_side_of (Char code) = Some (CharOnLeft code)
 left_side_of Right = None
 
--- the code of a symbol as the right one of two; the left boundary has none, and the right boundary that of the right
--- boundary character, if the font has one
+-- the code of a symbol as the right one of two neighbours: the left boundary has none, and the right boundary
+-- has the code of the right boundary character, if the font has one
 abbrev pub code_of : List ℕ → Symbol → Option ℕ
 code_of words Left = None
 code_of words (Char code) = Some code
 code_of words Right = right_code_of (program_of words)
 
--- the address of the instruction that matches two neighbours: the first in the chain of the left one's program that
--- serves the code of the right one
+-- the address of the instruction that matches two neighbours: the first one in the chain of the left
+-- neighbour's program that serves the code of the right neighbour
 unfoldable pub match_of : List ℕ → Symbol → Symbol → Option ℕ
 match_of words left right =
     option_and_then (λ side. option_and_then (address_between words side) (code_of words right)) (left_side_of left)
 
--- a ligature operation: its op code, whether the left one and the right one of the two stay, and how many elements, from
--- the left, are passed over
+-- a ligature operation: its op code, whether the left and the right neighbour are kept, and how many
+-- elements, from the left, the cursor passes over
 pub record Operation : Type 0 where
   pub op : ℕ
   pub keep_left : Bool
   pub keep_right : Bool
   pub pass : ℕ
 
--- a row of the table below
+-- one row of the table of operations below
 abbrev pub operation : ℕ → Bool → Bool → ℕ → Operation
 operation op keep_left keep_right pass = record { op = op; keep_left = keep_left; keep_right = keep_right; pass = pass }
 
--- LIG, which also stands for every code below 128 that isn't listed
+-- the operation LIG, which is also the meaning of every op code below 128 that isn't in the table
 abbrev pub plain_ligature : Operation
 plain_ligature = operation 0 false false 0
 
@@ -68,17 +71,17 @@ operations =
 unfoldable pub operation_of : ℕ → Operation
 operation_of op = unwrap_or (find (λ listed. listed.op == op) operations) plain_ligature
 
--- an operation with the character that it inserts
+-- the action of an operation that inserts this character
 abbrev pub ligature_by : Operation → ℕ → Action
 ligature_by listed code = Lig code listed.keep_left listed.keep_right listed.pass
 
--- what an instruction does: from op 128 on it inserts a kern, else it is a ligature
+-- the action of an instruction: a kern if its op code is 128 or more, and a ligature otherwise
 unfoldable pub action_of : FontValue → Step → Action
 action_of font step =
     if nat_le 128 step.op
     then Kern (kern_at font.words font.size (kern_index_of step))
     else ligature_by (operation_of step.op) step.remainder
 
--- what a font's program does between two neighbours, if it does something
+-- the action of the font's program between two neighbours, if an instruction matches them
 unfoldable pub action_between : FontValue → Symbol → Symbol → Option Action
 action_between font left right = option_map (λ address. action_of font (step_at font.words address)) (match_of font.words left right)

@@ -1,4 +1,5 @@
--- The result of a run: the number of steps that lead to a final configuration, and the items of that one.
+-- The result of a run: the number of steps that lead to a final configuration, and the items of that
+-- configuration.
 -- Public source: The METAFONTbook, Appendix F; the limit on steps is this project's own.
 use Rattle.std.specs.Prelude.{◌≡◌, ℕ, ◌+◌, ◌≤◌, Bool, List, ◌++◌, length, take, Option, Some, None, is_some}
 use Rattle.std.specs.List.{find, range_with_len}
@@ -7,39 +8,41 @@ use Rattle.tfm_tables.specs.Font.{FontValue}
 use Rattle.lig_kern.specs.declared.item.Item.{Item}
 use Rattle.lig_kern.specs.Rewriting.{opening, after_steps, final_items}
 
--- the items of a run, if just this many steps lead from the opening configuration to a final one
+-- the items of a run if exactly this many steps lead from its opening configuration to a final one, and none
+-- otherwise
 unfoldable pub result_after : FontValue → List ℕ → Bool → ℕ → Option (List Item)
 result_after font run right n = option_and_then (final_items font) (after_steps font n (opening font run right))
 
--- a run's result: how many steps lead to a final configuration, and its items
+-- a result of a run: the number of steps that lead to a final configuration, and the items of that
+-- configuration
 pub record Setting : Type 0 where
   pub steps : ℕ
   pub items : List Item
 
--- a setting is the result of a run
+-- this setting is a result of the run
 abbrev pub IsResultOf : FontValue → List ℕ → Bool → Setting → Type 0
 IsResultOf font run right setting = result_after font run right setting.steps ≡ Some setting.items
 
--- a run has no result within this many steps
+-- the run has no result within this many steps
 abbrev pub HasNoResultWithin : FontValue → List ℕ → Bool → ℕ → Type 0
 HasNoResultWithin font run right limit = (n : ℕ) → n ≤ limit → result_after font run right n ≡ None
 
--- the result with a number of steps, if there is one
+-- the result of a run after exactly this many steps, if it has one
 abbrev pub setting_after : FontValue → List ℕ → Bool → ℕ → Option Setting
 setting_after font run right n = option_map (λ items. record { steps = n; items = items }) (result_after font run right n)
 
--- the result of a run, if it has one within this many steps
+-- the result of a run within a limit: the one with the fewest steps from 0 to the limit, if there is any
 unfoldable pub result_of : FontValue → List ℕ → Bool → ℕ → Option Setting
 result_of font run right limit =
     option_and_then (setting_after font run right) (find (λ n. is_some (result_after font run right n)) (range_with_len 0 (limit + 1)))
 
--- a setting of a run within this many steps, whose items were appended to a list
+-- the run has a result with this many steps, no more than the limit, and its items were appended to a list
 pub record IsAppendedResult (font : FontValue) (run : List ℕ) (right : Bool) (limit : ℕ) (before after : List Item) (steps : ℕ) : Type 0 where
   pub items : List Item
   pub result : IsResultOf font run right (record { steps = steps; items = items })
   pub within : steps ≤ limit
   pub appended : after ≡ before ++ items
 
--- what stood in a list still stands at its front
+-- the items of the list before are still at the front of the list after
 abbrev pub StaysInFront : List Item → List Item → Type 0
 StaysInFront before after = take (length before) after ≡ before

@@ -1,6 +1,7 @@
--- How a run is set: one list of elements with a cursor, which single steps rewrite until the cursor is at its end.
--- Public source: The METAFONTbook, Appendix F; read beside tex.web, sections 906 to 911 and 1034 to 1040. What counts as a
--- step, and that the right boundary may be left out, are this project's own.
+-- How a run is set: a list of elements with a cursor is rewritten, one step at a time, until the cursor is at
+-- the last element.
+-- Public source: The METAFONTbook, Appendix F; see also tex.web, sections 906 to 911 and 1034 to 1040. The
+-- rule for what counts as a step, and the choice to leave out the right boundary, are this project's own.
 use Rattle.std.specs.Prelude.{ℕ, zero, suc, ◌+◌, ◌==◌, Bool, true, false, ℤ, pos, List, [], ◌∷◌, ◌++◌, length, map, take, drop, Option, Some, None, if◌then◌else◌}
 use Rattle.std.specs.List.{filter_map, slice_get}
 use Rattle.std.specs.Option.{option_and_then, option_map, option_map_or}
@@ -15,80 +16,83 @@ use Rattle.lig_kern.specs.declared.item.Item.{Item}
 use Rattle.lig_kern.specs.declared.item.Item.TheVariants.{Char as CharItem, Kern as KernItem}
 use Rattle.lig_kern.specs.Matching.{action_between}
 
--- an element of a run that is being set: a boundary or a character, or a kern with its amount
+-- an element of a run that is being set: a symbol (a boundary or a character), or a kern with its amount
 pub data Element : Type 0 where
   of_symbol : Symbol → Element
   of_kern : ℤ → Element
 
--- a run that is being set: its elements, and the place of the current one
+-- a run that is being set: its elements, and the index of the current element, from 0
 pub record Configuration : Type 0 where
   pub elements : List Element
   pub cursor : ℕ
 
--- the right boundary stands after a run if that is asked for and the font has a right boundary character
+-- the end of a run: the right boundary if it is requested and the font has a right boundary character, and
+-- nothing otherwise
 unfoldable pub right_end : FontValue → Bool → List Symbol
 right_end font right = if right then option_map_or (λ _. Right ∷ []) (right_code_of (program_of font.words)) [] else []
 
--- the symbols of a run, the left boundary before it
+-- the symbols of a run: the left boundary, the characters, and the end of the run
 abbrev pub symbols_of : FontValue → List ℕ → Bool → List Symbol
 symbols_of font run right = Left ∷ map Char run ++ right_end font right
 
--- a run before the first step: the left boundary is current
+-- the configuration of a run before its first step, in which the left boundary is current
 unfoldable pub opening : FontValue → List ℕ → Bool → Configuration
 opening font run right = record { elements = map of_symbol (symbols_of font run right); cursor = 0 }
 
--- what the font's program does between two elements; it does nothing next to a kern
+-- the action of the font's program between two elements; next to a kern there is none
 abbrev pub action_at : FontValue → Element → Element → Option Action
 action_at font (of_symbol current) (of_symbol next) = action_between font current next
 action_at font (of_symbol current) (of_kern amount) = None
 action_at font (of_kern amount) next = None
 
--- what takes the place of two neighbours, and how many elements of that the cursor passes over
+-- the replacement of two neighbours: the new elements, and how many of these the cursor passes over
 pub record Splice : Type 0 where
   pub elements : List Element
   pub pass : ℕ
 
--- an element that stays or goes
+-- the element alone if it is kept, and nothing if it is deleted
 abbrev pub kept : Bool → Element → List Element
 kept true element = element ∷ []
 kept false element = []
 
--- without an action the next one becomes current; a kern is put between the two, and the next one becomes current; a
--- ligature puts a character between them, keeps either or not, and passes over as many elements as it says
+-- the replacement of two neighbours by an action: without one both are kept, and the next one becomes
+-- current; a kern is inserted between the two, and the next one becomes current; a ligature inserts its
+-- character between the two, keeps or deletes each of them, and moves the cursor past as many elements as its
+-- operation requires
 abbrev pub splice_by : Option Action → Element → Element → Splice
 splice_by None current next = record { elements = current ∷ next ∷ []; pass = 1 }
 splice_by (Some (Kern amount)) current next = record { elements = current ∷ of_kern amount ∷ next ∷ []; pass = 2 }
 splice_by (Some (Lig code keep_left keep_right pass)) current next =
     record { elements = kept keep_left current ++ of_symbol (Char code) ∷ kept keep_right next; pass = pass }
 
--- a configuration whose current element and the next one are replaced
+-- the configuration in which the current element and the next one are replaced
 abbrev pub spliced : Configuration → Splice → Configuration
 spliced c splice = record {
   elements = take c.cursor c.elements ++ splice.elements ++ drop (c.cursor + 2) c.elements;
   cursor = c.cursor + splice.pass;
 }
 
--- the configuration that one step leads to; there is none if the current element is the last
+-- the configuration after one step; there is none if the current element is the last one
 unfoldable pub step_from : FontValue → Configuration → Option Configuration
 step_from font c =
     option_and_then
     (λ current. option_map (λ next. spliced c (splice_by (action_at font current next) current next)) (slice_get c.elements (c.cursor + 1)))
     (slice_get c.elements c.cursor)
 
--- the configuration that this many steps lead to, if that many can be made
+-- the configuration after this many steps, if that many steps can be made
 unfoldable pub after_steps : FontValue → ℕ → Configuration → Option Configuration
 after_steps font zero c = Some c
 after_steps font (suc n) c = option_and_then (after_steps font n) (step_from font c)
 
--- a configuration is final if the current element is the last
+-- a configuration is final if its current element is the last one
 abbrev pub is_final : Configuration → Bool
 is_final c = c.cursor + 1 == length c.elements
 
--- the width of a character; 0 for a code that doesn't exist
+-- the width of a character, in scaled points (sp); 0 for a code that doesn't exist
 abbrev pub character_width : FontValue → ℕ → ℤ
 character_width font code = option_map_or (λ metrics. metrics.width) (metrics_of font.words font.size code) (pos 0)
 
--- what an element is in the line that is set: a boundary is nothing
+-- the item of an element in the result; a boundary has none
 abbrev pub item_of : FontValue → Element → Option Item
 item_of font (of_symbol Left) = None
 item_of font (of_symbol (Char code)) = Some (CharItem code (character_width font code))
@@ -99,6 +103,6 @@ item_of font (of_kern amount) = Some (KernItem amount)
 unfoldable pub items_of : FontValue → List Element → List Item
 items_of font elements = filter_map (item_of font) elements
 
--- the items of a final configuration; none of any other
+-- the items of a final configuration; none for any other configuration
 abbrev pub final_items : FontValue → Configuration → Option (List Item)
 final_items font c = if is_final c then Some (items_of font c.elements) else None

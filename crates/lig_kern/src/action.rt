@@ -1,17 +1,21 @@
-/// What a font's program does between two neighbours (The METAFONTbook, Appendix F).
+/// What the lig/kern instruction that matches two neighbours does between them (tftopl.web, section 13;
+/// The METAFONTbook, Appendix F).
 #[derive(Clone, Copy, Debug, PartialEq, Eq, Hash)]
 pub enum Action {
-    /// A kern is put between them, in scaled points.
+    /// Inserts a kern of this amount between the two, in scaled points (sp).
     Kern(i32),
-    /// A character is put between them, either or both may go, and some elements are passed over.
+    /// Inserts a character between the two, keeps or deletes each of them, and moves the cursor past
+    /// `pass` of the elements that replace the two.
     Lig {
-        /// The character that is put in.
+        /// The code of the inserted character.
         code: u8,
-        /// Whether the left one stays.
+        /// Whether the left neighbour is kept.
         keep_left: bool,
-        /// Whether the right one stays.
+        /// Whether the right neighbour is kept.
         keep_right: bool,
-        /// How many elements are passed over, from the left, to reach the new current one.
+        /// How many elements the cursor passes over, counted from the first of the elements that
+        /// replace the two neighbours; the element after them is the new current one. `first_match`
+        /// returns 0, 1 or 2.
         pass: u8,
     },
 }

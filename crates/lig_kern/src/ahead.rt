@@ -1,4 +1,4 @@
-//! The symbols ahead of the current one.
+//! The symbols of a run that follow the current one.
 ghost use Rattle.std.specs.Prelude.{◌≡◌, List, [], ◌∷◌, drop, OnOk, if◌then◌else◌};
 ghost use Rattle.std.specs.List.{slice_get};
 ghost use Rattle.lig_kern.specs.declared.symbol.Symbol.TheVariants.{Char as CharSymbol};
@@ -9,8 +9,9 @@ use smallvec::SmallVec;
 use std::alloc::{AllocError, Global};
 use std::marker::Model;
 
-/// Characters that operations put ahead, the last of which comes first; then the rest of the run;
-/// then perhaps the right boundary.
+/// The symbols ahead of the current one, in this order: the characters that ligature operations have
+/// put there (`pending`, whose last character is the next symbol), the remainder of the run (`rest`),
+/// and the right boundary if `right` is true.
 #[derive(Drop)]
 pub(crate) struct Ahead<'a> {
     pending: SmallVec<u8, 16>,
@@ -29,7 +30,8 @@ impl<'a> Model for Ahead<'a> {
 }
 
 impl<'a> Ahead<'a> {
-    /// A run, and perhaps the right boundary.
+    /// Returns the characters of a run as the symbols ahead, followed by the right boundary if `right`
+    /// is true. `alloc` provides the memory for characters that are put ahead later.
     #[tactic(auto, unfolding(crate::specs::Ahead::symbols_ahead))]
     pub fn new(alloc: Global, run: &'a [u8], right: bool) -> Ahead<'a>
         ensures { result ≡ symbols_ahead [] run.now right }
@@ -41,7 +43,7 @@ impl<'a> Ahead<'a> {
         }
     }
 
-    /// The next symbol, if there is one.
+    /// Returns the next symbol, or `None` if no symbol is left.
     #[tactic(auto, unfolding(crate::specs::Ahead::symbols_ahead))]
     pub fn first(&self) -> Option<Symbol>
         ensures { result ≡ slice_get self.now 0 }
@@ -59,7 +61,7 @@ impl<'a> Ahead<'a> {
         }
     }
 
-    /// Passes the next symbol, if there is one.
+    /// Removes the next symbol; nothing changes if no symbol is left.
     #[tactic(auto, unfolding(crate::specs::Ahead::symbols_ahead))]
     pub fn pass(&mut self)
         ensures { self.new ≡ drop 1 self.old }
@@ -74,7 +76,7 @@ impl<'a> Ahead<'a> {
         }
     }
 
-    /// Keeps the next symbol, or passes it.
+    /// Removes the next symbol unless `keep` is true.
     pub fn keep_first(&mut self, keep: bool)
         ensures { self.new ≡ (if keep then self.old else drop 1 self.old) }
     {
@@ -83,7 +85,7 @@ impl<'a> Ahead<'a> {
         }
     }
 
-    /// Puts a character before the next symbol.
+    /// Puts a character before the next symbol. The error is that allocation failed.
     #[tactic(auto, unfolding(crate::specs::Ahead::symbols_ahead))]
     pub fn put(&mut self, code: u8) -> Result<(), AllocError>
         ensures { OnOk result (self.new ≡ CharSymbol code ∷ self.old) }

@@ -1,5 +1,6 @@
-//! A run of characters, set with a font's lig/kern program: the exact list of characters and kerns
-//! that the program defines, with what it does at both boundaries.
+//! Sets a run of characters with the lig/kern program of a font: the result is the exact list of
+//! characters and kerns that the program defines, including its effect at both boundaries (The
+//! METAFONTbook, Appendix F).
 #![tactic(auto)]
 
 pub use action::Action;

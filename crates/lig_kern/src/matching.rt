@@ -7,8 +7,8 @@ ghost use Rattle.lig_kern.specs.Matching.{action_between, action_of, ligature_by
 use crate::{Action, Symbol};
 use tfm_tables::{Font, LeftSide, Step};
 
-/// The ligature of an op code below 128: one of the eight operations, or LIG for a code that is not
-/// among them.
+/// Returns the ligature action of an op code below 128: one of the eight operations, or LIG for a code
+/// that isn't among them.
 #[tactic(auto, unfolding(crate::specs::Matching::operation_of))]
 fn ligature(op: u8, code: u8) -> Action
     ensures { result ≡ ligature_by (operation_of op) code }
@@ -31,7 +31,7 @@ fn ligature(op: u8, code: u8) -> Action
     }
 }
 
-/// What the instruction at an address does.
+/// Returns the action of the instruction at an address.
 #[tactic(auto, unfolding(crate::specs::Matching::action_of, tfm_tables::specs::Acceptance::kern_index_of))]
 fn action(font: &Font, address: usize) -> Action
     requires within { address < entries_of font.now.words LigKern }
@@ -45,10 +45,13 @@ fn action(font: &Font, address: usize) -> Action
     Action::Kern(font.kern(256 * usize::from(step.op - 128) + usize::from(step.remainder)))
 }
 
-/// What a font's program does between two neighbours: the action of the first instruction of the left
-/// one's program that is for the right one. `None` if there is none, and if the first is the
-/// right boundary, the second the left one, or the second the right one and the font has no right
-/// boundary character.
+/// Returns the action of a font's lig/kern program between two neighbours (tftopl.web, section 13;
+/// tex.web, section 1039): the action of the first instruction in the program of the left neighbour
+/// that applies to the code of the right neighbour. An instruction with a skip above 128 never applies.
+/// The right boundary has the code of the font's right boundary character.
+///
+/// Returns `None` if no instruction applies, if `left` is the right boundary, if `right` is the left
+/// boundary, and if `right` is the right boundary but the font has no right boundary character.
 #[tactic(auto, unfolding(crate::specs::Matching::action_between, crate::specs::Matching::match_of))]
 pub fn first_match(font: &Font, left: Symbol, right: Symbol) -> Option<Action>
     ensures { result ≡ action_between font.now left right }

@@ -1,4 +1,4 @@
-//! One run, set step by step.
+//! Sets one run, step by step.
 ghost use Rattle.std.specs.Prelude.{◌≡◌, ℕ, ◌≤◌, ◌++◌, Bool, List, [], ◌∷◌, ◌&&◌, drop, length, map, is_some, Err, Some, IfOk, OnOk, OnErr, MatchOption};
 ghost use Rattle.std.specs.List.{slice_get};
 ghost use Rattle.tfm_tables.specs.Program.{program_of, right_code_of};
@@ -15,7 +15,7 @@ use crate::{Action, Item, Symbol, WordFault, first_match};
 use std::alloc::AllocError;
 use tfm_tables::Font;
 
-/// Sends a symbol out: a character is an item, and a boundary is nothing.
+/// Appends the item of a symbol to `out`: a character with its width; a boundary has no item.
 #[tactic(auto, using(crate::proofs::UnderWay::fronts), unfolding(crate::specs::Rewriting::items_of))]
 fn send(font: &Font, symbol: Symbol, out: &mut Vec<Item>) -> Result<(), AllocError>
     ensures front { StaysInFront out.old.items out.new.items }
@@ -28,7 +28,7 @@ fn send(font: &Font, symbol: Symbol, out: &mut Vec<Item>) -> Result<(), AllocErr
     Ok(())
 }
 
-/// Sends the left one of two symbols out, if a ligature keeps it and passes it.
+/// Appends the item of the left one of two symbols, which a ligature passes, if the ligature keeps it.
 #[tactic(auto, using(crate::proofs::UnderWay::fronts), unfolding(crate::specs::Rewriting::items_of))]
 fn send_kept(font: &Font, keep: bool, symbol: Symbol, out: &mut Vec<Item>) -> Result<(), AllocError>
     ensures front { StaysInFront out.old.items out.new.items }
@@ -41,7 +41,9 @@ fn send_kept(font: &Font, keep: bool, symbol: Symbol, out: &mut Vec<Item>) -> Re
     }
 }
 
-/// One step between the current symbol and the next one: what is current then.
+/// Makes one step between the current symbol and the next one, which is the first symbol ahead. Appends
+/// the items of the symbols that the step passes, and of its kern, and returns the symbol that is
+/// current afterwards.
 #[tactic(auto, using(crate::proofs::UnderWay::fronts))]
 fn step(
     font: &Font,
@@ -91,9 +93,10 @@ fn step(
     }
 }
 
-/// One step between the current symbol and a character ahead of it, if the step passes just that
-/// character: nothing matches, a kern comes between, or a ligature stands for both. The code that is
-/// current then; `None`, with nothing done, if another operation matches.
+/// Makes one step between the current symbol and the next character of the run, if the step consumes
+/// exactly that character: nothing matches, the match is a kern, or a ligature replaces both. Returns
+/// the code of the symbol that is current afterwards, or `None`, with nothing appended, if another
+/// operation matches.
 #[tactic(auto, using(crate::proofs::UnderWay::fronts))]
 fn plain_step(
     font: &Font,
@@ -129,9 +132,9 @@ fn plain_step(
     }
 }
 
-/// Steps along a run as long as each step passes one character: how many steps, which is how many
-/// characters are passed, and what is current then. Few runs need more, so that most are set without any
-/// symbols put ahead.
+/// Makes steps from the beginning of a run while each step consumes exactly one character. Returns the
+/// number of steps, which is also the number of characters consumed, and the symbol that is current
+/// afterwards. This is the fast path: it needs no list of symbols ahead.
 #[tactic(auto, using(crate::proofs::UnderWay::ways))]
 fn glide(
     font: &Font,
@@ -168,15 +171,17 @@ fn glide(
     Ok((most, Symbol::Char(current)))
 }
 
-/// Whether the right boundary stands after a run.
+/// Returns whether the right boundary follows a run: it is requested, and the font has a right boundary
+/// character.
 fn right_stands(font: &Font, right: bool) -> bool
     ensures { result ≡ (right && is_some (right_code_of (program_of font.now.words))) }
 {
     right && font.right_boundary().is_some()
 }
 
-/// Steps on until the current symbol is the last one, and sends that out: how many steps were taken by
-/// then, with those before, or `None` if as many as there may be lead to no end.
+/// Makes steps until no symbol is ahead of the current one, and then appends the item of the current
+/// one. Returns the number of all steps of the run, including the `taken` ones before this call, or
+/// `None` if `steps_left` steps in all don't reach the end.
 #[tactic(auto, using(crate::proofs::UnderWay::ends))]
 fn go_on(
     font: &Font,
@@ -207,8 +212,8 @@ fn go_on(
     Ok(Some(steps_left))
 }
 
-/// Steps until the current symbol is the last one, and sends that out: how many steps it took, or
-/// `None` if this many steps lead to no end.
+/// Makes all steps of a run, and then appends the item of its last symbol. Returns the number of steps,
+/// or `None` if `steps_left` steps don't reach the end.
 #[tactic(auto, using(crate::proofs::UnderWay::fronts))]
 fn run_steps(
     font: &Font,
@@ -231,13 +236,18 @@ fn run_steps(
     go_on(font, current, &mut ahead, glided, steps_left, out)
 }
 
-/// Sets one run of character codes. The left boundary stands before it, and the right boundary after
-/// it if `right` is true and the font has a right boundary character. Appends its characters and
-/// kerns to `out`, which gives the memory too, and answers how many steps it took: one for each
-/// ligature, kern and plain advance. The error is `TooManySteps`, only if no final list is reached
-/// within `steps_left` steps, or refused memory, which may come in place of either other answer;
-/// `out` is then as before. Any run is set: an empty one is its boundaries alone, and a code that
-/// doesn't exist counts with width 0 (The METAFONTbook, Appendix F).
+/// Sets one run of character codes with the lig/kern program of a font (The METAFONTbook, Appendix F),
+/// and appends the characters and kerns of the result to `out`. The left boundary precedes the run; the
+/// right boundary follows it if `right` is true and the font has a right boundary character. Returns
+/// the number of steps: one for each ligature, each kern, and each move to the next element without
+/// either. The working memory comes from the allocator of `out`.
+///
+/// Every list of codes is accepted: an empty run consists of its boundaries alone, and a code that
+/// doesn't exist in the font has width 0.
+///
+/// The error is `TooManySteps` only if no final list is reached within `steps_left` steps. It is
+/// `OutOfMemory` if allocation failed; this error is possible in place of either other outcome. After
+/// an error `out` is unchanged.
 pub fn set_word(
     font: &Font,
     word: &[u8],

@@ -1,10 +1,10 @@
-/// What stands in a run: a boundary, or a character by its code.
+/// A symbol of a run: a boundary, or a character by its code.
 #[derive(Clone, Copy, Debug, PartialEq, Eq, Hash)]
 pub enum Symbol {
-    /// The boundary before the first character.
+    /// The left boundary, before the first character of the run.
     Left,
-    /// A character.
+    /// A character, by its code.
     Char(u8),
-    /// The boundary after the last character.
+    /// The right boundary, after the last character of the run.
     Right,
 }

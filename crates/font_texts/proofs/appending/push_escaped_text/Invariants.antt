@@ -1,4 +1,4 @@
--- the text has the bytes so far, escaped
+-- the text consists of the text before the loop and the bytes so far, escaped
 use Rattle.std.proofs.Common.{◌≡◌, ◌++◌, take}
 use Rattle.font_texts.specs.ListingWords.{escaped_text}
 use Rattle.font_texts.proofs.appending.push_escaped_text.Given as goal

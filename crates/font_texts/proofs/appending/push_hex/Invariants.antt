@@ -1,4 +1,4 @@
--- the text has the digits of the bytes so far
+-- the text consists of the text before the loop and the hexadecimal digits of the bytes so far
 use Rattle.std.proofs.Common.{◌≡◌, ◌++◌, take}
 use Rattle.font_texts.specs.AllListing.{hex_text}
 use Rattle.font_texts.proofs.appending.push_hex.Given as goal

@@ -1,4 +1,4 @@
--- the text has the lines of the rows so far
+-- the text consists of the text before the loop and the lines of the rows so far
 use Rattle.std.proofs.Common.{◌≡◌, ◌++◌, map, take}
 use Rattle.font_texts.specs.CountsText.{count_row_of, count_rows_text}
 use Rattle.font_texts.proofs.counts.push_rows.Given as goal

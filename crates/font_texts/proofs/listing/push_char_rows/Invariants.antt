@@ -1,4 +1,4 @@
--- the text has the lines of the characters so far
+-- the text consists of the text before the loop and the lines of the characters so far
 use Rattle.std.proofs.Common.{◌≡◌, ◌++◌, map, filter}
 use Rattle.std.specs.List.{range_with_len}
 use Rattle.tfm_tables.specs.Character.{exists}

@@ -1,4 +1,4 @@
--- the text has the lines of the kerns so far
+-- the text consists of the text before the loop and the lines of the kerns so far
 use Rattle.std.proofs.Common.{◌≡◌, ◌++◌, map}
 use Rattle.std.specs.List.{range_with_len}
 use Rattle.font_texts.specs.Listing.{kern_row, listing_rows_text}

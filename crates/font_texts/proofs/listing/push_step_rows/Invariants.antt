@@ -1,4 +1,4 @@
--- the text has the lines of the instructions so far
+-- the text consists of the text before the loop and the lines of the instructions so far
 use Rattle.std.proofs.Common.{◌≡◌, ◌++◌, map}
 use Rattle.std.specs.List.{range_with_len}
 use Rattle.font_texts.specs.Listing.{listing_rows_text, step_row}

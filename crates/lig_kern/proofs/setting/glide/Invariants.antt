@@ -1,4 +1,4 @@
--- under way with the rest of the run ahead, whether the right boundary stands after it or not
+-- the state of a run with its remainder ahead, whether the right boundary follows it or not
 use Rattle.std.proofs.Common.{drop}
 use Rattle.lig_kern.specs.declared.symbol.Symbol.TheVariants.{Char}
 use Rattle.lig_kern.specs.Result.{StaysInFront}
