@@ -104,34 +104,34 @@ under_way_next font run right before used current current' next (x ∷ rest) ahe
 -- ---- the fast path along a run
 
 -- the state of a run between two steps of the fast path, whether the right boundary follows the run or not
-abbrev pub IsGliding : FontValue → List ℕ → List Item → ℕ → Symbol → List ℕ → List Item → Type 0
-IsGliding font run before used current rest out =
+abbrev pub IsPlainlyUnderWay : FontValue → List ℕ → List Item → ℕ → Symbol → List ℕ → List Item → Type 0
+IsPlainlyUnderWay font run before used current rest out =
     (right stands : Bool) → stands ≡ (right && is_some (right_code_of (program_of font.words)))
     → IsUnderWay font run right before used current (symbols_ahead [] rest stands) out
 
-pub glide_first : (font : FontValue) (run : List ℕ) (before : List Item) → IsGliding font run before 0 Left run before
-glide_first font run before = λ right stands e. under_way_first font run right before stands e
+pub plainly_first : (font : FontValue) (run : List ℕ) (before : List Item) → IsPlainlyUnderWay font run before 0 Left run before
+plainly_first font run before = λ right stands e. under_way_first font run right before stands e
 
-pub glide_next : (font : FontValue) (run : List ℕ) (before : List Item) (used : ℕ) (current after : Symbol) (rest : List ℕ) (code : ℕ) (more : List ℕ) (out out' : List Item)
-    → IsGliding font run before used current rest out → rest ≡ code ∷ more
+pub plainly_next : (font : FontValue) (run : List ℕ) (before : List Item) (used : ℕ) (current after : Symbol) (rest : List ℕ) (code : ℕ) (more : List ℕ) (out out' : List Item)
+    → IsPlainlyUnderWay font run before used current rest out → rest ≡ code ∷ more
     → ((symbols : List Symbol) → HasTurned (turn_of font current (Char code ∷ symbols)) after symbols out out') → StaysInFront out out'
-    → IsGliding font run before (used + 1) after more out'
+    → IsPlainlyUnderWay font run before (used + 1) after more out'
 unfolding symbols_ahead
-glide_next font run before used current after rest code more out out' way is turned front right stands e =
+plainly_next font run before used current after rest code more out out' way is turned front right stands e =
     let symbols : List Symbol = map Char more ++ (if stands then Right ∷ [] else []) in
     let here : IsUnderWay font run right before used current (Char code ∷ symbols) out =
     subst (λ rest. IsUnderWay font run right before used current (symbols_ahead [] rest stands) out) is (way right stands e) in
     under_way_next font run right before used current after (Char code) (Char code ∷ symbols) symbols out out' here refl (turned symbols) front
 
 -- a step of the fast path leads to the next state; the remainder of the run is given by an index in the run
-pub glide_at : (font : FontValue) (run : List ℕ) (before : List Item) (used further : ℕ) (current after : Symbol) (out out' : List Item)
-    → IsGliding font run before used current (drop used run) out → used < length run → further ≡ used + 1
+pub plainly_at : (font : FontValue) (run : List ℕ) (before : List Item) (used further : ℕ) (current after : Symbol) (out out' : List Item)
+    → IsPlainlyUnderWay font run before used current (drop used run) out → used < length run → further ≡ used + 1
     → ((symbols : List Symbol) → HasTurned (turn_of font current (Char (get_or run used 0) ∷ symbols)) after symbols out out') → StaysInFront out out'
-    → IsGliding font run before further after (drop further run) out'
-glide_at font run before used further current after out out' way within next turned front =
+    → IsPlainlyUnderWay font run before further after (drop further run) out'
+plainly_at font run before used further current after out out' way within next turned front =
     let here : drop used run ≡ get_or run used 0 ∷ drop (used + 1) run =
     drop-cons run used 0 within ∙ ap (λ k. get_or run used 0 ∷ drop k run) {x = suc used} {y = used + 1} (omega arith) in
-    rw next (glide_next font run before used current after (drop used run) (get_or run used 0) (drop (used + 1) run) out out' way here turned front)
+    rw next (plainly_next font run before used current after (drop used run) (get_or run used 0) (drop (used + 1) run) out out' way here turned front)
 
 -- ---- the ends of the loop
 

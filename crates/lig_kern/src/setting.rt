@@ -17,7 +17,7 @@ use tfm_tables::Font;
 
 /// Appends the item of a symbol to `out`: a character with its width; a boundary has no item.
 #[tactic(auto, using(crate::proofs::UnderWay::fronts), unfolding(crate::specs::Rewriting::items_of))]
-fn send(font: &Font, symbol: Symbol, out: &mut Vec<Item>) -> Result<(), AllocError>
+fn push_symbol(font: &Font, symbol: Symbol, out: &mut Vec<Item>) -> Result<(), AllocError>
     ensures front { StaysInFront out.old.items out.new.items }
     ensures sent { OnOk result (out.new.items ≡ out.old.items ++ items_of font.now (of_symbol symbol ∷ [])) }
 {
@@ -30,12 +30,12 @@ fn send(font: &Font, symbol: Symbol, out: &mut Vec<Item>) -> Result<(), AllocErr
 
 /// Appends the item of the left one of two symbols, which a ligature passes, if the ligature keeps it.
 #[tactic(auto, using(crate::proofs::UnderWay::fronts), unfolding(crate::specs::Rewriting::items_of))]
-fn send_kept(font: &Font, keep: bool, symbol: Symbol, out: &mut Vec<Item>) -> Result<(), AllocError>
+fn push_kept(font: &Font, keep: bool, symbol: Symbol, out: &mut Vec<Item>) -> Result<(), AllocError>
     ensures front { StaysInFront out.old.items out.new.items }
     ensures sent { OnOk result (out.new.items ≡ out.old.items ++ items_of font.now (map of_symbol (stays keep symbol))) }
 {
     if keep {
-        send(font, symbol, out)
+        push_symbol(font, symbol, out)
     } else {
         Ok(())
     }
@@ -58,12 +58,12 @@ fn step(
 {
     match first_match(font, current, next) {
         None => {
-            send(font, current, out)?;
+            push_symbol(font, current, out)?;
             ahead.pass();
             Ok(next)
         }
         Some(Action::Kern(amount)) => {
-            send(font, current, out)?;
+            push_symbol(font, current, out)?;
             out.push(Item::Kern(amount))?;
             ahead.pass();
             Ok(next)
@@ -82,11 +82,11 @@ fn step(
                 ahead.put(code)?;
                 return Ok(current);
             }
-            send_kept(font, keep_left, current, out)?;
+            push_kept(font, keep_left, current, out)?;
             if pass == passed_left {
                 return Ok(Symbol::Char(code));
             }
-            send(font, Symbol::Char(code), out)?;
+            push_symbol(font, Symbol::Char(code), out)?;
             ahead.pass();
             Ok(next)
         }
@@ -112,11 +112,11 @@ fn plain_step(
 {
     match first_match(font, current, Symbol::Char(next)) {
         None => {
-            send(font, current, out)?;
+            push_symbol(font, current, out)?;
             Ok(Some(next))
         }
         Some(Action::Kern(kern)) => {
-            send(font, current, out)?;
+            push_symbol(font, current, out)?;
             out.push(Item::Kern(kern))?;
             Ok(Some(next))
         }
@@ -136,7 +136,7 @@ fn plain_step(
 /// number of steps, which is also the number of characters consumed, and the symbol that is current
 /// afterwards. This is the fast path: it needs no list of symbols ahead.
 #[tactic(auto, using(crate::proofs::UnderWay::ways))]
-fn glide(
+fn set_plainly(
     font: &Font,
     word: &[u8],
     steps_left: u32,
@@ -183,7 +183,7 @@ fn right_stands(font: &Font, right: bool) -> bool
 /// one. Returns the number of all steps of the run, including the `taken` ones before this call, or
 /// `None` if `steps_left` steps in all don't reach the end.
 #[tactic(auto, using(crate::proofs::UnderWay::ends))]
-fn go_on(
+fn finish(
     font: &Font,
     from: Symbol,
     ahead: &mut Ahead<'_>,
@@ -200,7 +200,7 @@ fn go_on(
     let mut current = from;
     for used in taken..steps_left {
         let Some(next) = ahead.first() else {
-            send(font, current, out)?;
+            push_symbol(font, current, out)?;
             return Ok(Some(used));
         };
         current = step(font, current, next, ahead, out)?;
@@ -208,7 +208,7 @@ fn go_on(
     if ahead.first().is_some() {
         return Ok(None);
     }
-    send(font, current, out)?;
+    push_symbol(font, current, out)?;
     Ok(Some(steps_left))
 }
 
@@ -226,14 +226,14 @@ fn run_steps(
     ensures ended { IfOk result
         (EndsAfter font.now word.now right steps_left out.old.items out.new.items) }
 {
-    let (glided, current) = glide(font, word, steps_left, out)?;
+    let (plain_steps, current) = set_plainly(font, word, steps_left, out)?;
     let stands = right_stands(font, right);
-    if glided as usize == word.len() && !stands {
-        send(font, current, out)?;
-        return Ok(Some(glided));
+    if plain_steps as usize == word.len() && !stands {
+        push_symbol(font, current, out)?;
+        return Ok(Some(plain_steps));
     }
-    let mut ahead = Ahead::new(*out.allocator(), &word[glided as usize..], stands);
-    go_on(font, current, &mut ahead, glided, steps_left, out)
+    let mut ahead = Ahead::new(*out.allocator(), &word[plain_steps as usize..], stands);
+    finish(font, current, &mut ahead, plain_steps, steps_left, out)
 }
 
 /// Sets one run of character codes with the lig/kern program of a font (The METAFONTbook, Appendix F),

@@ -4,14 +4,14 @@ use Rattle.lig_kern.specs.Rewriting.{items_of}
 use Rattle.lig_kern.proofs.TurnLemmas.{turned_plain, turned_kern, turned_becomes}
 use Rattle.lig_kern.proofs.setting.plain_step.Goals as goal
 
-pub returns-in_ok-send-in-None-clause-turned : goal.returns-in_ok-send-in-None-clause-turned
-returns-in_ok-send-in-None-clause-turned c = λ rest.
-    turned_plain c.args.font.now c.args.current (Char c.args.next) (Char c.args.next ∷ rest) c.args.out.now.items c.send.new.out.items
+pub returns-in_ok-push_symbol-in-None-clause-turned : goal.returns-in_ok-push_symbol-in-None-clause-turned
+returns-in_ok-push_symbol-in-None-clause-turned c = λ rest.
+    turned_plain c.args.font.now c.args.current (Char c.args.next) (Char c.args.next ∷ rest) c.args.out.now.items c.push_symbol.new.out.items
     refl (grind arith) (grind arith)
 
 pub returns-in_ok-push-in-Some-Kern-clause-turned : goal.returns-in_ok-push-in-Some-Kern-clause-turned
 returns-in_ok-push-in-Some-Kern-clause-turned c = λ rest.
-    turned_kern c.args.font.now c.args.current (Char c.args.next) (Char c.args.next ∷ rest) c.in-Some-Kern.kern c.args.out.now.items c.send-in-Some-Kern.new.out.items c.push.new.self.items
+    turned_kern c.args.font.now c.args.current (Char c.args.next) (Char c.args.next ∷ rest) c.in-Some-Kern.kern c.args.out.now.items c.push_symbol-in-Some-Kern.new.out.items c.push.new.self.items
     refl (grind arith) (grind arith) (grind arith)
 
 pub returns-in-Some-Lig-default-false-false-eq0-clause-turned : goal.returns-in-Some-Lig-default-false-false-eq0-clause-turned

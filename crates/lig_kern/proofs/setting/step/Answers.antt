@@ -2,16 +2,16 @@ use Rattle.std.proofs.Common.{arith}
 use Rattle.lig_kern.proofs.TurnLemmas.{turned_plain, turned_kern, turned_stays, turned_becomes, turned_passes}
 use Rattle.lig_kern.proofs.setting.step.Goals as goal
 
-pub returns-in_ok-send-in-None-clause-turned : goal.returns-in_ok-send-in-None-clause-turned
-returns-in_ok-send-in-None-clause-turned c =
+pub returns-in_ok-push_symbol-in-None-clause-turned : goal.returns-in_ok-push_symbol-in-None-clause-turned
+returns-in_ok-push_symbol-in-None-clause-turned c =
     rw c.pass.ensures
-    (turned_plain c.args.font.now c.args.current c.args.next c.args.ahead.now c.args.out.now.items c.send.new.out.items
+    (turned_plain c.args.font.now c.args.current c.args.next c.args.ahead.now c.args.out.now.items c.push_symbol.new.out.items
     c.requires (grind arith) (grind arith))
 
 pub returns-in_ok-push-in-Some-Kern-clause-turned : goal.returns-in_ok-push-in-Some-Kern-clause-turned
 returns-in_ok-push-in-Some-Kern-clause-turned c =
     rw c.pass-in-Some-Kern.ensures
-    (turned_kern c.args.font.now c.args.current c.args.next c.args.ahead.now c.in-Some-Kern.amount c.args.out.now.items c.send-in-Some-Kern.new.out.items c.push.new.self.items
+    (turned_kern c.args.font.now c.args.current c.args.next c.args.ahead.now c.in-Some-Kern.amount c.args.out.now.items c.push_symbol-in-Some-Kern.new.out.items c.push.new.self.items
     c.requires (grind arith) (grind arith) (grind arith))
 
 pub returns-then-pass-passed_left-clause-turned : goal.returns-then-pass-passed_left-clause-turned
@@ -22,11 +22,11 @@ returns-then-pass-passed_left-clause-turned c =
 pub returns-then-pass-passed_left-2-clause-turned : goal.returns-then-pass-passed_left-2-clause-turned
 returns-then-pass-passed_left-2-clause-turned c =
     rw c.keep_first.ensures
-    (turned_becomes c.args.font.now c.args.current c.args.next c.args.ahead.now c.in-Some-Lig.code c.in-Some-Lig.keep_left c.in-Some-Lig.keep_right c.in-Some-Lig.pass c.args.out.now.items c.send_kept.new.out.items
+    (turned_becomes c.args.font.now c.args.current c.args.next c.args.ahead.now c.in-Some-Lig.code c.in-Some-Lig.keep_left c.in-Some-Lig.keep_right c.in-Some-Lig.pass c.args.out.now.items c.push_kept.new.out.items
     c.requires (grind arith) (grind arith) (grind arith))
 
-pub returns-in_ok-send-in-Some-Lig-clause-turned : goal.returns-in_ok-send-in-Some-Lig-clause-turned
-returns-in_ok-send-in-Some-Lig-clause-turned c =
+pub returns-in_ok-push_symbol-in-Some-Lig-clause-turned : goal.returns-in_ok-push_symbol-in-Some-Lig-clause-turned
+returns-in_ok-push_symbol-in-Some-Lig-clause-turned c =
     rw c.pass-in-Some-Lig.ensures (rw c.keep_first.ensures
-    (turned_passes c.args.font.now c.args.current c.args.next c.args.ahead.now c.in-Some-Lig.code c.in-Some-Lig.keep_left c.in-Some-Lig.keep_right c.in-Some-Lig.pass c.args.out.now.items c.send_kept.new.out.items c.send-in-Some-Lig.new.out.items
+    (turned_passes c.args.font.now c.args.current c.args.next c.args.ahead.now c.in-Some-Lig.code c.in-Some-Lig.keep_left c.in-Some-Lig.keep_right c.in-Some-Lig.pass c.args.out.now.items c.push_kept.new.out.items c.push_symbol-in-Some-Lig.new.out.items
     c.requires (grind arith) (grind arith) (grind arith) (grind arith)))

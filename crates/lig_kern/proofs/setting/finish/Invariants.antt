@@ -2,7 +2,7 @@ use Rattle.std.proofs.Common.{ℕ, List, Bool}
 use Rattle.lig_kern.specs.declared.item.Item.{Item}
 use Rattle.lig_kern.specs.Ahead.{IsUnderWay}
 use Rattle.lig_kern.specs.Result.{StaysInFront}
-use Rattle.lig_kern.proofs.setting.go_on.Given as goal
+use Rattle.lig_kern.proofs.setting.finish.Given as goal
 
 abbrev pub invariant-loop-used : goal.invariant-loop-used
 invariant-loop-used l = record {

@@ -1,23 +1,23 @@
 use Rattle.std.proofs.Common.{◌≡◌, ◌+◌, ◌<◌, length, arith, refl}
 use Rattle.lig_kern.specs.declared.symbol.Symbol.TheVariants.{Left, Char}
-use Rattle.lig_kern.proofs.UnderWay.{front_through, glide_first, glide_at}
-use Rattle.lig_kern.proofs.setting.glide.Goals as goal
+use Rattle.lig_kern.proofs.UnderWay.{front_through, plainly_first, plainly_at}
+use Rattle.lig_kern.proofs.setting.set_plainly.Goals as goal
 
 pub returns-then-most-eq0-clause-under_way : goal.returns-then-most-eq0-clause-under_way
-returns-then-most-eq0-clause-under_way c = glide_first c.args.font.now c.args.word.now c.args.out.now.items
+returns-then-most-eq0-clause-under_way c = plainly_first c.args.font.now c.args.word.now c.args.out.now.items
 
 pub returns-in_default-clause-under_way : goal.returns-in_default-clause-under_way
 returns-in_default-clause-under_way c =
     let same : c.plain_step.new.out.items ≡ c.args.out.now.items = rw c.in_default.is at c.in_ok-first.ensures.turned in
-    rw same (glide_first c.args.font.now c.args.word.now c.args.out.now.items)
+    rw same (plainly_first c.args.font.now c.args.word.now c.args.out.now.items)
 
 pub loop-used-init : goal.loop-used-init
 loop-used-init c =
     let within : 0 < length c.args.word.now = omega arith in
     record {
       front = c.plain_step.ensures.front;
-      under_way = glide_at c.args.font.now c.args.word.now c.args.out.now.items 0 1 Left (Char c.in-Some.first) c.args.out.now.items c.plain_step.new.out.items
-          (glide_first c.args.font.now c.args.word.now c.args.out.now.items) within refl (rw c.in-Some.is at c.in_ok-first.ensures.turned) c.plain_step.ensures.front;
+      under_way = plainly_at c.args.font.now c.args.word.now c.args.out.now.items 0 1 Left (Char c.in-Some.first) c.args.out.now.items c.plain_step.new.out.items
+          (plainly_first c.args.font.now c.args.word.now c.args.out.now.items) within refl (rw c.in-Some.is at c.in_ok-first.ensures.turned) c.plain_step.ensures.front;
     }
 
 pub loop-used-preserved : goal.loop-used-preserved
@@ -27,7 +27,7 @@ loop-used-preserved c =
     let within : c.loop-used.used < length c.args.word.now = omega arith in
     record {
       front = front_through c.args.out.now.items out after c.loop-used.invariant.front c.plain_step-in-loop-used.ensures.front;
-      under_way = glide_at c.args.font.now c.args.word.now c.args.out.now.items c.loop-used.used (c.loop-used.used + 1) (Char c.loop-used.current) (Char c.in-Some-2.after) out after
+      under_way = plainly_at c.args.font.now c.args.word.now c.args.out.now.items c.loop-used.used (c.loop-used.used + 1) (Char c.loop-used.current) (Char c.in-Some-2.after) out after
           c.loop-used.invariant.under_way within refl (rw c.in-Some-2.is at c.in_ok-plain_step.ensures.turned) c.plain_step-in-loop-used.ensures.front;
     }
 

@@ -1,7 +1,7 @@
 use Rattle.std.proofs.Common.{◌≡◌, arith, sym, ap, ◌∙◌}
 use Rattle.std.specs.Prelude.{is_some}
 use Rattle.lig_kern.proofs.UnderWay.{front_through, is_result, no_result, not_there, under_way_next}
-use Rattle.lig_kern.proofs.setting.go_on.Goals as goal
+use Rattle.lig_kern.proofs.setting.finish.Goals as goal
 
 pub loop-used-preserved : goal.loop-used-preserved
 loop-used-preserved c = record {
@@ -14,8 +14,8 @@ loop-used-preserved c = record {
 
 pub returns-in_default-clause-ended : goal.returns-in_default-clause-ended
 returns-in_default-clause-ended c = λ run right before way.
-    is_result c.args.font.now run right before c.loop-used.used c.args.steps_left c.loop-used.current c.loop-used.ahead c.loop-used.out.items c.send.new.out.items
-    (c.loop-used.invariant.under_way run right before way) (sym c.first.ensures ∙ c.in_default.is) (omega arith) c.in_ok-send.ensures.sent
+    is_result c.args.font.now run right before c.loop-used.used c.args.steps_left c.loop-used.current c.loop-used.ahead c.loop-used.out.items c.push_symbol.new.out.items
+    (c.loop-used.invariant.under_way run right before way) (sym c.first.ensures ∙ c.in_default.is) (omega arith) c.in_ok-push_symbol.ensures.sent
 
 pub returns-then-is_some-clause-ended : goal.returns-then-is_some-clause-ended
 returns-then-is_some-clause-ended c = λ run right before way.
@@ -24,6 +24,6 @@ returns-then-is_some-clause-ended c = λ run right before way.
 
 pub returns-clause-ended : goal.returns-clause-ended
 returns-clause-ended c = λ run right before way.
-    is_result c.args.font.now run right before c.args.steps_left c.args.steps_left c.loop-used.current c.loop-used.ahead c.loop-used.out.items c.send-2.new.out.items
+    is_result c.args.font.now run right before c.args.steps_left c.args.steps_left c.loop-used.current c.loop-used.ahead c.loop-used.out.items c.push_symbol-2.new.out.items
     (let end : c.args.steps_left ≡ c.loop-used.used = omega arith in rw end (c.loop-used.invariant.under_way run right before way))
-    (sym c.first-2.ensures ∙ not_there c.first-2.result (sym c.is_some.ensures ∙ c.if-is_some.false)) (omega arith) c.in_ok-send-2.ensures.sent
+    (sym c.first-2.ensures ∙ not_there c.first-2.result (sym c.is_some.ensures ∙ c.if-is_some.false)) (omega arith) c.in_ok-push_symbol-2.ensures.sent
