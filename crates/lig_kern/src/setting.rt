@@ -76,7 +76,9 @@ fn step(
                 pass,
             },
         ) => {
-            ahead.keep_first(keep_right);
+            if !keep_right {
+                ahead.pass();
+            }
             let passed_left = u8::from(keep_left);
             if pass < passed_left {
                 ahead.put(code)?;
