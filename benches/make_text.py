@@ -1,7 +1,7 @@
 #!/usr/bin/env python3
-"""Writes a text of a given size: English words in lines of 60 to 100 bytes, the same for the same size.
+"""Writes a text of a given size: English words in lines of 60 to 100 bytes, always the same for the same size.
 
-Usage: make_text.py BYTES > FILE. Not proved, and no claim rests on it.
+Usage: make_text.py BYTES > FILE
 """
 
 import random

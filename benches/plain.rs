@@ -1,6 +1,6 @@
-//! A plain Rust program of the design that `tfmset set` has, to be measured beside it: it reads the font and the
-//! file whole, holds one answer a line, and writes the records when all lines are set. It checks almost nothing of
-//! the font, isn't proved, and knows no option but the default ones.
+//! A plain Rust program of the same design as `tfmset set`, to be compared with it: it reads the whole font and the
+//! whole file, holds one result for each line, and writes the records when all lines are set. It checks almost
+//! nothing of the font, isn't proved, and has no options.
 //!
 //! rustc -O --edition 2021 benches/plain.rs -o plain && ./plain FONT FILE > RECORDS
 
