@@ -1,14 +1,17 @@
-/* Calls the library for C with guarded room, in threads, and with memory that is refused.
+/* Calls the library for C with guarded arrays, in threads, and with allocations that fail.
  *
- * usage: library_lines FONT SIZE LIMIT POLICY TEXT [more]   FONT and TEXT are files, the rest numbers
+ * usage: library_lines FONT SIZE LIMIT POLICY TEXT [more]   FONT and TEXT are files, the others are numbers
  *
- * Prints the records of the text's lines in form 2 as tfmset_set tells them, and then those of tfmset_records
- * in form 1 and in form 2. With `more` it first refuses each request for memory in turn, and tells how many
- * there were of each call; and then eight threads call at once. What isn't as the header says is told on
- * standard error, and then the exit status is 1.
+ * Prints the records of the lines in record format 2, put together from the results of tfmset_set, and then
+ * the results of tfmset_records in formats 1 and 2. With `more` it first lets the first allocation of a
+ * function fail, then the second, and so on, in one call each, and then again with all allocations after it,
+ * and prints the number of allocations of each function on standard error; then eight threads call the
+ * library concurrently. Each result that isn't as the header says is printed on standard error, and the exit
+ * status is then 1.
  *
- * What the library is handed lies right before a page that nobody may touch, and what it only reads in pages
- * that nobody may write. It is linked with --wrap for malloc, realloc and free. */
+ * Each array that the library writes to ends right before a page that can't be accessed, and the memory that
+ * it reads is in pages that can't be written to. The program is linked with --wrap for malloc, realloc and
+ * free. */
 #include <pthread.h>
 #include <stdio.h>
 #include <stdlib.h>
@@ -36,110 +39,111 @@ static void must(int right, const char *what)
     __atomic_store_n(&failed, 1, __ATOMIC_SEQ_CST);
 }
 
-/* Memory: how many requests are still granted, whether those behind the refused one are refused, too, and how
- * many blocks are held. */
+/* Allocations. `granted` is the number of allocations that still succeed, or -1 if all do. The one after them
+ * fails, and with `all_fail` all that follow fail, too. `failures` is the number of allocations that failed,
+ * and `allocated` the number of blocks that aren't freed yet. */
 
-static _Thread_local long granted = -1, refused, open_requests;
-static _Thread_local int goes_on;
+static _Thread_local long granted = -1, failures, allocated;
+static _Thread_local int all_fail;
 
 void *__real_malloc(size_t length);
 void *__real_realloc(void *old, size_t length);
 void __real_free(void *old);
 
-static int is_refused(void)
+static int fails(void)
 {
     if (granted < 0 || granted-- > 0)
         return 0;
-    granted = goes_on ? 0 : -1;
-    refused++;
+    granted = all_fail ? 0 : -1;
+    failures++;
     return 1;
 }
 
 void *__wrap_malloc(size_t length)
 {
-    void *new = is_refused() ? NULL : __real_malloc(length);
-    open_requests += new != NULL;
+    void *new = fails() ? NULL : __real_malloc(length);
+    allocated += new != NULL;
     return new;
 }
 
 void *__wrap_realloc(void *old, size_t length)
 {
-    void *new = is_refused() ? NULL : __real_realloc(old, length);
-    open_requests += old == NULL && new != NULL;
+    void *new = fails() ? NULL : __real_realloc(old, length);
+    allocated += old == NULL && new != NULL;
     return new;
 }
 
 void __wrap_free(void *old)
 {
-    open_requests -= old != NULL;
+    allocated -= old != NULL;
     __real_free(old);
 }
 
-/* Guarded room. */
+/* Guarded arrays. */
 
-struct room {
+struct array {
     uint8_t *begin, *at;
     size_t inside, length, page;
 };
 
-static struct room room_of(size_t length)
+static struct array array_of(size_t length)
 {
-    struct room room;
-    room.page = (size_t)sysconf(_SC_PAGESIZE);
-    room.length = length;
-    room.inside = (length + room.page - 1) / room.page * room.page;
-    room.begin = mmap(NULL, room.inside + 2 * room.page, PROT_NONE, MAP_PRIVATE | MAP_ANONYMOUS, -1, 0);
-    if (room.begin == MAP_FAILED)
+    struct array array;
+    array.page = (size_t)sysconf(_SC_PAGESIZE);
+    array.length = length;
+    array.inside = (length + array.page - 1) / array.page * array.page;
+    array.begin = mmap(NULL, array.inside + 2 * array.page, PROT_NONE, MAP_PRIVATE | MAP_ANONYMOUS, -1, 0);
+    if (array.begin == MAP_FAILED)
         exit(2);
-    mprotect(room.begin + room.page, room.inside, PROT_READ | PROT_WRITE);
-    memset(room.begin + room.page, PATTERN, room.inside);
-    room.at = room.begin + room.page + room.inside - length;
-    return room;
+    mprotect(array.begin + array.page, array.inside, PROT_READ | PROT_WRITE);
+    memset(array.begin + array.page, PATTERN, array.inside);
+    array.at = array.begin + array.page + array.inside - length;
+    return array;
 }
 
-/* Whether nothing was written but the first bytes, so many. */
-static int is_kept(const struct room *room, size_t first)
+/* Whether only the first `first` bytes were written to. */
+static int is_kept(const struct array *array, size_t first)
 {
-    const uint8_t *at, *end = room->at + room->length;
-    if (first > room->length)
-        first = room->length;
-    for (at = room->begin + room->page; at < end; at++)
-        if (*at != PATTERN && (at < room->at || at >= room->at + first))
+    const uint8_t *at, *end = array->at + array->length;
+    if (first > array->length)
+        first = array->length;
+    for (at = array->begin + array->page; at < end; at++)
+        if (*at != PATTERN && (at < array->at || at >= array->at + first))
             return 0;
     return 1;
 }
 
-static void leave(struct room *room)
+static void unmap(struct array *array)
 {
-    munmap(room->begin, room->inside + 2 * room->page);
+    munmap(array->begin, array->inside + 2 * array->page);
 }
 
-/* A file, in pages that may only be read. */
+/* Returns the contents of a file, in pages that can only be read. */
 static struct text file_of(const char *name)
 {
     FILE *file = fopen(name, "rb");
-    struct room room;
+    struct array array;
     struct text content;
     long length;
     if (file == NULL || fseek(file, 0, SEEK_END) != 0 || (length = ftell(file)) < 0)
         exit(2);
     rewind(file);
-    room = room_of((size_t)length);
-    if (fread(room.at, 1, (size_t)length, file) != (size_t)length)
+    array = array_of((size_t)length);
+    if (fread(array.at, 1, (size_t)length, file) != (size_t)length)
         exit(2);
     fclose(file);
-    mprotect(room.begin + room.page, room.inside, PROT_READ);
-    content.bytes = room.at;
+    mprotect(array.begin + array.page, array.inside, PROT_READ);
+    content.bytes = array.at;
     content.length = (size_t)length;
     return content;
 }
 
-/* The calls, each with room for so many. */
+/* The calls, with arrays of the given lengths. */
 
 struct set {
-    struct room lines, items;
+    struct array lines, items;
     struct tfmset_counts counts;
-    uint32_t answer;
+    uint32_t code;
 };
 
 static const struct tfmset_counts untouched = {77, 88};
@@ -147,52 +151,52 @@ static const struct tfmset_counts untouched = {77, 88};
 static struct set set_with(size_t lines, size_t items)
 {
     struct set set;
-    set.lines = room_of(lines * sizeof(struct tfmset_line));
-    set.items = room_of(items * sizeof(struct tfmset_item));
+    set.lines = array_of(lines * sizeof(struct tfmset_line));
+    set.items = array_of(items * sizeof(struct tfmset_item));
     set.counts = untouched;
-    open_requests = 0;
-    set.answer = tfmset_set(font.bytes, font.length, size, limit, policy, text.bytes, text.length,
+    allocated = 0;
+    set.code = tfmset_set(font.bytes, font.length, size, limit, policy, text.bytes, text.length,
                             (struct tfmset_line *)set.lines.at, lines,
                             (struct tfmset_item *)set.items.at, items, &set.counts);
-    must(open_requests == 0, "set gives its memory back");
+    must(allocated == 0, "set frees its memory");
     return set;
 }
 
 static struct set widths_with(size_t lines)
 {
     struct set set;
-    set.lines = room_of(lines * sizeof(struct tfmset_line));
-    set.items = room_of(0);
+    set.lines = array_of(lines * sizeof(struct tfmset_line));
+    set.items = array_of(0);
     set.counts = untouched;
-    open_requests = 0;
-    set.answer = tfmset_widths(font.bytes, font.length, size, limit, policy, text.bytes, text.length,
+    allocated = 0;
+    set.code = tfmset_widths(font.bytes, font.length, size, limit, policy, text.bytes, text.length,
                                (struct tfmset_line *)set.lines.at, lines, &set.counts);
-    must(open_requests == 0, "widths gives its memory back");
+    must(allocated == 0, "widths frees its memory");
     return set;
 }
 
-struct told {
-    struct room bytes;
+struct output {
+    struct array bytes;
     size_t length;
-    uint32_t answer;
+    uint32_t code;
 };
 
-static struct told records_with(uint32_t version, size_t length)
+static struct output records_with(uint32_t version, size_t length)
 {
-    struct told told;
-    told.bytes = room_of(length);
-    told.length = 77;
-    open_requests = 0;
-    told.answer = tfmset_records(font.bytes, font.length, size, limit, policy, text.bytes, text.length,
-                                 version, 1, 1, told.bytes.at, length, &told.length);
-    must(open_requests == 0, "records gives its memory back");
-    return told;
+    struct output output;
+    output.bytes = array_of(length);
+    output.length = 77;
+    allocated = 0;
+    output.code = tfmset_records(font.bytes, font.length, size, limit, policy, text.bytes, text.length,
+                                 version, 1, 1, output.bytes.at, length, &output.length);
+    must(allocated == 0, "records frees its memory");
+    return output;
 }
 
-static void leave_set(struct set *set)
+static void unmap_set(struct set *set)
 {
-    leave(&set->lines);
-    leave(&set->items);
+    unmap(&set->lines);
+    unmap(&set->items);
 }
 
 static int is_same_line(const struct tfmset_line *one, const struct tfmset_line *other)
@@ -202,7 +206,7 @@ static int is_same_line(const struct tfmset_line *one, const struct tfmset_line 
         && one->code == other->code;
 }
 
-/* Whether the lines are the same, and with items these, too. */
+/* Whether two results have the same lines, and, if `with_items`, the same items. */
 static int is_same(const struct set *one, const struct set *other, int with_items)
 {
     const struct tfmset_line *left = (const struct tfmset_line *)one->lines.at;
@@ -215,203 +219,204 @@ static int is_same(const struct set *one, const struct set *other, int with_item
         || memcmp(one->items.at, other->items.at, one->counts.items * sizeof(struct tfmset_item)) == 0;
 }
 
-/* Room. */
+/* Lengths of arrays. */
 
-/* With this room: the answer and the counts, and that nothing else is written. */
-static void look_at_set(const struct set *whole, size_t lines, size_t items)
+/* Checks the return value, the counts, and that nothing else is written to. */
+static void check_set(const struct set *whole, size_t lines, size_t items)
 {
     struct set set = set_with(lines, items);
     int fits = lines >= whole->counts.lines && items >= whole->counts.items;
-    must(set.answer == (fits ? TFMSET_DONE : TFMSET_NO_ROOM), "set answers whether there is room");
-    must(set.counts.lines == whole->counts.lines && set.counts.items == whole->counts.items, "set counts");
-    must(is_kept(&set.lines, set.counts.lines * sizeof(struct tfmset_line)), "set keeps the other lines");
-    must(is_kept(&set.items, set.counts.items * sizeof(struct tfmset_item)), "set keeps the other items");
-    must(!fits || is_same(whole, &set, 1), "set answers the same with other room");
-    leave_set(&set);
+    must(set.code == (fits ? TFMSET_DONE : TFMSET_NO_ROOM), "code of set");
+    must(set.counts.lines == whole->counts.lines && set.counts.items == whole->counts.items, "counts of set");
+    must(is_kept(&set.lines, set.counts.lines * sizeof(struct tfmset_line)), "other lines after set");
+    must(is_kept(&set.items, set.counts.items * sizeof(struct tfmset_item)), "other items after set");
+    must(!fits || is_same(whole, &set, 1), "set returns the same with other lengths");
+    unmap_set(&set);
 }
 
-static void look_at_widths(const struct set *whole, size_t lines)
+static void check_widths(const struct set *whole, size_t lines)
 {
     struct set set = widths_with(lines);
     int fits = lines >= whole->counts.lines;
-    must(set.answer == (fits ? TFMSET_DONE : TFMSET_NO_ROOM), "widths answers whether there is room");
-    must(set.counts.lines == whole->counts.lines && set.counts.items == whole->counts.items, "widths counts");
-    must(is_kept(&set.lines, set.counts.lines * sizeof(struct tfmset_line)), "widths keeps the other lines");
-    must(!fits || is_same(whole, &set, 0), "widths answers the lines of set");
-    leave_set(&set);
+    must(set.code == (fits ? TFMSET_DONE : TFMSET_NO_ROOM), "code of widths");
+    must(set.counts.lines == whole->counts.lines && set.counts.items == whole->counts.items,
+         "counts of widths");
+    must(is_kept(&set.lines, set.counts.lines * sizeof(struct tfmset_line)), "other lines after widths");
+    must(!fits || is_same(whole, &set, 0), "widths returns the lines of set");
+    unmap_set(&set);
 }
 
-static void look_at_records(uint32_t version, const struct told *whole, size_t length)
+static void check_records(uint32_t version, const struct output *whole, size_t length)
 {
-    struct told told = records_with(version, length);
+    struct output output = records_with(version, length);
     int fits = length >= whole->length;
-    must(told.answer == (fits ? TFMSET_DONE : TFMSET_NO_ROOM), "records answers whether there is room");
-    must(told.length == whole->length, "records tells the length");
-    must(is_kept(&told.bytes, told.length), "records keeps the other bytes");
-    must(!fits || memcmp(told.bytes.at, whole->bytes.at, whole->length) == 0, "records are the same");
-    leave(&told.bytes);
+    must(output.code == (fits ? TFMSET_DONE : TFMSET_NO_ROOM), "code of records");
+    must(output.length == whole->length, "length of records");
+    must(is_kept(&output.bytes, output.length), "other bytes after records");
+    must(!fits || memcmp(output.bytes.at, whole->bytes.at, whole->length) == 0, "records are the same");
+    unmap(&output.bytes);
 }
 
-/* The lines with just the room that they need, which is asked for without any. */
+/* Sets the lines into arrays of exactly the lengths that are returned for arrays of length 0. */
 static struct set whole_set(void)
 {
     struct set none = set_with(0, 0), whole;
-    must(none.answer == (none.counts.lines > 0 ? TFMSET_NO_ROOM : TFMSET_DONE), "set without room");
+    must(none.code == (none.counts.lines > 0 ? TFMSET_NO_ROOM : TFMSET_DONE), "set with arrays of length 0");
     whole = set_with(none.counts.lines, none.counts.items);
-    must(whole.answer == TFMSET_DONE, "set with just the room");
-    leave_set(&none);
+    must(whole.code == TFMSET_DONE, "set with arrays of the exact lengths");
+    unmap_set(&none);
     return whole;
 }
 
-static struct told whole_records(uint32_t version)
+static struct output whole_records(uint32_t version)
 {
-    struct told none = records_with(version, 0), whole;
-    must(none.answer == (none.length > 0 ? TFMSET_NO_ROOM : TFMSET_DONE), "records without room");
+    struct output none = records_with(version, 0), whole;
+    must(none.code == (none.length > 0 ? TFMSET_NO_ROOM : TFMSET_DONE), "records with an array of length 0");
     whole = records_with(version, none.length);
-    must(whole.answer == TFMSET_DONE, "records with just the room");
-    leave(&none.bytes);
+    must(whole.code == TFMSET_DONE, "records with an array of the exact length");
+    unmap(&none.bytes);
     return whole;
 }
 
-static void look_at_room(const struct set *whole, const struct told *records)
+static void check_lengths(const struct set *whole, const struct output *records)
 {
     size_t lines = whole->counts.lines, items = whole->counts.items, length;
     uint32_t version;
-    look_at_set(whole, lines, items);
-    look_at_set(whole, lines + 2, items + 3);
-    look_at_set(whole, lines, 0);
-    look_at_set(whole, 0, items);
-    look_at_widths(whole, 0);
-    look_at_widths(whole, lines);
-    look_at_widths(whole, lines + 2);
+    check_set(whole, lines, items);
+    check_set(whole, lines + 2, items + 3);
+    check_set(whole, lines, 0);
+    check_set(whole, 0, items);
+    check_widths(whole, 0);
+    check_widths(whole, lines);
+    check_widths(whole, lines + 2);
     if (lines > 0) {
-        look_at_set(whole, lines - 1, items);
-        look_at_widths(whole, lines - 1);
+        check_set(whole, lines - 1, items);
+        check_widths(whole, lines - 1);
     }
     if (items > 0)
-        look_at_set(whole, lines, items - 1);
+        check_set(whole, lines, items - 1);
     for (version = 1; version <= 2; version++) {
         length = records[version - 1].length;
-        look_at_records(version, &records[version - 1], 0);
-        look_at_records(version, &records[version - 1], length + 5);
+        check_records(version, &records[version - 1], 0);
+        check_records(version, &records[version - 1], length + 5);
         if (length > 0)
-            look_at_records(version, &records[version - 1], length - 1);
+            check_records(version, &records[version - 1], length - 1);
     }
 }
 
-/* Threads: each calls with room of its own, and gets the same. */
+/* Threads: each calls with its own arrays, and has to get the same results. */
 
-struct seen {
+struct expected {
     const struct set *whole;
-    const struct told *records;
+    const struct output *records;
 };
 
 static void *call_again(void *given)
 {
-    const struct seen *seen = given;
+    const struct expected *expected = given;
     int i;
     for (i = 0; i < ROUNDS; i++) {
-        look_at_set(seen->whole, seen->whole->counts.lines, seen->whole->counts.items);
-        look_at_widths(seen->whole, seen->whole->counts.lines);
-        look_at_records(2, &seen->records[1], seen->records[1].length);
+        check_set(expected->whole, expected->whole->counts.lines, expected->whole->counts.items);
+        check_widths(expected->whole, expected->whole->counts.lines);
+        check_records(2, &expected->records[1], expected->records[1].length);
     }
     return NULL;
 }
 
-static void look_at_threads(struct seen *seen)
+static void check_threads(struct expected *expected)
 {
     pthread_t threads[THREADS];
     int i;
     for (i = 0; i < THREADS; i++)
-        must(pthread_create(&threads[i], NULL, call_again, seen) == 0, "a thread is started");
+        must(pthread_create(&threads[i], NULL, call_again, expected) == 0, "a thread is started");
     for (i = 0; i < THREADS; i++)
         pthread_join(threads[i], NULL);
 }
 
-/* Refused memory: whether a call without this request was told so, with its struct as before. */
+/* Failed allocations: each function returns whether a call reported one, with its struct unchanged. */
 
-static int is_set_refused(const struct seen *seen)
+static int set_reports_failure(const struct expected *expected)
 {
-    struct set set = set_with(seen->whole->counts.lines, seen->whole->counts.items);
-    int told = set.answer == TFMSET_OUT_OF_MEMORY && memcmp(&set.counts, &untouched, sizeof untouched) == 0;
-    must(told || is_same(seen->whole, &set, 1), "set is whole, or was refused memory");
-    leave_set(&set);
-    return told;
+    struct set set = set_with(expected->whole->counts.lines, expected->whole->counts.items);
+    int reported = set.code == TFMSET_OUT_OF_MEMORY && memcmp(&set.counts, &untouched, sizeof untouched) == 0;
+    must(reported || is_same(expected->whole, &set, 1), "set is complete, or reports a failed allocation");
+    unmap_set(&set);
+    return reported;
 }
 
-static int is_widths_refused(const struct seen *seen)
+static int widths_reports_failure(const struct expected *expected)
 {
-    struct set set = widths_with(seen->whole->counts.lines);
-    int told = set.answer == TFMSET_OUT_OF_MEMORY && memcmp(&set.counts, &untouched, sizeof untouched) == 0;
-    must(told || is_same(seen->whole, &set, 0), "widths is whole, or was refused memory");
-    leave_set(&set);
-    return told;
+    struct set set = widths_with(expected->whole->counts.lines);
+    int reported = set.code == TFMSET_OUT_OF_MEMORY && memcmp(&set.counts, &untouched, sizeof untouched) == 0;
+    must(reported || is_same(expected->whole, &set, 0), "widths is complete, or reports a failed allocation");
+    unmap_set(&set);
+    return reported;
 }
 
-static int is_records_refused(const struct seen *seen)
+static int records_reports_failure(const struct expected *expected)
 {
-    const struct told *whole = &seen->records[1];
-    struct told told = records_with(2, whole->length);
-    int is_told = told.answer == TFMSET_OUT_OF_MEMORY && told.length == 77;
-    must(is_told || memcmp(told.bytes.at, whole->bytes.at, whole->length) == 0,
-         "records is whole, or was refused memory");
-    leave(&told.bytes);
-    return is_told;
+    const struct output *whole = &expected->records[1];
+    struct output output = records_with(2, whole->length);
+    int reported = output.code == TFMSET_OUT_OF_MEMORY && output.length == 77;
+    must(reported || memcmp(output.bytes.at, whole->bytes.at, whole->length) == 0,
+         "records is complete, or reports a failed allocation");
+    unmap(&output.bytes);
+    return reported;
 }
 
-static int is_font_refused(const struct seen *seen)
+static int font_reports_failure(const struct expected *expected)
 {
     struct tfmset_font about;
-    (void)seen;
+    (void)expected;
     return tfmset_font(font.bytes, font.length, size, &about) == TFMSET_OUT_OF_MEMORY;
 }
 
-static int is_check_refused(const struct seen *seen)
+static int check_reports_failure(const struct expected *expected)
 {
     struct tfmset_fault fault;
-    (void)seen;
+    (void)expected;
     return tfmset_check(font.bytes, font.length, size, &fault) == TFMSET_OUT_OF_MEMORY;
 }
 
-static int is_metrics_refused(const struct seen *seen)
+static int metrics_reports_failure(const struct expected *expected)
 {
     struct tfmset_metrics metrics;
-    (void)seen;
+    (void)expected;
     return tfmset_metrics(font.bytes, font.length, size, 97, &metrics) == TFMSET_OUT_OF_MEMORY;
 }
 
-static int is_pair_refused(const struct seen *seen)
+static int pair_reports_failure(const struct expected *expected)
 {
     struct tfmset_pair pair;
-    (void)seen;
+    (void)expected;
     return tfmset_pair(font.bytes, font.length, size, 97, 98, &pair) == TFMSET_OUT_OF_MEMORY;
 }
 
-static void look_at_memory(const struct seen *seen)
+static void check_memory(const struct expected *expected)
 {
-    static int (*const calls[])(const struct seen *) = {
-        is_set_refused, is_widths_refused, is_records_refused, is_font_refused, is_check_refused,
-        is_metrics_refused, is_pair_refused};
+    static int (*const calls[])(const struct expected *) = {
+        set_reports_failure, widths_reports_failure, records_reports_failure, font_reports_failure,
+        check_reports_failure, metrics_reports_failure, pair_reports_failure};
     size_t call;
     for (call = 0; call < sizeof calls / sizeof *calls; call++) {
-        for (goes_on = 0; goes_on < 2; goes_on++) {
-            long turn, told;
+        for (all_fail = 0; all_fail < 2; all_fail++) {
+            long turn, reported;
             for (turn = 0;; turn++) {
-                refused = 0;
+                failures = 0;
                 granted = turn;
-                told = calls[call](seen);
+                reported = calls[call](expected);
                 granted = -1;
-                if (refused == 0)
+                if (failures == 0)
                     break;
-                must(told, "refused memory is told");
+                must(reported, "a failed allocation is reported");
             }
-            must(told == 0, "a call that isn't refused anything is done");
-            fprintf(stderr, "%ld%c", turn, call + goes_on == sizeof calls / sizeof *calls ? '\n' : ' ');
+            must(reported == 0, "a call without a failed allocation succeeds");
+            fprintf(stderr, "%ld%c", turn, call + all_fail == sizeof calls / sizeof *calls ? '\n' : ' ');
         }
     }
 }
 
-/* The records as the lines tell them. */
+/* Prints records in format 2, put together from the lines and items. */
 static void print_records(const struct set *set)
 {
     const struct tfmset_line *lines = (const struct tfmset_line *)set->lines.at;
@@ -443,8 +448,8 @@ static void print_records(const struct set *set)
 int main(int count, char **arguments)
 {
     struct set whole;
-    struct told records[2];
-    struct seen seen;
+    struct output records[2];
+    struct expected expected;
     if (count < 6)
         return 2;
     font = file_of(arguments[1]);
@@ -456,12 +461,12 @@ int main(int count, char **arguments)
     whole = whole_set();
     records[0] = whole_records(1);
     records[1] = whole_records(2);
-    seen.whole = &whole;
-    seen.records = records;
-    look_at_room(&whole, records);
+    expected.whole = &whole;
+    expected.records = records;
+    check_lengths(&whole, records);
     if (count > 6) {
-        look_at_memory(&seen);
-        look_at_threads(&seen);
+        check_memory(&expected);
+        check_threads(&expected);
     }
     print_records(&whole);
     fwrite(records[0].bytes.at, 1, records[0].length, stdout);

@@ -1,23 +1,51 @@
-/* tfmset.h: a setter with the metrics of a TeX font, as functions without state.
+/* SPDX-License-Identifier: MIT OR Apache-2.0 */
+/* tfmset.h: the C interface of tfmset, which sets lines of text with TeX Font Metric (TFM) files.
  *
- * Each function takes the bytes of a TeX Font Metric (TFM) file, reads them anew, and keeps nothing:
- * there is no handle, nothing has to be freed, and any thread may call any function at any time.
+ * Functions:
  *
- * Pointers: none may be null, not even with length 0, and what a function fills may overlap nothing
- * else. A function reads the bytes that it is given, and writes to what its last pointer leads to and to
- * the arrays before it, and to nothing else of the caller's. What memory it needs for itself it asks for,
- * and gives back.
+ *     tfmset_version   returns the version of the library
+ *     tfmset_check     returns whether a font is accepted, or its first error
+ *     tfmset_font      returns the sizes, boundaries and parameters of a font
+ *     tfmset_metrics   returns the dimensions and the tag of a character
+ *     tfmset_pair      returns the kern or the ligature operation between two characters
+ *     tfmset_set       sets the lines of a text: their widths and their items
+ *     tfmset_widths    sets the lines of a text: their widths
+ *     tfmset_records   sets the lines of a text: their records, as the program prints them
  *
- * All measures but the slant are in scaled points, of which a point has 65,536. A size is from 1 to
- * 134,217,727, or 0 for the design size of the font.
- *
- * Each function but tfmset_version answers one of the numbers TFMSET_DONE and so on. What its last
- * pointer leads to is filled after TFMSET_DONE; of tfmset_check after TFMSET_FONT_REFUSED; of the three
- * that set lines after TFMSET_NO_ROOM, too. After any other answer it is as it was before.
+ * Example:
  *
  *     struct tfmset_metrics m;
  *     if (tfmset_metrics(font, font_length, 0, 'a', &m) == TFMSET_DONE && m.exists)
  *         printf("%ld\n", (long)m.width);
+ *
+ * Font: `font` points to the contents of a TFM file, and `font_length` is the number of its bytes. The bytes
+ * may be arbitrary: a function returns TFMSET_FONT_REFUSED for bytes that aren't an accepted font. Each call
+ * reads the font again. The library keeps nothing between two calls: there is no handle, and nothing has to
+ * be freed.
+ *
+ * Size: `size` is the size to read the font at, from 1 to 134,217,727 scaled points, or 0 for the design size
+ * of the font. All dimensions are in scaled points, of which 65,536 are one point. The slant is the
+ * exception: it is a ratio in units of 2^-20, and isn't scaled.
+ *
+ * Pointers: no pointer may be null, not even with length 0. The memory that a function writes to (its last
+ * argument, and the arrays before it) may not overlap any other memory that it is given. The memory that
+ * it only reads may overlap, and may be shared by several calls. Each pointer must be aligned as its type
+ * requires. A function writes to no other memory of the caller.
+ *
+ * Memory: functions allocate memory with malloc and realloc, and free all of it before they return.
+ *
+ * Threads: any thread may call any function at any time. Don't call the library from a signal handler, or in
+ * the child process after a fork of a process that has several threads.
+ *
+ * Return value: each function except tfmset_version returns one of the five TFMSET_ codes below. The last
+ * argument is written to as follows; after any other code it is unchanged:
+ *
+ *     tfmset_check                                  after TFMSET_FONT_REFUSED
+ *     tfmset_font, tfmset_metrics, tfmset_pair      after TFMSET_DONE
+ *     tfmset_set, tfmset_widths, tfmset_records     after TFMSET_DONE and TFMSET_NO_ROOM
+ *
+ * C++: the structs tfmset_font, tfmset_metrics and tfmset_pair have the names of functions. C++ therefore
+ * needs the keyword, as C does: `struct tfmset_font about;`.
  */
 #ifndef TFMSET_H
 #define TFMSET_H
@@ -29,163 +57,220 @@
 extern "C" {
 #endif
 
+/* The function did what it was called for. */
 #define TFMSET_DONE 0u
+/* The font is refused; tfmset_check returns its first error. */
 #define TFMSET_FONT_REFUSED 1u
+/* An allocation failed. Arrays may have been written to, and their contents are unspecified. */
 #define TFMSET_OUT_OF_MEMORY 2u
+/* An array is too short. The last argument contains the lengths that are needed, and the contents of the
+ * arrays are unspecified. */
 #define TFMSET_NO_ROOM 3u
+/* A number is out of its range. The font wasn't read. */
 #define TFMSET_OUT_OF_RANGE 4u
 
-/* The version of the library: 1,000,000 times the first number of "1.2.3", 1,000 times the second,
- * and the third. */
+/* Returns the version of the library: for version X.Y.Z it is 1,000,000 * X + 1,000 * Y + Z.
+ * TFMSET_VERSION is the version of this header. */
 #define TFMSET_VERSION 1000u
 uint32_t tfmset_version(void);
 
-/* The first fault of a font. */
+/* The first error of a font. docs/ERRORS.md in the sources describes each error, with an example. */
 struct tfmset_fault {
-    /* 1, 8: the bytes that are needed; 10, 11: a character's code; 13: an entry of a table, counted
-     * from 0, but of table 9 (param) from 1; 14: an instruction, counted from 0; else 0. */
+    /* The meaning depends on `number`:
+     *     1, 8     the number of bytes that are needed
+     *     10, 11   a character code
+     *     13       the index of an entry in its table, from 0; in table 9 (param) from 1
+     *     14       the address of an instruction, from 0
+     * For the other numbers it is 0. */
     size_t place;
-    /* 1 truncated within the counts, 2 a count out of range, 3 character range, 4 header too short,
-     * 5 an empty table, 6 more than 256 recipes, 7 length equation, 8 truncated, 9 design size,
-     * 10 an index of a character, 11 a program's start, 12 entry 0 of a table isn't zero,
-     * 13 an entry of a table is too large, 14 an instruction names what isn't there. */
+    /* The rule that the font breaks:
+     *     1        the file is too short for the twelve counts
+     *     2        a count is out of range
+     *     3        the character range is invalid
+     *     4        the header is too short
+     *     5        a table that needs an entry is empty
+     *     6        there are more than 256 extensible recipes
+     *     7        the length of the file isn't the sum of the lengths of its parts
+     *     8        the file has fewer bytes than its first count, the length in words, requires
+     *     9        the design size is negative, or is below one point
+     *     10       an index of a character is beyond the end of its table
+     *     11       a character's starting address is beyond the last instruction
+     *     12       entry 0 of a table isn't zero
+     *     13       an entry of a table is too large
+     *     14       an instruction refers to something that doesn't exist */
     uint32_t number;
-    /* 2: which count: 0 lf, 1 lh, 2 bc, 3 ec, 4 nw, 5 nh, 6 nd, 7 ni, 8 nl, 9 nk, 10 ne, 11 np.
-     * 5, 10, 12, 13: which table: 0 header, 1 char_info, 2 width, 3 height, 4 depth, 5 italic,
-     * 6 lig_kern, 7 kern, 8 exten, 9 param.
-     * 14: which part: 0 restart, 1 next, 2 ligature, 3 kern, 4 skip. Else 0. */
+    /* The meaning depends on `number`:
+     *     2        a count: 0 lf, 1 lh, 2 bc, 3 ec, 4 nw, 5 nh, 6 nd, 7 ni, 8 nl, 9 nk, 10 ne, 11 np
+     *     5, 10, 12, 13
+     *              a table: 0 header, 1 char_info, 2 width, 3 height, 4 depth, 5 italic, 6 lig_kern,
+     *              7 kern, 8 exten, 9 param
+     *     14       a part of the instruction: 0 restart (an indirect start), 1 next, 2 ligature, 3 kern,
+     *              4 skip
+     * For the other numbers it is 0. */
     uint32_t named;
 };
 
-/* Is this font accepted at this size? TFMSET_DONE, if it is. TFMSET_FONT_REFUSED, if it isn't: then
- * `fault` is its first fault. Else TFMSET_OUT_OF_RANGE or TFMSET_OUT_OF_MEMORY. */
+/* Checks a font. Returns TFMSET_DONE if it is accepted, and TFMSET_FONT_REFUSED, with its first error in
+ * `fault`, if it isn't. Whether a font is accepted doesn't depend on the size. Other codes:
+ * TFMSET_OUT_OF_RANGE if `size` is out of range, TFMSET_OUT_OF_MEMORY. */
 uint32_t tfmset_check(const uint8_t *font, size_t font_length, uint32_t size, struct tfmset_fault *fault);
 
-/* What a font says of itself. A parameter that isn't there is 0. */
+/* The sizes, boundaries and parameters of a font. A parameter that the font doesn't have is 0. */
 struct tfmset_font {
-    /* How many parameters, kerns and instructions there are. */
+    /* The numbers of parameters, of kerns, and of instructions in the lig/kern program. */
     size_t parameters, kerns, instructions;
     /* The design size, and the size that the font is read at. */
     uint32_t design_size, size;
-    /* As it stands in the file. */
+    /* The check sum, as it is in the file. */
     uint32_t check_sum;
-    /* The code of the right boundary character, or 256 if there is none. */
+    /* The code of the right boundary character, or 256 if the font has none. */
     uint32_t right_boundary;
-    /* 1 if the left boundary has a program, else 0. */
+    /* 1 if the left boundary has a starting address in the lig/kern program, otherwise 0. */
     uint32_t left_boundary;
-    /* Parameter 1, in units of 2^-20 and not scaled. */
+    /* Parameter 1, in units of 2^-20, not scaled. */
     int32_t slant;
-    /* Parameters 2 to 7. */
+    /* Parameters 2 to 7. `space` is the width of a space in a line. */
     int32_t space, stretch, shrink, x_height, quad, extra_space;
 };
 
+/* Reports the sizes, boundaries and parameters of a font in `about`. Codes other than TFMSET_DONE:
+ * TFMSET_FONT_REFUSED, TFMSET_OUT_OF_RANGE if `size` is out of range, TFMSET_OUT_OF_MEMORY. */
 uint32_t tfmset_font(const uint8_t *font, size_t font_length, uint32_t size, struct tfmset_font *about);
 
-/* A character. */
+/* The dimensions and the tag of a character. */
 struct tfmset_metrics {
-    /* 1 if it exists; else 0, and so is all else. */
+    /* 1 if the font has the character. Otherwise 0, and all other fields are 0. */
     uint32_t exists;
+    /* `italic` is the italic correction. */
     int32_t width, height, depth, italic;
-    /* 0 for nothing, 1 for a lig/kern program, 2 for a list of larger characters, 3 for a recipe. */
+    /* 0: no tag. 1: the character has instructions in the lig/kern program. 2: it has a next larger
+     * character. 3: it has an extensible recipe. */
     uint32_t tag;
-    /* 1: the address that the character names for its program; 2: the next larger character; 3: which
-     * recipe; else 0. */
+    /* The meaning depends on `tag`. 1: the address in the character's char_info entry, before any indirect
+     * start. 2: the code of the next larger character. 3: the number of the recipe, from 0. Otherwise 0. */
     uint32_t remainder;
 };
 
-/* `code` is from 0 to 255, else the answer is TFMSET_OUT_OF_RANGE. */
+/* Reports the dimensions and the tag of a character in `metrics`, or that the font doesn't have it. `code` is
+ * from 0 to 255. Code 32 may be a character here, although byte 32 of a text is always a space. Codes other
+ * than TFMSET_DONE: TFMSET_FONT_REFUSED, TFMSET_OUT_OF_RANGE if `size` or `code` is out of range,
+ * TFMSET_OUT_OF_MEMORY. */
 uint32_t tfmset_metrics(const uint8_t *font, size_t font_length, uint32_t size, uint32_t code,
                         struct tfmset_metrics *metrics);
 
-/* What a font's lig/kern program does between two neighbours. */
+/* The action of a font's lig/kern program between two neighbours. */
 struct tfmset_pair {
-    /* 0 for nothing, 1 for a kern, 2 for a ligature. */
+    /* 0: none. 1: a kern. 2: a ligature operation. */
     uint32_t action;
-    /* The kern that is put in; else 0. */
+    /* Action 1: the kern. Otherwise 0. */
     int32_t kern;
-    /* Of a ligature: the character that is put in, whether the left and the right one stay (1 or 0),
-     * and how many elements are passed over, from the left, to the new current one; else 0. */
+    /* Action 2: `code` is the character that is inserted, `keep_left` and `keep_right` are 1 if the left and
+     * the right neighbour stay, and `pass` is the number of elements that are passed over, from the left, to
+     * find the next current element. Otherwise all are 0. */
     uint32_t code, keep_left, keep_right, pass;
 };
 
-/* `left` and `right` are codes from 0 to 255, or TFMSET_BOUNDARY: on the left the left boundary, on
- * the right the right one. Anything above is TFMSET_OUT_OF_RANGE. */
+/* Reports in `pair` what the font's lig/kern program does between two neighbours. `left` and `right` are
+ * codes from 0 to 255, or TFMSET_BOUNDARY: as `left` the left boundary, as `right` the right boundary. Codes
+ * other than TFMSET_DONE: TFMSET_FONT_REFUSED, TFMSET_OUT_OF_RANGE if `size`, `left` or `right` is out of
+ * range, TFMSET_OUT_OF_MEMORY. */
 #define TFMSET_BOUNDARY 256u
 uint32_t tfmset_pair(const uint8_t *font, size_t font_length, uint32_t size, uint32_t left, uint32_t right,
                      struct tfmset_pair *pair);
 
-/* What is done with a line that has a missing character, which is a byte that is neither a space (32)
- * nor a character of the font: the line is refused, or the character is skipped. */
+/* The missing-character policies. A missing character is a byte of a line that is neither a space (32) nor
+ * a character of the font. TFMSET_REFUSE refuses the line. TFMSET_SKIP skips the byte, which is then an
+ * item of kind TFMSET_SKIPPED. */
 #define TFMSET_REFUSE 0u
 #define TFMSET_SKIP 1u
 
-/* A line has at most 65,535 bytes, and takes at most `limit` steps, from 1 to this. */
+/* The largest step limit. A line that takes more steps than `limit`, from 1 to this number, is refused. */
 #define TFMSET_MOST_STEPS 16777216u
 
-/* An item of a line. */
+/* The kinds of items. */
 #define TFMSET_CHARACTER 0u
 #define TFMSET_KERN 1u
 #define TFMSET_SPACE 2u
 #define TFMSET_SKIPPED 3u
+/* An item of a line. */
 struct tfmset_item {
-    /* One of these four. */
+    /* One of the four kinds. */
     uint32_t kind;
-    /* The code of a character or of a skipped one; else 0. */
+    /* The code of a character or of a skipped one. Otherwise 0. */
     uint32_t code;
-    /* How wide it is; a skipped character is 0 wide. */
+    /* The width of the item. A skipped character has width 0. */
     int32_t width;
 };
 
-/* What became of a line. */
+/* The line is set. */
 #define TFMSET_SET 0u
+/* The line is refused: it has a missing character, and the policy is TFMSET_REFUSE. */
 #define TFMSET_MISSING 1u
+/* The line is refused: it has more than 65,535 bytes. Takes precedence over TFMSET_MISSING. */
 #define TFMSET_TOO_LONG 2u
+/* The line is refused: it takes more steps than the limit. */
 #define TFMSET_TOO_MANY_STEPS 3u
+/* The result of a line. Check `refusal` before using `width`. */
 struct tfmset_line {
-    /* The sum of its items' widths; 0 if it was refused. */
+    /* The sum of the widths of its items. 0 if the line is refused. */
     int64_t width;
-    /* Its items: how many stand before them, and how many there are. A refused line has none. */
+    /* The line's items are `count` elements of the array `items`, the first of them at index `first`.
+     * `count` is 0 if the line is refused. */
     size_t first, count;
-    /* TFMSET_MISSING: the place of the character in the line, from 0. TFMSET_TOO_LONG: how many bytes
-     * the line has. Else 0. */
+    /* TFMSET_MISSING: the offset of the missing character in the line, from 0. TFMSET_TOO_LONG: the number
+     * of bytes in the line. Otherwise 0. */
     size_t place;
-    /* How many steps it took. TFMSET_TOO_MANY_STEPS: the limit. Else 0. */
+    /* TFMSET_SET: the number of steps that the line took. TFMSET_TOO_MANY_STEPS: the limit. Otherwise 0. */
     uint32_t steps;
-    /* One of these four. */
+    /* One of the four numbers above. */
     uint32_t refusal;
-    /* TFMSET_MISSING: the character. Else 0. */
+    /* TFMSET_MISSING: the code of the missing character. Otherwise 0. */
     uint32_t code;
 };
 
-/* How many lines a text has, and how many items these have together. */
+/* The number of lines in a text, and the number of items that all its lines have together. A number of
+ * 2^64 - 1 or more is reported as 2^64 - 1. */
 struct tfmset_counts {
     size_t lines, items;
 };
 
-/* Sets the lines of a text. These stand between its line feeds (10); what comes after the last one, or
- * the whole text if it has none, is a line if it isn't empty. `lines_length` and `items_length` say for
- * how many there is room.
+/* Sets the lines of a text. A line ends before a line feed (10); the bytes after the last line feed are one
+ * more line, if there are any. `limit` is the step limit of each line, from 1 to TFMSET_MOST_STEPS, and
+ * `policy` is TFMSET_REFUSE or TFMSET_SKIP. `lines_length` and `items_length` are the lengths of the
+ * arrays in elements. Returns
  *
- * TFMSET_DONE: the lines and their items stand in order at the front of the arrays, and `counts` says
- * how many. TFMSET_NO_ROOM: there is no room for all of them, and `counts` says for how many room is
- * needed; what the arrays then hold isn't to be read, nor after TFMSET_OUT_OF_MEMORY. After any other
- * answer nothing is touched. (A number from 2^64 - 1 on is told as that, and has no room anywhere.) */
+ * TFMSET_DONE: the first `counts->lines` elements of `lines` and the first `counts->items` elements of
+ *     `items` are the results, in order. The other elements are unchanged. A refused line doesn't make the
+ *     call fail: check the field `refusal` of each line.
+ * TFMSET_NO_ROOM: an array is too short. `counts` contains the lengths that are needed; the contents of both
+ *     arrays are unspecified. Arrays of these lengths are long enough for a call with otherwise the same
+ *     arguments.
+ * TFMSET_FONT_REFUSED: the font is refused. The arrays and `counts` are unchanged.
+ * TFMSET_OUT_OF_RANGE: `size`, `limit` or `policy` is out of range. The arrays and `counts` are unchanged.
+ * TFMSET_OUT_OF_MEMORY: an allocation failed. `counts` is unchanged; the contents of both arrays are
+ *     unspecified. */
 uint32_t tfmset_set(const uint8_t *font, size_t font_length, uint32_t size, uint32_t limit, uint32_t policy,
                     const uint8_t *text, size_t text_length, struct tfmset_line *lines, size_t lines_length,
                     struct tfmset_item *items, size_t items_length, struct tfmset_counts *counts);
 
-/* The same without the items: room for the lines is enough. `first`, `count` and `counts` are told as by
- * tfmset_set. */
-uint32_t tfmset_widths(const uint8_t *font, size_t font_length, uint32_t size, uint32_t limit, uint32_t policy,
-                       const uint8_t *text, size_t text_length, struct tfmset_line *lines,
+/* Sets the lines of a text as tfmset_set does, without returning the items. The fields `first` and `count`
+ * of each line and both counts are those of tfmset_set, but only `lines` has to be long enough: the number
+ * of line feeds in the text plus 1 is always enough. The return values are those of tfmset_set. */
+uint32_t tfmset_widths(const uint8_t *font, size_t font_length, uint32_t size, uint32_t limit,
+                       uint32_t policy, const uint8_t *text, size_t text_length, struct tfmset_line *lines,
                        size_t lines_length, struct tfmset_counts *counts);
 
+/* The record format that the command line calls `json`. */
 #define TFMSET_JSON 3u
-/* The records of a text's lines, as the program prints them, without its first and its end lines:
- * `version` is 1, 2 or TFMSET_JSON (else the answer is TFMSET_OUT_OF_RANGE), `source` the number of
- * their source, and `first` the place of the first line there. `first` and the length of the text
- * are together below 2^64, else the answer is TFMSET_OUT_OF_RANGE. `length` is to records what `counts`
- * is to lines: how many bytes there are, or for how many room is needed. */
+/* Sets the lines of a text as tfmset_set does, and writes their records, as the program prints them, to the
+ * array `records`, which has `records_length` bytes. Neither the line `records 2`, with which the output of
+ * the program begins in record format 2, nor end lines are written. `version` is the record format: 1, 2, or
+ * TFMSET_JSON. `source` is the number of the source in each record. `first` is the number of the first line.
+ *
+ * After TFMSET_DONE `length` is the number of bytes that were written, and the other bytes of the array are
+ * unchanged. After TFMSET_NO_ROOM `length` is the number of bytes that are needed. TFMSET_OUT_OF_RANGE is
+ * also returned if `version` is out of range, or if the sum of `first` and `text_length` is 2^64 or more.
+ * Otherwise the return values are those of tfmset_set. */
 uint32_t tfmset_records(const uint8_t *font, size_t font_length, uint32_t size, uint32_t limit,
                         uint32_t policy, const uint8_t *text, size_t text_length, uint32_t version,
                         uint64_t source, uint64_t first, uint8_t *records, size_t records_length,

@@ -1,8 +1,9 @@
-"""Sets lines of text with the metrics of a TeX font (TFM), by the library tfmset.
+# SPDX-License-Identifier: MIT OR Apache-2.0
+"""Sets lines of text with a TeX font metric (TFM) file, by calling the C library libtfmset.
 
-A font is made of the bytes of its file, at its design size or at another one. Text is bytes: each byte
-is a code of the font, 32 is a space, and 10 ends a line. All measures are in scaled points, of which a
-point has 65,536.
+A `Font` is made from the bytes of a TFM file, and is read at its design size or at another size. Text is
+bytes: each byte is a character code of the font, byte 32 is a space, and byte 10 ends a line. All dimensions
+are in scaled points (sp); 65,536 sp are one point.
 
     >>> import tfmset
     >>> font = tfmset.Font.from_file("examples/demo.tfm")
@@ -16,14 +17,23 @@ point has 65,536.
     >>> font.widths(b"office\\nbox")
     [1468004, 1025637]
 
-The library is the one that the variable TFMSET_LIBRARY names, else `libtfmset.so` beside this file, else
-the one that the system finds. There is no state in it: any thread may call anything at any time, and
-calls of several threads run at once.
+On import the module loads the library from the first of these locations that has one:
+
+1. the path in the environment variable TFMSET_LIBRARY, if it isn't empty; no other location is tried then;
+2. `libtfmset.so` in the directory of this module;
+3. `PREFIX/lib/libtfmset.so.0`, if this module is installed in `PREFIX/lib/pythonX.Y/site-packages` (or
+   `dist-packages`);
+4. the directories that the system's dynamic linker searches, such as those in LD_LIBRARY_PATH.
+
+The import raises ImportError if no library is found, or if it can't be loaded.
+
+The library has no state. Any thread may call any function at any time, and calls of several threads run
+concurrently. Each call reads the font again, which for the font cmr10 takes about 30 microseconds. It is
+therefore much faster to set many lines in one call than to make one call for each line.
 """
 from __future__ import annotations
 
 import ctypes
-import ctypes.util
 import functools
 import operator
 import os
@@ -35,13 +45,13 @@ __all__ = ["BOUNDARY", "CHARACTER", "KERN", "POINT", "SKIPPED", "SPACE", "Font",
            "Kern", "Ligature", "Line", "Lines", "Metrics", "Refusal", "version"]
 
 POINT = 65536
-"""The scaled points of a point."""
+"""The number of scaled points in a point."""
 
 CHARACTER, KERN, SPACE, SKIPPED = range(4)
 """The kinds of items: a character, a kern, a space, and a missing character that was skipped."""
 
 BOUNDARY = 256
-"""In `Font.pair` the left boundary on the left, and the right one on the right."""
+"""In `Font.pair`: the left boundary as the left argument, the right boundary as the right argument."""
 
 Size = Union[None, int, str]
 Text = Union[bytes, bytearray, memoryview]
@@ -82,7 +92,11 @@ class _Counts(ctypes.Structure):
 
 
 class Item(ctypes.Structure):
-    """An item of a line: its kind, the code of a character or of a skipped one, and its width."""
+    """An item of a line: a character, a kern, a space, or a missing character that was skipped.
+
+    `kind` is CHARACTER, KERN, SPACE or SKIPPED. `code` is the code of a character or of a skipped one, and
+    otherwise 0. `width` is in sp, and is 0 for a skipped character.
+    """
 
     kind: int
     code: int
@@ -93,33 +107,52 @@ class Item(ctypes.Structure):
         return f"Item(kind={self.kind}, code={self.code}, width={self.width})"
 
 
+# The number in this name changes when the layout of a struct or the arguments of a function change.
+_SONAME = "libtfmset.so.0"
+
+
+def _path() -> str:
+    """Returns the path of the library, or its bare name, for which the dynamic linker searches."""
+    if os.environ.get("TFMSET_LIBRARY"):
+        return os.environ["TFMSET_LIBRARY"]
+    directory = os.path.dirname(os.path.abspath(__file__))
+    candidates = [os.path.join(directory, "libtfmset.so")]
+    if os.path.basename(directory) in ("site-packages", "dist-packages"):
+        # The directory is PREFIX/lib/pythonX.Y/site-packages.
+        prefix = os.path.dirname(os.path.dirname(os.path.dirname(directory)))
+        candidates.append(os.path.join(prefix, "lib", _SONAME))
+    return next((path for path in candidates if os.path.exists(path)), _SONAME)
+
+
 def _load() -> ctypes.CDLL:
-    """The library, with the types of its functions."""
-    beside = os.path.join(os.path.dirname(os.path.abspath(__file__)), "libtfmset.so")
-    place = os.environ.get("TFMSET_LIBRARY") or (beside if os.path.exists(beside) else None)
-    place = place or ctypes.util.find_library("tfmset")
-    if not place:
-        raise ImportError("there is no libtfmset.so: install it by scripts/library, put it beside tfmset.py, "
-                          "or let the variable TFMSET_LIBRARY name it")
+    """Loads the library and declares the types of its functions."""
     font, text, out = [ctypes.c_char_p, _size_t, _u32], [ctypes.c_char_p, _size_t], [ctypes.c_void_p]
-    terms, room = [_u32, _u32], [ctypes.c_void_p, _size_t]
+    settings, array = [_u32, _u32], [ctypes.c_void_p, _size_t]
     functions = {
         "version": [],
         "check": font + out,
         "font": font + out,
         "metrics": font + [_u32] + out,
         "pair": font + [_u32, _u32] + out,
-        "set": font + terms + text + room + room + out,
-        "widths": font + terms + text + room + out,
-        "records": font + terms + text + [_u32, _u64, _u64] + room + out,
+        "set": font + settings + text + array + array + out,
+        "widths": font + settings + text + array + out,
+        "records": font + settings + text + [_u32, _u64, _u64] + array + out,
     }
+    path = _path()
     try:
-        library = ctypes.CDLL(place)
+        library = ctypes.CDLL(path)
+    except OSError as error:
+        if path == _SONAME:
+            raise ImportError("libtfmset.so was not found: install it with scripts/library, copy it to the "
+                              "directory of tfmset.py, or set the environment variable TFMSET_LIBRARY to its "
+                              f"path ({error})") from error
+        raise ImportError(f"{path} can't be loaded: {error}") from error
+    try:
         for name, types in functions.items():
             function = getattr(library, "tfmset_" + name)
             function.argtypes, function.restype = types, _u32
-    except (OSError, AttributeError) as fault:
-        raise ImportError(f"{place} isn't the library tfmset, or an older one: {fault}") from fault
+    except AttributeError as error:
+        raise ImportError(f"{path} isn't libtfmset, or is an older version of it: {error}") from error
     return library
 
 
@@ -127,7 +160,7 @@ _library = _load()
 
 
 def version() -> Tuple[int, int, int]:
-    """The version of the library.
+    """Returns the version of the library.
 
     >>> version() >= (0, 1, 0)
     True
@@ -137,11 +170,13 @@ def version() -> Tuple[int, int, int]:
 
 
 class FontRefused(ValueError):
-    """A font is refused: the first rule that it breaks.
+    """Raised for a font that is refused. Carries the first error of the font.
 
-    `number` says which rule, from 1 to 14; `named` which count, table or part of an instruction, or is
-    empty; `place` is the number of bytes that are needed, a code, an entry or an instruction, or 0. As a
-    text it is the words that the program tells.
+    `number` is the number of the rule that the font breaks, from 1 to 14. `named` is the name of the count,
+    of the table or of the part of an instruction that is wrong, or an empty string. `place` depends on
+    `number`: with 1 and 8 it is the number of bytes that are needed; with 10 and 11 a character code; with
+    13 the index of an entry in its table, from 0 (in the table `param` from 1); with 14 the address of an
+    instruction, from 0. With any other `number` it is 0. `str` returns the text that the program prints.
 
     >>> Font(b"no font")
     Traceback (most recent call last):
@@ -166,7 +201,7 @@ class FontRefused(ValueError):
         self.number, self.named, self.place = number, named, place
 
     @classmethod
-    def _told(cls, fault: _Fault) -> FontRefused:
+    def _from(cls, fault: _Fault) -> FontRefused:
         names = cls._NAMES.get(fault.number)
         return cls(fault.number, names[fault.named] if names else "", fault.place)
 
@@ -175,10 +210,15 @@ class FontRefused(ValueError):
 
 
 class Metrics(NamedTuple):
-    """The measures of a character, and what its tag says.
+    """The dimensions of a character, in sp, and its tag.
 
-    `tag` is 0 for nothing, 1 for a program, which begins at the instruction `remainder`; 2 for a next
-    larger character and 3 for a recipe, which `remainder` is.
+    `italic` is the italic correction. The meaning of `remainder` depends on `tag`:
+
+    - tag 0: the character has no tag; `remainder` is 0
+    - tag 1: the character has instructions in the lig/kern program; `remainder` is the address in its entry
+      of the table char_info, before any indirect start
+    - tag 2: `remainder` is the code of the next larger character
+    - tag 3: `remainder` is the number of its extensible recipe
     """
 
     width: int
@@ -190,15 +230,16 @@ class Metrics(NamedTuple):
 
 
 class Kern(NamedTuple):
-    """Between two characters comes this much room; if it is negative, that much is taken away."""
+    """A kern: `width`, in sp, is added between two characters. It may be negative."""
 
     width: int
 
 
 class Ligature(NamedTuple):
-    """Between two characters comes another one, in the place of those that don't stay.
+    """A ligature operation: the character `code` is inserted between two characters.
 
-    `passed` is how many elements are passed over, from the left, to the new current one.
+    `keep_left` and `keep_right` are true if the left and the right character stay. `passed` is the number of
+    elements that are passed over, from the left, to find the next current element.
     """
 
     code: int
@@ -208,10 +249,12 @@ class Ligature(NamedTuple):
 
 
 class Refusal(NamedTuple):
-    """A line that isn't set, and why.
+    """A line that is refused, with the reason. `place` and `code` depend on `reason`:
 
-    `reason` is `missing`: the byte at `place`, from 0, is `code`, which is no character of the font;
-    `too-long`: the line has `place` bytes; or `steps`: it takes more steps than the limit.
+    - 'missing': the byte at the offset `place` (from 0) of the line is `code`, and the font has no such
+      character
+    - 'too-long': the line has `place` bytes, which are more than 65,535; `code` is 0
+    - 'steps': the line takes more steps than the limit; `place` and `code` are 0
     """
 
     reason: str
@@ -224,12 +267,22 @@ _REASONS = ("", "missing", "too-long", "steps")
 
 @functools.lru_cache(maxsize=1024)
 def _items(count: int) -> type:
-    """The type of an array of this many items; a new one would take longer than to set a short line."""
+    """Returns the type of an array of `count` items. Without the cache making the type takes longer than
+    setting a short line."""
     return Item * count
 
 
+def _front(buffer: ctypes.Array, count: int) -> bytes:
+    """Returns a copy of the first `count` bytes of a buffer, also if these are more than a C int can count.
+    (`ctypes.string_at` takes the count as a C int, which fails for 2 GiB and cuts the result above 4 GiB.)"""
+    return bytes(memoryview(buffer)[:count])
+
+
 class Line:
-    """A line that is set: its width, and how many steps it took."""
+    """A line that is set.
+
+    `width` is its width in sp, and `steps` the number of steps that its ligatures and kerns took.
+    """
 
     __slots__ = ("width", "steps", "_all", "_first", "_count")
 
@@ -240,10 +293,10 @@ class Line:
 
     @property
     def items(self) -> ctypes.Array[Item]:
-        """The items, in their order: an array in memory of which nothing is copied.
+        """The items of the line, in order, as an array that shares the memory of the result.
 
-        It may be handed on whole: `struct.iter_unpack("IIi", line.items)`, or `numpy.frombuffer(line.items,
-        "u4,u4,i4")`.
+        The array can be passed as a buffer to other modules: `struct.iter_unpack("IIi", line.items)`, or
+        `numpy.frombuffer(line.items, "u4,u4,i4")`. It keeps the items of all lines of the text in memory.
         """
         return _items(self._count).from_buffer(self._all, self._first * ctypes.sizeof(Item))
 
@@ -255,33 +308,33 @@ Outcome = Union[Line, Refusal]
 
 
 class Lines(Sequence[Outcome]):
-    """The lines of a text: each is a `Line`, or a `Refusal` if it isn't set."""
+    """The results of the lines of a text, in order: each is a `Line`, or a `Refusal` for a refused line."""
 
     def __init__(self, lines: ctypes.Array[_Line], items: ctypes.Array[Item], counts: _Counts) -> None:
         self._lines, self._items, self._count, self._item_count = lines, items, counts.lines, counts.items
 
     @property
     def items(self) -> ctypes.Array[Item]:
-        """The items of all lines, one after the other."""
+        """The items of all lines, in order, as one array."""
         return _items(self._item_count).from_buffer(self._items)
 
     def __len__(self) -> int:
         return self._count
 
     @overload
-    def __getitem__(self, place: int) -> Outcome: ...
+    def __getitem__(self, index: int) -> Outcome: ...
 
     @overload
-    def __getitem__(self, place: slice) -> List[Outcome]: ...
+    def __getitem__(self, index: slice) -> List[Outcome]: ...
 
-    def __getitem__(self, place):
-        if isinstance(place, slice):
-            return [self[each] for each in range(*place.indices(self._count))]
-        place = operator.index(place)
-        place += self._count if place < 0 else 0
-        if not 0 <= place < self._count:
-            raise IndexError("there is no such line")
-        line = self._lines[place]
+    def __getitem__(self, index):
+        if isinstance(index, slice):
+            return [self[each] for each in range(*index.indices(self._count))]
+        index = operator.index(index)
+        index += self._count if index < 0 else 0
+        if not 0 <= index < self._count:
+            raise IndexError("line index out of range")
+        line = self._lines[index]
         if line.refusal:
             return Refusal(_REASONS[line.refusal], line.place, line.code)
         return Line(line, self._items)
@@ -291,21 +344,21 @@ class Lines(Sequence[Outcome]):
 
 
 def _number(name: str, value: int, low: int, high: int) -> int:
-    """A number within its range."""
+    """Returns `value` as an int. Raises ValueError if it isn't from `low` to `high`."""
     if not low <= operator.index(value) <= high:
-        raise ValueError(f"{name} is {value}, and not from {low:,} to {high:,}")
+        raise ValueError(f"{name} is {value}, but must be from {low:,} to {high:,}")
     return operator.index(value)
 
 
 def _size(size: Size) -> int:
-    """A size as the library takes it, in which 0 is the design size."""
+    """Returns a size in sp, or 0 for the design size, as the library expects it."""
     if size is None:
         return 0
     if isinstance(size, str):
         form = re.fullmatch(r"(\d+)(?:\.(\d{0,17}))?pt", size.replace(" ", ""), re.ASCII)
         if not form:
-            raise ValueError(f"size is {size!r}, and no number of points such as '10pt' or '10.95pt'")
-        # To the nearest scaled point, half of one upward, as TeX rounds.
+            raise ValueError(f"size is {size!r}, but must be a number of points such as '10pt' or '10.95pt'")
+        # Rounded to the nearest sp, and half of one upward, as TeX does.
         unit = 10 ** len(form[2] or "")
         size = (2 * POINT * int(form[1] + (form[2] or "")) + unit) // (2 * unit)
     return _number("size", size, 1, _LARGEST_SIZE)
@@ -313,15 +366,19 @@ def _size(size: Size) -> int:
 
 def _bytes(name: str, content: Text) -> bytes:
     if isinstance(content, str):
-        raise TypeError(f"{name} is bytes: encode it first, as by .encode('latin-1')")
+        raise TypeError(f"{name} must be bytes: encode the string first, for example by .encode('latin-1')")
     return content if isinstance(content, bytes) else bytes(memoryview(content))
 
 
 class Font:
-    """A font of these bytes, at `size`: in scaled points, such as 655360; as a text, such as "10pt"; or None
-    for its design size.
+    """A font: the contents of a TFM file, read at a size.
 
-    It raises `FontRefused` if the font is refused, and `MemoryError` if memory is, as each call may.
+    `data` is the contents of the file. `size` is an int, in sp, from 1 to 134,217,727; or a str with a number
+    of points, such as "10pt" or "10.95pt"; or None for the design size of the font.
+
+    Raises FontRefused if the font is refused, ValueError if the size is out of range, and TypeError for
+    arguments of another type. Like each method that calls the library, it raises MemoryError if an
+    allocation fails.
 
     >>> font = Font.from_file("examples/demo.tfm", size="10pt")
     >>> font.size == font.design_size == 10 * POINT
@@ -331,41 +388,41 @@ class Font:
     """
 
     parameters: int
-    """How many parameters there are."""
+    """The number of parameters."""
     kerns: int
-    """How many kerns."""
+    """The number of kerns."""
     instructions: int
-    """How many instructions."""
+    """The number of instructions in the lig/kern program."""
     design_size: int
-    """The design size."""
+    """The design size, in sp."""
     size: int
-    """The size that it is read at."""
+    """The size that the font is read at, in sp."""
     check_sum: int
-    """The check sum."""
+    """The check sum, as it is in the file."""
     right_boundary: Optional[int]
-    """The code of the right boundary character, if there is one."""
+    """The code of the right boundary character, or None if the font has none."""
     left_boundary: bool
-    """Whether the left boundary has a program."""
+    """Whether the left boundary has a starting address in the lig/kern program."""
     slant: int
-    """The slant, in units of 2^-20; a parameter that isn't there is 0."""
+    """Parameter 1, in units of 2^-20, not scaled. Each parameter that the font doesn't have is 0."""
     space: int
-    """The width of a space."""
+    """Parameter 2: the width of a space, in sp."""
     stretch: int
-    """How far a space stretches."""
+    """Parameter 3: the stretch of a space, in sp."""
     shrink: int
-    """How far a space shrinks."""
+    """Parameter 4: the shrink of a space, in sp."""
     x_height: int
-    """The height of an x."""
+    """Parameter 5: the height of the letter x, in sp."""
     quad: int
-    """The width of a quad."""
+    """Parameter 6: the width of one em, in sp."""
     extra_space: int
-    """The room that is added at the end of a sentence."""
+    """Parameter 7: the space that is added at the end of a sentence, in sp."""
 
     def __init__(self, data: Text, size: Size = None) -> None:
-        self.data = _bytes("a font", data)
+        self.data = _bytes("data", data)
         self._font = (self.data, len(self.data), _size(size))
         about = _About()
-        self._must(_library.tfmset_font(*self._font, ctypes.byref(about)))
+        self._raise(_library.tfmset_font(*self._font, ctypes.byref(about)))
         for name, _ in _About._fields_:
             setattr(self, name, getattr(about, name))
         self.right_boundary = None if about.right_boundary == BOUNDARY else about.right_boundary
@@ -373,37 +430,42 @@ class Font:
 
     @classmethod
     def from_file(cls, path: Union[str, os.PathLike], size: Size = None) -> Font:
-        """The font in a file."""
+        """Returns the font in a file. Raises OSError if the file can't be read; otherwise as `Font`."""
         with open(path, "rb") as file:
             return cls(file.read(), size)
 
-    def _must(self, answer: int) -> None:
-        """Raises what an answer says, if it isn't that all is done."""
-        if answer == _FONT_REFUSED:
+    def _raise(self, code: int) -> None:
+        """Raises the exception for a return code of the library, unless the code is TFMSET_DONE."""
+        if code == _FONT_REFUSED:
             fault = _Fault()
-            answer = _library.tfmset_check(*self._font, ctypes.byref(fault))
-            if answer == _FONT_REFUSED:
-                raise FontRefused._told(fault)
-        if answer == _OUT_OF_MEMORY:
-            raise MemoryError("the library was refused memory")
-        if answer != _DONE:
-            raise ValueError("a number is out of range")
+            code = _library.tfmset_check(*self._font, ctypes.byref(fault))
+            if code == _FONT_REFUSED:
+                raise FontRefused._from(fault)
+        if code == _OUT_OF_MEMORY:
+            raise MemoryError("an allocation of libtfmset failed")
+        if code != _DONE:
+            raise ValueError("an argument is out of range")
 
     def metrics(self, code: int) -> Optional[Metrics]:
-        """The character with this code, from 0 to 255; None if there is none.
+        """Returns the dimensions and the tag of a character, or None if the font has no such character.
+
+        `code` is from 0 to 255. Raises ValueError for any other number.
 
         >>> Font.from_file("examples/demo.tfm").metrics(ord("f")).width
         203161
         """
-        told = _Metrics()
+        metrics = _Metrics()
         code = _number("code", code, 0, 255)
-        self._must(_library.tfmset_metrics(*self._font, code, ctypes.byref(told)))
-        if not told.exists:
+        self._raise(_library.tfmset_metrics(*self._font, code, ctypes.byref(metrics)))
+        if not metrics.exists:
             return None
-        return Metrics(told.width, told.height, told.depth, told.italic, told.tag, told.remainder)
+        return Metrics(metrics.width, metrics.height, metrics.depth, metrics.italic, metrics.tag,
+                       metrics.remainder)
 
     def pair(self, left: int, right: int) -> Union[None, Kern, Ligature]:
-        """What the font's program does between two codes, of which each may be BOUNDARY.
+        """Returns the kern or the ligature operation between two neighbours, or None if there is neither.
+
+        `left` and `right` are codes from 0 to 255, or BOUNDARY. Raises ValueError for any other number.
 
         >>> font = Font.from_file("examples/demo.tfm")
         >>> font.pair(ord("o"), ord("x"))
@@ -411,28 +473,31 @@ class Font:
         >>> font.pair(ord("f"), ord("i"))
         Ligature(code=12, keep_left=False, keep_right=False, passed=0)
         """
-        told = _Pair()
+        pair = _Pair()
         left, right = _number("left", left, 0, BOUNDARY), _number("right", right, 0, BOUNDARY)
-        self._must(_library.tfmset_pair(*self._font, left, right, ctypes.byref(told)))
-        if told.action == 1:
-            return Kern(told.kern)
-        if told.action == 2:
-            return Ligature(told.code, bool(told.keep_left), bool(told.keep_right), told.passed)
+        self._raise(_library.tfmset_pair(*self._font, left, right, ctypes.byref(pair)))
+        if pair.action == 1:
+            return Kern(pair.kern)
+        if pair.action == 2:
+            return Ligature(pair.code, bool(pair.keep_left), bool(pair.keep_right), pair.passed)
         return None
 
     def _call(self, text: Text, limit: int, missing: str) -> tuple:
-        """The first arguments of each call that sets lines."""
+        """Returns the first arguments of the functions that set lines."""
         if missing not in ("refuse", "skip"):
-            raise ValueError(f"missing is {missing!r}, and neither 'refuse' nor 'skip'")
+            raise ValueError(f"missing is {missing!r}, but must be 'refuse' or 'skip'")
         content = _bytes("text", text)
         limit = _number("limit", limit, 1, _LARGEST_LIMIT)
         return *self._font, limit, int(missing == "skip"), content, len(content)
 
     def set(self, text: Text, limit: int = 1_048_576, missing: str = "refuse") -> Lines:
-        """The lines of a text, set with at most `limit` steps each.
+        """Sets the lines of a text and returns their results, with the items of each line.
 
-        A line with a byte that is no character of the font is refused, or with `missing="skip"` such a byte
-        is skipped.
+        A line that takes more than `limit` steps is refused; `limit` is from 1 to 16,777,216. With
+        `missing="refuse"` a line with a missing character is refused: a byte that is neither a space nor a
+        character of the font. With `missing="skip"` such a byte is skipped, and is an item of kind SKIPPED.
+
+        Raises ValueError if `limit` or `missing` has any other value, and TypeError if `text` isn't bytes.
 
         >>> lines = Font.from_file("examples/demo.tfm").set(b"fox Q", missing="skip")
         >>> [(item.kind, item.code) for item in lines[0].items]
@@ -440,40 +505,46 @@ class Font:
         """
         call, counts = self._call(text, limit, missing), _Counts()
         content, length = call[-2:]
-        # There are no more lines than this; how many items come is a guess.
+        # The text has at most this many lines. The number of items is an estimate.
         lines, items = content.count(b"\n") + 1, length + length // 8 + 16
-        line_room = (_Line * lines)()
+        line_array = (_Line * lines)()
         while True:
-            item_room = (Item * items)()
-            answer = _library.tfmset_set(*call, line_room, lines, item_room, items, ctypes.byref(counts))
-            if answer != _NO_ROOM:
-                self._must(answer)
-                return Lines(line_room, item_room, counts)
+            item_array = (Item * items)()
+            code = _library.tfmset_set(*call, line_array, lines, item_array, items, ctypes.byref(counts))
+            if code != _NO_ROOM:
+                self._raise(code)
+                return Lines(line_array, item_array, counts)
             items = counts.items
 
     def widths(self, text: Text, limit: int = 1_048_576,
                missing: str = "refuse") -> List[Union[int, Refusal]]:
-        """The widths of the lines of a text, or why one isn't set.
+        """Sets the lines of a text and returns the width of each line in sp, or a Refusal.
+
+        The arguments and the exceptions are those of `set`.
 
         >>> Font.from_file("examples/demo.tfm").widths(b"box\\nBox")
         [1025637, Refusal(reason='missing', place=0, code=66)]
         """
         call, counts = self._call(text, limit, missing), _Counts()
-        # There are no more lines than this, so there is always room.
+        # The text has at most this many lines, and therefore the array is always long enough.
         lines = call[-2].count(b"\n") + 1
-        room = (_Line * lines)()
-        self._must(_library.tfmset_widths(*call, room, lines, ctypes.byref(counts)))
-        # Line by line as numbers: an object for each would take longer than to set it.
-        lines_told = struct.iter_unpack("qNNNIII0q", memoryview(room)[:counts.lines])
+        array = (_Line * lines)()
+        self._raise(_library.tfmset_widths(*call, array, lines, ctypes.byref(counts)))
+        # The lines are read as numbers, since making an object for each takes longer than setting it.
+        numbers = struct.iter_unpack("qNNNIII0q", memoryview(array)[:counts.lines])
         return [Refusal(_REASONS[refusal], place, code) if refusal else width
-                for width, _, _, place, _, refusal, code in lines_told]
+                for width, _, _, place, _, refusal, code in numbers]
 
     def records(self, text: Text, limit: int = 1_048_576, missing: str = "refuse", *, version: int = 1,
                 source: int = 1, first_line: int = 1) -> bytes:
-        """The records of the lines of a text, as the program prints them.
+        """Sets the lines of a text and returns their records, as the program prints them.
 
-        `version` is their form: 1, 2, or 3 for JSON. The first one begins with the numbers `source` and
-        `first_line`.
+        `version` is the record format: 1, 2, or 3 for JSON (`--record json` on the command line). `source`,
+        from 0 to 2^64 - 1, is the number of the source in each record, and `first_line` is the number of the
+        first line; `first_line` plus the length of the text must be below 2^64. The result has neither the
+        line `records 2`, with which the output of the program begins in format 2, nor an end line.
+
+        The other arguments and the exceptions are those of `set`.
 
         >>> print(Font.from_file("examples/demo.tfm").records(b"ox", version=2).decode(), end="")
         1:1 set 665189 steps 3 c111=334233 k-16384 c120=347340
@@ -483,11 +554,11 @@ class Font:
                  _number("first_line", first_line, 0, 2**64 - 1 - len(call[5])))
         length = 16 * len(call[5]) + 32 * (call[5].count(b"\n") + 2)
         while True:
-            room = ctypes.create_string_buffer(length)
-            answer = _library.tfmset_records(*call, room, length, ctypes.byref(count))
-            if answer != _NO_ROOM:
-                self._must(answer)
-                return ctypes.string_at(room, count.value)
+            array = ctypes.create_string_buffer(length)
+            code = _library.tfmset_records(*call, array, length, ctypes.byref(count))
+            if code != _NO_ROOM:
+                self._raise(code)
+                return _front(array, count.value)
             length = count.value
 
     def __repr__(self) -> str:

@@ -1,9 +1,12 @@
 #!/usr/bin/env python3
-"""Prints a table of the kerns of a font, in points: a row for each character, and then what follows it.
+"""Prints a table of the kerns of a font, in points.
 
 usage: kerns.py FONT
 
-A character is shown as a letter, or by its number; `|` is a boundary. It needs tfmset.py, in bindings/python.
+Each row begins with a left character, and lists the right characters before which the font has a kern. A
+character is printed as itself, or by its code if it isn't a visible ASCII character; `|` is a boundary. Each
+pair of characters takes one call of the library, which reads the font again: a font of 256 characters takes
+some seconds. The script needs the module tfmset (docs/CALLING.md).
 """
 import sys
 
@@ -17,7 +20,7 @@ def name(code):
 
 
 def kerns(font):
-    """Each left code with its kerns: pairs of a right code and an amount."""
+    """Yields each left code that has kerns, with a list of pairs: a right code and the kern in sp."""
     codes = [code for code in range(256) if font.metrics(code)] + [tfmset.BOUNDARY]
     for left in codes:
         pairs = [(right, font.pair(left, right)) for right in codes]

@@ -1,9 +1,10 @@
-/* Breaks a paragraph into lines that aren't wider than they may be: each takes the words that still fit.
+/* Breaks a paragraph into lines of at most a given width. Each line takes as many words as fit.
  *
- * usage: paragraph FONT POINTS < TEXT   the first 65,536 bytes of the text are read
+ * usage: paragraph FONT POINTS < TEXT   only the first 65,536 bytes of TEXT are read
  *
- * One call measures all words: each is handed over as a line of its own. A word has its ligatures and kerns
- * to itself, so a line is as wide as its words and the spaces between them, to the scaled point. */
+ * One call returns the widths of all words, since each word is passed as a line. No ligature or kern crosses
+ * a space. The width of a line is therefore exactly the sum of the widths of its words and of the spaces
+ * between them. Missing characters are skipped. */
 #include <stdio.h>
 #include <stdlib.h>
 #include <tfmset.h>
@@ -13,7 +14,7 @@ enum { LONGEST = 65536, LARGEST_FONT = 131068 };
 static uint8_t font[LARGEST_FONT], text[LONGEST];
 static struct tfmset_line words[LONGEST / 2 + 1];
 
-/* Reads words from standard input, with one line feed after each; answers how many bytes that are. */
+/* Reads words from standard input into `text`, with one line feed after each. Returns the number of bytes. */
 static size_t read_words(void)
 {
     size_t length = 0;
@@ -27,7 +28,8 @@ static size_t read_words(void)
     return length;
 }
 
-/* Prints the words, and their widths in the points that each line takes. */
+/* Prints the lines, each followed by its width in points. A word that is wider than `widest` has a line for
+ * itself. */
 static void print_lines(const struct tfmset_counts *counts, int64_t space, int64_t widest)
 {
     const uint8_t *word = text;
@@ -54,7 +56,7 @@ int main(int count, char **arguments)
 {
     struct tfmset_font about;
     struct tfmset_counts counts;
-    size_t length;
+    size_t length, i;
     FILE *file;
 
     if (count != 3 || (file = fopen(arguments[1], "rb")) == NULL)
@@ -66,6 +68,12 @@ int main(int count, char **arguments)
     if (tfmset_widths(font, length, 0, 1048576, TFMSET_SKIP, text, read_words(), words,
                       sizeof words / sizeof *words, &counts) != TFMSET_DONE)
         return EXIT_FAILURE;
+    for (i = 0; i < counts.lines; i++) {
+        if (words[i].refusal != TFMSET_SET) {
+            fprintf(stderr, "word %zu is refused, for reason %u\n", i + 1, (unsigned)words[i].refusal);
+            return EXIT_FAILURE;
+        }
+    }
     print_lines(&counts, about.space, (int64_t)(atof(arguments[2]) * 65536));
     return EXIT_SUCCESS;
 }

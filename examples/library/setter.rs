@@ -1,8 +1,8 @@
-//! Sets its arguments, each as a line, and prints what stands in it.
+//! Sets each argument as a line, and prints its width and its items.
 //!
 //! usage: setter FONT LINE..
 //!
-//! Built by plain rustc: `rustc -L PREFIX/lib -l tfmset setter.rs`
+//! Compiled without Cargo: `rustc -L PREFIX/lib -l tfmset setter.rs`
 
 use std::env;
 use std::fs;
@@ -57,19 +57,20 @@ extern "C" {
     ) -> u32;
 }
 
-/// The lines of a text with all their items, or the library's answer if that isn't DONE.
+/// Sets the lines of a text. Returns the lines and all their items, or the return code if it isn't DONE.
 fn set(font: &[u8], text: &[u8]) -> Result<(Vec<Line>, Vec<Item>), u32> {
-    // An empty Vec has an address that isn't null, so the first call may come without room.
+    // The first call has arrays of length 0, and returns the lengths that are needed. (Even an empty Vec has a
+    // pointer that isn't null.)
     let (mut lines, mut items, mut counts) = (Vec::new(), Vec::new(), Counts::default());
     loop {
-        // SAFETY: each pointer comes with the length of what it points to, and no two of these overlap.
-        let answer = unsafe {
+        // SAFETY: each pointer is followed by the length of its slice or Vec, and no two of them overlap.
+        let code = unsafe {
             tfmset_set(
                 font.as_ptr(), font.len(), 0, LIMIT, 0, text.as_ptr(), text.len(),
                 lines.as_mut_ptr(), lines.len(), items.as_mut_ptr(), items.len(), &mut counts,
             )
         };
-        match answer {
+        match code {
             DONE => break,
             NO_ROOM => {
                 lines.resize(counts.lines, Line::default());
@@ -91,14 +92,14 @@ fn show(item: &Item) -> String {
 
 fn main() -> io::Result<ExitCode> {
     let arguments: Vec<String> = env::args().skip(1).collect();
-    let Some((font, words)) = arguments.split_first() else {
+    let Some((font, lines)) = arguments.split_first() else {
         return Ok(ExitCode::FAILURE);
     };
     let font = fs::read(font)?;
-    let (lines, items) = match set(&font, words.join("\n").as_bytes()) {
+    let (lines, items) = match set(&font, lines.join("\n").as_bytes()) {
         Ok(set) => set,
-        Err(answer) => {
-            eprintln!("the library answers {answer}");
+        Err(code) => {
+            eprintln!("tfmset_set returned {code}");
             return Ok(ExitCode::FAILURE);
         }
     };

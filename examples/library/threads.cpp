@@ -1,8 +1,8 @@
-// Sets a text in eight threads, each its own part, and tells the widest line.
+// Sets a text in eight threads, each of which sets a part of it, and prints the number of the widest line.
 //
 // usage: threads FONT TEXT
 //
-// The library has no state: the threads share the font's bytes and the text, and each has its own lines.
+// All threads read the same font and the same text. Each thread writes to its own array of lines.
 #include <algorithm>
 #include <fstream>
 #include <iostream>
@@ -15,16 +15,16 @@
 struct Part {
     const char *begin, *end;
     std::vector<tfmset_line> lines;
-    uint32_t answer = TFMSET_DONE;
+    uint32_t code = TFMSET_DONE;
 
     void set(const std::string &font)
     {
         lines.resize(std::count(begin, end, '\n') + 1);
         tfmset_counts counts;
-        answer = tfmset_widths(reinterpret_cast<const uint8_t *>(font.data()), font.size(), 0, 1048576,
+        code = tfmset_widths(reinterpret_cast<const uint8_t *>(font.data()), font.size(), 0, 1048576,
                                TFMSET_SKIP, reinterpret_cast<const uint8_t *>(begin), end - begin,
                                lines.data(), lines.size(), &counts);
-        lines.resize(answer == TFMSET_DONE ? counts.lines : 0);
+        lines.resize(code == TFMSET_DONE ? counts.lines : 0);
     }
 };
 
@@ -43,7 +43,7 @@ int main(int count, char **arguments)
     std::vector<Part> parts(threads);
     const char *at = text.data(), *const end = at + text.size();
     for (size_t i = 0; i < threads; i++) {
-        // A part ends after a line feed, or with the text.
+        // A part ends after a line feed or at the end of the text, so that no line is cut.
         const char *cut = i + 1 < threads ? std::max(at, text.data() + text.size() * (i + 1) / threads) : end;
         cut = std::find(cut, end, '\n');
         parts[i].begin = at;
@@ -59,7 +59,7 @@ int main(int count, char **arguments)
     size_t line = 0, widest = 0;
     int64_t width = -1;
     for (const Part &part : parts) {
-        if (part.answer != TFMSET_DONE)
+        if (part.code != TFMSET_DONE)
             return 1;
         for (const tfmset_line &each : part.lines) {
             line++;

@@ -1,5 +1,8 @@
-/* Prints the width of each word of its arguments: examples/library/widths FONT WORD..
- * Kerns and plain ligatures between neighbours are left out: it only shows the calls. */
+/* Prints the width of each word in sp, without kerns and ligatures.
+ *
+ * usage: widths FONT WORD..
+ *
+ * Shows how to call tfmset_check and tfmset_metrics. A character that the font doesn't have adds nothing. */
 #include <stdio.h>
 #include <stdlib.h>
 #include <tfmset.h>
@@ -18,7 +21,7 @@ int main(int count, char **words)
     length = fread(font, 1, sizeof font, file);
     fclose(file);
     if (tfmset_check(font, length, 0, &fault) != TFMSET_DONE) {
-        printf("fault %u at %zu\n", (unsigned)fault.number, fault.place);
+        printf("font refused: error %u, place %zu\n", (unsigned)fault.number, fault.place);
         return EXIT_FAILURE;
     }
     for (i = 2; i < count; i++) {
