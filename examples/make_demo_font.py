@@ -1,20 +1,20 @@
 #!/usr/bin/env python3
-"""Writes demo.tfm, a small font of this repository's own, beside this script.
+"""Writes demo.tfm, a small font of this repository, into the directory of this script.
 
-The numbers are made up, in the manner of a text face at 10 points. There are no drawings to go with them: a TFM file
-holds only measures, and measures are all that tfmset reads.
+The dimensions are invented and resemble those of a text face at 10 points. The font has no glyph drawings: a
+TFM file contains dimensions only, and tfmset reads nothing else.
 
-Run it with no arguments. It gives the same bytes each time, and it checks them before it writes any. It needs
-nothing but Python 3, and it is a plain script: nothing about it is proved.
+The script takes no arguments and needs only Python 3. It writes the same bytes each time, and checks them
+against the rules of the format before it writes them. Nothing about it is proved.
 """
 
 import struct
 from pathlib import Path
 
-# Codes outside the letters. The three ligatures stand where TeX's own text fonts have them.
+# The codes of characters other than letters. The three ligatures have the codes that they have in cmr10.
 FF, FI, FFI = 11, 12, 14
 HYPHEN, PERIOD = ord("-"), ord(".")
-# The code that stands for the end of a word in the program below. No character of the font has it.
+# The code of the right boundary in the lig/kern program below. The font has no character with this code.
 RIGHT_BOUNDARY = 124
 
 # Heights above the baseline and depths below it, in thousandths of the design size.
@@ -22,7 +22,7 @@ DOT, X, TEE, DOTTED, TALL = 110, 440, 620, 660, 700
 FLAT, TAIL = 0, 200
 
 # code: (width, height, depth, italic correction), in thousandths of the design size.
-# The hook of an f reaches past its right edge, which its italic correction tells.
+# The hook of an f extends beyond its width; the italic correction is the length of this overhang.
 CHARACTERS = {
     FF: (585, TALL, FLAT, 70),
     FI: (560, TALL, FLAT, 0),
@@ -57,69 +57,69 @@ CHARACTERS = {
     ord("z"): (440, X, FLAT, 0),
 }
 
-# The kerns, in thousandths of the design size, in the order of their table.
+# The table of kerns, in thousandths of the design size.
 KERNS = [-80, -40, -25, -15, 30]
 
-# What an instruction's skip byte says when it isn't a number of instructions to pass over.
+# The values of a skip byte that aren't a number of instructions to skip.
 STOP, IS_BOUNDARY = 128, 255
 
 
 def code_of(character):
-    """A character's code, where it is given as a letter; else it is the code."""
+    """Returns the code of a character, which is a letter or already a code."""
     return ord(character) if isinstance(character, str) else character
 
 
 def ligature(next_char, becomes, skip=0):
-    """An instruction: before next_char, both characters become the one named."""
+    """Returns an instruction that replaces the current character and next_char by the ligature."""
     return (
-        skip,  # skip byte: how many instructions to pass over where next_char doesn't match
+        skip,  # skip byte: the number of instructions to skip if next_char doesn't match
         code_of(next_char),  # next_char: the character that has to follow
-        0,  # op byte: 0 replaces both characters by the ligature
+        0,  # op byte: 0 keeps neither of the two characters
         becomes,  # remainder: the ligature's code
     )
 
 
 def kern(next_char, amount, skip=0):
-    """An instruction: before next_char, this much room is put between the two."""
+    """Returns an instruction that inserts a kern between the current character and next_char."""
     index = KERNS.index(amount)
     return (
         skip,  # skip byte: as in a ligature
         code_of(next_char),  # next_char: as in a ligature
-        128 + index // 256,  # op byte: 128 or more makes it a kern
-        index % 256,  # remainder: with the op byte less 128, the place in the table of kerns
+        128 + index // 256,  # op byte: 128 or more is a kern
+        index % 256,  # remainder: the index in the table of kerns is 256 * (op byte - 128) + remainder
     )
 
 
 PROGRAM = [
-    # 0: never met in a search: it names the right boundary's code. Its last two bytes serve for nothing here, but have
-    # to be a place in the program, as in every instruction with a skip byte above 128.
+    # 0: no search reaches this instruction; it contains the code of the right boundary. Its last two bytes
+    # aren't used, but have to be an address of the program, as in every instruction with a skip above 128.
     (IS_BOUNDARY, RIGHT_BOUNDARY, 0, 0),
-    # 1: ff begins here: ff i becomes ffi; otherwise on to 4, past what is for f alone
+    # 1: start of ff: ff i becomes ffi; otherwise the search continues at 4, after the instructions for f only
     ligature("i", FFI, skip=2),
-    # 2: f begins here: f i becomes fi
+    # 2: start of f: f i becomes fi
     ligature("i", FI),
     # 3: f f becomes ff
     ligature("f", FF),
-    # 4: f and ff at the end of a word: some room for the hook
+    # 4: f and ff at the end of a run: a positive kern for the hook
     kern(RIGHT_BOUNDARY, 30, skip=STOP),
-    # 5: a begins here
+    # 5: start of a
     kern("v", -25),
     kern("w", -25),
     kern("y", -25, skip=STOP),
-    # 8: b, o and p begin here, round on the right
+    # 8: start of b, o and p, which are round on the right
     kern("v", -15),
     kern("w", -15),
     kern("x", -25),
     kern("y", -15, skip=STOP),
-    # 12: v, w and y begin here, open at the foot
+    # 12: start of v, w and y, which leave room at the foot
     kern(".", -80),
-    # 13: k begins here, and the three above go on
+    # 13: start of k; the search for v, w and y continues here
     kern("a", -40),
     kern("e", -25),
     kern("o", -25, skip=STOP),
 ]
 
-# code: the instruction at which the character's program begins
+# code: the starting address of the character
 STARTS = {
     FF: 1,
     ord("f"): 2,
@@ -133,72 +133,73 @@ STARTS = {
     ord("k"): 13,
 }
 
-# The parameters, in thousandths: the slant as a ratio, the others of the design size.
+# The parameters, in thousandths: the slant is a ratio, the others are parts of the design size.
 PARAMETERS = [
     0,  # 1 slant: upright
-    320,  # 2 space between words
-    160,  # 3 stretch of that space
-    105,  # 4 shrink of that space
-    440,  # 5 x-height, that of the small letters
+    320,  # 2 space
+    160,  # 3 stretch of a space
+    105,  # 4 shrink of a space
+    440,  # 5 x-height
     1000,  # 6 quad
-    110,  # 7 extra space after a sentence
+    110,  # 7 extra space
 ]
 
 
 def fix_word(thousandths):
-    """The nearest fix_word: a signed number in units of 2^-20."""
+    """Returns the nearest fix_word, a signed number in units of 2^-20."""
     return (thousandths * 2**20 + 500) // 1000
 
 
 def fix_words(thousandths):
-    """A table's words."""
+    """Returns the words of a table."""
     return b"".join(struct.pack(">i", fix_word(it)) for it in thousandths)
 
 
 def text(value, size):
-    """A header text in a field of this many bytes: its length, its bytes, and zeros to the end."""
+    """Returns a text of the header in a field of this many bytes: its length, its bytes, and zeros."""
     return (bytes([len(value)]) + value.encode("ascii")).ljust(size, b"\0")
 
 
-def measures(column):
-    """The different values of one column of CHARACTERS, after the 0 that each of the four tables begins with."""
+def dimensions(column):
+    """Returns the table of one column of CHARACTERS: entry 0, which is 0 in each of the four tables, and the
+    different values of the column, in order."""
     return [0] + sorted({it[column] for it in CHARACTERS.values()} - {0})
 
 
 def header():
-    """Eighteen words."""
+    """Returns the header, which has eighteen words."""
     return b"".join([
-        b"DEMO",  # 0 check sum: any four bytes; a driver compares them with those of the drawings' file
+        b"DEMO",  # 0 check sum: any four bytes; a driver compares them with those of the file with the glyphs
         struct.pack(">i", 10 * 2**20),  # 1 design size: 10 points, as a fix_word
         text("DEMO TEXT", 40),  # 2..11 coding scheme
         text("DEMO", 20),  # 12..16 family
         bytes([
-            128,  # 17, first byte: seven-bit safe, since no code below 128 leads to one above 127
-            0,  # second byte: not used
-            0,  # third byte: not used
+            128,  # 17, first byte: seven-bit safe, since no codes below 128 make a character above 127
+            0,  # second byte: unused
+            0,  # third byte: unused
             0,  # fourth byte: the face, medium roman of regular width
         ]),
     ])
 
 
 def char_info(code, widths, heights, depths, italics):
-    """The word of one code; four zeros for a code that has no character."""
+    """Returns the char_info word of a code: four zeros if it has no character."""
     if code not in CHARACTERS:
         return bytes(4)
     width, height, depth, italic = CHARACTERS[code]
     tag = 1 if code in STARTS else 0
     return bytes([
-        widths.index(width),  # width_index: never 0, which would say that there is no such character
+        widths.index(width),  # width_index: not 0, since 0 is the mark of a missing character
         16 * heights.index(height) + depths.index(depth),  # height_index in four bits, depth_index in four
-        4 * italics.index(italic) + tag,  # italic_index in six bits, tag in two: 1 has a program, 0 has none
-        STARTS.get(code, 0),  # remainder: for tag 1, where the program begins
+        4 * italics.index(italic) + tag,  # italic_index in six bits, tag in two: 1 with instructions, else 0
+        STARTS.get(code, 0),  # remainder: for tag 1, the starting address
     ])
 
 
 def font():
-    """The whole file."""
+    """Returns the bytes of the file."""
     bc, ec = min(CHARACTERS), max(CHARACTERS)
-    columns = [measures(it) for it in range(4)]
+    columns = [dimensions(it) for it in range(4)]
     tables = [
         header(),  # lh words
         b"".join(char_info(it, *columns) for it in range(bc, ec + 1)),  # ec - bc + 1 words
@@ -214,30 +215,30 @@ def font():
 
 
 def must(holds, rule):
-    """Ends the script where a rule doesn't hold (an assert would be passed over under python -O)."""
+    """Ends the script if a rule doesn't hold. (An assert isn't executed under python -O.)"""
     if not holds:
         raise SystemExit(f"make_demo_font.py: nothing was written, since this doesn't hold: {rule}")
 
 
 def check_counts(data):
-    """The rules of the counts and of the design size, over the bytes alone; returns the counts by name."""
+    """Checks the rules of the counts and of the design size on the bytes, and returns the counts by name."""
     must(len(data) >= 24, "there is room for the counts")
     names = "lf lh bc ec nw nh nd ni nl nk ne np".split()
     count = dict(zip(names, struct.unpack(">12H", data[:24])))
     must(all(it < 2**15 for it in count.values()), "each count is below 32768")
     must(count["bc"] <= count["ec"] + 1 and count["ec"] <= 255, "the codes run from bc to ec, at most 255")
     must(count["lh"] >= 2, "the header has a check sum and a design size")
-    must(all(count[it] > 0 for it in ("nw", "nh", "nd", "ni")), "the four tables of measures have an entry 0")
-    must(count["ne"] <= 256, "there are at most 256 recipes")
+    must(all(count[it] > 0 for it in ("nw", "nh", "nd", "ni")), "the tables of dimensions have an entry 0")
+    must(count["ne"] <= 256, "there are at most 256 extensible recipes")
     parts = sum(count[it] for it in ("lh", "nw", "nh", "nd", "ni", "nl", "nk", "ne", "np"))
     must(count["lf"] == 6 + parts + count["ec"] - count["bc"] + 1, "lf is the sum of the parts")
-    must(len(data) == 4 * count["lf"], "the file has lf words and nothing more")
+    must(len(data) == 4 * count["lf"], "the file has lf words and no more bytes")
     must(struct.unpack(">i", data[28:32])[0] >= 2**20, "the design size is 1 point or more")
     return count
 
 
 def check_tables(data, count):
-    """The rules of the tables, over the bytes alone."""
+    """Checks the rules of the tables on the bytes."""
     words, at = {}, 24
     codes = range(count["bc"], count["ec"] + 1)
     sizes = {"header": count["lh"], "char_info": len(codes), "width": count["nw"], "height": count["nh"]}
@@ -247,7 +248,7 @@ def check_tables(data, count):
         words[name] = [data[at + 4 * it : at + 4 * it + 4] for it in range(size)]
         at += 4 * size
     most = {"nw": 256, "nh": 16, "nd": 16, "ni": 64}
-    must(all(count[it] <= most[it] for it in most), "an index can name each entry of the four tables of measures")
+    must(all(count[it] <= most[it] for it in most), "an index can reach every entry of the tables of dimensions")
     info = dict(zip(codes, words["char_info"]))
     exists = {code for code, it in info.items() if it[0] != 0}
     must(exists == {*CHARACTERS}, "the characters that exist are those of the list above")
@@ -257,11 +258,11 @@ def check_tables(data, count):
         must(both & 15 < count["nd"], f"the depth of character {code} is in its table")
         must(italic_and_tag >> 2 < count["ni"], f"the italic correction of character {code} is in its table")
         has_program = italic_and_tag & 3 == 1
-        must(not has_program or remainder < count["nl"], f"the program of character {code} begins in its table")
+        must(not has_program or remainder < count["nl"], f"the start of character {code} is in the program")
     for name in ("width", "height", "depth", "italic"):
         must(words[name][0] == bytes(4), f"entry 0 of the table {name} is zero")
     for name in ("width", "height", "depth", "italic", "kern", "param"):
-        # (parameter 1, the slant, isn't scaled, and may be any number)
+        # Parameter 1, the slant, isn't scaled and may be any number.
         checked = words[name][1:] if name == "param" else words[name]
         must(all(it[0] in (0, 255) for it in checked), f"each number of the table {name} is below 16 in size")
     program = words["lig_kern"]
@@ -270,9 +271,9 @@ def check_tables(data, count):
         if skip > 128:
             must(256 * op + remainder < count["nl"], f"instruction {index} points into the program")
             continue
-        must(next_char in exists or next_char == boundary, f"instruction {index} waits for something that can come")
+        must(next_char in exists or next_char == boundary, f"the next_char of instruction {index} can occur")
         if op < 128:
-            must(remainder in exists, f"instruction {index} makes a character that exists")
+            must(remainder in exists, f"the ligature of instruction {index} is a character that exists")
         else:
             must(256 * (op - 128) + remainder < count["nk"], f"instruction {index} has a kern of the table")
         must(skip == 128 or index + skip + 1 < count["nl"], f"instruction {index} leads to another one")
