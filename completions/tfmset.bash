@@ -1,19 +1,19 @@
-# Completion of tfmset for bash: subcommands, options, their values where these are few, and names of files.
-# checks/packaging compares it with the program's help.
+# Completion of tfmset for bash: subcommands, options, the values of options that have only a few, and file names.
+# checks/packaging compares this file with the program's help.
 
-# Completes a font: files that end in .tfm, and folders; where there is none of them, any file.
+# Completes a font: the name of a file that ends in .tfm, or of a directory. If there are none, any file name.
 _tfmset_font() {
     mapfile -t COMPREPLY < <(compgen -f -X '!*.tfm' -- "$1"; compgen -d -- "$1")
     if ((${#COMPREPLY[@]})); then compopt -o filenames; else compopt -o default; fi
 }
 
-# Completes a file, in the shell's own way.
+# Completes a file name in the default way of the shell.
 _tfmset_file() {
     compopt -o default
 }
 
 _tfmset() {
-    local word=${COMP_WORDS[COMP_CWORD]} before=${COMP_WORDS[COMP_CWORD - 1]} options='' place=0 ended='' i
+    local word=${COMP_WORDS[COMP_CWORD]} before=${COMP_WORDS[COMP_CWORD - 1]} options='' count=0 ended='' i
     local commands='counts list check set each stream help'
     COMPREPLY=()
 
@@ -38,7 +38,7 @@ _tfmset() {
         *) return ;;
     esac
 
-    # How many words behind the subcommand are neither options nor their values. Bash takes `=` for a word.
+    # Counts the arguments after the subcommand that are neither options nor their values. Bash splits words at `=`.
     for ((i = 2; i < COMP_CWORD; i++)); do
         if [[ ! $ended && ${COMP_WORDS[i]} == -- ]]; then
             ended=yes
@@ -46,7 +46,7 @@ _tfmset() {
             [[ ${COMP_WORDS[i]} == --@(all|help) ]] || i=$((i + 1))
             [[ ${COMP_WORDS[i]} != = ]] || i=$((i + 1))
         elif [[ $ended || ${COMP_WORDS[i]} != -?* ]]; then
-            place=$((place + 1))
+            count=$((count + 1))
         fi
     done
 
@@ -72,11 +72,11 @@ _tfmset() {
     fi
 
     case ${COMP_WORDS[1]} in
-        counts | list) ((place > 0)) || _tfmset_font "$word" ;;
+        counts | list) ((count > 0)) || _tfmset_font "$word" ;;
         check) _tfmset_font "$word" ;;
-        set | stream) if ((place == 0)); then _tfmset_font "$word"; else _tfmset_file; fi ;;
+        set | stream) if ((count == 0)); then _tfmset_font "$word"; else _tfmset_file; fi ;;
         each)
-            case $((place % 3)) in
+            case $((count % 3)) in
                 0) _tfmset_font "$word" ;;
                 1) mapfile -t COMPREPLY < <(compgen -W 1048576 -- "$word") ;;
                 2) _tfmset_file ;;

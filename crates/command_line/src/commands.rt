@@ -1,4 +1,4 @@
-//! The command line, as `clap` reads it, and its help.
+//! The command line as a `clap` command: subcommands, arguments, options and help texts.
 ghost use Rattle.std.specs.Prelude.{codes, IfOk, IsOkAnd};
 ghost use Rattle.clap.specs.declared.builder.value_parser.ValueParser.{ValueParser};
 ghost use Rattle.clap.specs.declared.builder.value_parser.ValueParser.TheVariants.{Names};
@@ -10,153 +10,199 @@ use std::alloc::{AllocError, Global};
 
 const VERSION: &str = "0.1.0";
 
-const ABOUT: &str = "Reads TeX font metric (TFM) files and sets lines with them";
+const ABOUT: &str = "Reads TeX font metric (TFM) files and sets lines of text with them";
 
-const AFTER_HELP: &str = "Examples, in the folder examples of the sources:
-  tfmset counts demo.tfm    the counts and the design size of a font
-  tfmset list demo.tfm      what a font holds
-  tfmset check demo.tfm     whether a font is accepted
+const AFTER_HELP: &str = "Examples, in the directory examples of the sources:
+  tfmset counts demo.tfm    print the twelve counts and the design size
+  tfmset list demo.tfm      print the contents of a font
+  tfmset check demo.tfm     check whether a font is accepted
   tfmset set demo.tfm lines.txt
-                            the lines of a file, set with a font
+                            set the lines of a file with a font
   echo five | tfmset stream demo.tfm
-                            the lines of standard input, as they come
+                            set the lines of standard input as they arrive
   tfmset each demo.tfm 100 lines.txt demo.tfm 1048576 demo.txt
-                            a font and a limit for each file
+                            set each file with its own font and step limit
+
+All sizes and widths are in scaled points (sp): 65536 sp = 1pt.
 
 Exit status:
-  0  done; also help and the version
-  1  done, and some line, or of `check` some font, was refused
-  2  the command line is refused
-  3  the font is refused
-  4  a font was not read, or a file was not opened or not read to its end
-  5  memory, a thread or the output was refused";
+  0  Success. Help and version output also end with 0.
+  1  Success, but a line (or, with `check`, a font) was refused.
+  2  The arguments are invalid. The output is empty.
+  3  A font is refused (except with `check`). The output is empty.
+  4  A font or a file could not be opened, or could not be read to its end.
+  5  Memory allocation, a thread start or writing the output failed.";
 
 const COUNTS_ABOUT: &str = "Prints the twelve counts and the design size of a font";
 
-const COUNTS_AFTER_HELP: &str = "Example, in the folder examples of the sources:
+const COUNTS_AFTER_HELP: &str = "Example, in the directory examples of the sources:
   tfmset counts demo.tfm
 
-Prints twelve lines, from `lf N` to `np N`, and `design N` in scaled points.
+Prints twelve lines, from `lf N` to `np N`, and `design N`, the design size in
+scaled points (65536 sp = 1pt). Checks the counts, the length of the file and
+the design size, but not the contents of its tables.
 
-Exit status: 0 done; 2 the command line is refused; 3 the font is refused; 4
-the font was not read; 5 memory or the output was refused.";
+Exit status:
+  0  The counts were printed.
+  2  The arguments are invalid. The output is empty.
+  3  The font is refused. The output is empty.
+  4  The font could not be opened, or could not be read to its end.
+  5  Memory allocation or writing the output failed.";
 
-const LIST_ABOUT: &str = "Prints what a font holds, a line each";
+const LIST_ABOUT: &str = "Prints the contents of a font, one item per line";
 
-const LIST_AFTER_HELP: &str = "Example, in the folder examples of the sources:
+const LIST_AFTER_HELP: &str = "Example, in the directory examples of the sources:
   tfmset list demo.tfm
 
-Prints the header, the boundaries, the characters with their measures, the
-instructions of the lig/kern program, the kerns and the parameters. Measures
-are in scaled points at the design size. With --all the twelve counts come
-first, and the recipes and each word of the file, in hexadecimal, last.
+Prints the header, the boundaries, the characters with their dimensions, the
+instructions of the lig/kern program, the kerns and the parameters. Dimensions
+are in scaled points (65536 sp = 1pt) at the design size. With --all, the
+twelve counts are printed first, and the extensible recipes and every word
+(four bytes) of the file, in hexadecimal, are printed last.
 
-Exit status: 0 done; 2 the command line is refused; 3 the font is refused; 4
-the font was not read; 5 memory or the output was refused.";
+Exit status:
+  0  The contents were printed.
+  2  The arguments are invalid. The output is empty.
+  3  The font is refused. The output is empty.
+  4  The font could not be opened, or could not be read to its end.
+  5  Memory allocation or writing the output failed.";
 
-const CHECK_ABOUT: &str = "Says which fonts are accepted, a line each";
+const CHECK_ABOUT: &str = "Checks whether fonts are accepted, and prints one line for each";
 
-const CHECK_AFTER_HELP: &str = "Example, in the folder of the sources:
+const CHECK_AFTER_HELP: &str = "Example, in the directory of the sources:
   tfmset check examples/demo.tfm
 
-Reads each FONT in order, and prints `NAME: accepted`, or `NAME: refused: `
-with its first fault, or `NAME: not read`. It goes on after a font that isn't
-accepted. Of the FONTs one may be -. No fault depends on the size.
+Reads the FONTs in order and prints one line for each: `NAME: accepted`,
+`NAME: refused: ` and the first error of the font, or `NAME: not read`. A font
+that isn't accepted doesn't stop the check. The result is the same at every
+--size.
 
-Exit status: 0 all are accepted; 1 some font is refused; 2 the command line is
-refused, or two fonts are on standard input; 4 some font was not read; 5
-memory or the output was refused. The highest that applies is told.";
+Exit status:
+  0  Every FONT is accepted.
+  1  Every FONT was read, but at least one is refused.
+  2  The arguments are invalid, or two FONTs are -. The output is empty.
+  4  At least one FONT could not be opened, or could not be read to its end.
+  5  Memory allocation or writing the output failed. The check stops there.";
 
-const SET_ABOUT: &str = "Sets the lines of files with a font, and prints a record for each";
+const SET_ABOUT: &str = "Sets the lines of files with a font, and prints one record per line";
 
-const SET_AFTER_HELP: &str = "Examples, in the folder examples of the sources:
+const SET_AFTER_HELP: &str = "Examples, in the directory examples of the sources:
   tfmset set demo.tfm lines.txt
   tfmset set --workers 4 --block 8 demo.tfm lines.txt demo.txt
   echo five | tfmset set demo.tfm /dev/stdin
 
-Reads FONT and the lines of each FILE, 1 to 64 of them, all at once. As FILE
-/dev/stdin is standard input, and - is a file of that name. Prints for each
-file, in order, a record for each line and then a line on its end. A record
-has the width of its line, and its characters, kerns and spaces, in scaled
-points, or why the line was refused. Bytes are codes of the font, not Unicode;
-byte 32 is a space, and a carriage return is a code as any other. A line has
-up to 65535 bytes. Without --size the font is set at its design size; a size
-below 65536 is taken, and less than a point.
-The text is written when all is done. For records that come at once,
-or for much text, take `tfmset stream`.
+Reads FONT and sets the lines of 1 to 64 FILEs concurrently. Prints nothing
+until every FILE is set. Then prints the FILEs in order: a record for each
+line, and an end line. A record contains the width of its line and its
+characters, kerns and spaces in scaled points (65536 sp = 1pt), or the reason
+why the line was refused. If the lines of a FILE could not all be read and set,
+its end line states the reason, and the other FILEs are set. For output as it
+is produced, and for large inputs, use `tfmset stream`.
 
-Exit status: 0 done; 1 done, and some line was refused; 2 the command line is
-refused, or there are more than 64 files; 3 the font is refused; 4 the font
-was not read, or a file was not opened or not read to its end; 5 memory, a
-thread or the output was refused.";
+A FILE named - is a file of that name; /dev/stdin is standard input. Bytes are
+character codes of the font, not Unicode. Byte 32 is a space, byte 10 ends a
+line, and a carriage return (13) is a code like any other. A line has at most
+65535 bytes.
 
-const STREAM_ABOUT: &str = "Sets lines as `set` does, and prints each record as it comes";
+Without --size, the font is set at its design size. A --size below 65536 is
+less than 1pt. A line that needs more steps than --limit is refused; this stops
+lig/kern programs that never end. A missing character is a byte, other than the
+space, for which the font has no character. Record format 2 adds the number of
+steps to each record; json prints the same data as one JSON object per line. A
+larger --block takes less processor time.
 
-const STREAM_AFTER_HELP: &str = "Examples, in the folder examples of the sources:
+Exit status:
+  0  Every line of every FILE was set, and the output was written.
+  1  The output was written, but at least one line was refused.
+  2  The arguments are invalid, or there are more than 64 FILEs.
+  3  FONT is refused.
+  4  FONT or a FILE could not be opened, or could not be read to its end.
+  5  Memory allocation, a thread start or writing the output failed.
+With 2 and 3, the output is empty.";
+
+const STREAM_ABOUT: &str = "Sets lines as `set` does, and prints each record once its line is set";
+
+const STREAM_AFTER_HELP: &str = "Examples, in the directory examples of the sources:
   echo five | tfmset stream demo.tfm
   tfmset stream --workers 4 --block 8 demo.tfm lines.txt demo.txt
 
-Reads FONT and the lines of each FILE, up to 64 of them, all at once; without
-a FILE the lines of standard input, and then FONT can't be - as well. Prints
-the records and end lines of `tfmset set`, but each as soon as its line is
-set: those of one file in their order, those of several between each other.
+Reads FONT and sets the lines of up to 64 FILEs concurrently, or, without a
+FILE, those of standard input; FONT can't be - then. Prints the same records
+and end lines as `tfmset set`. The records of one FILE are printed in order;
+those of several FILEs are interleaved as they are produced.
 
-Take `set` for a text that is there whole or, but for memory or the output
-refused on the way, not at all, with one file after the other. Take `stream`
-for records that come at once, and for text of any length: it holds a bounded
-part of it. With --block N up to N lines wait for each other. A program that
-closes the pipe ends it, with status 5.
+Use `set` for all-or-nothing output in file order: it prints nothing until all
+FILEs are set, and only a failed write can cut its output short. Use `stream`
+for output as it is produced, and for inputs of any size: it keeps the lines
+that are being set, but not the whole output. If `stream` fails, every complete
+line that it has printed is valid. With both commands, if the lines of a FILE
+could not all be read and set, its end line states the reason.
 
-Exit status: 0 done; 1 done, and some line was refused; 2 the command line is
-refused, there are more than 64 files, or font and text are both on standard
-input; 3 the font is refused; 4 the font was not read, or a file was not
-opened or not read to its end; 5 memory, a thread or the output was refused.";
+A larger --block takes less processor time, but with --block N a record may
+wait for the N - 1 lines after it. If the reader of a pipe closes it, `stream`
+ends at its next write, with exit status 5.
 
-const EACH_ABOUT: &str = "Sets the lines of files, each with a font and a limit of its own";
+Exit status:
+  0  Every line was set, and the output was written.
+  1  The output was written, but at least one line was refused.
+  2  The arguments are invalid, there are more than 64 FILEs, or FONT and the
+     lines are both on standard input.
+  3  FONT is refused.
+  4  FONT or a FILE could not be opened, or could not be read to its end.
+  5  Memory allocation, a thread start or writing the output failed.
+With 2 and 3, the output is empty.";
 
-const EACH_AFTER_HELP: &str = "Example, in the folder examples of the sources:
+const EACH_ABOUT: &str = "Sets the lines of files, each with its own font and step limit";
+
+const EACH_AFTER_HELP: &str = "Example, in the directory examples of the sources:
   tfmset each demo.tfm 100 lines.txt demo.tfm 1048576 demo.txt
 
-The words come in threes: FONT, LIMIT, FILE. FONT is a TFM file (here - is
-a file of that name, and not standard input), LIMIT the steps that a line
-may take, 1 to 16777216, and FILE a file with lines; 1 to 64 threes. A size
-is that of all fonts, else each has its design size; below 65536 it is less
-than a point. Prints what `tfmset set` prints of its files. Bytes are codes
-of the font, not Unicode; byte 32 is a space, and a carriage return is a code
-as any other. A line has up to 65535 bytes. The text is written when all is
-done.
+The arguments are 1 to 64 triples FONT LIMIT FILE. FONT is a TFM file, LIMIT is
+the largest number of steps for a line, 1 to 16777216, and FILE is a file with
+lines. Here - is always the name of a file, and never standard input. All fonts
+are set at --size; without it, each font is set at its own design size.
 
-Exit status: 0 done; 1 done, and some line was refused; 2 the command line is
-refused, or there are more than 64 threes; 3 a font is refused; 4 a font or a
-file was not read; 5 memory, a thread or the output was refused.";
+Prints the same records and end lines as `tfmset set`, once every FILE is set.
+Bytes are character codes of the font, not Unicode. Byte 32 is a space, byte 10
+ends a line, and a carriage return (13) is a code like any other. A line has at
+most 65535 bytes. A --size below 65536 is less than 1pt.
 
-const WORKERS_HELP: &str = "Threads that set lines, 1 to 16";
+Exit status:
+  0  Every line of every FILE was set, and the output was written.
+  1  The output was written, but at least one line was refused.
+  2  The arguments are invalid, are not triples, or are more than 64 triples.
+  3  A FONT is refused.
+  4  A FONT or a FILE could not be opened, or could not be read to its end.
+  5  Memory allocation, a thread start or writing the output failed.
+With 2 and 3, the output is empty.";
 
-const CAPACITY_HELP: &str = "Places for messages on each way, 1 to 65536";
+const WORKERS_HELP: &str = "Most threads that set lines, 1 to 16";
 
-const BLOCK_HELP: &str = "Lines in a message, 1 to 8";
+const CAPACITY_HELP: &str = "Slots per queue between threads, 1 to 65536";
 
-const WORDS_HELP: &str = "FONT LIMIT FILE, again and again";
+const BLOCK_HELP: &str = "Lines per message between threads, 1 to 8";
 
-const FILE_HELP: &str = "The files with the lines";
+const WORDS_HELP: &str = "FONT LIMIT FILE, repeated for each file";
 
-const STREAM_FILE_HELP: &str = "The files with the lines; none is standard input";
+const FILE_HELP: &str = "Files with the lines to set";
 
-const SIZE_HELP: &str = "1 to 134217727 scaled points; 10pt = 655360";
+const STREAM_FILE_HELP: &str = "Files with the lines to set; without one, standard input is read";
 
-const LIMIT_HELP: &str = "Steps a line may take, 1 to 16777216";
+const SIZE_HELP: &str = "Font size, 1 to 134217727 scaled points; 10pt = 655360";
 
-const MISSING_HELP: &str = "Missing characters: refuse or skip";
+const LIMIT_HELP: &str = "Most steps for a line, 1 to 16777216";
 
-const RECORD_HELP: &str = "Records in form 1, 2 or json; 1 has no steps";
+const MISSING_HELP: &str = "On a missing character: refuse or skip";
 
-const ALL_HELP: &str = "Also the counts, the recipes and each word of the file";
+const RECORD_HELP: &str = "Record format: 1, 2 or json; 1 has no steps";
 
-const FONT_HELP: &str = "A TFM file, or - for standard input";
+const ALL_HELP: &str = "Also print the counts, the extensible recipes and all words";
 
-const FONTS_HELP: &str = "TFM files; one may be - for standard input";
+const FONT_HELP: &str = "TFM file, or - for standard input";
 
-/// The whole command.
+const FONTS_HELP: &str = "TFM files; at most one of them may be -, for standard input";
+
+/// Builds the whole command: `tfmset` with its six subcommands.
 pub(crate) fn tfmset_command<'a>(alloc: Global) -> Result<Command<'a>, AllocError>
     ensures { IfOk result (λ command. (choices : AllChoices) × IsCommandOf (tfmset_app choices) command) }
 {
@@ -169,7 +215,7 @@ pub(crate) fn tfmset_command<'a>(alloc: Global) -> Result<Command<'a>, AllocErro
     with(command, each_command(alloc))
 }
 
-/// The command without its subcommands.
+/// Builds the command without its subcommands.
 fn bare_command<'a>(alloc: Global) -> Result<Command<'a>, AllocError>
     ensures { IfOk result (IsCommandOf bare_app) }
 {
@@ -183,8 +229,8 @@ fn bare_command<'a>(alloc: Global) -> Result<Command<'a>, AllocError>
     command.bin_name("tfmset")
 }
 
-/// The command with one more subcommand, if that could be made. One place for what each of them needs, since it is slow
-/// to prove.
+/// Adds a subcommand, or returns the error of building it. For the proof: every subcommand is added by this function,
+/// since adding one is slow to prove.
 fn with<'a>(
     command: Command<'a>,
     subcommand: Result<Command<'a>, AllocError>,
@@ -244,7 +290,7 @@ fn each_command<'a>(alloc: Global) -> Result<Command<'a>, AllocError>
     with_argument(command, many(alloc, "WORD", WORDS_HELP).required(true))
 }
 
-/// A subcommand without arguments.
+/// Builds a subcommand without arguments.
 fn subcommand<'a>(alloc: Global, name: &'a str, about: &'a str, after_help: &'a str) -> Command<'a>
     ensures { IsCommandOf (new_app name.now) result }
 {
@@ -253,7 +299,7 @@ fn subcommand<'a>(alloc: Global, name: &'a str, about: &'a str, after_help: &'a 
         .after_help(after_help)
 }
 
-/// The options of a run with one font, and the font.
+/// Adds the options of `set` and `stream`, and the argument FONT.
 fn setting_options<'a>(alloc: Global, command: Command<'a>) -> Result<Command<'a>, AllocError>
     ensures { IfOk result (λ made. (app : App) → IsCommandOf app command.entry
         → (choices : Choices) × IsCommandOf (with_rules app (setting_rules choices)) made) }
@@ -265,7 +311,7 @@ fn setting_options<'a>(alloc: Global, command: Command<'a>) -> Result<Command<'a
     with_argument(command, font_argument(alloc))
 }
 
-/// The options that every run has.
+/// Adds the options that `set`, `stream` and `each` have in common, except `--size`.
 fn run_options<'a>(alloc: Global, command: Command<'a>) -> Result<Command<'a>, AllocError>
     ensures { IfOk result (λ made. (app : App) → IsCommandOf app command.entry
         → (choices : Choices) × IsCommandOf (with_rules app (run_rules choices)) made) }
@@ -280,7 +326,7 @@ fn run_options<'a>(alloc: Global, command: Command<'a>) -> Result<Command<'a>, A
     with_argument(command, record_option(alloc))
 }
 
-/// The command with one more argument, in one place as `with` is.
+/// Adds an argument. For the proof: every argument is added by this function, as every subcommand is by `with`.
 fn with_argument<'a>(command: Command<'a>, argument: Arg<'a>) -> Result<Command<'a>, AllocError>
     ensures { IfOk result (λ made. (app : App) (rule : Rule)
         → IsCommandOf app command.entry → IsArgument rule argument.entry
@@ -326,14 +372,14 @@ fn record_option<'a>(alloc: Global) -> Arg<'a>
     choice_option(alloc, "record", "V", RECORD_HELP, words).default_value("1")
 }
 
-/// As many words as there are.
+/// Builds an argument that takes one or more values.
 fn many<'a>(alloc: Global, name: &'a str, help: &'a str) -> Arg<'a>
     ensures { IsArgument (words_rule name.now) result }
 {
     Arg::new(alloc, name).num_args(1..).help(help)
 }
 
-/// An option for a number from 1 on.
+/// Builds an option whose value is a number, 1 to `most`.
 fn number_option<'a>(alloc: Global, name: &'a str, help: &'a str, most: u32) -> Arg<'a>
     ensures { IsArgument (number_rule name.now most) result }
 {
@@ -344,7 +390,7 @@ fn number_option<'a>(alloc: Global, name: &'a str, help: &'a str, most: u32) -> 
         .value_parser(value_parser!(u32).range(1..=i64::from(most)))
 }
 
-/// An option for one of some words.
+/// Builds an option whose value is one of `words`.
 fn choice_option<'a>(
     alloc: Global,
     name: &'a str,
