@@ -94,7 +94,7 @@ struct tfmset_fault {
      *     8        the file has fewer bytes than its first count, the length in words, requires
      *     9        the design size is negative, or is below one point
      *     10       an index of a character is beyond the end of its table
-     *     11       a character's starting address is beyond the last instruction
+     *     11       the address of a character's instructions is beyond the last one
      *     12       entry 0 of a table isn't zero
      *     13       an entry of a table is too large
      *     14       an instruction refers to something that doesn't exist */

@@ -120,7 +120,7 @@ Exit status:
   5  Memory allocation, a thread start or writing the output failed.
 With 2 and 3, the output is empty.";
 
-const STREAM_ABOUT: &str = "Sets lines as `set` does, and prints each record once its line is set";
+const STREAM_ABOUT: &str = "Sets lines as `set` does, printing each record as soon as it is ready";
 
 const STREAM_AFTER_HELP: &str = "Examples, in the directory examples of the sources:
   echo five | tfmset stream demo.tfm
@@ -176,7 +176,7 @@ Exit status:
   5  Memory allocation, a thread start or writing the output failed.
 With 2 and 3, the output is empty.";
 
-const WORKERS_HELP: &str = "Most threads that set lines, 1 to 16";
+const WORKERS_HELP: &str = "Maximum threads that set lines, 1 to 16";
 
 const CAPACITY_HELP: &str = "Slots per queue between threads, 1 to 65536";
 
@@ -190,11 +190,11 @@ const STREAM_FILE_HELP: &str = "Files with the lines to set; without one, standa
 
 const SIZE_HELP: &str = "Font size, 1 to 134217727 scaled points; 10pt = 655360";
 
-const LIMIT_HELP: &str = "Most steps for a line, 1 to 16777216";
+const LIMIT_HELP: &str = "Maximum steps per line, 1 to 16777216";
 
 const MISSING_HELP: &str = "On a missing character: refuse or skip";
 
-const RECORD_HELP: &str = "Record format: 1, 2 or json; 1 has no steps";
+const RECORD_HELP: &str = "Record format: 1, 2 or json; 1 omits steps";
 
 const ALL_HELP: &str = "Also print the counts, the extensible recipes and all words";
 

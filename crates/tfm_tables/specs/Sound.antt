@@ -45,7 +45,7 @@ pub record HasScalableMeasures (words : List ℕ) : Type 0 where
   pub kerns : (k : ℕ) → k < entries_of words Kern → IsScalableEntry words Kern k
   pub parameters : (n : ℕ) → 2 ≤ n → n ≤ entries_of words Param → IsScalableEntry words Param (n - 1)
 
--- the tables are sound: for every code that has a char_info word its indices and its starting address,
+-- the tables are sound: for every code that has a char_info word its indices and the address in its tag,
 -- every dimension, and every instruction
 pub record HasSoundTables (words : List ℕ) : Type 0 where
   pub indices : (code : ℕ) → is_coded words code ≡ true → HasSoundIndices words code
