@@ -146,8 +146,9 @@ struct tfmset_metrics {
     /* 0: no tag. 1: the character has instructions in the lig/kern program. 2: it has a next larger
      * character. 3: it has an extensible recipe. */
     uint32_t tag;
-    /* The meaning depends on `tag`. 1: the address in the character's char_info entry, before any indirect
-     * start. 2: the code of the next larger character. 3: the number of the recipe, from 0. Otherwise 0. */
+    /* The meaning depends on `tag`. 1: the address in the character's char_info entry; if there is an
+     * indirect start at this address, it isn't followed. 2: the code of the next larger character. 3: the
+     * number of the recipe, from 0. Otherwise 0. */
     uint32_t remainder;
 };
 
@@ -165,8 +166,8 @@ struct tfmset_pair {
     /* Action 1: the kern. Otherwise 0. */
     int32_t kern;
     /* Action 2: `code` is the character that is inserted, `keep_left` and `keep_right` are 1 if the left and
-     * the right neighbour stay, and `pass` is the number of elements that are passed over, from the left, to
-     * find the next current element. Otherwise all are 0. */
+     * the right neighbour stay, and `pass` is the number of elements, 0 to 2, that are passed over after
+     * the operation: docs/LIGATURES.md in the sources has a table. Otherwise all are 0. */
     uint32_t code, keep_left, keep_right, pass;
 };
 
@@ -184,7 +185,8 @@ uint32_t tfmset_pair(const uint8_t *font, size_t font_length, uint32_t size, uin
 #define TFMSET_REFUSE 0u
 #define TFMSET_SKIP 1u
 
-/* The largest step limit. A line that takes more steps than `limit`, from 1 to this number, is refused. */
+/* The largest step limit. The argument `limit` is from 1 to this number. A line that takes more steps is
+ * refused. */
 #define TFMSET_MOST_STEPS 16777216u
 
 /* The kinds of items. */
@@ -228,8 +230,8 @@ struct tfmset_line {
     uint32_t code;
 };
 
-/* The number of lines in a text, and the number of items that all its lines have together. A number of
- * 2^64 - 1 or more is reported as 2^64 - 1. */
+/* The number of lines in a text, and the number of items that all its lines have together. Counts
+ * above 2^64 - 1 are reported as 2^64 - 1. */
 struct tfmset_counts {
     size_t lines, items;
 };

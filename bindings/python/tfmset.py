@@ -3,7 +3,7 @@
 
 A `Font` is made from the bytes of a TFM file, and is read at its design size or at another size. Text is
 bytes: each byte is a character code of the font, byte 32 is a space, and byte 10 ends a line. All dimensions
-are in scaled points (sp); 65,536 sp are one point.
+are in scaled points (sp); 65,536 sp are one TeX point, and 72.27 TeX points are one inch.
 
     >>> import tfmset
     >>> font = tfmset.Font.from_file("examples/demo.tfm")
@@ -215,8 +215,8 @@ class Metrics(NamedTuple):
     `italic` is the italic correction. The meaning of `remainder` depends on `tag`:
 
     - tag 0: the character has no tag; `remainder` is 0
-    - tag 1: the character has instructions in the lig/kern program; `remainder` is the address in its entry
-      of the table char_info, before any indirect start
+    - tag 1: the character has instructions in the lig/kern program; `remainder` is the address in the
+      character's entry of the table char_info; an indirect start at this address isn't followed
     - tag 2: `remainder` is the code of the next larger character
     - tag 3: `remainder` is the number of its extensible recipe
     """
@@ -239,7 +239,7 @@ class Ligature(NamedTuple):
     """A ligature operation: the character `code` is inserted between two characters.
 
     `keep_left` and `keep_right` are true if the left and the right character stay. `passed` is the number of
-    elements that are passed over, from the left, to find the next current element.
+    elements, 0 to 2, that are passed over after the operation (docs/LIGATURES.md in the sources has a table).
     """
 
     code: int
@@ -497,7 +497,8 @@ class Font:
         `missing="refuse"` a line with a missing character is refused: a byte that is neither a space nor a
         character of the font. With `missing="skip"` such a byte is skipped, and is an item of kind SKIPPED.
 
-        Raises ValueError if `limit` or `missing` has any other value, and TypeError if `text` isn't bytes.
+        Raises ValueError if `limit` or `missing` has any other value, and TypeError if `limit` isn't an int
+        or `text` isn't bytes, a bytearray or a memoryview.
 
         >>> lines = Font.from_file("examples/demo.tfm").set(b"fox Q", missing="skip")
         >>> [(item.kind, item.code) for item in lines[0].items]

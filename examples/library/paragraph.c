@@ -1,6 +1,6 @@
 /* Breaks a paragraph into lines of at most a given width. Each line takes as many words as fit.
  *
- * usage: paragraph FONT POINTS < TEXT   only the first 65,536 bytes of TEXT are read
+ * usage: paragraph FONT POINTS < TEXT   TEXT is read until its words fill 65,536 bytes
  *
  * One call returns the widths of all words, since each word is passed as a line. No ligature or kern crosses
  * a space. The width of a line is therefore exactly the sum of the widths of its words and of the spaces
@@ -14,7 +14,8 @@ enum { LONGEST = 65536, LARGEST_FONT = 131068 };
 static uint8_t font[LARGEST_FONT], text[LONGEST];
 static struct tfmset_line words[LONGEST / 2 + 1];
 
-/* Reads words from standard input into `text`, with one line feed after each. Returns the number of bytes. */
+/* Reads words from standard input into `text`, with a line feed between two words. Returns the number of
+ * bytes. */
 static size_t read_words(void)
 {
     size_t length = 0;
@@ -28,7 +29,7 @@ static size_t read_words(void)
     return length;
 }
 
-/* Prints the lines, each followed by its width in points. A word that is wider than `widest` has a line for
+/* Prints the lines, each followed by its width in points. A word that is wider than `widest` has a line to
  * itself. */
 static void print_lines(const struct tfmset_counts *counts, int64_t space, int64_t widest)
 {
