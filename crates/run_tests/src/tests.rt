@@ -2,6 +2,7 @@ mod callers;
 mod collectors;
 mod entries;
 mod failing;
+mod flushing;
 mod many_lines;
 mod meeting;
 mod memory;

@@ -1,6 +1,6 @@
 //! The thread of a source: it feeds the source's lines to its lane.
 ghost use Rattle.std.specs.Prelude.{◌≡◌, ◌++◌, ◌∷◌, [], None, Some, IsTrue, length, if◌then◌else◌};
-ghost use Rattle.line_lane.specs.Ends.{SameFeeder, fed, feeder_end};
+ghost use Rattle.line_lane.specs.Ends.{SameFeeder, fed, feeder_end, open_lines};
 ghost use Rattle.line_lane.specs.Messages.{first_end};
 ghost use Rattle.set_run.specs.Given.{AreFed, HandsBack, StaysFailed};
 ghost use Rattle.set_run.specs.Sources.{HasGiven};
@@ -51,6 +51,26 @@ fn offer<R: Wait>(rt: &R, signals: &Signals, number: usize, feeder: &mut Feeder,
     unreachable!()
 }
 
+/// Sends the lines of the open block, as soon as there is room for them; false if the batch is stopped.
+fn flush<R: Wait>(rt: &R, signals: &Signals, number: usize, feeder: &mut Feeder) -> bool
+    ensures lane { SameFeeder feeder.old feeder.new }
+    ensures end { feeder_end feeder.new ≡ feeder_end feeder.old }
+    ensures fed { fed feeder.new ≡ fed feeder.old }
+    ensures flushed { IsTrue result → open_lines feeder.new ≡ [] }
+{
+    let mut backoff = Backoff::new();
+    for _ in rt.forever() {
+        if feeder.flush() {
+            return true;
+        }
+        if signals.is_stopped() {
+            return false;
+        }
+        signals.wait_as_source(rt, number, &mut backoff);
+    }
+    unreachable!()
+}
+
 /// Closes the feeder, as soon as there is room for its end; false if the run is stopped.
 fn close<R: Wait>(
     rt: &R,
@@ -87,8 +107,9 @@ fn tell(signals: &Signals, number: usize, unheard: usize, is_ready: bool) -> usi
     }
 }
 
-/// Feeds a source's lines, each after the one before it was accepted. How they end; `None` if the
-/// run is stopped.
+/// Feeds a source's lines, each after the one before it was accepted. Lines that were fed are sent before a source that
+/// isn't ready is asked for the next one: none of them waits for it in the open block. How they end; `None` if the batch
+/// is stopped.
 fn feed_lines<R: Wait, S: LineSource>(
     rt: &R,
     signals: &Signals,
@@ -111,7 +132,11 @@ fn feed_lines<R: Wait, S: LineSource>(
         if signals.is_stopped() {
             return None;
         }
-        unheard = tell(signals, number, unheard, source.is_ready());
+        let is_ready = source.is_ready();
+        if !is_ready && !flush(rt, signals, number, feeder) {
+            return None;
+        }
+        unheard = tell(signals, number, unheard, is_ready);
         match source.next_line() {
             Ok(Some(line)) => {
                 if !offer(rt, signals, number, feeder, line) {

@@ -182,16 +182,17 @@ impl Gate for Meeting {
 pub struct Guest<'a> {
     meeting: &'a Meeting,
     number: usize,
+    ready: bool,
     lines: vec::IntoIter<Line>,
 }
 
 impl<'a> Guest<'a> {
-    /// A source of this many lines `ab`; `None` if memory was refused.
+    /// A source of this many lines `ab`, which is always ready, or never; `None` if memory was refused.
     pub fn new(
         alloc: Global,
         meeting: &'a Meeting,
         number: usize,
-        count: usize,
+        (count, ready): (usize, bool),
     ) -> Option<Guest<'a>> {
         let mut lines = Vec::new(alloc);
         for _ in 0..count {
@@ -200,6 +201,7 @@ impl<'a> Guest<'a> {
         Some(Guest {
             meeting,
             number,
+            ready,
             lines: lines.into_iter(),
         })
     }
@@ -227,5 +229,9 @@ impl LineSource for Guest<'_> {
             meeting.wait_for(&meeting.other(self.number).asked, 1);
         }
         Ok(self.lines.next())
+    }
+
+    fn is_ready(&self) -> bool {
+        self.ready
     }
 }

@@ -25,7 +25,7 @@ struct Case {
     taken: u32,
 }
 
-static CASES: [Case; 7] = [
+static CASES: [Case; 8] = [
     Case {
         name: "all threads at work",
         lines: ENDLESS,
@@ -44,6 +44,13 @@ static CASES: [Case; 7] = [
         name: "sources and workers asleep, since the rings are full",
         lines: ENDLESS,
         pause: 0,
+        late: 30_000,
+        taken: 0,
+    },
+    Case {
+        name: "sources asleep with lines to be sent that fill no block, since the rings are full",
+        lines: ENDLESS,
+        pause: 1,
         late: 30_000,
         taken: 0,
     },

@@ -15,10 +15,11 @@ const LINES: u32 = 60;
 
 /// Who takes its time: the pause before a line, the pause before an answer is taken, and how long the
 /// collecting thread is kept waiting at first, in microseconds.
-static PAUSES: [(&str, u64, u64, u64); 4] = [
+static PAUSES: [(&str, u64, u64, u64); 5] = [
     ("nobody", 0, 0, 0),
     ("sources", 700, 0, 0),
     ("the collector", 0, 700, 0),
+    ("sources and the collector", 300, 700, 0),
     ("the collector at first", 0, 0, 20_000),
 ];
 
