@@ -70,6 +70,18 @@ module _ (choices : AllChoices) where
   unfolding clap_on_literals
   set_missing = refl
 
+  set_block : read_in (codes "block") set ≡ Some (Some (codes "1"))
+  unfolding clap_on_literals
+  set_block = refl
+
+  stream_block : read_in (codes "block") (codes "stream" ∷ codes "f.tfm" ∷ []) ≡ Some (Some (codes "8"))
+  unfolding clap_on_literals
+  stream_block = refl
+
+  each_block : read_in (codes "block") (codes "each" ∷ codes "f.tfm" ∷ codes "100" ∷ codes "a" ∷ []) ≡ Some (Some (codes "1"))
+  unfolding clap_on_literals
+  each_block = refl
+
   stream_files : all_in (codes "FILE") (codes "stream" ∷ codes "f.tfm" ∷ []) ≡ Some None
   unfolding clap_on_literals
   stream_files = refl

@@ -61,20 +61,20 @@ pub record Choices : Type 0 where
 abbrev pub size_rule : Rule
 size_rule = number_rule (codes "size") 134217727
 
--- the options of every run
-abbrev pub run_rules : Choices → List Rule
-run_rules choices =
+-- the options of every run, with so many lines in a block by default
+abbrev pub run_rules : Text → Choices → List Rule
+run_rules block choices =
     with_default (codes "refuse") (choice_rule (codes "missing") choices.missing)
     ∷ with_default (codes "2") (number_rule (codes "workers") 16)
     ∷ with_default (codes "16") (number_rule (codes "capacity") 65536)
-    ∷ with_default (codes "1") (number_rule (codes "block") 8)
+    ∷ with_default block (number_rule (codes "block") 8)
     ∷ with_default (codes "1") (choice_rule (codes "record") choices.records)
     ∷ []
 
--- the options of a run with one font, and the font
-abbrev pub setting_rules : Choices → List Rule
-setting_rules choices =
-    size_rule ∷ with_default (codes "1048576") (number_rule (codes "limit") 16777216) ∷ run_rules choices ++ needed (new_rule (codes "FONT")) ∷ []
+-- the options of a run with one font, with so many lines in a block by default, and the font
+abbrev pub setting_rules : Text → Choices → List Rule
+setting_rules block choices =
+    size_rule ∷ with_default (codes "1048576") (number_rule (codes "limit") 16777216) ∷ run_rules block choices ++ needed (new_rule (codes "FONT")) ∷ []
 
 -- ---- the subcommands
 
@@ -92,13 +92,13 @@ abbrev pub check_shape : Shape
 check_shape = subcommand_with (codes "check") (size_rule ∷ needed (words_rule (codes "FONT")) ∷ [])
 
 abbrev pub set_shape : Choices → Shape
-set_shape choices = subcommand_with (codes "set") (setting_rules choices ++ needed (words_rule (codes "FILE")) ∷ [])
+set_shape choices = subcommand_with (codes "set") (setting_rules (codes "1") choices ++ needed (words_rule (codes "FILE")) ∷ [])
 
 abbrev pub stream_shape : Choices → Shape
-stream_shape choices = subcommand_with (codes "stream") (setting_rules choices ++ words_rule (codes "FILE") ∷ [])
+stream_shape choices = subcommand_with (codes "stream") (setting_rules (codes "8") choices ++ words_rule (codes "FILE") ∷ [])
 
 abbrev pub each_shape : Choices → Shape
-each_shape choices = subcommand_with (codes "each") (size_rule ∷ run_rules choices ++ needed (words_rule (codes "WORD")) ∷ [])
+each_shape choices = subcommand_with (codes "each") (size_rule ∷ run_rules (codes "1") choices ++ needed (words_rule (codes "WORD")) ∷ [])
 
 -- ---- the command
 

@@ -269,7 +269,7 @@ fn set_command<'a>(alloc: Global) -> Result<Command<'a>, AllocError>
     ensures { IfOk result (λ made. (choices : Choices) × IsSubcommand (set_shape choices) made) }
 {
     let command = subcommand(alloc, "set", SET_ABOUT, SET_AFTER_HELP);
-    let command = setting_options(alloc, command)?;
+    let command = setting_options(alloc, command, "1")?;
     with_argument(command, many(alloc, "FILE", FILE_HELP).required(true))
 }
 
@@ -277,7 +277,7 @@ fn stream_command<'a>(alloc: Global) -> Result<Command<'a>, AllocError>
     ensures { IfOk result (λ made. (choices : Choices) × IsSubcommand (stream_shape choices) made) }
 {
     let command = subcommand(alloc, "stream", STREAM_ABOUT, STREAM_AFTER_HELP);
-    let command = setting_options(alloc, command)?;
+    let command = setting_options(alloc, command, "8")?;
     with_argument(command, many(alloc, "FILE", STREAM_FILE_HELP))
 }
 
@@ -286,7 +286,7 @@ fn each_command<'a>(alloc: Global) -> Result<Command<'a>, AllocError>
 {
     let command = subcommand(alloc, "each", EACH_ABOUT, EACH_AFTER_HELP);
     let command = with_argument(command, size_option(alloc))?;
-    let command = run_options(alloc, command)?;
+    let command = run_options(alloc, command, "1")?;
     with_argument(command, many(alloc, "WORD", WORDS_HELP).required(true))
 }
 
@@ -299,29 +299,38 @@ fn subcommand<'a>(alloc: Global, name: &'a str, about: &'a str, after_help: &'a 
         .after_help(after_help)
 }
 
-/// Adds the options of `set` and `stream`, and the argument FONT.
-fn setting_options<'a>(alloc: Global, command: Command<'a>) -> Result<Command<'a>, AllocError>
+/// Adds the options of `set` and `stream`, and the argument FONT. A block has `lines` lines by default.
+fn setting_options<'a>(
+    alloc: Global,
+    command: Command<'a>,
+    lines: &'a str,
+) -> Result<Command<'a>, AllocError>
     ensures { IfOk result (λ made. (app : App) → IsCommandOf app command.entry
-        → (choices : Choices) × IsCommandOf (with_rules app (setting_rules choices)) made) }
+        → (choices : Choices) × IsCommandOf (with_rules app (setting_rules lines.now choices)) made) }
 {
     let command = with_argument(command, size_option(alloc))?;
     let limit = number_option(alloc, "limit", LIMIT_HELP, 16_777_216).default_value("1048576");
     let command = with_argument(command, limit)?;
-    let command = run_options(alloc, command)?;
+    let command = run_options(alloc, command, lines)?;
     with_argument(command, font_argument(alloc))
 }
 
-/// Adds the options that `set`, `stream` and `each` have in common, except `--size`.
-fn run_options<'a>(alloc: Global, command: Command<'a>) -> Result<Command<'a>, AllocError>
+/// Adds the options that `set`, `stream` and `each` have in common, except `--size`. A block has `lines`
+/// lines by default.
+fn run_options<'a>(
+    alloc: Global,
+    command: Command<'a>,
+    lines: &'a str,
+) -> Result<Command<'a>, AllocError>
     ensures { IfOk result (λ made. (app : App) → IsCommandOf app command.entry
-        → (choices : Choices) × IsCommandOf (with_rules app (run_rules choices)) made) }
+        → (choices : Choices) × IsCommandOf (with_rules app (run_rules lines.now choices)) made) }
 {
     let command = with_argument(command, missing_option(alloc))?;
     let workers = number_option(alloc, "workers", WORKERS_HELP, 16).default_value("2");
     let command = with_argument(command, workers)?;
     let capacity = number_option(alloc, "capacity", CAPACITY_HELP, 65_536).default_value("16");
     let command = with_argument(command, capacity)?;
-    let block = number_option(alloc, "block", BLOCK_HELP, 8).default_value("1");
+    let block = number_option(alloc, "block", BLOCK_HELP, 8).default_value(lines);
     let command = with_argument(command, block)?;
     with_argument(command, record_option(alloc))
 }
