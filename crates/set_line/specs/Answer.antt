@@ -96,3 +96,8 @@ answer_of terms line = record { terms = terms; line = line; outcome = outcome_of
 -- an answer's outcome is the one that is defined for its terms and its line
 abbrev pub IsRight : AnswerValue → Type 0
 IsRight answer = answer.outcome ≡ outcome_of answer.terms answer.line
+
+-- the items of a line that was set, or other items for a refused line
+unfoldable pub items_or : List Item → Outcome → List Item
+items_or other (Set items width steps) = items
+items_or other (Refused refusal) = other

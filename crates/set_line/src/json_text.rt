@@ -5,7 +5,7 @@ ghost use Rattle.set_line.specs.JsonRecord.{json_item, json_outcome, json_record
 ghost use Rattle.set_line.specs.Record.{HasNoRoomFor, StaysInFront};
 
 use crate::numbers::push_number;
-use crate::{LineRefusal, Outcome};
+use crate::{LineRefusal, Outcome, RecordNumber};
 use lig_kern::Item;
 use std::alloc::AllocError;
 
@@ -123,19 +123,19 @@ fn push_outcome(text: &mut Vec<u8>, outcome: &Outcome) -> Result<(), AllocError>
 #[tactic(auto, using(crate::proofs::RecordLemmas::fronts), unfolding(crate::specs::JsonRecord::json_record))]
 #[inline(never)]
 pub(crate) fn push_object(
-    source: u64,
-    place: u64,
-    outcome: &Outcome,
     text: &mut Vec<u8>,
+    number: RecordNumber,
+    outcome: &Outcome,
 ) -> Result<(), AllocError>
     ensures front { StaysInFront text.old.items text.new.items }
     ensures pushed { OnOk result (text.new.items
-        ≡ text.old.items ++ json_record source place outcome.now) }
+        ≡ text.old.items ++ json_record number.source number.line outcome.now) }
     ensures grows { vec_capacity text.old ≤ vec_capacity text.new }
-    ensures full { OnErr result (HasNoRoomFor text.old (json_record source place outcome.now)) }
+    ensures full { OnErr result (HasNoRoomFor text.old
+        (json_record number.source number.line outcome.now)) }
 {
-    push_number(text, b"{\"source\":", source)?;
-    push_number(text, b",\"line\":", place)?;
+    push_number(text, b"{\"source\":", number.source)?;
+    push_number(text, b",\"line\":", number.line)?;
     push_outcome(text, outcome)?;
     text.extend_from_slice(b"}\n")
 }

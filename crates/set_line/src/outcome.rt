@@ -1,28 +1,45 @@
-use crate::Items;
+ghost use Rattle.std.specs.Prelude.{◌≡◌};
+ghost use Rattle.set_line.specs.Answer.{items_or};
 
-/// What became of a line.
+use crate::Items;
+use lig_kern::Item;
+
+/// The result of a line.
 #[derive(Debug, Drop)]
 pub enum Outcome {
-    /// It was set.
+    /// The line was set.
     Set {
-        /// Its characters, kerns, spaces and skipped bytes.
+        /// Its characters, kerns, spaces and skipped bytes, in order.
         items: Items,
-        /// The sum of their amounts, in scaled points.
+        /// The sum of the widths of characters and spaces and of the kerns, in sp.
         width: i64,
-        /// How many steps all its runs took together.
+        /// The number of steps that all runs of the line took together.
         steps: u32,
     },
-    /// It was refused.
+    /// The line was refused.
     Refused(LineRefusal),
 }
 
-/// Why a line was refused.
+impl Outcome {
+    /// Moves the items of a line that was set into `list`, whose memory can then be used for the next line
+    /// (see [`set_bytes`](crate::set_bytes)). After a refused line `list` is unchanged.
+    #[tactic(auto, unfolding(crate::specs::Answer::items_or))]
+    pub fn give_back(self, list: &mut Vec<Item>)
+        ensures { list.new.items ≡ items_or list.old.items self }
+    {
+        if let Outcome::Set { items, .. } = self {
+            *list = items.into_vec();
+        }
+    }
+}
+
+/// The reason why a line was refused.
 #[derive(Clone, Copy, Debug, PartialEq, Eq, Hash)]
 pub enum LineRefusal {
-    /// It has more than 65,535 bytes: this many.
+    /// The line has more than 65,535 bytes: this number of bytes.
     TooLong(usize),
-    /// A byte is neither a space nor a character of the font: the first such, and its place from 0.
+    /// A byte is neither a space nor a character of the font: the byte offset of the first one, and the byte.
     Missing { offset: usize, code: u8 },
-    /// Its runs take more steps than the limit, or one of them never ends. The limit is told.
+    /// The runs of the line take more steps than the limit together, or one of them never ends: the limit.
     Steps(u32),
 }

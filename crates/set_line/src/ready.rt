@@ -1,5 +1,5 @@
-//! Texts of items, made beforehand: nearly all items of a line are characters and spaces, each as wide
-//! as its font says, so that their texts only need to be copied.
+//! Texts of items that are made once per font. Nearly all items of a line are characters and spaces with
+//! the widths of the font, and their texts only have to be copied.
 ghost use Rattle.std.specs.Prelude.{◌≡◌, ◌+◌, ◌≤◌, ◌++◌, length, drop, IfSome};
 ghost use Rattle.lig_kern.specs.declared.item.Item.TheVariants.{Char, Space};
 ghost use Rattle.set_line.specs.Record.{item_text};
@@ -9,17 +9,18 @@ use crate::writing::write_made;
 use lig_kern::Item;
 use tfm_tables::Font;
 
-/// This many bytes are copied, however short the text is: a number that the processor copies at once.
+/// The number of bytes that are copied for each text. It is fixed, because a copy of 24 bytes needs no loop
+/// and no test of the length.
 const BYTES: usize = 24;
 
-/// Copies bytes as one value, which takes no test.
+/// Copies bytes as one value.
 fn copy(place: &mut [u8; BYTES], bytes: &[u8; BYTES])
     ensures { place.new ≡ bytes.now }
 {
     *place = *bytes;
 }
 
-/// Copies bytes to a place with room for just these.
+/// Copies bytes to a slice of the same length.
 fn put(place: &mut [u8], bytes: &[u8; BYTES])
     requires { length place.old ≡ 24 }
     ensures { place.new ≡ bytes.now }
@@ -30,7 +31,7 @@ fn put(place: &mut [u8], bytes: &[u8; BYTES])
     }
 }
 
-/// The text of an item, which is the end of some bytes.
+/// The text of an item: the bytes from `start` on.
 #[derive(Clone, Copy, Debug)]
 pub(crate) struct ReadyText {
     start: u8,
@@ -39,7 +40,7 @@ pub(crate) struct ReadyText {
 }
 
 impl ReadyText {
-    /// The text of this item.
+    /// Makes the text of an item.
     fn new(item: Item) -> Self
         ensures { drop result.start result.bytes ≡ item_text item }
     {
@@ -51,7 +52,7 @@ impl ReadyText {
         }
     }
 
-    /// Writes the text before `end`: where it begins.
+    /// Writes the text so that it ends at `end`, and returns its start.
     pub fn write(&self, text: &mut [u8], end: usize) -> usize
         requires { (24 ≤ end) × (end ≤ length text.old) }
         ensures place { (result ≤ end) × (end ≤ result + 17) }
@@ -63,7 +64,7 @@ impl ReadyText {
     }
 }
 
-/// A character with its text.
+/// A character with a width, and its text.
 #[derive(Clone, Copy, Debug)]
 struct ReadyChar {
     width: i32,
@@ -84,9 +85,11 @@ impl ReadyChar {
     }
 }
 
-/// A text for each code, and one for the space.
+/// The record texts of a font's characters and of its space, about 8 KB. Whoever writes many records makes
+/// one for each font and passes it to [`record_outcome`](crate::record_outcome), which then copies these
+/// texts. Records are the same with the texts of another font, or without any.
 #[derive(Debug, Drop)]
-pub(crate) struct ReadyTexts {
+pub struct RecordTexts {
     chars: [ReadyChar; 256],
     space: i32,
     space_text: ReadyText,
@@ -94,9 +97,9 @@ pub(crate) struct ReadyTexts {
     ghost right: { drop space_text.start space_text.bytes ≡ item_text (Space space) },
 }
 
-impl ReadyTexts {
-    /// The texts of a font's characters and of its space, each with its own width; 0 is the width of a
-    /// code that is no character.
+impl RecordTexts {
+    /// Makes the texts of a font's characters and of its space, with the widths of the font. A code that the
+    /// font has no character for gets a text with the width 0. This allocates no memory.
     pub fn new(font: &Font) -> Self {
         let mut chars = [ReadyChar::new(0, 0); 256];
         for code in 0..256u16 {
@@ -104,15 +107,27 @@ impl ReadyTexts {
             chars[usize::from(code)] = ReadyChar::new(code as u8, width);
         }
         let space = font.space();
-        ReadyTexts {
+        RecordTexts {
             chars,
             space,
             space_text: ReadyText::new(Item::Space(space)),
         }
     }
 
-    /// The text of an item, if it is ready.
-    pub fn of(&self, item: &Item) -> Option<&ReadyText>
+    /// Returns whether each character and the space of a font has the width here that it has in the font.
+    /// Then a second table for this font would be the same.
+    pub fn has_widths_of(&self, font: &Font) -> bool {
+        for code in 0..256u16 {
+            let width = font.metrics(code as u8).map_or(0, |metrics| metrics.width);
+            if self.chars[usize::from(code)].width != width {
+                return false;
+            }
+        }
+        self.space == font.space()
+    }
+
+    /// Returns the text of an item if it was made beforehand.
+    pub(crate) fn of(&self, item: &Item) -> Option<&ReadyText>
         ensures { IfSome result (λ made. drop made.now.start made.now.bytes ≡ item_text item.now) }
     {
         if let Item::Char { code, width } = *item {

@@ -1,10 +1,10 @@
 //! The texts of items, written from the last byte to the first: so the place of a number's first
 //! digit needn't be known beforehand.
-ghost use Rattle.std.specs.Prelude.{◌≡◌, ◌+◌, ◌*◌, ◌≤◌, ◌∷◌, ◌++◌, length, drop, decimal, flat_map};
+ghost use Rattle.std.specs.Prelude.{◌≡◌, ◌+◌, ◌*◌, ◌≤◌, ◌∷◌, ◌++◌, length, drop, decimal, flat_map, IfSome};
 ghost use Rattle.std.specs.Fmt.{signed_decimal};
 ghost use Rattle.set_line.specs.Record.{item_text};
 
-use crate::ready::ReadyTexts;
+use crate::ready::{ReadyText, RecordTexts};
 use itoa::write_digits;
 use lig_kern::Item;
 
@@ -87,13 +87,21 @@ pub(crate) fn write_made(text: &mut [u8], end: usize, item: &Item) -> usize
     }
 }
 
-/// Writes the text of an item before `end`, which is copied where it is ready: where it begins.
-fn write_item(text: &mut [u8], end: usize, item: &Item, ready: &ReadyTexts) -> usize
+/// Returns the text of an item if there are texts and they have it.
+fn ready_text<'a>(texts: Option<&'a RecordTexts>, item: &Item) -> Option<&'a ReadyText>
+    ensures { IfSome result (λ made. drop made.now.start made.now.bytes ≡ item_text item.now) }
+{
+    texts?.of(item)
+}
+
+/// Writes the text of an item so that it ends at `end`, and returns its start. A text that was made
+/// beforehand is copied.
+fn write_item(text: &mut [u8], end: usize, item: &Item, texts: Option<&RecordTexts>) -> usize
     requires { (24 ≤ end) × (end ≤ length text.old) }
     ensures place { (result ≤ end) × (end ≤ result + 17) }
     ensures written { drop result text.new ≡ item_text item.now ++ drop end text.old }
 {
-    match ready.of(item) {
+    match ready_text(texts, item) {
         Some(made) => made.write(text, end),
         None => write_made(text, end, item),
     }
@@ -101,7 +109,7 @@ fn write_item(text: &mut [u8], end: usize, item: &Item, ready: &ReadyTexts) -> u
 
 /// Writes the texts of items at the end of `text`: where they begin.
 #[tactic(auto, using(crate::proofs::WritingLemmas::items))]
-pub(crate) fn write_items(text: &mut [u8], items: &[Item], ready: &ReadyTexts) -> usize
+pub(crate) fn write_items(text: &mut [u8], items: &[Item], texts: Option<&RecordTexts>) -> usize
     requires { length items.now * 17 + 7 ≤ length text.old }
     ensures place { result ≤ length text.old }
     ensures written { drop result text.new ≡ flat_map item_text items.now }
@@ -110,7 +118,7 @@ pub(crate) fn write_items(text: &mut [u8], items: &[Item], ready: &ReadyTexts) -
     let mut left = items.len();
     while left > 0 {
         left -= 1;
-        at = write_item(text, at, &items[left], ready);
+        at = write_item(text, at, &items[left], texts);
     }
     at
 }

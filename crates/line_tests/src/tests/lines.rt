@@ -11,4 +11,5 @@ mod readers;
 mod records;
 mod refused;
 mod skipped;
+mod slices;
 mod spaces;

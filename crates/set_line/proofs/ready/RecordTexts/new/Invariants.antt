@@ -1,6 +1,6 @@
 use Rattle.std.proofs.Common.{◌≡◌, ℕ, ◌<◌, length, get_or}
 use Rattle.set_line.specs.declared.ready.ReadyChar.{ReadyChar}
-use Rattle.set_line.proofs.ready.ReadyTexts.new.Given as goal
+use Rattle.set_line.proofs.ready.RecordTexts.new.Given as goal
 
 abbrev pub invariant-loop-code : goal.invariant-loop-code
 invariant-loop-code l = record {

@@ -1,6 +1,6 @@
 use Rattle.std.proofs.Common.{arith, rules}
 use Rattle.set_line.proofs.AnswerLemmas.{not_refused, outcome_missing}
-use Rattle.set_line.proofs.setting.unset.Goals as goal
+use Rattle.set_line.proofs.setting.refused.Goals as goal
 
 pub returns-in-Some-clause-ok : goal.returns-in-Some-clause-ok
 returns-in-Some-clause-ok c =

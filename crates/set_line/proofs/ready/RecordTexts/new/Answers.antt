@@ -1,6 +1,6 @@
 use Rattle.std.proofs.Common.{rules}
 use Rattle.set_line.proofs.ReadyLemmas.{one_more}
-use Rattle.set_line.proofs.ready.ReadyTexts.new.Goals as goal
+use Rattle.set_line.proofs.ready.RecordTexts.new.Goals as goal
 
 pub loop-code-preserved : goal.loop-code-preserved
 loop-code-preserved c = record {
