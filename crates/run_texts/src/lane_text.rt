@@ -9,7 +9,7 @@ ghost use Rattle.run_texts.specs.RunText.{end_text, is_refused, why_of};
 use crate::block::TextBlock;
 use crate::lane_count::LaneCount;
 use line_lane::LaneEnd;
-use set_line::{Answer, Version};
+use set_line::{Answer, RecordTexts, Version};
 use set_run::Refusal;
 use std::alloc::{AllocError, Global};
 use std::io::Write;
@@ -104,7 +104,13 @@ impl LaneText {
     }
 
     /// Appends the record of its next answer.
-    pub fn take(&mut self, lane: usize, answer: &Answer, version: Version) -> Result<(), Refusal>
+    pub fn take(
+        &mut self,
+        lane: usize,
+        answer: &Answer,
+        version: Version,
+        texts: Option<&RecordTexts>,
+    ) -> Result<(), Refusal>
         requires { lane + 1 < 2 ^ 64 }
         ensures taken { OnOk result (self.new ≡ record {
           text = self.old.text
@@ -117,7 +123,7 @@ impl LaneText {
     {
         self.make_room()?;
         self.count
-            .push_record(lane, answer, version, &mut self.last)
+            .push_record(lane, answer, version, texts, &mut self.last)
     }
 
     /// Appends its end line.

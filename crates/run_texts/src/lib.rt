@@ -9,6 +9,7 @@ pub use summary::{Summary, status};
 
 mod block;
 mod fault;
+mod item_texts;
 mod lane_count;
 mod lane_text;
 mod record;

@@ -7,7 +7,7 @@ ghost use Rattle.run_texts.specs.RunText.{end_text, head_text, is_refused, json_
 use crate::lane_count::LaneCount;
 use itoa::Buffer;
 use line_lane::{LaneEnd, SourceFault};
-use set_line::{Answer, Outcome, Version, record};
+use set_line::{Answer, Outcome, RecordNumber, RecordTexts, Version, record_outcome};
 use set_run::Refusal;
 use std::alloc::AllocError;
 
@@ -116,6 +116,7 @@ impl LaneCount {
         lane: usize,
         answer: &Answer,
         version: Version,
+        texts: Option<&RecordTexts>,
         text: &mut Vec<u8>,
     ) -> Result<(), Refusal>
         requires { lane + 1 < 2 ^ 64 }
@@ -131,7 +132,13 @@ impl LaneCount {
         let Some(answers) = self.answers.checked_add(1) else {
             return Err(Refusal::OutOfMemory);
         };
-        record(lane as u64 + 1, answers, answer, version, text).map_err(|_| Refusal::OutOfMemory)?;
+        let number = RecordNumber {
+            source: lane as u64 + 1,
+            line: answers,
+        };
+        record_outcome(text, number, answer.outcome(), version, texts).map_err(
+            |_| Refusal::OutOfMemory,
+        )?;
         let more = u64::from(matches!(answer.outcome(), Outcome::Refused(_)));
         *self = LaneCount {
             answers,

@@ -7,6 +7,7 @@ ghost use Rattle.set_run.specs.declared.collector.Refusal.TheVariants.{OutOfMemo
 ghost use Rattle.run_texts.specs.LaneText.{AreKept};
 ghost use Rattle.run_texts.specs.RunText.{head_text};
 
+use crate::item_texts::ItemTexts;
 use crate::lane_text::LaneText;
 use crate::record::push_head;
 use line_lane::LaneEnd;
@@ -37,6 +38,7 @@ impl Kept for Brand {
 pub(crate) struct RunTexts<K: Kept> {
     pub version: Version,
     pub lanes: Vec<LaneText>,
+    texts: ItemTexts,
     of: PhantomData<K>,
 }
 
@@ -66,6 +68,7 @@ impl<K: Kept> RunTexts<K> {
         Ok(RunTexts {
             version,
             lanes,
+            texts: ItemTexts::new(alloc),
             of: PhantomData,
         })
     }
@@ -97,7 +100,8 @@ impl<K: Kept> Collector for RunTexts<K> {
     ghost quiet = { λ texts. ⊤ };
 
     fn take(&mut self, lane: usize, answer: Answer) -> Result<(), Refusal> {
-        self.lanes[lane].take(lane, &answer, self.version)
+        self.texts.prepare(lane, &answer, self.version);
+        self.lanes[lane].take(lane, &answer, self.version, self.texts.of(lane))
     }
 
     fn end(&mut self, lane: usize, end: LaneEnd) -> Result<(), Refusal> {

@@ -5,6 +5,7 @@ ghost use Rattle.set_run.specs.Events.{Answered, Ended, Gets, Keeps as KeepsGive
 ghost use Rattle.run_texts.specs.RunText.{head_text};
 ghost use Rattle.run_texts.specs.StreamState.{AreCounts, IsStreamOf, MovesOut, StreamStart};
 
+use crate::item_texts::ItemTexts;
 use crate::lane_count::LaneCount;
 use crate::record::push_head;
 use line_lane::LaneEnd;
@@ -26,6 +27,7 @@ pub(crate) struct Stream<'a, W> {
     pub block: Vec<u8>,
     pub counts: Vec<LaneCount>,
     pub version: Version,
+    pub texts: ItemTexts,
 }
 
 /// Writes once. How many bytes that took: none if it was interrupted. `None` if they are refused.
@@ -140,8 +142,10 @@ impl<W: Write> Stream<'_, W> {
             Ok(()) => (),
             Err(refusal) => return Err(refusal),
         }
+        self.texts.prepare(lane, answer, self.version);
+        let texts = self.texts.of(lane);
         let mut count = self.counts[lane];
-        match count.push_record(lane, answer, self.version, &mut self.block) {
+        match count.push_record(lane, answer, self.version, texts, &mut self.block) {
             Ok(()) => (),
             Err(refusal) => return Err(refusal),
         }

@@ -11,6 +11,7 @@ ghost use Rattle.run_texts.specs.Setting.{AreOwnReports};
 ghost use Rattle.run_texts.specs.Streaming.{IsCutAtLine, IsCutShort, IsStreamed, with_own_terms};
 ghost use Rattle.run_texts.specs.StreamState.{IsStreamOf, MovesOut};
 
+use crate::item_texts::ItemTexts;
 use crate::lane_count::LaneCount;
 use crate::run_summary::{all_counted, summary_of};
 use crate::stream::{Stream, first_block, no_answers, write_block};
@@ -184,6 +185,7 @@ where
         block,
         counts,
         version,
+        texts: ItemTexts::new(alloc),
     };
     let (stream, ran) = run_over::<R, S, G, W, Brand>(rt, alloc, sources, plan, gate, stream);
     let Stream {
@@ -191,6 +193,7 @@ where
         mut block,
         counts,
         version: _,
+        texts: _,
     } = stream;
     match ran {
         Ok(run) => finish(&mut block, counts.as_slice(), writer, &run),

@@ -1,4 +1,4 @@
--- The answer to a line: the first that applies of too long, missing, set and too many steps.
+-- The result of a line: the first that applies of too long, missing character, set and too many steps.
 -- This project's own; the result of a run is that of The METAFONTbook, Appendix F.
 use Rattle.std.specs.Prelude.{◌≡◌, ℕ, ◌&&◌, not, nat_lt, nat_le, Bool, List, [], ◌∷◌, length, map, flat_map, sum_by, slice_index, Option, Some, None, if◌then◌else◌}
 use Rattle.std.specs.List.{position}
@@ -18,82 +18,84 @@ use Rattle.set_line.specs.Terms.{TermsValue}
 use Rattle.set_line.specs.Pieces.{Portion, run, space, skipped, is_space, is_missing, portions_of}
 use Rattle.set_line.specs.Width.{total_width}
 
--- an answer has its terms, its line and the outcome
+-- an answer: the settings, the line and its result
 pub record AnswerValue : Type 0 where
   pub terms : TermsValue
   pub line : List ℕ
   pub outcome : Outcome
 
--- ---- the refusals that are looked for first
+-- ---- the refusals that come first
 
 -- whether a byte is neither a space nor a character
 abbrev pub is_neither : FontValue → ℕ → Bool
 is_neither font byte = not (is_space byte) && is_missing font byte
 
--- the place of the first such byte
+-- the byte offset of the first such byte
 abbrev pub first_missing : FontValue → List ℕ → Option ℕ
 first_missing font line = position (is_neither font) line
 
--- the refusal for a missing character, if these aren't skipped
+-- the refusal for the first missing character, if missing characters are refused
 abbrev pub missing_in : Policy → FontValue → List ℕ → Option LineRefusal
 missing_in Refuse font line = option_map (λ i. Missing i (slice_index line i)) (first_missing font line)
 missing_in Skip font line = None
 
--- the refusal of a line at sight, before it is set: more than 65,535 bytes, whatever is in it; else a missing character
+-- the refusal that is known before the line is set: for more than 65,535 bytes, whatever they are;
+-- otherwise for a missing character
 unfoldable pub refusal_of : TermsValue → List ℕ → Option LineRefusal
 refusal_of terms line = if nat_lt 65535 (length line) then Some (TooLong (length line)) else missing_in terms.policy terms.font line
 
 -- ---- the setting
 
--- an item as a setting without steps
+-- one item, set without steps
 abbrev pub plain_setting : Item → Option Setting
 plain_setting item = Some (record { steps = 0; items = item ∷ [] })
 
--- what a portion of a line is set as, if it is a run that has a result within the limit, or no run
+-- the setting of a portion: the result of a run, if it has one within the limit; a space or a skipped byte
+-- is one item
 unfoldable pub setting_of : FontValue → ℕ → Portion → Option Setting
 setting_of font limit (run codes right) = result_of font codes right limit
 setting_of font limit space = plain_setting (Space (parameter_of font.words font.size 2))
 setting_of font limit (skipped code) = plain_setting (Skipped code)
 
--- all of the settings, if none is missing
+-- all settings, if there is none without a value
 abbrev pub all_of : List (Option Setting) → Option (List Setting)
 all_of [] = Some []
 all_of (setting ∷ settings) = option_and_then (λ one. option_map (λ more. one ∷ more) (all_of settings)) setting
 
--- settings together: their steps, and their items in order
+-- several settings as one: the sum of their steps, and their items in order
 abbrev pub together : List Setting → Setting
 together settings = record { steps = sum_by (λ setting. setting.steps) settings; items = flat_map (λ setting. setting.items) settings }
 
--- a setting that takes no more steps than the limit
+-- the setting, if it takes no more steps than the limit
 abbrev pub within_limit : ℕ → Setting → Option Setting
 within_limit limit setting = if nat_le setting.steps limit then Some setting else None
 
--- what portions are set as, if every run has a result, and these together have no more steps than the limit; a run that
--- alone has more isn't found within it
+-- the setting of all portions, if every run has a result and they take no more steps than the limit
+-- together; a run that takes more steps than the limit alone has no result within it
 unfoldable pub setting_of_portions : FontValue → ℕ → List Portion → Option Setting
 setting_of_portions font limit portions =
     option_and_then (λ settings. within_limit limit (together settings)) (all_of (map (setting_of font limit) portions))
 
 -- ---- the outcome
 
--- a setting as an outcome, with its width
+-- the result of a line with this setting: its items, width and steps
 abbrev pub set_as : Setting → Outcome
 set_as setting = Set setting.items (total_width setting.items) setting.steps
 
--- a line that isn't refused at sight is set, or has too many steps
+-- the result of a line that isn't refused before it is set: it is set, or takes too many steps
 abbrev pub set_or_refused : TermsValue → List ℕ → Outcome
 set_or_refused terms line =
     option_map_or set_as (setting_of_portions terms.font terms.limit (portions_of terms.policy terms.font line)) (Refused (Steps terms.limit))
 
--- the outcome of a line
+-- the result of a line
 unfoldable pub outcome_of : TermsValue → List ℕ → Outcome
 outcome_of terms line = option_map_or Refused (refusal_of terms line) (set_or_refused terms line)
 
--- the answer to a line
+-- the answer to a line: the settings, the line and its result
 abbrev pub answer_of : TermsValue → List ℕ → AnswerValue
 answer_of terms line = record { terms = terms; line = line; outcome = outcome_of terms line }
 
--- an answer's outcome is the one that is defined for its terms and its line
+-- the result in an answer is the defined one for its settings and its line
 abbrev pub IsRight : AnswerValue → Type 0
 IsRight answer = answer.outcome ≡ outcome_of answer.terms answer.line
 

@@ -1,4 +1,4 @@
--- The text of an answer: one line, with the source and the place of the line.
+-- The record of a result: one line, with the number of the source and the line number.
 -- This project's own.
 use Rattle.std.specs.Prelude.{◌≡◌, ℕ, ◌+◌, ◌<◌, Bool, true, false, List, [], ◌++◌, length, take, codes, decimal, flat_map, vec_capacity, vec_len}
 use Rattle.std.specs.Global.{Vec}
@@ -13,7 +13,7 @@ use Rattle.set_line.specs.declared.version.Version.{Version}
 use Rattle.set_line.specs.declared.version.Version.TheVariants.{One, Two, Json}
 use Rattle.set_line.specs.JsonRecord.{json_record}
 
--- ---- versions one and two
+-- ---- formats 1 and 2
 
 -- an item: a letter for its kind, a code if it has one, and an amount if it has one
 unfoldable pub item_text : Item → List ℕ
@@ -22,39 +22,41 @@ item_text (Kern amount) = codes " k" ++ signed_decimal amount
 item_text (Space amount) = codes " s" ++ signed_decimal amount
 item_text (Skipped code) = codes " m" ++ decimal code
 
--- how many steps a line took, if this is told
+-- the number of steps of a line, if the format has it
 abbrev pub steps_text : Bool → ℕ → List ℕ
 steps_text false steps = []
 steps_text true steps = codes " steps " ++ decimal steps
 
--- why a line was refused
+-- the reason of a refusal
 unfoldable pub refusal_text : LineRefusal → List ℕ
 refusal_text (TooLong bytes) = codes "too-long " ++ decimal bytes
 refusal_text (Missing offset code) = codes "missing " ++ decimal offset ++ codes " " ++ decimal code
 refusal_text (Steps limit) = codes "steps " ++ decimal limit
 
--- an outcome
+-- the result of a line
 unfoldable pub outcome_text : Bool → Outcome → List ℕ
 outcome_text with_steps (Set items width steps) = codes " set " ++ signed_decimal width ++ steps_text with_steps steps ++ flat_map item_text items
 outcome_text with_steps (Refused refusal) = codes " refused " ++ refusal_text refusal
 
--- words: the source, a colon, the place, the outcome and a line feed
+-- a record in words: the number of the source, a colon, the line number, the result and a line feed
 unfoldable pub words_record : Bool → ℕ → ℕ → Outcome → List ℕ
 words_record with_steps source place outcome =
     decimal source ++ codes ":" ++ decimal place ++ outcome_text with_steps outcome ++ codes "\n"
 
--- ---- all versions
+-- ---- all formats
 
--- a record: version two also says how many steps a line took, and the third version is a JSON object
+-- a record: format 2 also has the number of steps, and the third format is a JSON object
 unfoldable pub record_text : ℕ → ℕ → Outcome → Version → List ℕ
 record_text source place outcome One = words_record false source place outcome
 record_text source place outcome Two = words_record true source place outcome
 record_text source place outcome Json = json_record source place outcome
 
--- what stood in a text still stands at its front: said of the text while it grows, and no definition stands on it
+-- the text after is the text before, followed by other bytes: used for a text while it grows; no definition
+-- uses it
 abbrev pub StaysInFront : List ℕ → List ℕ → Type 0
 StaysInFront before after = take (length before) after ≡ before
 
--- a list has no room for these bytes after its own: said of the text while it grows, and no definition stands on it
+-- the capacity of a list is too small for these bytes after its own: used for a text while it grows; no
+-- definition uses it
 abbrev pub HasNoRoomFor : Vec ℕ → List ℕ → Type 0
 HasNoRoomFor text more = vec_capacity text < vec_len text + length more

@@ -1,5 +1,5 @@
--- Where a piece of a line ends while it is set: at a space, and at a byte that the terms refuse.
--- This project's own representation; which line is refused is said in Answer.
+-- Where a piece of a line ends while it is set: at a space, and at a byte that is refused.
+-- This project's own representation; Answer defines which line is refused.
 use Rattle.std.specs.Prelude.{◌≡◌, ℕ, ◌<◌, ◌||◌, Bool, false, List, get_or}
 use Rattle.std.specs.List.{list_any}
 use Rattle.tfm_tables.specs.Font.{FontValue}
@@ -8,7 +8,7 @@ use Rattle.set_line.specs.declared.policy.Policy.TheVariants.{Refuse, Skip}
 use Rattle.set_line.specs.Pieces.{is_space}
 use Rattle.set_line.specs.Answer.{is_neither}
 
--- whether a byte is refused: it is neither a space nor a character, and such bytes aren't skipped
+-- whether a byte is refused: it is neither a space nor a character, and the policy refuses such bytes
 abbrev pub is_refused : Policy → FontValue → ℕ → Bool
 is_refused Refuse font byte = is_neither font byte
 is_refused Skip font byte = false
@@ -21,6 +21,6 @@ has_refused policy font line = list_any (is_refused policy font) line
 abbrev pub is_stop : Policy → FontValue → ℕ → Bool
 is_stop policy font byte = is_space byte || is_refused policy font byte
 
--- a table of 256 says so of each byte
+-- a table of 256 entries contains `is_stop` of each byte
 abbrev pub AreStops : Policy → FontValue → List Bool → Type 0
 AreStops policy font stops = (byte : ℕ) → byte < 256 → get_or stops byte false ≡ is_stop policy font byte

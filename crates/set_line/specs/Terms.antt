@@ -1,4 +1,4 @@
--- What a line is set with: a font, a limit on its steps and what to do with bytes that are no characters.
+-- The settings of a line: a font, the step limit and the missing-character policy.
 -- This project's own.
 use Rattle.std.specs.Prelude.{ℕ}
 use Rattle.tfm_tables.specs.Font.{FontValue}

@@ -1,10 +1,10 @@
--- The width of items, in scaled points.
+-- The width of items, in sp.
 -- This project's own.
 use Rattle.std.specs.Prelude.{ℤ, pos, ◌+ℤ◌, List, [], ◌∷◌}
 use Rattle.lig_kern.specs.declared.item.Item.{Item}
 use Rattle.lig_kern.specs.declared.item.Item.TheVariants.{Char, Kern, Space, Skipped}
 
--- the amount of an item: a character's width, a kern's or a space's own; a skipped byte counts 0
+-- the amount of an item: the width of a character or space, or the amount of a kern; a skipped byte adds 0
 abbrev pub amount_of : Item → ℤ
 amount_of (Char code width) = width
 amount_of (Kern amount) = amount

@@ -6,8 +6,8 @@ use crate::{Line, Outcome, Terms};
 use std::marker::Model;
 use std::sync::Arc;
 
-/// A line's answer, with its terms and the line. Its outcome is the one that the definitions give
-/// this line with these terms: the type keeps it.
+/// The result of a line, with the line and its settings. An invariant of the type states that the result is
+/// the defined one (`outcome_of`) for this line and these settings.
 #[derive(Debug, Drop)]
 pub struct Answer {
     terms: Arc<Terms>,
@@ -39,21 +39,21 @@ impl Answer {
         }
     }
 
-    /// The terms that the line was set with.
+    /// Returns the settings of the line.
     pub fn terms(&self) -> &Terms
         ensures { result.now ≡ self.now.terms }
     {
         &self.terms
     }
 
-    /// The line.
+    /// Returns the line.
     pub fn line(&self) -> &Line
         ensures { result.now ≡ self.now.line }
     {
         &self.line
     }
 
-    /// What became of it.
+    /// Returns the result of the line.
     pub fn outcome(&self) -> &Outcome
         ensures value { result.now ≡ self.now.outcome }
         ensures right { IsRight self.now }

@@ -5,8 +5,8 @@ ghost use Rattle.set_line.specs.Lines.{lines_of};
 use crate::{Line, OutOfMemory};
 use std::alloc::{AllocError, Global};
 
-/// The lines of a text: what stands between its line feeds. What stands after the last one is a line
-/// if it isn't empty.
+/// Cuts a text into its lines: the bytes between its line feeds. The bytes after the last line feed are a
+/// line unless there are none.
 pub fn lines(alloc: Global, bytes: &[u8]) -> Result<Vec<Line>, OutOfMemory>
     ensures { IfOk result (λ lines. lines.items ≡ lines_of bytes.now) }
 {
@@ -16,7 +16,7 @@ pub fn lines(alloc: Global, bytes: &[u8]) -> Result<Vec<Line>, OutOfMemory>
     }
 }
 
-/// The place of the first line feed, else the length.
+/// Returns the index of the first line feed, or the length if there is none.
 #[tactic(auto, using(crate::proofs::PlaceLemmas::places))]
 fn feed_or_end(bytes: &[u8]) -> usize
     ensures place { result ≡ position_or_len (λ byte. byte == 10) bytes.now }

@@ -19,21 +19,21 @@ impl Model for Items {
 }
 
 impl Items {
-    /// These items.
+    /// Returns a list of these items.
     pub fn new(items: Vec<Item>) -> Self
         ensures { result ≡ items.items }
     {
         Items { items }
     }
 
-    /// The items as a slice.
+    /// Returns the items as a slice.
     pub fn as_slice(&self) -> &[Item]
         ensures { result.now ≡ self.now }
     {
         self.items.as_slice()
     }
 
-    /// The items as the vector that they were made from.
+    /// Returns the items as a vector, with the memory that they were made in.
     pub fn into_vec(self) -> Vec<Item>
         ensures { result.items ≡ self }
     {

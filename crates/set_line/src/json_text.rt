@@ -1,4 +1,4 @@
-//! The text of an answer as a JSON object.
+//! Records as JSON objects.
 ghost use Rattle.std.specs.Prelude.{◌≡◌, ◌≤◌, ◌++◌, OnOk, OnErr, codes, flat_map, vec_capacity};
 ghost use Rattle.std.specs.List.{join_by};
 ghost use Rattle.set_line.specs.JsonRecord.{json_item, json_outcome, json_record, json_refusal};
@@ -9,7 +9,7 @@ use crate::{LineRefusal, Outcome, RecordNumber};
 use lig_kern::Item;
 use std::alloc::AllocError;
 
-/// Appends an array.
+/// Appends an item as an array.
 #[tactic(auto, using(crate::proofs::RecordLemmas::fronts), unfolding(crate::specs::JsonRecord::json_item))]
 fn push_item(text: &mut Vec<u8>, item: &Item) -> Result<(), AllocError>
     ensures front { StaysInFront text.old.items text.new.items }
@@ -29,9 +29,9 @@ fn push_item(text: &mut Vec<u8>, item: &Item) -> Result<(), AllocError>
     text.extend_from_slice(b"]")
 }
 
-/// Appends a comma and an array.
+/// Appends a comma, and then an item as an array.
 #[tactic(auto, using(crate::proofs::RecordLemmas::fronts))]
-fn push_behind_comma(text: &mut Vec<u8>, item: &Item) -> Result<(), AllocError>
+fn push_after_comma(text: &mut Vec<u8>, item: &Item) -> Result<(), AllocError>
     ensures front { StaysInFront text.old.items text.new.items }
     ensures pushed { OnOk result (text.new.items
         ≡ text.old.items ++ codes "," ++ json_item item.now) }
@@ -42,7 +42,7 @@ fn push_behind_comma(text: &mut Vec<u8>, item: &Item) -> Result<(), AllocError>
     push_item(text, item)
 }
 
-/// Appends items, each behind a comma.
+/// Appends items, each after a comma.
 #[tactic(auto, using(crate::proofs::RecordLemmas::fronts))]
 fn push_further(text: &mut Vec<u8>, items: &[Item]) -> Result<(), AllocError>
     ensures front { StaysInFront text.old.items text.new.items }
@@ -53,12 +53,12 @@ fn push_further(text: &mut Vec<u8>, items: &[Item]) -> Result<(), AllocError>
         (flat_map (λ item. codes "," ++ json_item item) items.now)) }
 {
     for item in items {
-        push_behind_comma(text, item)?;
+        push_after_comma(text, item)?;
     }
     Ok(())
 }
 
-/// Appends items, with a comma between each two.
+/// Appends items, with a comma between neighbours.
 #[tactic(auto, using(crate::proofs::RecordLemmas::fronts))]
 fn push_items(text: &mut Vec<u8>, items: &[Item]) -> Result<(), AllocError>
     ensures front { StaysInFront text.old.items text.new.items }
@@ -119,7 +119,7 @@ fn push_outcome(text: &mut Vec<u8>, outcome: &Outcome) -> Result<(), AllocError>
     }
 }
 
-/// Appends an object, and a line feed.
+/// Appends a record as an object, and a line feed.
 #[tactic(auto, using(crate::proofs::RecordLemmas::fronts), unfolding(crate::specs::JsonRecord::json_record))]
 #[inline(never)]
 pub(crate) fn push_object(

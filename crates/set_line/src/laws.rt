@@ -1,12 +1,14 @@
-//! Laws of the definitions, each the contract of a function that does nothing.
+//! Laws of the definitions. Each is the contract of a function with an empty body.
 ghost use Rattle.std.specs.Prelude.{◌≡◌, ℕ, List, []};
 ghost use Rattle.tfm_tables.specs.Font.{FontValue};
 ghost use Rattle.set_line.specs.declared.policy.Policy.{Policy};
 ghost use Rattle.set_line.specs.Lines.{AreWholeText, AreWholeWithFeed, IsCutAtFeed, IsOneLine, lines_of};
 ghost use Rattle.set_line.specs.Pieces.{AreBounded, AreTheOnly, AreUncut, AreWhole, portions_of};
 
-/// A text is cut at its first line feed; without one it is a line, if it isn't empty. The lines of a text
-/// that isn't empty, each with a line feed, are the text, with one line feed more if none ends it.
+/// States how a text is cut into lines. The first line ends at the first line feed, and the other lines are
+/// those of the bytes after it. A text without a line feed is one line, unless it is empty. The lines of a
+/// text that isn't empty, each followed by a line feed, joined together are the text, followed by a line
+/// feed if it doesn't end with one.
 #[tactic(auto, using(crate::proofs::LineLemmas::laws))]
 pub fn cut_at_feeds()
     ensures first { (line rest : List ℕ) → IsCutAtFeed line rest }
@@ -16,8 +18,9 @@ pub fn cut_at_feeds()
     ensures ended { (text : List ℕ) (last : ℕ) → AreWholeWithFeed text last }
 {}
 
-/// The portions of a line, joined again, are the line; they are cut no further; and the right boundary
-/// may stand after just those runs that a space or the end follows. Only these portions are so.
+/// States how a line is cut into portions. Their bytes joined together are the line. They can't be cut
+/// further. The right boundary may follow exactly those runs that are followed by a space or by the end of
+/// the line. No other list of portions has these three properties.
 #[tactic(auto, using(crate::proofs::PieceLemmas::laws))]
 pub fn cut_into_portions()
     ensures whole { (policy : Policy) (font : FontValue) (line : List ℕ)

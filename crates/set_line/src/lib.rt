@@ -1,4 +1,8 @@
-//! Lines of text, set with a font: each gets the answer that the definitions give it, and a record.
+//! Sets lines of text with a font, and writes the record of each result.
+//!
+//! [`set_bytes`] sets a line given as a slice, with a list of items that is used again for the next line, and
+//! [`record_outcome`] appends the record of its result. [`set`] and [`record`] do the same for an owned
+//! [`Line`], whose [`Answer`] keeps the line and its settings.
 #![tactic(auto)]
 
 pub use answer::Answer;

@@ -2,7 +2,7 @@ ghost use Rattle.std.specs.Prelude.{◌≡◌, ◌≤◌, ◌↔◌, IsSome, IfS
 
 use std::marker::Model;
 
-/// How many steps a line may take: from 1 to 16,777,216.
+/// The largest number of steps for a line: 1 to 16,777,216.
 #[derive(Clone, Copy, Debug, PartialEq, Eq, PartialOrd, Ord, Hash)]
 pub struct Limit {
     steps: u32,
@@ -21,7 +21,7 @@ impl Model for Limit {
 }
 
 impl Limit {
-    /// The limit of this many steps, or `None` outside 1 to 16,777,216.
+    /// Returns the limit of this many steps, or `None` outside 1 to 16,777,216.
     pub fn new(steps: u32) -> Option<Self>
         ensures range { IsSome result ↔ ((1 ≤ steps) × (steps ≤ 16777216)) }
         ensures value { IfSome result (λ limit. limit ≡ steps) }
@@ -33,7 +33,7 @@ impl Limit {
         }
     }
 
-    /// How many steps.
+    /// Returns the number of steps.
     pub fn get(self) -> u32
         ensures value { result ≡ self }
         ensures range { (1 ≤ result) × (result ≤ 16777216) }

@@ -2,7 +2,7 @@ ghost use Rattle.std.specs.Prelude.{◌≡◌};
 
 use std::marker::Model;
 
-/// A line of text: its bytes, which are character codes, and byte 32 for a space.
+/// A line of text without its line feed. Byte 32 is a space, and each other byte is a character code.
 #[derive(Debug, Drop)]
 pub struct Line {
     bytes: Vec<u8>,
@@ -17,14 +17,14 @@ impl Model for Line {
 }
 
 impl Line {
-    /// The line of these bytes.
+    /// Returns the line of these bytes.
     pub fn new(bytes: Vec<u8>) -> Self
         ensures { result ≡ bytes.items }
     {
         Line { bytes }
     }
 
-    /// Its bytes.
+    /// Returns its bytes.
     pub fn bytes(&self) -> &[u8]
         ensures { result.now ≡ self.now }
     {

@@ -1,11 +1,11 @@
-//! Numbers in a text that grows.
+//! Numbers in a record.
 ghost use Rattle.std.specs.Prelude.{◌≡◌, ◌≤◌, ◌++◌, OnOk, OnErr, vec_capacity};
 ghost use Rattle.set_line.specs.Record.{HasNoRoomFor, StaysInFront};
 
 use itoa::{Buffer, Integer};
 use std::alloc::AllocError;
 
-/// Appends some bytes, and a number in decimal.
+/// Appends some bytes, and then a number in decimal.
 #[tactic(auto, using(crate::proofs::RecordLemmas::fronts))]
 #[inline(always)]
 pub(crate) fn push_number<I: Integer>(

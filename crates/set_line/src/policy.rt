@@ -1,8 +1,9 @@
-/// What is done with bytes other than spaces that are no characters of the font.
+/// The missing-character policy: what happens if a line has a byte other than the space (32) that the font
+/// has no character for.
 #[derive(Clone, Copy, Debug, PartialEq, Eq, Hash)]
 pub enum Policy {
-    /// A line that has one is refused.
+    /// The line is refused.
     Refuse,
-    /// They are skipped, and listed in their places.
+    /// The byte is skipped, and is an item of the line.
     Skip,
 }

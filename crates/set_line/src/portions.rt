@@ -1,4 +1,4 @@
-//! The portions of a line, set one after the other.
+//! Sets the portions of a line one after the other.
 ghost use Rattle.std.specs.Prelude.{◌≡◌, ◌+◌, ◌≤◌, [], ◌∷◌, ◌++◌, true, false, length, IfOk, IfSome, MatchOption, OnErr, OnOk};
 ghost use Rattle.std.specs.List.{position_or_len};
 ghost use Rattle.std.specs.Option.{option_map_or};
@@ -16,9 +16,9 @@ use lig_kern::{Item, WordFault, few_items, result_within_limit, set_word};
 use std::alloc::AllocError;
 use tfm_tables::Font;
 
-/// The place of the first byte that isn't a character, else the length.
+/// Returns the index of the first byte that isn't a character, or the length if there is none.
 #[tactic(auto, using(crate::proofs::PlaceLemmas::places))]
-fn missing_or_end(font: &Font, bytes: &[u8]) -> usize
+fn find_missing(font: &Font, bytes: &[u8]) -> usize
     ensures place { result ≡ position_or_len (is_missing font.now) bytes.now }
     ensures within { result ≤ length bytes.now }
 {
@@ -30,16 +30,17 @@ fn missing_or_end(font: &Font, bytes: &[u8]) -> usize
     bytes.len()
 }
 
-/// Whether a byte is neither a space nor a character.
+/// Returns whether a byte is neither a space nor a character.
 fn is_neither(font: &Font, byte: u8) -> bool
     ensures { result ≡ is_neither_in font.now byte }
 {
     byte != b' ' && !font.exists(byte)
 }
 
-/// The place of the first byte that is neither a space nor a character, else the length.
+/// Returns the index of the first byte that is neither a space nor a character, or the length if there is
+/// none.
 #[tactic(auto, using(crate::proofs::PlaceLemmas::places))]
-pub(crate) fn neither_or_end(font: &Font, bytes: &[u8]) -> usize
+pub(crate) fn find_unknown(font: &Font, bytes: &[u8]) -> usize
     ensures place { result ≡ position_or_len (is_neither_in font.now) bytes.now }
     ensures within { result ≤ length bytes.now }
 {
@@ -51,9 +52,9 @@ pub(crate) fn neither_or_end(font: &Font, bytes: &[u8]) -> usize
     bytes.len()
 }
 
-/// The place of the first byte at which a piece ends, else the length.
+/// Returns the index of the first byte at which a piece ends, or the length if there is none.
 #[tactic(auto, using(crate::proofs::PlaceLemmas::places))]
-fn stop_or_end(terms: &Terms, bytes: &[u8]) -> usize
+fn find_stop(terms: &Terms, bytes: &[u8]) -> usize
     ensures place { result ≡ position_or_len (is_stop terms.now.policy terms.now.font) bytes.now }
     ensures within { result ≤ length bytes.now }
 {
@@ -65,8 +66,8 @@ fn stop_or_end(terms: &Terms, bytes: &[u8]) -> usize
     bytes.len()
 }
 
-/// The part before the first missing character, that character, and what stands after it; `None`
-/// if no character is missing.
+/// Splits a piece at its first missing character: returns the part before it, the missing character and the
+/// bytes after it. `None` if no character is missing.
 fn cut_part<'a>(font: &Font, piece: &'a [u8]) -> Option<(&'a [u8], u8, &'a [u8])>
     ensures shorter { IfSome result (λ cut.
         length cut.0.now + length cut.2.now + 1 ≡ length piece.now) }
@@ -74,19 +75,19 @@ fn cut_part<'a>(font: &Font, piece: &'a [u8]) -> Option<(&'a [u8], u8, &'a [u8])
         (portions_of_piece SkipPolicy font.now piece.now ≡ run_of piece.now true)
         (λ cut. portions_of_piece SkipPolicy font.now piece.now ≡ run_of cut.0.now false ++ skipped cut.1 ∷ portions_of_piece SkipPolicy font.now cut.2.now) }
 {
-    let (part, behind) = piece.split_at(missing_or_end(font, piece));
+    let (part, behind) = piece.split_at(find_missing(font, piece));
     match behind.split_first() {
         Some((code, rest)) => Some((part, *code, rest)),
         None => None,
     }
 }
 
-/// A line has a byte that is refused.
+/// The line has a missing character that is refused.
 #[derive(Drop)]
 struct Refused;
 
-/// The piece before the first space, and what stands after that; `None` if there is no space. If a
-/// byte before that is refused there is no piece.
+/// Splits a line at its first space: returns the piece before it and the bytes after it, or `None` if there
+/// is no space. The error means that a byte before the first space is refused.
 fn cut_piece<'a>(terms: &Terms, line: &'a [u8]) -> Result<Option<(&'a [u8], &'a [u8])>, Refused>
     ensures shorter { IfOk result (λ cut. IfSome cut (λ cut.
         length cut.0.now + length cut.1.now + 1 ≡ length line.now)) }
@@ -98,7 +99,7 @@ fn cut_piece<'a>(terms: &Terms, line: &'a [u8]) -> Result<Option<(&'a [u8], &'a 
         ≡ option_map_or (λ cut. has_refused terms.now.policy terms.now.font cut.1.now) cut false) }
     ensures refused { OnErr result (has_refused terms.now.policy terms.now.font line.now ≡ true) }
 {
-    let (piece, behind) = line.split_at(stop_or_end(terms, line));
+    let (piece, behind) = line.split_at(find_stop(terms, line));
     let Some((stop, rest)) = behind.split_first() else {
         return Ok(None);
     };
@@ -109,9 +110,9 @@ fn cut_piece<'a>(terms: &Terms, line: &'a [u8]) -> Result<Option<(&'a [u8], &'a 
     }
 }
 
-/// Sets a run after what there is, unless it is empty: the steps so far, or `None` if the limit
-/// isn't kept.
-fn set_run(
+/// Sets a run, unless it is empty, and appends its items. `used` is the number of steps before it. Returns
+/// the number of steps with it, or `None` if that is above the limit.
+fn add_run(
     font: &Font,
     run: &[u8],
     right: bool,
@@ -139,7 +140,7 @@ fn set_run(
     }
 }
 
-/// Sets a piece whose missing characters are skipped.
+/// Sets a piece whose missing characters are skipped: each part between them is a run.
 fn set_parts(
     font: &Font,
     piece: &[u8],
@@ -158,17 +159,17 @@ fn set_parts(
     let mut rest = piece;
     let mut so_far = used;
     while let Some((part, code, behind)) = cut_part(font, rest) {
-        let Some(steps) = set_run(font, part, false, so_far, limit, items)? else {
+        let Some(steps) = add_run(font, part, false, so_far, limit, items)? else {
             return Ok(None);
         };
         items.push(Item::Skipped(code))?;
         so_far = steps;
         rest = behind;
     }
-    set_run(font, rest, true, so_far, limit, items)
+    add_run(font, rest, true, so_far, limit, items)
 }
 
-/// Sets a piece: what stands between two spaces.
+/// Sets a piece: the bytes between two spaces.
 #[tactic(auto, unfolding(crate::specs::Pieces::portions_of_piece))]
 fn set_piece(
     terms: &Terms,
@@ -187,12 +188,12 @@ fn set_piece(
 {
     let limit = terms.limit().get();
     match terms.policy() {
-        Policy::Refuse => set_run(terms.font(), piece, true, used, limit, items),
+        Policy::Refuse => add_run(terms.font(), piece, true, used, limit, items),
         Policy::Skip => set_parts(terms.font(), piece, used, limit, items),
     }
 }
 
-/// Appends a space as wide as the font's.
+/// Appends a space with the width of the font's space.
 #[tactic(auto, using(crate::proofs::OnwardLemmas::signed))]
 fn push_space(terms: &Terms, items: &mut Vec<Item>) -> Result<(), AllocError>
     ensures { OnOk result (items.new.items
@@ -203,8 +204,8 @@ fn push_space(terms: &Terms, items: &mut Vec<Item>) -> Result<(), AllocError>
     Ok(())
 }
 
-/// Sets a line's pieces, with a space between neighbours: the steps, or `None` if a byte is refused or
-/// the limit isn't kept.
+/// Sets the pieces of a line, with a space between neighbours. Returns the number of steps, or `None` if a
+/// byte is refused or the steps are above the limit.
 pub(crate) fn set_portions(
     terms: &Terms,
     line: &[u8],

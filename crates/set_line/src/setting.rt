@@ -4,7 +4,7 @@ ghost use Rattle.set_line.specs.declared.outcome.LineRefusal.TheVariants.{Steps}
 ghost use Rattle.set_line.specs.declared.outcome.Outcome.TheVariants.{Refused};
 ghost use Rattle.set_line.specs.Answer.{answer_of, missing_in, outcome_of, refusal_of};
 
-use crate::portions::{neither_or_end, set_portions};
+use crate::portions::{find_unknown, set_portions};
 use crate::{Answer, Items, Line, LineRefusal, OutOfMemory, Outcome, Policy, Terms, width};
 use lig_kern::Item;
 use std::alloc::{AllocError, Global};
@@ -22,7 +22,7 @@ fn missing(font: &Font, policy: Policy, line: &[u8]) -> Option<LineRefusal>
     if policy == Policy::Skip {
         return None;
     }
-    let offset = neither_or_end(font, line);
+    let offset = find_unknown(font, line);
     let code = *line.get(offset)?;
     Some(LineRefusal::Missing { offset, code })
 }

@@ -63,7 +63,8 @@ impl Terms {
         self.policy
     }
 
-    /// Returns whether a piece ends at this byte: at a space and, under [`Policy::Refuse`], at a missing character.
+    /// Returns whether a piece ends at this byte: at a space and, under [`Policy::Refuse`], at a missing
+    /// character.
     pub(crate) fn stops_at(&self, byte: u8) -> bool
         ensures { result ≡ is_stop self.now.policy self.now.font byte }
     {

@@ -1,10 +1,10 @@
-/// The form of a record.
+/// The format of records.
 #[derive(Clone, Copy, Debug, PartialEq, Eq, Hash)]
 pub enum Version {
-    /// The width of a line that was set, and its items.
+    /// Format 1: for a line that is set, its width and items.
     One,
-    /// Also how many steps it took.
+    /// Format 2: also its number of steps.
     Two,
-    /// What version two tells, as a JSON object.
+    /// The contents of format 2 as a JSON object.
     Json,
 }

@@ -3,7 +3,7 @@ ghost use Rattle.set_line.specs.Width.{amount_of, total_width};
 
 use lig_kern::Item;
 
-/// The amount of an item, in scaled points.
+/// Returns the amount that an item adds to the width, in sp.
 fn amount(item: Item) -> i32
     ensures { result ≡ amount_of item }
 {
@@ -15,7 +15,7 @@ fn amount(item: Item) -> i32
     }
 }
 
-/// A width with one more item.
+/// Returns a width with the amount of one more item.
 #[tactic(auto, using(crate::proofs::WidthLemmas::signed))]
 fn with_item(width: i64, item: Item) -> i64
     requires below { width ≤ℤ pos (2 ^ 62) }
@@ -27,7 +27,7 @@ fn with_item(width: i64, item: Item) -> i64
     width + i64::from(amount(item))
 }
 
-/// The sum of the amounts. So few amounts of 32 bits have a sum of less than 64 bits.
+/// Returns the sum of the amounts. At most 2^31 amounts of 32 bits have a sum that fits in 64 bits.
 pub(crate) fn total(items: &[Item]) -> i64
     requires { length items.now ≤ 2 ^ 31 }
     ensures { result ≡ total_width items.now }

@@ -1,5 +1,5 @@
-//! The texts of items, written from the last byte to the first: so the place of a number's first
-//! digit needn't be known beforehand.
+//! Texts of items. They are written from the last byte to the first, because the number of digits of a number
+//! isn't known before they are written.
 ghost use Rattle.std.specs.Prelude.{◌≡◌, ◌+◌, ◌*◌, ◌≤◌, ◌∷◌, ◌++◌, length, drop, decimal, flat_map, IfSome};
 ghost use Rattle.std.specs.Fmt.{signed_decimal};
 ghost use Rattle.set_line.specs.Record.{item_text};
@@ -8,13 +8,14 @@ use crate::ready::{ReadyText, RecordTexts};
 use itoa::write_digits;
 use lig_kern::Item;
 
-/// The text of an item has at most this many bytes.
+/// The largest number of bytes in the text of an item.
 pub(crate) const ITEM_BYTES: usize = 17;
 
-/// A ready text is copied with this many bytes before it, at most, when it is as long as any.
+/// The number of bytes that are needed before a text: 24 bytes are copied for a text made beforehand, of
+/// which the longest text takes 17.
 pub(crate) const BYTES_BEFORE: usize = 7;
 
-/// Writes a byte before `end`.
+/// Writes a byte so that it ends at `end`, and returns its index.
 fn write_byte(text: &mut [u8], end: usize, byte: u8) -> usize
     requires { (1 ≤ end) × (end ≤ length text.old) }
     ensures place { result + 1 ≡ end }
@@ -24,7 +25,7 @@ fn write_byte(text: &mut [u8], end: usize, byte: u8) -> usize
     end - 1
 }
 
-/// Writes a space and the letter for a kind of item before `end`.
+/// Writes a space and the letter for a kind of item so that they end at `end`, and returns their start.
 fn write_kind(text: &mut [u8], end: usize, letter: u8) -> usize
     requires { (2 ≤ end) × (end ≤ length text.old) }
     ensures place { result + 2 ≡ end }
@@ -34,7 +35,7 @@ fn write_kind(text: &mut [u8], end: usize, letter: u8) -> usize
     write_byte(text, at, b' ')
 }
 
-/// Writes a code before `end`.
+/// Writes a character code so that it ends at `end`, and returns its start.
 #[tactic(auto, using(crate::proofs::WritingLemmas::numbers))]
 fn write_code(text: &mut [u8], end: usize, code: u8) -> usize
     requires { (3 ≤ end) × (end ≤ length text.old) }
@@ -44,7 +45,7 @@ fn write_code(text: &mut [u8], end: usize, code: u8) -> usize
     write_digits(u64::from(code), text, end)
 }
 
-/// Writes an amount before `end`.
+/// Writes an amount so that it ends at `end`, and returns its start.
 #[tactic(auto, using(crate::proofs::WritingLemmas::numbers))]
 fn write_amount(text: &mut [u8], end: usize, amount: i32) -> usize
     requires { (11 ≤ end) × (end ≤ length text.old) }
@@ -58,7 +59,7 @@ fn write_amount(text: &mut [u8], end: usize, amount: i32) -> usize
     write_byte(text, start, b'-')
 }
 
-/// Makes the text of an item before `end`: where it begins.
+/// Makes the text of an item so that it ends at `end`, and returns its start.
 #[tactic(auto, using(crate::proofs::WritingLemmas::items), unfolding(crate::specs::Record::item_text))]
 pub(crate) fn write_made(text: &mut [u8], end: usize, item: &Item) -> usize
     requires { (17 ≤ end) × (end ≤ length text.old) }
@@ -107,7 +108,7 @@ fn write_item(text: &mut [u8], end: usize, item: &Item, texts: Option<&RecordTex
     }
 }
 
-/// Writes the texts of items at the end of `text`: where they begin.
+/// Writes the texts of items at the end of `text`, and returns their start.
 #[tactic(auto, using(crate::proofs::WritingLemmas::items))]
 pub(crate) fn write_items(text: &mut [u8], items: &[Item], texts: Option<&RecordTexts>) -> usize
     requires { length items.now * 17 + 7 ≤ length text.old }

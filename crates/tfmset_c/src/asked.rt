@@ -1,13 +1,11 @@
 //! What a text is set with, as C asks for it.
 ghost use Rattle.std.specs.Prelude.{◌≡◌, ◌≤◌, ◌<◌, IfOk, IfErr, MatchOption, ◌⊎◌};
-ghost use Rattle.std.specs.Arc.{arc_value};
 ghost use Rattle.tfmset_c.specs.Opening.{IsDenial};
 ghost use Rattle.tfmset_c.specs.Texts.{IsOutOfRange, IsSetWith, policy_of, terms_at};
 
 use crate::opening::{Denial, MOST_SIZE, open};
 use set_line::{Limit, Policy, Terms};
 use std::alloc::Global;
-use std::sync::Arc;
 
 /// A size, a limit and a policy that are in range.
 #[derive(Clone, Copy)]
@@ -44,17 +42,12 @@ fn policy_asked(policy: u32) -> Policy
     Policy::Skip
 }
 
-/// What a text is set with: the font in these bytes, and the rest as it was asked for.
-pub fn shared_terms(alloc: Global, bytes: &[u8], asked: Asked) -> Result<Arc<Terms>, Denial>
+/// Returns the settings of a text: the font in these bytes, with the size, limit and policy asked for.
+pub fn terms_asked(alloc: Global, bytes: &[u8], asked: Asked) -> Result<Terms, Denial>
     requires { asked.size ≤ 134217727 }
-    ensures ok { IfOk result (λ terms.
-        IsSetWith bytes.now asked.size asked.limit asked.policy (arc_value terms)) }
+    ensures ok { IfOk result (IsSetWith bytes.now asked.size asked.limit asked.policy) }
     ensures denied { IfErr result (IsDenial bytes.now) }
 {
     let font = open(alloc, bytes, asked.size)?;
-    let terms = Terms::new(font, asked.limit, policy_asked(asked.policy));
-    match Arc::new(alloc, terms) {
-        Ok(terms) => Ok(terms),
-        Err(_) => Err(Denial::Memory),
-    }
+    Ok(Terms::new(font, asked.limit, policy_asked(asked.policy)))
 }

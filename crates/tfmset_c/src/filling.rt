@@ -1,7 +1,6 @@
 //! The caller's arrays are filled from the front, line by line.
 ghost use Rattle.std.specs.Prelude.{◌≡◌, ℕ, pos, ◌+◌, ◌^◌, ◌<◌, ◌∷◌, [], length, map, IfOk};
-ghost use Rattle.std.specs.Arc.{arc_value};
-ghost use Rattle.set_line.specs.Answer.{answer_of, outcome_of};
+ghost use Rattle.set_line.specs.Answer.{outcome_of};
 ghost use Rattle.set_line.specs.Record.{record_text};
 ghost use Rattle.tfmset_c.specs.Filling.{ArePut, IsFilled};
 ghost use Rattle.tfmset_c.specs.Texts.{
@@ -19,9 +18,16 @@ ghost use Rattle.tfmset_c.specs.Texts.{
 use crate::first_line::first_line;
 use crate::told::{TfmsetCounts, TfmsetItem, TfmsetLine};
 use lig_kern::Item;
-use set_line::{Answer, Line, LineRefusal, OutOfMemory, Outcome, Terms, Version, record, set};
-use std::alloc::{AllocError, Global};
-use std::sync::Arc;
+use set_line::{
+    LineRefusal, OutOfMemory, Outcome, RecordNumber, RecordTexts, Terms, Version, record_outcome,
+    set_bytes,
+};
+use std::alloc::Global;
+use tfm_tables::Font;
+
+/// Item texts are made beforehand for a text of more bytes than this. To make them takes about as long as
+/// to make the texts of this many items one by one.
+const FEW_BYTES: usize = 2_048;
 
 #[tactic(auto, unfolding(crate::specs::Texts::item_told))]
 fn tell_item(item: Item) -> TfmsetItem
@@ -140,96 +146,89 @@ fn put_items_in(items: &mut [TfmsetItem], first: usize, outcome: &Outcome) -> us
     }
 }
 
-/// A line of these bytes, and the terms once more.
-fn shared_line(
-    alloc: Global,
-    terms: &Arc<Terms>,
-    bytes: &[u8],
-) -> Result<(Arc<Terms>, Line), AllocError>
-    ensures { IfOk result (λ both.
-        (arc_value both.0 ≡ arc_value terms.now) × (both.1 ≡ bytes.now)) }
-{
-    let line = Line::new(Vec::from_slice(alloc, bytes)?);
-    Ok((terms.clone()?, line))
-}
-
-/// The answer to a line of these bytes.
-fn set_bytes(alloc: Global, terms: &Arc<Terms>, bytes: &[u8]) -> Result<Answer, OutOfMemory>
-    ensures { IfOk result (λ answer. answer ≡ answer_of (arc_value terms.now) bytes.now) }
-{
-    match shared_line(alloc, terms, bytes) {
-        Ok((terms, line)) => set(alloc, terms, line).map_err(|(_, fault)| fault),
-        Err(_) => Err(OutOfMemory),
-    }
-}
-
-/// Puts a line of these bytes and its items; answers the next places.
+/// Sets a line of these bytes, whose items are made in the memory of `list`. Puts the line and its items
+/// into the arrays, and returns the indices of the next ones.
 fn add_line(
-    alloc: Global,
-    terms: &Arc<Terms>,
+    terms: &Terms,
     bytes: &[u8],
+    list: &mut Vec<Item>,
     places: TfmsetCounts,
     lines: &mut [TfmsetLine],
     items: &mut [TfmsetItem],
 ) -> Result<TfmsetCounts, OutOfMemory>
     ensures line { IfOk result (λ next. (before : ℕ) → places.items ≡ held before
-        → ArePut (line_told before (outcome_of (arc_value terms.now) bytes.now) ∷ [])
+        → ArePut (line_told before (outcome_of terms.now bytes.now) ∷ [])
         places.lines next.lines lines.old lines.new) }
     ensures items { IfOk result (λ next.
-        ArePut (map item_told (items_in (outcome_of (arc_value terms.now) bytes.now)))
+        ArePut (map item_told (items_in (outcome_of terms.now bytes.now)))
         places.items next.items items.old items.new) }
 {
-    let answer = set_bytes(alloc, terms, bytes)?;
-    let told = tell_line(answer.outcome(), places.items);
-    Ok(TfmsetCounts {
+    let outcome = set_bytes(terms, bytes, list)?;
+    let told = tell_line(&outcome, places.items);
+    let next = TfmsetCounts {
         lines: put_line(lines, places.lines, told),
-        items: put_items_in(items, places.items, answer.outcome()),
-    })
+        items: put_items_in(items, places.items, &outcome),
+    };
+    outcome.give_back(list);
+    Ok(next)
 }
 
 /// Fills the arrays with the lines of a text and their items, as far as there is room: how many
 /// there are.
 pub fn fill(
     alloc: Global,
-    terms: &Arc<Terms>,
+    terms: &Terms,
     text: &[u8],
     lines: &mut [TfmsetLine],
     items: &mut [TfmsetItem],
 ) -> Result<TfmsetCounts, OutOfMemory>
     ensures counts { IfOk result (λ counts.
-        counts ≡ counts_told (outcomes_of (arc_value terms.now) text.now)) }
+        counts ≡ counts_told (outcomes_of terms.now text.now)) }
     ensures lines { IfOk result (λ counts.
-        IsFilled (lines_told 0 (outcomes_of (arc_value terms.now) text.now)) lines.old lines.new) }
+        IsFilled (lines_told 0 (outcomes_of terms.now text.now)) lines.old lines.new) }
     ensures items { IfOk result (λ counts.
-        IsFilled (items_told (outcomes_of (arc_value terms.now) text.now)) items.old items.new) }
+        IsFilled (items_told (outcomes_of terms.now text.now)) items.old items.new) }
 {
+    let mut list = Vec::new(alloc);
     let mut counts = TfmsetCounts { lines: 0, items: 0 };
     let mut rest = text;
     while !rest.is_empty() {
         let (line, more) = first_line(rest);
-        counts = add_line(alloc, terms, line, counts, lines, items)?;
+        counts = add_line(terms, line, &mut list, counts, lines, items)?;
         rest = more;
     }
     Ok(counts)
 }
 
-/// Puts the record of a line of these bytes, which is made in `made`; answers the next place.
-fn add_record(
-    alloc: Global,
-    terms: &Arc<Terms>,
-    bytes: &[u8],
-    numbers: (u64, u64),
+/// Returns the item texts that are worth making beforehand. Records in JSON don't use them.
+fn texts_for(font: &Font, text: &[u8], version: Version) -> Option<RecordTexts> {
+    if version == Version::Json || text.len() <= FEW_BYTES {
+        return None;
+    }
+    Some(RecordTexts::new(font))
+}
+
+/// How the records of a text are written.
+#[derive(Drop)]
+struct Format {
     version: Version,
+    texts: Option<RecordTexts>,
+}
+
+/// Puts the record of an outcome, which is made in `made`, into `records`, and returns the next index.
+fn add_record(
+    outcome: &Outcome,
+    number: RecordNumber,
+    format: &Format,
     made: &mut Vec<u8>,
     at: usize,
     records: &mut [u8],
 ) -> Result<usize, OutOfMemory>
-    ensures { IfOk result (λ next. ArePut (record_text numbers.0 numbers.1
-        (outcome_of (arc_value terms.now) bytes.now) version) at next records.old records.new) }
+    ensures { IfOk result (λ next. ArePut (record_text number.source number.line
+        outcome.now format.now.version) at next records.old records.new) }
 {
-    let answer = set_bytes(alloc, terms, bytes)?;
     made.clear();
-    record(numbers.0, numbers.1, &answer, version, made)?;
+    record_outcome(made, number, outcome, format.version, format.texts.as_ref())?;
     Ok(put_bytes(records, at, made))
 }
 
@@ -237,7 +236,7 @@ fn add_record(
 /// there are.
 pub fn fill_records(
     alloc: Global,
-    terms: &Arc<Terms>,
+    terms: &Terms,
     text: &[u8],
     numbers: (u64, u64),
     version: Version,
@@ -245,27 +244,26 @@ pub fn fill_records(
 ) -> Result<usize, OutOfMemory>
     requires { numbers.1 + length text.now < 2 ^ 64 }
     ensures length { IfOk result (λ count. count ≡ held (length (records_told numbers.0 numbers.1
-        version (outcomes_of (arc_value terms.now) text.now)))) }
+        version (outcomes_of terms.now text.now)))) }
     ensures records { IfOk result (λ count. IsFilled (records_told numbers.0 numbers.1 version
-        (outcomes_of (arc_value terms.now) text.now)) records.old records.new) }
+        (outcomes_of terms.now text.now)) records.old records.new) }
 {
     let (source, mut place) = numbers;
+    let texts = texts_for(terms.font(), text, version);
+    let format = Format { version, texts };
+    let mut list = Vec::new(alloc);
     let mut made = Vec::new(alloc);
     let mut at = 0;
     let mut rest = text;
     while !rest.is_empty() {
         let (line, more) = first_line(rest);
-        let place_and_source = (source, place);
-        at = add_record(
-            alloc,
-            terms,
-            line,
-            place_and_source,
-            version,
-            &mut made,
-            at,
-            records,
-        )?;
+        let outcome = set_bytes(terms, line, &mut list)?;
+        let number = RecordNumber {
+            source,
+            line: place,
+        };
+        at = add_record(&outcome, number, &format, &mut made, at, records)?;
+        outcome.give_back(&mut list);
         place += 1;
         rest = more;
     }

@@ -1,6 +1,5 @@
 //! The records of a text's lines, as bytes.
 ghost use Rattle.std.specs.Prelude.{◌≡◌, ◌≢◌, ◌≤◌, ◌<◌, ◌+◌, ◌^◌, ◌↔◌, ◌⊎◌, None, IsSome, length, MatchOption};
-ghost use Rattle.std.specs.Arc.{arc_value};
 ghost use Rattle.tfm_tables.specs.Acceptance.{font_fault_of};
 ghost use Rattle.tfmset_c.specs.Filling.{AreRecordsTold};
 ghost use Rattle.tfmset_c.specs.Texts.{
@@ -12,13 +11,12 @@ ghost use Rattle.tfmset_c.specs.Texts.{
   version_of,
 };
 
-use crate::asked::{in_range, shared_terms};
+use crate::asked::{in_range, terms_asked};
 use crate::filling::fill_records;
 use crate::opening::{DONE, MEMORY, NO_ROOM, RANGE};
 use crate::set::has_room;
 use set_line::{Terms, Version};
 use std::alloc::Global;
-use std::sync::Arc;
 
 #[tactic(auto, unfolding(crate::specs::Texts::version_of))]
 fn version_asked(version: u32) -> Option<Version>
@@ -35,7 +33,7 @@ fn version_asked(version: u32) -> Option<Version>
 
 fn record_text(
     alloc: Global,
-    terms: &Arc<Terms>,
+    terms: &Terms,
     text: &[u8],
     numbers: (u64, u64),
     version: Version,
@@ -45,7 +43,7 @@ fn record_text(
     requires { numbers.1 + length text.now < 2 ^ 64 }
     ensures answers { (result ≡ 0) ⊎ ((result ≡ 2) ⊎ (result ≡ 3)) }
     ensures told { AreRecordsTold (records_told numbers.0 numbers.1 version
-        (outcomes_of (arc_value terms.now) text.now)) result count.old count.new
+        (outcomes_of terms.now text.now)) result count.old count.new
         records.old records.new }
 {
     let Ok(told) = fill_records(alloc, terms, text, numbers, version, records) else {
@@ -93,7 +91,7 @@ pub extern "C" fn tfmset_records(
     if first > u64::MAX - text.len() as u64 {
         return RANGE;
     }
-    match shared_terms(alloc, font, asked) {
+    match terms_asked(alloc, font, asked) {
         Ok(terms) => record_text(
             alloc,
             &terms,

@@ -1,17 +1,15 @@
 //! The lines of a text are set into arrays of the caller's.
 ghost use Rattle.std.specs.Prelude.{◌≡◌, ◌≢◌, ◌≤◌, ◌↔◌, ◌⊎◌, ℕ, None, IsSome, true, false};
-ghost use Rattle.std.specs.Arc.{arc_value};
 ghost use Rattle.tfm_tables.specs.Acceptance.{font_fault_of};
 ghost use Rattle.tfmset_c.specs.Filling.{AreLinesTold, AreTold, HasRoom};
 ghost use Rattle.tfmset_c.specs.Texts.{IsOutOfRange, held, outcomes_of, terms_at};
 
-use crate::asked::{in_range, shared_terms};
+use crate::asked::{in_range, terms_asked};
 use crate::filling::fill;
 use crate::opening::{DONE, MEMORY, NO_ROOM, RANGE};
 use crate::told::{TfmsetCounts, TfmsetItem, TfmsetLine};
 use set_line::Terms;
 use std::alloc::Global;
-use std::sync::Arc;
 
 /// Whether there is room for so many things, and C can hold their number.
 #[tactic(auto, unfolding(crate::specs::Filling::HasRoom))]
@@ -24,14 +22,14 @@ pub fn has_room(count: usize, room: usize) -> bool
 
 fn set_text(
     alloc: Global,
-    terms: &Arc<Terms>,
+    terms: &Terms,
     text: &[u8],
     lines: &mut [TfmsetLine],
     items: &mut [TfmsetItem],
     counts: &mut TfmsetCounts,
 ) -> u32
     ensures answers { (result ≡ 0) ⊎ ((result ≡ 2) ⊎ (result ≡ 3)) }
-    ensures told { AreTold (outcomes_of (arc_value terms.now) text.now) result counts.old counts.new
+    ensures told { AreTold (outcomes_of terms.now text.now) result counts.old counts.new
         lines.old lines.new items.old items.new }
 {
     let Ok(told) = fill(alloc, terms, text, lines, items) else {
@@ -46,13 +44,13 @@ fn set_text(
 
 fn set_lines(
     alloc: Global,
-    terms: &Arc<Terms>,
+    terms: &Terms,
     text: &[u8],
     lines: &mut [TfmsetLine],
     counts: &mut TfmsetCounts,
 ) -> u32
     ensures answers { (result ≡ 0) ⊎ ((result ≡ 2) ⊎ (result ≡ 3)) }
-    ensures told { AreLinesTold (outcomes_of (arc_value terms.now) text.now) result counts.old
+    ensures told { AreLinesTold (outcomes_of terms.now text.now) result counts.old
         counts.new lines.old lines.new }
 {
     let mut none: [TfmsetItem; 0] = [];
@@ -92,7 +90,7 @@ pub extern "C" fn tfmset_set(
     let Some(asked) = in_range(size, limit, policy) else {
         return RANGE;
     };
-    match shared_terms(alloc, font, asked) {
+    match terms_asked(alloc, font, asked) {
         Ok(terms) => set_text(alloc, &terms, text, lines, items, counts),
         Err(denial) => denial.answer(),
     }
@@ -121,7 +119,7 @@ pub extern "C" fn tfmset_widths(
     let Some(asked) = in_range(size, limit, policy) else {
         return RANGE;
     };
-    match shared_terms(alloc, font, asked) {
+    match terms_asked(alloc, font, asked) {
         Ok(terms) => set_lines(alloc, &terms, text, lines, counts),
         Err(denial) => denial.answer(),
     }

@@ -20,12 +20,12 @@ loop-part-preserved c =
     record {
       kept = within;
       few =
-          one_more c.args.used c.loop-part.so_far c.in-Some-2.steps c.args.items.now.items c.loop-part.items.items c.set_run.new.items.items c.push.new.self.items
+          one_more c.args.used c.loop-part.so_far c.in-Some-2.steps c.args.items.now.items c.loop-part.items.items c.add_run.new.items.items c.push.new.self.items
           (Skipped c.in-Some.code) c.in-Some.part.now c.in-Some.behind.now c.loop-part.rest.now c.args.piece.now
           c.in-Some.ensures.shorter (rw c.in-Some-2.is at c.in_ok-steps.ensures.few) c.loop-part.invariant.few c.in_ok-push.ensures.items;
       onward =
           c.loop-part.invariant.onward
-          ∙ part_then c.args.font.now c.args.limit c.loop-part.so_far c.in-Some-2.steps c.loop-part.items.items c.set_run.new.items.items c.push.new.self.items
+          ∙ part_then c.args.font.now c.args.limit c.loop-part.so_far c.in-Some-2.steps c.loop-part.items.items c.add_run.new.items.items c.push.new.self.items
           (portions_of_piece Skip c.args.font.now c.loop-part.rest.now) (run_of c.in-Some.part.now _) (portions_of_piece Skip c.args.font.now c.in-Some.behind.now)
           (skipped c.in-Some.code) (Skipped c.in-Some.code)
           c.in-Some.ensures.portions (rw c.in-Some-2.is at c.in_ok-steps.ensures.reached) within refl c.in_ok-push.ensures.items;

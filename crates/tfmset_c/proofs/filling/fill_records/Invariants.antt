@@ -1,13 +1,12 @@
 use Rattle.std.proofs.Common.{◌+◌, ◌^◌, ◌<◌, length}
-use Rattle.std.specs.Arc.{arc_value}
 use Rattle.tfmset_c.specs.Filling.{IsPartly}
 use Rattle.tfmset_c.specs.Texts.{outcomes_of, records_told}
 use Rattle.tfmset_c.proofs.filling.fill_records.Given as goal
 
 abbrev pub invariant-loop-rest : goal.invariant-loop-rest
 invariant-loop-rest l = record {
-  partly : IsPartly (records_told l.source l.fn.numbers.1 l.version (outcomes_of (arc_value l.terms) l.fn.text))
-      (records_told l.source l.place l.version (outcomes_of (arc_value l.terms) l.rest)) l.at l.initial.records l.records;
+  partly : IsPartly (records_told l.source l.fn.numbers.1 l.fn.version (outcomes_of l.terms l.fn.text))
+      (records_told l.source l.place l.fn.version (outcomes_of l.terms l.rest)) l.at l.initial.records l.records;
   countable : l.place + length l.rest < 2 ^ 64;
 }
 

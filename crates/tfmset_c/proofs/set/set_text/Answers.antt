@@ -1,5 +1,4 @@
 use Rattle.std.proofs.Common.{length}
-use Rattle.std.specs.Arc.{arc_value}
 use Rattle.tfmset_c.specs.Texts.{items_told, outcomes_of}
 use Rattle.tfmset_c.proofs.TextLemmas.{items_held, lines_held, told_counts, told_whole}
 use Rattle.tfmset_c.proofs.set.set_text.Goals as goal
@@ -7,7 +6,7 @@ use Rattle.tfmset_c.proofs.set.set_text.Goals.{else-has_room-via-then-has_room+e
 
 pub returns-then-has_room-2-clause-told : goal.returns-then-has_room-2-clause-told
 returns-then-has_room-2-clause-told c =
-    let outcomes = outcomes_of (arc_value c.args.terms.now) c.args.text.now in
+    let outcomes = outcomes_of c.args.terms.now c.args.text.now in
     told_whole outcomes c.args.counts.now c.in-Ok.told c.args.lines.now c.fill.new.lines c.args.items.now c.fill.new.items
     c.in-Ok.ensures.counts c.in-Ok.ensures.lines c.in-Ok.ensures.items
     (rw (← c.fill.auto.lines) (c.has_room.ensures.fits (length outcomes) (lines_held outcomes c.in-Ok.told c.in-Ok.ensures.counts) c.if-has_room.true))
@@ -15,7 +14,7 @@ returns-then-has_room-2-clause-told c =
 
 pub returns-clause-told : goal.returns-clause-told
 returns-clause-told c =
-    let outcomes = outcomes_of (arc_value c.args.terms.now) c.args.text.now in
+    let outcomes = outcomes_of c.args.terms.now c.args.text.now in
     told_counts outcomes c.args.counts.now c.in-Ok.told c.args.lines.now c.fill.new.lines c.args.items.now c.fill.new.items c.in-Ok.ensures.counts
     (λ line_room item_room. elim c.else-has_room.branch [
       | else-has_room-via-then-has_room+else-has_room-2 w ↦

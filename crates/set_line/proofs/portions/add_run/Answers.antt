@@ -1,6 +1,6 @@
 use Rattle.std.proofs.Common.{arith}
 use Rattle.set_line.proofs.OnwardLemmas.{run_empty, run_few, run_set, run_refused}
-use Rattle.set_line.proofs.portions.set_run.Goals as goal
+use Rattle.set_line.proofs.portions.add_run.Goals as goal
 
 pub returns-then-is_empty-clause-reached : goal.returns-then-is_empty-clause-reached
 returns-then-is_empty-clause-reached c = run_empty c.args.font.now c.args.limit _ c.args.run.now c.args.right (grind arith)
