@@ -13,10 +13,11 @@ ghost use Rattle.font_texts.specs.Listing.{listing_row_text, listing_rows_text, 
 
 use crate::appending::{push_hex, push_number};
 use crate::counts::push_counts;
+use crate::reading::read_metrics;
 use crate::{FontTextFault, listing};
 use std::alloc::{AllocError, Global};
 use std::io::Write;
-use tfm_tables::{Font, FontFault};
+use tfm_tables::{FontFault, FontMetrics};
 use tfm_words::{Counts, Size, Table, word_at};
 
 /// Reads a font at `size`, or at its design size for `None`, and writes its full listing: the lines of
@@ -52,7 +53,7 @@ fn accepted(
     alloc: Global,
     bytes: &[u8],
     size: Option<Size>,
-) -> Result<(Counts, Font), FontTextFault>
+) -> Result<(Counts, FontMetrics), FontTextFault>
     ensures counts { IfOk result (λ read. AreCountsOf bytes.now read.0) }
     ensures reach { IfOk result (λ read. AreCountsOf (take (4 * read.0.lf) bytes.now) read.0) }
     ensures ok { IfOk result (λ read. IsFontOf bytes.now size read.1) }
@@ -65,16 +66,18 @@ fn accepted(
         Ok(counts) => counts,
         Err(fault) => return Err(FontTextFault::Font(FontFault::Counts(fault))),
     };
-    match Font::read(alloc, bytes, size) {
-        Ok(font) => Ok((counts, font)),
-        Err(FontFault::OutOfMemory) => Err(FontTextFault::OutOfMemory),
-        Err(fault) => Err(FontTextFault::Font(fault)),
-    }
+    let font = read_metrics(alloc, bytes, size)?;
+    Ok((counts, font))
 }
 
 /// Returns the full listing of a font. `words` are the bytes of its file, and `counts` are its counts.
 #[tactic(auto, unfolding(crate::specs::AllListing::all_listing_of, crate::specs::AllListing::recipe_rows, crate::specs::AllListing::word_rows))]
-fn text_of(alloc: Global, words: &[u8], counts: &Counts, font: &Font) -> Result<Vec<u8>, AllocError>
+fn text_of(
+    alloc: Global,
+    words: &[u8],
+    counts: &Counts,
+    font: &FontMetrics,
+) -> Result<Vec<u8>, AllocError>
     requires counts { AreCountsOf words.now counts.now }
     requires words { font.now.words ≡ words.now }
     ensures { IfOk result (λ text. text.items ≡ all_listing_of font.now) }

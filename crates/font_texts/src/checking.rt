@@ -6,7 +6,7 @@ use crate::appending::push_escaped_text;
 use crate::{Finding, FontTextFault};
 use std::alloc::{AllocError, Global};
 use std::io::Write;
-use tfm_tables::{Font, FontFault};
+use tfm_tables::{FontFault, FontMetrics};
 use tfm_words::Size;
 
 /// Reads a font at `size`, or at its design size for `None`, and writes one line: the name given for
@@ -59,7 +59,7 @@ pub fn finding_text<W: Write>(
 fn found(alloc: Global, bytes: &[u8], size: Option<Size>) -> Result<Finding, AllocError>
     ensures { IfOk result (λ finding. finding ≡ finding_of bytes.now) }
 {
-    match Font::read(alloc, bytes, size) {
+    match FontMetrics::read(alloc, bytes, size) {
         Ok(_) => Ok(Finding::Accepted),
         Err(FontFault::OutOfMemory) => Err(AllocError),
         Err(fault) => Ok(Finding::Refused(fault)),

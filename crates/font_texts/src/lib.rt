@@ -9,7 +9,7 @@ pub use fault::FontTextFault;
 pub use fault_words::Numbered;
 pub use finding::Finding;
 pub use laws::listing_tells_font;
-pub use listing::list_text;
+pub use listing::{list_file_text, list_text};
 
 mod all_listing;
 mod appending;
@@ -20,4 +20,5 @@ mod fault_words;
 mod finding;
 mod laws;
 mod listing;
+mod reading;
 mod rows;

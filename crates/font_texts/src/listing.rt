@@ -1,18 +1,23 @@
-ghost use Rattle.std.specs.Prelude.{◌≡◌, ◌<◌, ◌++◌, [], ◌⊎◌, IfOk, IfErr, OnOk, if◌then◌else◌};
+ghost use Rattle.std.specs.Prelude.{◌≡◌, ◌≢◌, ◌<◌, ◌++◌, [], ◌⊎◌, Some, Err, IfOk, IfErr, OnOk, if◌then◌else◌};
 ghost use Rattle.std.specs.Io.KnownBytes.{Appends};
 ghost use Rattle.tfm_words.specs.declared.table.Table.TheVariants.{Kern, LigKern};
+ghost use Rattle.tfm_tables.specs.declared.fault.FontFault.{FontFault as Refusal};
+ghost use Rattle.tfm_tables.specs.Acceptance.{font_fault_of};
+ghost use Rattle.tfm_tables.specs.Font.{FontValue, IsFontOf};
 ghost use Rattle.tfm_tables.specs.Character.{exists};
 ghost use Rattle.tfm_tables.specs.Table.{entries_of};
 ghost use Rattle.font_texts.specs.Listing.{boundary_rows, char_row, char_rows, header_rows, kern_row, kern_rows, listing_of, param_row, param_rows, listing_row_text, listing_rows_text, size_rows, step_row, step_rows};
 
 use crate::FontTextFault;
+use crate::reading::read_metrics;
 use crate::rows::{
     push_amount_row, push_char_row, push_flag_where, push_number_or_none, push_number_row,
     push_number_where, push_step_row, push_text_where,
 };
 use std::alloc::{AllocError, Global};
 use std::io::Write;
-use tfm_tables::{Font, LeftSide};
+use tfm_tables::{Font, FontMetrics, LeftSide};
+use tfm_words::Size;
 
 /// Writes the listing of a font, by one call of `write_all`: its check sum, design size and size; what
 /// its header contains beyond these; the boundaries; the characters, instructions, kerns and
@@ -32,9 +37,34 @@ pub fn list_text<W: Write>(alloc: Global, font: &Font, out: &mut W) -> Result<()
         .map_err(|_| FontTextFault::Write)
 }
 
+/// Reads a font at `size`, or at its design size for `None`, and writes its listing, as `list_text` does.
+/// For a caller that needs the font for nothing else: the tables that only setting needs aren't computed.
+///
+/// The error is `Font` with the first font error exactly if the font isn't accepted, `OutOfMemory` if
+/// allocation failed, and `Write` if the writer failed. After an error other than `Write`, `out` is
+/// unchanged.
+pub fn list_file_text<W: Write>(
+    alloc: Global,
+    bytes: &[u8],
+    size: Option<Size>,
+    out: &mut W,
+) -> Result<(), FontTextFault>
+    ensures text { OnOk result ((f : FontValue) × IsFontOf bytes.now size f
+        × Appends (W.contents out.old) (W.contents out.new) (listing_of f)) }
+    ensures font { (f : Refusal) → result ≡ Err (FontTextFault.Font f) → font_fault_of bytes.now ≡ Some f }
+    ensures refused { (f : Refusal) → font_fault_of bytes.now ≡ Some f
+        → result ≡ Err (FontTextFault.Font f) }
+    ensures untouched { IfErr result (λ fault. fault ≢ FontTextFault.Write → out.new ≡ out.old) }
+{
+    let font = read_metrics(alloc, bytes, size)?;
+    let text = text_of(alloc, &font).map_err(|_| FontTextFault::OutOfMemory)?;
+    out.write_all(text.as_slice())
+        .map_err(|_| FontTextFault::Write)
+}
+
 /// Returns the listing of a font. The error is that allocation failed.
 #[tactic(auto, unfolding(crate::specs::Listing::listing_of))]
-pub fn text_of(alloc: Global, font: &Font) -> Result<Vec<u8>, AllocError>
+pub fn text_of(alloc: Global, font: &FontMetrics) -> Result<Vec<u8>, AllocError>
     ensures { IfOk result (λ text. text.items ≡ listing_of font.now) }
 {
     let mut text = Vec::new(alloc);
@@ -49,7 +79,7 @@ pub fn text_of(alloc: Global, font: &Font) -> Result<Vec<u8>, AllocError>
 }
 
 #[tactic(auto, unfolding(crate::specs::Listing::size_rows))]
-fn push_size_rows(text: &mut Vec<u8>, font: &Font) -> Result<(), AllocError>
+fn push_size_rows(text: &mut Vec<u8>, font: &FontMetrics) -> Result<(), AllocError>
     ensures { OnOk result (text.new.items ≡ text.old.items ++ listing_rows_text (size_rows font.now)) }
 {
     push_number_row(text, b"checksum", font.check_sum())?;
@@ -58,7 +88,7 @@ fn push_size_rows(text: &mut Vec<u8>, font: &Font) -> Result<(), AllocError>
 }
 
 #[tactic(auto, unfolding(crate::specs::Listing::header_rows))]
-fn push_header_rows(text: &mut Vec<u8>, font: &Font) -> Result<(), AllocError>
+fn push_header_rows(text: &mut Vec<u8>, font: &FontMetrics) -> Result<(), AllocError>
     ensures { OnOk result (text.new.items ≡ text.old.items ++ listing_rows_text (header_rows font.now)) }
 {
     push_text_where(text, b"coding", font.coding())?;
@@ -68,7 +98,7 @@ fn push_header_rows(text: &mut Vec<u8>, font: &Font) -> Result<(), AllocError>
 }
 
 #[tactic(auto, unfolding(crate::specs::Listing::boundary_rows))]
-fn push_boundary_rows(text: &mut Vec<u8>, font: &Font) -> Result<(), AllocError>
+fn push_boundary_rows(text: &mut Vec<u8>, font: &FontMetrics) -> Result<(), AllocError>
     ensures { OnOk result (text.new.items ≡ text.old.items ++ listing_rows_text (boundary_rows font.now)) }
 {
     push_number_or_none(text, b"right", font.right_boundary())?;
@@ -76,7 +106,7 @@ fn push_boundary_rows(text: &mut Vec<u8>, font: &Font) -> Result<(), AllocError>
 }
 
 #[tactic(auto, unfolding(crate::specs::Listing::char_row))]
-fn push_char_where(text: &mut Vec<u8>, font: &Font, code: u8) -> Result<(), AllocError>
+fn push_char_where(text: &mut Vec<u8>, font: &FontMetrics, code: u8) -> Result<(), AllocError>
     ensures { OnOk result (text.new.items ≡ text.old.items
         ++ (if exists font.now.words code then listing_row_text (char_row font.now code) else [])) }
 {
@@ -90,7 +120,7 @@ fn push_char_where(text: &mut Vec<u8>, font: &Font, code: u8) -> Result<(), Allo
 }
 
 #[tactic(auto, using(crate::proofs::ListingLemmas::more), unfolding(crate::specs::Listing::char_rows))]
-fn push_char_rows(text: &mut Vec<u8>, font: &Font) -> Result<(), AllocError>
+fn push_char_rows(text: &mut Vec<u8>, font: &FontMetrics) -> Result<(), AllocError>
     ensures { OnOk result (text.new.items ≡ text.old.items ++ listing_rows_text (char_rows font.now)) }
 {
     for code in 0..256u16 {
@@ -100,7 +130,7 @@ fn push_char_rows(text: &mut Vec<u8>, font: &Font) -> Result<(), AllocError>
 }
 
 #[tactic(auto, unfolding(crate::specs::Listing::step_row))]
-fn push_step(text: &mut Vec<u8>, font: &Font, i: usize) -> Result<(), AllocError>
+fn push_step(text: &mut Vec<u8>, font: &FontMetrics, i: usize) -> Result<(), AllocError>
     requires { i < entries_of font.now.words LigKern }
     ensures { OnOk result (text.new.items ≡ text.old.items ++ listing_row_text (step_row font.now i)) }
 {
@@ -108,7 +138,7 @@ fn push_step(text: &mut Vec<u8>, font: &Font, i: usize) -> Result<(), AllocError
 }
 
 #[tactic(auto, using(crate::proofs::ListingLemmas::more), unfolding(crate::specs::Listing::step_rows))]
-fn push_step_rows(text: &mut Vec<u8>, font: &Font) -> Result<(), AllocError>
+fn push_step_rows(text: &mut Vec<u8>, font: &FontMetrics) -> Result<(), AllocError>
     ensures { OnOk result (text.new.items ≡ text.old.items ++ listing_rows_text (step_rows font.now)) }
 {
     for i in 0..font.steps() {
@@ -118,7 +148,7 @@ fn push_step_rows(text: &mut Vec<u8>, font: &Font) -> Result<(), AllocError>
 }
 
 #[tactic(auto, unfolding(crate::specs::Listing::kern_row))]
-fn push_kern(text: &mut Vec<u8>, font: &Font, k: usize) -> Result<(), AllocError>
+fn push_kern(text: &mut Vec<u8>, font: &FontMetrics, k: usize) -> Result<(), AllocError>
     requires { k < entries_of font.now.words Kern }
     ensures { OnOk result (text.new.items ≡ text.old.items ++ listing_row_text (kern_row font.now k)) }
 {
@@ -126,7 +156,7 @@ fn push_kern(text: &mut Vec<u8>, font: &Font, k: usize) -> Result<(), AllocError
 }
 
 #[tactic(auto, using(crate::proofs::ListingLemmas::more), unfolding(crate::specs::Listing::kern_rows))]
-fn push_kern_rows(text: &mut Vec<u8>, font: &Font) -> Result<(), AllocError>
+fn push_kern_rows(text: &mut Vec<u8>, font: &FontMetrics) -> Result<(), AllocError>
     ensures { OnOk result (text.new.items ≡ text.old.items ++ listing_rows_text (kern_rows font.now)) }
 {
     for k in 0..font.kerns() {
@@ -136,14 +166,14 @@ fn push_kern_rows(text: &mut Vec<u8>, font: &Font) -> Result<(), AllocError>
 }
 
 #[tactic(auto, unfolding(crate::specs::Listing::param_row))]
-fn push_param(text: &mut Vec<u8>, font: &Font, number: usize) -> Result<(), AllocError>
+fn push_param(text: &mut Vec<u8>, font: &FontMetrics, number: usize) -> Result<(), AllocError>
     ensures { OnOk result (text.new.items ≡ text.old.items ++ listing_row_text (param_row font.now number)) }
 {
     push_amount_row(text, b"param", number, font.param(number))
 }
 
 #[tactic(auto, using(crate::proofs::ListingLemmas::more), unfolding(crate::specs::Listing::param_rows))]
-fn push_param_rows(text: &mut Vec<u8>, font: &Font) -> Result<(), AllocError>
+fn push_param_rows(text: &mut Vec<u8>, font: &FontMetrics) -> Result<(), AllocError>
     ensures { OnOk result (text.new.items ≡ text.old.items ++ listing_rows_text (param_rows font.now)) }
 {
     for i in 0..font.params() {

@@ -9,7 +9,7 @@ ghost use Rattle.font_texts.specs.ListingWords.{action_words, char_words, escape
 use crate::appending::{push_escaped_text, push_number};
 use itoa::Integer;
 use std::alloc::AllocError;
-use tfm_tables::{Font, Metrics, Step, Tag};
+use tfm_tables::{FontMetrics, Metrics, Step, Tag};
 
 /// Appends one line: a name and a number.
 #[tactic(auto, unfolding(crate::specs::Listing::listing_row_text))]
@@ -191,7 +191,7 @@ fn push_ligature(text: &mut Vec<u8>, op: u8, remainder: u8) -> Result<(), AllocE
 }
 
 #[tactic(auto, using(crate::proofs::ListingLemmas::signed), unfolding(crate::specs::ListingWords::action_words, tfm_tables::specs::Acceptance::kern_index_of))]
-fn push_action(text: &mut Vec<u8>, font: &Font, step: Step) -> Result<(), AllocError>
+fn push_action(text: &mut Vec<u8>, font: &FontMetrics, step: Step) -> Result<(), AllocError>
     requires { step.skip ≤ 128 → 128 ≤ step.op → kern_index_of step < entries_of font.now.words Kern }
     ensures { OnOk result (text.new.items ≡ text.old.items ++ spaced (action_words font.now step)) }
 {
@@ -212,7 +212,7 @@ fn push_action(text: &mut Vec<u8>, font: &Font, step: Step) -> Result<(), AllocE
 #[tactic(auto, unfolding(crate::specs::Listing::listing_row_text, crate::specs::ListingWords::step_words))]
 pub fn push_step_row(
     text: &mut Vec<u8>,
-    font: &Font,
+    font: &FontMetrics,
     i: usize,
     step: Step,
 ) -> Result<(), AllocError>

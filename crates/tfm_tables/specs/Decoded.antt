@@ -5,7 +5,7 @@ use Rattle.std.specs.Prelude.{◌≡◌, ℕ, ◌<◌, ℤ, pos, List, [], ◌�
 use Rattle.std.specs.List.{range_with_len}
 use Rattle.tfm_words.specs.declared.table.Table.TheVariants.{Kern, Param}
 use Rattle.tfm_tables.specs.declared.character.Character.{Character}
-use Rattle.tfm_tables.specs.declared.left_side.LeftSide.TheVariants.{Char}
+use Rattle.tfm_tables.specs.declared.left_side.LeftSide.TheVariants.{Boundary, Char}
 use Rattle.tfm_tables.specs.Table.{entries_of}
 use Rattle.tfm_tables.specs.Character.{tag_of, metrics_of, character_width_of}
 use Rattle.tfm_tables.specs.Measure.{kern_at, parameter_of}
@@ -31,6 +31,6 @@ kerns_of words size = map (kern_at words size) (range_with_len 0 (entries_of wor
 abbrev pub parameters_of : List ℕ → ℕ → List ℤ
 parameters_of words size = map (parameter_of words size) (range_with_len 1 (entries_of words Param))
 
--- the starting address of each left side: those of the characters, and then that of the left boundary
-unfoldable pub starts_of : List Character → Option ℕ → List (Option ℕ)
-starts_of characters left = map (λ character. character.start) characters ++ left ∷ []
+-- the starting address of each left side: those of the codes from 0 to 255, and then that of the left boundary
+unfoldable pub starts_of : List ℕ → List (Option ℕ)
+starts_of words = map (λ code. start_of words (Char code)) (range_with_len 0 256) ++ start_of words Boundary ∷ []

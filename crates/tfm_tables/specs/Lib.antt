@@ -9,4 +9,5 @@ pub mod Decoded
 pub mod Pairs
 pub mod Font
 pub mod Inside
+pub mod SettingTables
 pub mod FaultTexts

@@ -1,19 +1,16 @@
-ghost use Rattle.std.specs.Prelude.{◌≡◌, ℕ, List, ◌+◌, ◌<◌, ◌≤◌, ◌^◌, length, IfOk, true};
-ghost use Rattle.std.specs.Option.{option_map};
+ghost use Rattle.std.specs.Prelude.{◌≡◌, ◌+◌, ◌<◌, ◌≤◌, IfOk, true};
 ghost use Rattle.tfm_words.specs.Counts.{AreCountsOf};
 ghost use Rattle.tfm_words.specs.declared.table.Table.TheVariants.{Kern, Param};
 ghost use Rattle.tfm_tables.specs.Table.{entries_of, entry_at};
-ghost use Rattle.tfm_tables.specs.Character.{is_coded, measures_of, metrics_of, tag_of, tag_with, width_in};
+ghost use Rattle.tfm_tables.specs.Character.{is_coded, measures_of, metrics_of, tag_of, tag_with};
 ghost use Rattle.tfm_tables.specs.Measure.{kern_at, measure_at, parameter_of};
 ghost use Rattle.tfm_tables.specs.Program.{begin_at, left_start_of, program_of, start_of, tag_start, target_of};
 ghost use Rattle.tfm_tables.specs.declared.left_side.LeftSide.TheVariants.{Char};
 ghost use Rattle.tfm_tables.specs.Sound.{HasSoundTables, IsScalableEntry};
-ghost use Rattle.tfm_tables.specs.Pairs.{IsTableOf};
-ghost use Rattle.tfm_tables.specs.Decoded.{AreWidthsOf, character_of, characters_of, kerns_of, parameters_of, starts_of};
+ghost use Rattle.tfm_tables.specs.Decoded.{character_of, characters_of, kerns_of, parameters_of};
 
 use crate::character::Character;
 use crate::checks::{char_info, exists, step_at};
-use crate::pairs::PairTable;
 use crate::tables::entry;
 use crate::{Metrics, Step, Tag};
 use std::alloc::{AllocError, Global};
@@ -234,57 +231,4 @@ pub fn characters(
         characters.push(character(words, counts, size, program, code as u8))?;
     }
     Ok(characters)
-}
-
-fn width(metrics: Option<Metrics>) -> i32
-    ensures { result ≡ width_in metrics }
-{
-    metrics.map_or(0, |metrics| metrics.width)
-}
-
-/// Returns the width of each code in sp, or 0 for a code without a character.
-pub fn widths(characters: &[Character]) -> [i32; 256]
-    requires { length characters.now ≡ 256 }
-    ensures { (words : List ℕ) (size : ℕ) → characters.now ≡ characters_of words size → AreWidthsOf words size result }
-{
-    let mut widths = [0; 256];
-    for code in 0..256 {
-        widths[code] = width(characters[code].metrics);
-    }
-    widths
-}
-
-/// Builds the table of pairs. `left` is the starting address of the left boundary's program. The error
-/// means that an allocation failed.
-#[tactic(auto, using(crate::proofs::DecodedLemmas::started))]
-pub fn pairs(
-    alloc: Global,
-    program: &[Step],
-    characters: &[Character],
-    left: Option<usize>,
-) -> Result<PairTable, AllocError>
-    requires steps { length program.now ≤ 2 ^ 15 }
-    requires codes { length characters.now ≡ 256 }
-    ensures { IfOk result (IsTableOf program.now (starts_of characters.now left)) }
-{
-    let starts = starts(alloc, characters, left)?;
-    PairTable::build(alloc, program, &starts)
-}
-
-/// Returns the starting address of each left side: of the 256 codes, and then of the left boundary. The
-/// error means that an allocation failed.
-#[tactic(auto, using(crate::proofs::DecodedLemmas::started), unfolding(crate::specs::Decoded::starts_of))]
-fn starts(
-    alloc: Global,
-    characters: &[Character],
-    left: Option<usize>,
-) -> Result<Vec<Option<usize>>, AllocError>
-    ensures { IfOk result (λ v. v.items ≡ starts_of characters.now left) }
-{
-    let mut starts = Vec::with_capacity(alloc, 257)?;
-    for character in characters {
-        starts.push(character.start)?;
-    }
-    starts.push(left)?;
-    Ok(starts)
 }

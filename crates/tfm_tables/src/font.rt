@@ -1,41 +1,26 @@
-ghost use Rattle.std.specs.Prelude.{◌≡◌, ◌-◌, ◌<◌, ◌≤◌, length, IfOk, IfErr, IfSome, Ok, Some, true};
-ghost use Rattle.std.specs.Option.{option_map};
-ghost use Rattle.tfm_words.specs.Counts.{AreCountsOf};
-ghost use Rattle.tfm_words.specs.DesignSize.{design_size_of};
-ghost use Rattle.tfm_words.specs.declared.table.Table.TheVariants.{Width, LigKern, Kern, Param};
-ghost use Rattle.tfm_tables.specs.Table.{entries_of};
+ghost use Rattle.std.specs.Prelude.{◌≡◌, IfOk, IfErr, IfSome, Some, true};
+ghost use Rattle.tfm_words.specs.declared.table.Table.TheVariants.{Width};
 ghost use Rattle.tfm_tables.specs.Font.{IsFontOf, IsRefusalOf};
-ghost use Rattle.tfm_tables.specs.Header.{check_sum_of, coding_of, face_of, family_of, seven_bit_of};
-ghost use Rattle.tfm_tables.specs.Character.{AreScaled, char_info_of, character_width_of, exists as exists_in, metrics_of, tag_of, width_index};
-ghost use Rattle.tfm_tables.specs.Measure.{kern_at, parameter_of, scaled_entry};
-ghost use Rattle.tfm_tables.specs.Program.{IsServing, address_between, program_of, right_code_of, start_of, step_at};
-ghost use Rattle.tfm_tables.specs.Decoded.{character_of};
-ghost use Rattle.tfm_tables.specs.Sound.{HasSoundTables, IsSoundStep};
+ghost use Rattle.tfm_tables.specs.Character.{char_info_of, character_width_of, exists as exists_in, width_index};
+ghost use Rattle.tfm_tables.specs.Measure.{scaled_entry};
+ghost use Rattle.tfm_tables.specs.Program.{IsServing, address_between};
+ghost use Rattle.tfm_tables.specs.Decoded.{AreWidthsOf, starts_of};
 
-use crate::character::Character;
-use crate::checks::{check_tables, right_code};
 use crate::pairs::PairTable;
-use crate::{FontFault, LeftSide, Metrics, Step, Tag, decoding, header};
+use crate::{FontFault, FontMetrics, LeftSide};
 use std::alloc::{AllocError, Global};
 use std::marker::Model;
-use tfm_words::{Counts, Size, design_size};
+use std::ops::Deref;
+use tfm_words::Size;
 
-/// An accepted font, at the size that it was read at. In contracts it is its words, which are the first
-/// `4 * lf` bytes of the file, and that size.
+/// An accepted font, at the size that it was read at: its metrics, and a table of pairs and a table of
+/// widths, which setting lines needs. A font has all methods of its metrics. In contracts it is its words,
+/// which are the first `4 * lf` bytes of the file, and that size.
 #[derive(Debug, Drop)]
 pub struct Font {
-    words: Vec<u8>,
-    characters: Vec<Character>,
-    program: Vec<Step>,
-    kerns: Vec<i32>,
-    parameters: Vec<i32>,
+    metrics: FontMetrics,
     pairs: PairTable,
-    left: Option<usize>,
     widths: [i32; 256],
-    counts: Counts,
-    size: Size,
-    design: Size,
-    right: Option<u8>,
 }
 
 impl Model for Font {
@@ -43,11 +28,11 @@ impl Model for Font {
 
     ghost Value = { FontValue };
 
-    ghost view = { λ f. record { words = f.words.items; size = f.size } };
+    ghost view = { λ f. f.metrics };
 
-    ghost use Rattle.tfm_tables.specs.Inside.{IsDecoded};
+    ghost use Rattle.tfm_tables.specs.SettingTables.{HasSettingTables};
 
-    ghost invariant = { IsDecoded };
+    ghost invariant = { HasSettingTables };
 }
 
 impl Font {
@@ -60,85 +45,29 @@ impl Font {
         ensures ok { IfOk result (IsFontOf bytes.now size) }
         ensures fault { IfErr result (IsRefusalOf bytes.now) }
     {
-        let counts = match Counts::read(bytes) {
-            Ok(counts) => counts,
-            Err(fault) => return Err(FontFault::Counts(fault)),
+        let metrics = match FontMetrics::read(alloc, bytes, size) {
+            Ok(metrics) => metrics,
+            Err(fault) => return Err(fault),
         };
-        let words = &bytes[..4 * usize::from(counts.lf())];
-        let design = match design_size(words, &counts) {
-            Ok(design) => design,
-            Err(fault) => return Err(FontFault::Design(fault)),
-        };
-        if let Err(fault) = check_tables(words, &counts) {
-            return Err(fault);
-        }
-        match Font::decode(alloc, words, counts, design, size.unwrap_or(design)) {
+        match Font::new(alloc, metrics) {
             Ok(font) => Ok(font),
             Err(_) => Err(FontFault::OutOfMemory),
         }
     }
 
-    #[tactic(auto, using(crate::proofs::DecodedLemmas::sized))]
-    fn decode(
-        alloc: Global,
-        words: &[u8],
-        counts: Counts,
-        design: Size,
-        size: Size,
-    ) -> Result<Font, AllocError>
-        requires counts { AreCountsOf words.now counts }
-        requires sound { HasSoundTables words.now }
-        requires design { design_size_of words.now ≡ Ok design }
-        ensures { IfOk result (λ font. (font.words ≡ words.now) × (font.size ≡ size)) }
+    /// Returns the font with these metrics: computes the table of pairs and the table of widths. The
+    /// error means that an allocation failed.
+    pub fn new(alloc: Global, metrics: FontMetrics) -> Result<Font, AllocError>
+        ensures { IfOk result (λ font. font ≡ metrics) }
     {
-        let program = decoding::program(alloc, words, &counts)?;
-        let characters = decoding::characters(alloc, words, &counts, size, &program)?;
-        let widths = decoding::widths(&characters);
-        let kerns = decoding::kerns(alloc, words, &counts, size)?;
-        let parameters = decoding::parameters(alloc, words, &counts, size)?;
-        let left = decoding::left_start(&program);
-        let pairs = decoding::pairs(alloc, &program, &characters, left)?;
+        let starts = starts(alloc, &metrics)?;
+        let pairs = PairTable::build(alloc, metrics.program(), &starts)?;
+        let widths = widths(&metrics);
         Ok(Font {
-            words: Vec::from_slice(alloc, words)?,
-            left,
-            widths,
+            metrics,
             pairs,
-            right: right_code(words, &counts),
-            characters,
-            program,
-            kerns,
-            parameters,
-            counts,
-            size,
-            design,
+            widths,
         })
-    }
-
-    #[tactic(auto, using(crate::proofs::DecodedLemmas::characters))]
-    fn character(&self, code: u8) -> Character
-        ensures value { result ≡ character_of self.now.words self.now.size code }
-        ensures scaled { IfSome result.metrics (AreScaled self.now.words self.now.size code) }
-    {
-        self.characters[usize::from(code)]
-    }
-
-    /// Returns whether the font has a character with this code.
-    #[tactic(auto, unfolding(crate::specs::Decoded::character_of))]
-    pub fn exists(&self, code: u8) -> bool
-        ensures { result ≡ exists_in self.now.words code }
-    {
-        self.character(code).tag.is_some()
-    }
-
-    /// Returns the dimensions of a character in sp, or `None` if it doesn't exist. Each dimension is
-    /// the scaled value of its table entry, and no 0 takes the place of an entry that can't be
-    /// scaled: the tables of an accepted font have no such entry.
-    #[tactic(auto, unfolding(crate::specs::Decoded::character_of))]
-    pub fn metrics(&self, code: u8) -> Option<Metrics>
-        ensures value { result ≡ metrics_of self.now.words self.now.size code }
-        ensures scaled { IfSome result (AreScaled self.now.words self.now.size code) }
-    {
-        self.character(code).metrics
     }
 
     /// Returns the width of a character in sp: the scaled value of its table entry, or 0 for a code
@@ -149,29 +78,6 @@ impl Font {
             scaled_entry self.now.words self.now.size Width (width_index (char_info_of self.now.words code)) ≡ Some result }
     {
         self.widths[usize::from(code)]
-    }
-
-    /// Returns the tag of a character, or `None` if it doesn't exist.
-    #[tactic(auto, unfolding(crate::specs::Decoded::character_of))]
-    pub fn tag(&self, code: u8) -> Option<Tag>
-        ensures { result ≡ tag_of self.now.words code }
-    {
-        self.character(code).tag
-    }
-
-    /// Returns the starting address of a left side's program. For a character it is the address after
-    /// an indirect start, which redirects once; for the left boundary it is the address to which the
-    /// last instruction points, without another redirection. The address is below `steps`. Returns
-    /// `None` for a left side without a program, and for a code without a character.
-    #[tactic(auto, unfolding(crate::specs::Decoded::character_of))]
-    pub fn start(&self, left: LeftSide) -> Option<usize>
-        ensures value { result ≡ start_of self.now.words left }
-        ensures within { IfSome result (λ start. start < entries_of self.now.words LigKern) }
-    {
-        match left {
-            LeftSide::Boundary => self.left,
-            LeftSide::Char(code) => self.character(code).start,
-        }
     }
 
     /// Returns the address of the match for a left side and the code to its right: the first
@@ -197,140 +103,38 @@ impl Font {
             LeftSide::Char(left) => self.pairs.find(usize::from(left), code),
         }
     }
+}
 
-    /// Returns the number of instructions.
-    #[tactic(auto, using(crate::proofs::ProgramLemmas::reads))]
-    pub fn steps(&self) -> usize
-        ensures { result ≡ entries_of self.now.words LigKern }
-    {
-        self.program.len()
-    }
+impl Deref for Font {
+    type Target = FontMetrics;
 
-    /// Returns the instruction at address `i`, which must be below `steps`. All that it refers to
-    /// exists: with a skip above 128 the instruction to which it points; otherwise the character or
-    /// the kern that it inserts, and, with a skip below 128, the instruction at which the search goes
-    /// on. With a skip of at most 128 its code on the right is that of a character of the font or of
-    /// the right boundary character, which needn't be a character of the font.
-    #[tactic(auto, using(crate::proofs::ProgramLemmas::reads))]
-    pub fn step(&self, i: usize) -> Step
-        requires { i < entries_of self.now.words LigKern }
-        ensures value { result ≡ step_at self.now.words i }
-        ensures sound { IsSoundStep self.now.words i result }
-    {
-        self.program[i]
-    }
+    ghost deref_gives = { λ font metrics. metrics ≡ font };
 
-    /// Returns the code of the right boundary character, or `None` if the font doesn't specify one. The
-    /// font needn't have a character with this code.
-    pub fn right_boundary(&self) -> Option<u8>
-        ensures { result ≡ right_code_of (program_of self.now.words) }
-    {
-        self.right
+    fn deref(&self) -> &FontMetrics {
+        &self.metrics
     }
+}
 
-    /// Returns the number of kerns.
-    #[tactic(auto, using(crate::proofs::DecodedLemmas::entries))]
-    pub fn kerns(&self) -> usize
-        ensures { result ≡ entries_of self.now.words Kern }
-    {
-        self.kerns.len()
+/// Returns the starting address of each left side: of the 256 codes, and then of the left boundary. The
+/// error means that an allocation failed.
+fn starts(alloc: Global, metrics: &FontMetrics) -> Result<Vec<Option<usize>>, AllocError>
+    ensures { IfOk result (λ v. v.items ≡ starts_of metrics.now.words) }
+{
+    let mut starts = Vec::with_capacity(alloc, 257)?;
+    for code in 0..256u16 {
+        starts.push(metrics.start(LeftSide::Char(code as u8)))?;
     }
+    starts.push(metrics.start(LeftSide::Boundary))?;
+    Ok(starts)
+}
 
-    /// Returns kern `k`, from 0, in sp; `k` must be below `kerns`. The kern is the scaled value of
-    /// its table entry, and no 0 takes the place of an entry that can't be scaled.
-    #[tactic(auto, using(crate::proofs::DecodedLemmas::entries, crate::proofs::ScaledLemmas::kern))]
-    pub fn kern(&self, k: usize) -> i32
-        requires { k < entries_of self.now.words Kern }
-        ensures value { result ≡ kern_at self.now.words self.now.size k }
-        ensures scaled { scaled_entry self.now.words self.now.size Kern k ≡ Some result }
-    {
-        self.kerns[k]
+/// Returns the width of each code in sp, or 0 for a code without a character.
+fn widths(metrics: &FontMetrics) -> [i32; 256]
+    ensures { AreWidthsOf metrics.now.words metrics.now.size result }
+{
+    let mut widths = [0; 256];
+    for code in 0..256 {
+        widths[code] = metrics.width(code as u8);
     }
-
-    /// Returns the number of parameters.
-    #[tactic(auto, using(crate::proofs::DecodedLemmas::entries))]
-    pub fn params(&self) -> usize
-        ensures { result ≡ entries_of self.now.words Param }
-    {
-        self.parameters.len()
-    }
-
-    /// Returns parameter `number`, counted from 1, or 0 if the font has no parameter with this number.
-    /// Parameter 1, the slant, is a plain number in units of 2^-20; every other parameter is the scaled
-    /// value of its table entry, in sp.
-    #[tactic(auto, using(crate::proofs::DecodedLemmas::parameters, crate::proofs::ScaledLemmas::parameter))]
-    pub fn param(&self, number: usize) -> i32
-        ensures value { result ≡ parameter_of self.now.words self.now.size number }
-        ensures scaled { 2 ≤ number → number ≤ entries_of self.now.words Param →
-            scaled_entry self.now.words self.now.size Param (number - 1) ≡ Some result }
-    {
-        if number == 0 {
-            return 0;
-        }
-        if number > self.parameters.len() {
-            return 0;
-        }
-        self.parameters[number - 1]
-    }
-
-    /// Returns the width of a space in sp: parameter 2, or 0 if the font has no parameter 2.
-    pub fn space(&self) -> i32
-        ensures value { result ≡ parameter_of self.now.words self.now.size 2 }
-        ensures scaled { 2 ≤ entries_of self.now.words Param →
-            scaled_entry self.now.words self.now.size Param 1 ≡ Some result }
-    {
-        self.param(2)
-    }
-
-    /// Returns the size that the font was read at.
-    pub fn size(&self) -> Size
-        ensures { result ≡ self.now.size }
-    {
-        self.size
-    }
-
-    /// Returns the design size of the font.
-    pub fn design(&self) -> Size
-        ensures { design_size_of self.now.words ≡ Ok result }
-    {
-        self.design
-    }
-
-    /// Returns the check sum: the first word of the header, as an unsigned number.
-    pub fn check_sum(&self) -> u32
-        ensures { result ≡ check_sum_of self.now.words }
-    {
-        header::check_sum(&self.words, &self.counts)
-    }
-
-    /// Returns the coding scheme, at most 39 bytes, or `None` if the header has fewer than 12 words. A
-    /// length byte above 39 is read as 39.
-    pub fn coding(&self) -> Option<&[u8]>
-        ensures { option_map (λ text. text.now) result ≡ coding_of self.now.words }
-    {
-        header::coding(&self.words, &self.counts)
-    }
-
-    /// Returns the family, at most 19 bytes, or `None` if the header has fewer than 17 words. A
-    /// length byte above 19 is read as 19.
-    pub fn family(&self) -> Option<&[u8]>
-        ensures { option_map (λ text. text.now) result ≡ family_of self.now.words }
-    {
-        header::family(&self.words, &self.counts)
-    }
-
-    /// Returns whether the header marks the font as seven-bit safe, or `None` if the header has fewer
-    /// than 18 words.
-    pub fn seven_bit(&self) -> Option<bool>
-        ensures { result ≡ seven_bit_of self.now.words }
-    {
-        header::seven_bit(&self.words, &self.counts)
-    }
-
-    /// Returns the face byte, or `None` if the header has fewer than 18 words.
-    pub fn face(&self) -> Option<u8>
-        ensures { result ≡ face_of self.now.words }
-    {
-        header::face(&self.words, &self.counts)
-    }
+    widths
 }

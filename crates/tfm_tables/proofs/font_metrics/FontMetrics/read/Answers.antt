@@ -2,7 +2,7 @@ use Rattle.std.proofs.Common.{◌*◌, arith, sym}
 use Rattle.tfm_tables.proofs.NamedLemmas.{fault_of_tables, named, refusal}
 use Rattle.tfm_tables.proofs.MeasureLemmas.{bytes-take}
 use Rattle.tfm_tables.proofs.SoundLemmas.{sound_of_accepted}
-use Rattle.tfm_tables.proofs.font.Font.read.Goals as goal
+use Rattle.tfm_tables.proofs.font_metrics.FontMetrics.read.Goals as goal
 
 pub returns-in-Err-check_tables-clause-fault : goal.returns-in-Err-check_tables-clause-fault
 returns-in-Err-check_tables-clause-fault c =

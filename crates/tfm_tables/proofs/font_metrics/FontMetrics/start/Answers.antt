@@ -2,7 +2,7 @@ use Rattle.std.proofs.Common.{arith}
 use Rattle.tfm_tables.specs.declared.left_side.LeftSide.TheVariants.{Boundary, Char}
 use Rattle.tfm_tables.specs.Decoded.{character_of}
 use Rattle.tfm_tables.proofs.StartLemmas.{begun_within}
-use Rattle.tfm_tables.proofs.font.Font.start.Goals as goal
+use Rattle.tfm_tables.proofs.font_metrics.FontMetrics.start.Goals as goal
 
 pub returns-in-Boundary-clause-within : goal.returns-in-Boundary-clause-within
 returns-in-Boundary-clause-within c =

@@ -5,7 +5,7 @@ use Rattle.tfm_tables.specs.declared.character.Character.{Character}
 use Rattle.tfm_tables.specs.Decoded.{character_of}
 use Rattle.tfm_tables.proofs.DecodedLemmas.{characters}
 use Rattle.tfm_tables.proofs.ScaledLemmas.{metrics_scaled}
-use Rattle.tfm_tables.proofs.font.Font.character.Goals as goal
+use Rattle.tfm_tables.proofs.font_metrics.FontMetrics.character.Goals as goal
 
 pub returns-clause-scaled : goal.returns-clause-scaled
 unfolding character_of
