@@ -3,7 +3,7 @@ ghost use Rattle.std.specs.Prelude.{◌≡◌, ◌≤◌, ◌<◌, IfOk, IfErr, 
 ghost use Rattle.tfmset_c.specs.Opening.{IsDenial};
 ghost use Rattle.tfmset_c.specs.Texts.{IsOutOfRange, IsSetWith, policy_of, terms_at};
 
-use crate::opening::{Denial, MOST_SIZE, open};
+use crate::opening::{Denial, MOST_SIZE, open_to_set};
 use set_line::{Limit, Policy, Terms};
 use std::alloc::Global;
 
@@ -48,6 +48,6 @@ pub fn terms_asked(alloc: Global, bytes: &[u8], asked: Asked) -> Result<Terms, D
     ensures ok { IfOk result (IsSetWith bytes.now asked.size asked.limit asked.policy) }
     ensures denied { IfErr result (IsDenial bytes.now) }
 {
-    let font = open(alloc, bytes, asked.size)?;
+    let font = open_to_set(alloc, bytes, asked.size)?;
     Ok(Terms::new(font, asked.limit, policy_asked(asked.policy)))
 }

@@ -8,7 +8,7 @@ ghost use Rattle.tfmset_c.specs.Opening.{IsNoSize, font_at};
 
 use crate::opening::{DONE, MOST_SIZE, RANGE, open};
 use std::alloc::Global;
-use tfm_tables::{Font, LeftSide};
+use tfm_tables::{FontMetrics, LeftSide};
 
 /// What a font says of itself; lengths are in scaled points.
 #[repr(C)]
@@ -47,7 +47,7 @@ pub struct TfmsetFont {
 }
 
 #[tactic(auto, unfolding(crate::specs::Fonts::right_or_none))]
-fn right_boundary(font: &Font) -> u32
+fn right_boundary(font: &FontMetrics) -> u32
     ensures { result ≡ right_or_none font.now.words }
 {
     match font.right_boundary() {
@@ -56,7 +56,7 @@ fn right_boundary(font: &Font) -> u32
     }
 }
 
-fn left_boundary(font: &Font) -> u32
+fn left_boundary(font: &FontMetrics) -> u32
     ensures { result ≡ flag (is_some (start_of font.now.words Boundary)) }
 {
     match font.start(LeftSide::Boundary) {
@@ -66,7 +66,7 @@ fn left_boundary(font: &Font) -> u32
 }
 
 #[tactic(auto, unfolding(crate::specs::Fonts::font_told))]
-fn tell(font: &Font) -> TfmsetFont
+fn tell(font: &FontMetrics) -> TfmsetFont
     ensures { result ≡ font_told font.now }
 {
     TfmsetFont {

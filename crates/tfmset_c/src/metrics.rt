@@ -5,7 +5,7 @@ ghost use Rattle.tfmset_c.specs.Opening.{IsNoSize, font_at};
 
 use crate::opening::{DONE, MOST_SIZE, RANGE, open};
 use std::alloc::Global;
-use tfm_tables::{Font, Tag};
+use tfm_tables::{FontMetrics, Tag};
 
 /// A character's measures, in scaled points, and its tag.
 #[repr(C)]
@@ -48,7 +48,7 @@ fn behind(tag: Tag) -> u32
 }
 
 #[tactic(auto, unfolding(crate::specs::Characters::character_told))]
-fn tell(font: &Font, code: u8) -> TfmsetMetrics
+fn tell(font: &FontMetrics, code: u8) -> TfmsetMetrics
     ensures { result ≡ metrics_told font.now code }
 {
     let nothing = TfmsetMetrics {

@@ -3,7 +3,7 @@ ghost use Rattle.std.specs.Prelude.{◌≡◌, ◌≤◌, IfOk, IfErr};
 ghost use Rattle.tfmset_c.specs.Opening.{IsDenial, IsOpened, asked_size, denial_number};
 
 use std::alloc::Global;
-use tfm_tables::{Font, FontFault};
+use tfm_tables::{Font, FontFault, FontMetrics};
 use tfm_words::Size;
 
 /// It is done.
@@ -50,15 +50,28 @@ fn asked(size: u32) -> Option<Size>
     Size::new(size)
 }
 
-/// The font in these bytes.
-pub fn open(alloc: Global, bytes: &[u8], size: u32) -> Result<Font, Denial>
+/// Reads the font in these bytes, without the tables that only setting needs.
+pub fn open(alloc: Global, bytes: &[u8], size: u32) -> Result<FontMetrics, Denial>
     requires { size ≤ 134217727 }
     ensures ok { IfOk result (IsOpened bytes.now size) }
     ensures denied { IfErr result (IsDenial bytes.now) }
 {
-    match Font::read(alloc, bytes, asked(size)) {
+    match FontMetrics::read(alloc, bytes, asked(size)) {
         Ok(font) => Ok(font),
         Err(FontFault::OutOfMemory) => Err(Denial::Memory),
         Err(fault) => Err(Denial::Refused(fault)),
+    }
+}
+
+/// Reads the font in these bytes, with the tables that setting needs.
+pub fn open_to_set(alloc: Global, bytes: &[u8], size: u32) -> Result<Font, Denial>
+    requires { size ≤ 134217727 }
+    ensures ok { IfOk result (IsOpened bytes.now size) }
+    ensures denied { IfErr result (IsDenial bytes.now) }
+{
+    let metrics = open(alloc, bytes, size)?;
+    match Font::new(alloc, metrics) {
+        Ok(font) => Ok(font),
+        Err(_) => Err(Denial::Memory),
     }
 }

@@ -3,7 +3,7 @@ ghost use Rattle.tfm_tables.specs.Acceptance.{font_fault_of};
 ghost use Rattle.tfmset_c.specs.Opening.{IsNoSize, font_at};
 ghost use Rattle.tfmset_c.specs.Pairs.{action_told, left_symbol, pair_told, right_symbol};
 
-use crate::opening::{DONE, MOST_SIZE, RANGE, open};
+use crate::opening::{DONE, MOST_SIZE, RANGE, open_to_set};
 use lig_kern::{Action, Symbol, first_match};
 use std::alloc::Global;
 
@@ -106,7 +106,7 @@ pub extern "C" fn tfmset_pair(
     if size > MOST_SIZE || left > 256 || right > 256 {
         return RANGE;
     }
-    match open(alloc, font, size) {
+    match open_to_set(alloc, font, size) {
         Ok(font) => {
             let action = first_match(&font, on_the_left(left), on_the_right(right));
             *pair = tell(action);
