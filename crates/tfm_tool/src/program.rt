@@ -20,10 +20,11 @@ use crate::each::set_jobs;
 use crate::exit::Failure;
 use crate::files::font_bytes;
 use crate::runs::{set_files, stream};
-use crate::{Disk, Opens, counts_text, list_all_text, list_text};
+use crate::texts_of_fonts::list_file_text;
+use crate::{Disk, Opens, counts_text, list_all_text};
 use clap::error::ErrorKind as WordsKind;
 use command_line::{Request, requested};
-use run_texts::{ToolFault, accepted};
+use run_texts::ToolFault;
 use std::alloc::Global;
 use std::convert::AsStr;
 use std::io;
@@ -204,8 +205,7 @@ fn list_bytes<O: Write>(
     if all {
         return list_all_text(alloc, bytes, None, out);
     }
-    let font = accepted(alloc, bytes, None)?;
-    list_text(alloc, &font, out)
+    list_file_text(alloc, bytes, None, out)
 }
 
 /// Help and the version are an answer; any other error is why there is none.

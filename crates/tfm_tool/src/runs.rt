@@ -19,13 +19,30 @@ use crate::Opens;
 use crate::exit::Failure;
 use crate::files::{font_bytes, open_files};
 use command_line::Setting;
-use run_texts::{Summary, ToolFault, accepted, set_text, status, stream_text};
+use run_texts::{Summary, ToolFault, set_text, status, stream_text};
 use set_run::{LineSource, MOST_SOURCES, NoGate, ReaderSource};
 use std::alloc::Global;
 use std::io::{Read, Write};
 use std::sync::Wait;
 use std::thread::Threads;
 use std::time::Clock;
+use tfm_tables::{FontFault, FontMetrics};
+use tfm_words::Size;
+
+/// Checks that the font in these bytes is accepted. The tables that only setting needs aren't computed.
+fn check_font(alloc: Global, bytes: &[u8], size: Option<Size>) -> Result<(), ToolFault>
+    ensures font { (f : Refusal) → result ≡ Err (ToolFault.Font f) → font_fault_of bytes.now ≡ Some f }
+    ensures refused { (f : Refusal) → font_fault_of bytes.now ≡ Some f
+        → result ≡ Err (ToolFault.Font f) }
+    ensures fault { IfErr result (λ fault. (fault ≡ ToolFault.OutOfMemory)
+        ⊎ ((f : Refusal) × (fault ≡ ToolFault.Font f))) }
+{
+    match FontMetrics::read(alloc, bytes, size) {
+        Ok(_) => Ok(()),
+        Err(FontFault::OutOfMemory) => Err(ToolFault::OutOfMemory),
+        Err(fault) => Err(ToolFault::Font(fault)),
+    }
+}
 
 /// The bytes of the font that a setting names, which is accepted at its size.
 #[tactic(auto, using(crate::proofs::KnownLemmas::unread_before))]
@@ -47,7 +64,7 @@ where
         (font_bytes_of (F.known files.now) (I.remaining input.old) setting.now.font.now)) }
 {
     let bytes = font_bytes(alloc, files, setting.font, input)?;
-    accepted(alloc, bytes.as_slice(), setting.layout.size)?;
+    check_font(alloc, bytes.as_slice(), setting.layout.size)?;
     Ok(bytes)
 }
 

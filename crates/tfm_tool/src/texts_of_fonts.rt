@@ -41,6 +41,25 @@ pub fn list_text<W: Write>(alloc: Global, font: &Font, out: &mut W) -> Result<()
     Ok(())
 }
 
+/// Reads a font at a size, else at its design size, and writes its listing, in one piece.
+pub(crate) fn list_file_text<W: Write>(
+    alloc: Global,
+    bytes: &[u8],
+    size: Option<Size>,
+    out: &mut W,
+) -> Result<(), ToolFault>
+    ensures text { OnOk result ((f : FontValue) × IsFontOf bytes.now size f
+        × Appends (W.contents out.old) (W.contents out.new) (listing_of f)) }
+    ensures font { (f : FontFault) → result ≡ Err (ToolFault.Font f) → font_fault_of bytes.now ≡ Some f }
+    ensures refused { (f : FontFault) → font_fault_of bytes.now ≡ Some f
+        → result ≡ Err (ToolFault.Font f) }
+    ensures untouched { IfErr result (λ fault. fault ≢ ToolFault.Write → out.new ≡ out.old) }
+    ensures run { (f : RunFault) → result ≢ Err (ToolFault.Run f) }
+{
+    font_texts::list_file_text(alloc, bytes, size, out)?;
+    Ok(())
+}
+
 /// Reads a font at a size, else at its design size, and writes its listing with all that its file says,
 /// in one piece.
 pub fn list_all_text<W: Write>(
