@@ -17,6 +17,9 @@ are in scaled points (sp); 65,536 sp are one TeX point, and 72.27 TeX points are
     >>> font.widths(b"office\\nbox")
     [1468004, 1025637]
 
+`POINT` is the number of sp in a point. `CHARACTER`, `KERN`, `SPACE` and `SKIPPED` are the kinds of items.
+`BOUNDARY` stands for a boundary in `Font.pair`.
+
 On import the module loads the library from the first of these locations that has one:
 
 1. the path in the environment variable TFMSET_LIBRARY, if it isn't empty; no other location is tried then;
@@ -379,6 +382,18 @@ class Font:
     Raises FontRefused if the font is refused, ValueError if the size is out of range, and TypeError for
     arguments of another type. Like each method that calls the library, it raises MemoryError if an
     allocation fails.
+
+    Attributes:
+
+    - `data`: the contents of the file
+    - `size`, `design_size`: the size that the font is read at, and its design size, in sp
+    - `check_sum`: the check sum, as it is in the file
+    - `parameters`, `kerns`, `instructions`: the numbers of parameters, kerns and lig/kern instructions
+    - `right_boundary`: the code of the right boundary character, or None if the font has none
+    - `left_boundary`: whether the left boundary has instructions
+    - `slant`: parameter 1, in units of 2^-20, not scaled
+    - `space`, `stretch`, `shrink`, `x_height`, `quad`, `extra_space`: parameters 2 to 7, in sp; 0 for one that
+      the font lacks
 
     >>> font = Font.from_file("examples/demo.tfm", size="10pt")
     >>> font.size == font.design_size == 10 * POINT

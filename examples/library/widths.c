@@ -12,6 +12,7 @@ int main(int count, char **words)
     static uint8_t font[131068];
     struct tfmset_fault fault;
     struct tfmset_metrics letter;
+    uint32_t code;
     size_t length;
     FILE *file;
     int i;
@@ -20,10 +21,11 @@ int main(int count, char **words)
         return EXIT_FAILURE;
     length = fread(font, 1, sizeof font, file);
     fclose(file);
-    if (tfmset_check(font, length, 0, &fault) != TFMSET_DONE) {
+    code = tfmset_check(font, length, 0, &fault);
+    if (code == TFMSET_FONT_REFUSED)
         printf("font refused: error %u, place %zu\n", (unsigned)fault.number, fault.place);
+    if (code != TFMSET_DONE)
         return EXIT_FAILURE;
-    }
     for (i = 2; i < count; i++) {
         const unsigned char *at = (const unsigned char *)words[i];
         long width = 0;
