@@ -138,9 +138,9 @@ that are being set, but not the whole output. If `stream` fails, every complete
 line that it has printed is valid. With both commands, if the lines of a FILE
 could not all be read and set, its end line states the reason.
 
-A larger --block takes less processor time, but with --block N a record may
-wait for the N - 1 lines after it. If the reader of a pipe closes it, `stream`
-ends at its next write, with exit status 5.
+A larger --block takes less processor time. A record doesn't wait for input
+that hasn't arrived, however large the block is. If the reader of a pipe closes
+it, `stream` ends at its next write, with exit status 5.
 
 Exit status:
   0  Every line was set, and the output was written.
