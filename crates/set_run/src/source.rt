@@ -23,10 +23,11 @@ pub trait LineSource {
         ensures reads { Reads (to_come self.old) (failed self.old) result (to_come self.new) (failed self.new) }
         ensures origin { origin self.new ≡ origin self.old };
 
-    /// Whether `next_line` would return without waiting. It decides only when lines are sent and when the worker is
-    /// woken, never what is set. True: the lines that were fed may wait in the open block until it is full. False: the
-    /// open block is sent and the worker is woken before `next_line` is called. A source without an `is_ready` of its
-    /// own is always ready, so that its blocks are full; one whose `next_line` may wait should define it.
+    /// Whether `next_line` would return without waiting. It decides only when lines are sent and when the
+    /// worker is woken, never what is set. True: the lines that were fed may wait in the open block until it
+    /// is full. False: the open block is sent and the worker is woken before `next_line` is called. A source
+    /// without an `is_ready` of its own is always ready, so that its blocks are full; one whose `next_line`
+    /// may wait should define it.
     fn is_ready(&self) -> bool {
         true
     }

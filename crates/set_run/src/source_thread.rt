@@ -107,9 +107,9 @@ fn tell(signals: &Signals, number: usize, unheard: usize, is_ready: bool) -> usi
     }
 }
 
-/// Feeds a source's lines, each after the one before it was accepted. Lines that were fed are sent before a source that
-/// isn't ready is asked for the next one: none of them waits for it in the open block. How they end; `None` if the batch
-/// is stopped.
+/// Feeds a source's lines, each after the one before it was accepted. Lines that were fed are sent before a
+/// source that isn't ready is asked for the next one: none of them waits for it in the open block. How they
+/// end; `None` if the batch is stopped.
 fn feed_lines<R: Wait, S: LineSource>(
     rt: &R,
     signals: &Signals,
