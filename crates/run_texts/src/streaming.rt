@@ -193,7 +193,7 @@ where
         mut block,
         counts,
         version: _,
-        texts: _,
+        texts: _texts,
     } = stream;
     match ran {
         Ok(run) => finish(&mut block, counts.as_slice(), writer, &run),
