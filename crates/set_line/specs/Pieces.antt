@@ -72,7 +72,7 @@ is_skipped Refuse font byte = false
 is_skipped Skip font byte = not (is_space byte) && is_missing font byte
 
 -- a portion can't be cut further: a run has at least one byte, and none of its bytes is a space or is
--- skipped; a skipped byte is one that is skipped
+-- skipped; the byte of a `skipped` portion is one that the policy skips
 abbrev pub IsUncut : Policy → FontValue → Portion → Type 0
 IsUncut policy font (run codes right) = (0 < length codes) × (list_any (λ byte. is_space byte || is_skipped policy font byte) codes ≡ false)
 IsUncut policy font space = ⊤
