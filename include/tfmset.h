@@ -146,9 +146,9 @@ struct tfmset_metrics {
     /* 0: no tag. 1: the character has instructions in the lig/kern program. 2: it has a next larger
      * character. 3: it has an extensible recipe. */
     uint32_t tag;
-    /* The meaning depends on `tag`. 1: the address in the character's char_info entry; if there is an
-     * indirect start at this address, it isn't followed. 2: the code of the next larger character. 3: the
-     * number of the recipe, from 0. Otherwise 0. */
+    /* The meaning depends on `tag`. 1: the address of an instruction in the lig/kern program, as the file has
+     * it; if that instruction is an indirect start (docs/LIGATURES.md in the sources), it isn't followed. 2:
+     * the code of the next larger character. 3: the number of the recipe, from 0. Otherwise 0. */
     uint32_t remainder;
 };
 

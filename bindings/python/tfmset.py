@@ -218,8 +218,9 @@ class Metrics(NamedTuple):
     `italic` is the italic correction. The meaning of `remainder` depends on `tag`:
 
     - tag 0: the character has no tag; `remainder` is 0
-    - tag 1: the character has instructions in the lig/kern program; `remainder` is the address in the
-      character's entry of the table char_info; an indirect start at this address isn't followed
+    - tag 1: the character has instructions in the lig/kern program; `remainder` is the address of an
+      instruction, as the file has it; if that instruction is an indirect start (docs/LIGATURES.md in the
+      sources), it isn't followed
     - tag 2: `remainder` is the code of the next larger character
     - tag 3: `remainder` is the number of its extensible recipe
     """
@@ -445,7 +446,7 @@ class Font:
 
     @classmethod
     def from_file(cls, path: Union[str, os.PathLike], size: Size = None) -> Font:
-        """Returns the font in a file. Raises OSError if the file can't be read; otherwise as `Font`."""
+        """Returns the font in a file. Raises OSError if the file can't be read, and what `Font` raises."""
         with open(path, "rb") as file:
             return cls(file.read(), size)
 
@@ -508,9 +509,10 @@ class Font:
     def set(self, text: Text, limit: int = 1_048_576, missing: str = "refuse") -> Lines:
         """Sets the lines of a text and returns their results, with the items of each line.
 
-        A line that takes more than `limit` steps is refused; `limit` is from 1 to 16,777,216. With
-        `missing="refuse"` a line with a missing character is refused: a byte that is neither a space nor a
-        character of the font. With `missing="skip"` such a byte is skipped, and is an item of kind SKIPPED.
+        A line that takes more than `limit` steps is refused; `limit` is from 1 to 16,777,216. A missing
+        character is a byte that is neither a space nor a character of the font. With `missing="refuse"` a
+        line with a missing character is refused. With `missing="skip"` the byte is skipped, and is an item of
+        kind SKIPPED.
 
         Raises ValueError if `limit` or `missing` has any other value, and TypeError if `limit` isn't an int
         or `text` isn't bytes, a bytearray or a memoryview.

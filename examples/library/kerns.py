@@ -6,7 +6,7 @@ usage: kerns.py FONT
 Each row begins with a left character, and lists the right characters before which the font has a kern. A
 character is printed as itself, or by its code if it isn't a visible ASCII character; `|` is a boundary. Each
 pair of characters takes one call of the library, which reads the font again: a font of 256 characters takes
-some seconds. The script needs the module tfmset (docs/CALLING.md).
+a few seconds. The script needs the module tfmset (docs/CALLING.md).
 """
 import sys
 
