@@ -27,8 +27,8 @@
  * of the font. All dimensions are in scaled points, of which 65,536 are one point. The slant is the
  * exception: it is a ratio in units of 2^-20, and isn't scaled.
  *
- * Pointers: no pointer may be null, not even with length 0. The memory that a function writes to (its last
- * argument, and the arrays before it) may not overlap any other memory that it is given. The memory that
+ * Pointers: no pointer may be null, not even with length 0. The memory that a function writes to (whatever
+ * its pointers without `const` point to) may not overlap any other memory that it is given. The memory that
  * it only reads may overlap, and may be shared by several calls. Each pointer must be aligned as its type
  * requires. A function writes to no other memory of the caller.
  *

@@ -271,13 +271,13 @@ _REASONS = ("", "missing", "too-long", "steps")
 
 @functools.lru_cache(maxsize=1024)
 def _items(count: int) -> type:
-    """Returns the type of an array of `count` items. Without the cache making the type takes longer than
-    setting a short line."""
+    """Returns the type of an array of `count` items. Without the cache, making the type takes longer
+    than setting a short line."""
     return Item * count
 
 
 def _front(buffer: ctypes.Array, count: int) -> bytes:
-    """Returns a copy of the first `count` bytes of a buffer, also if these are more than a C int can count.
+    """Returns a copy of the first `count` bytes of a buffer, even if these are more than a C int can count.
     (`ctypes.string_at` takes the count as a C int, which fails for 2 GiB and cuts the result above 4 GiB.)"""
     return bytes(memoryview(buffer)[:count])
 
