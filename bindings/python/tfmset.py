@@ -31,7 +31,7 @@ On import the module loads the library from the first of these locations that ha
 The import raises ImportError if no library is found, or if it can't be loaded.
 
 The library has no state. Any thread may call any function at any time, and calls of several threads run
-concurrently. Each call reads the font again, which for the font cmr10 takes about 30 microseconds. It is
+concurrently. Each call reads the font again, which for the font cmr10 takes up to 30 microseconds. It is
 therefore much faster to set many lines in one call than to make one call for each line.
 """
 from __future__ import annotations
