@@ -1,5 +1,39 @@
 # Completion of tfmset for bash: subcommands, options, the values of options that have only a few, and file names.
-# checks/packaging compares this file with the program's help.
+# scripts/command_pages writes a part of this file. checks/packaging.py tests the completions in bash.
+
+# begin generated: table, from scripts/commands.toml
+_tfmset_commands='counts list check set each stream help'
+
+# Sets `options` to the options of a subcommand, or to those of the program if there is none.
+_tfmset_options() {
+    case $1 in
+        '') options='-h --help -V --version' ;;
+        counts) options='-h --help' ;;
+        list) options='--all -h --help' ;;
+        check) options='--size -h --help' ;;
+        set) options='--size --limit --missing --workers --capacity --block --record -h --help' ;;
+        each) options='--size --missing --workers --capacity --block --record -h --help' ;;
+        stream) options='--size --limit --missing --workers --capacity --block --record -h --help' ;;
+        help) options='' ;;
+        *) options='' ;;
+    esac
+}
+
+# Sets `values` to the values of an option if it has only a few. Fails if the option has no value.
+_tfmset_values() {
+    values=''
+    case $1 in
+        --size) values='' ;;
+        --limit) values='' ;;
+        --missing) values='refuse skip' ;;
+        --workers) values='1 2 3 4 5 6 7 8 9 10 11 12 13 14 15 16' ;;
+        --capacity) values='' ;;
+        --block) values='1 2 3 4 5 6 7 8' ;;
+        --record) values='1 2 json' ;;
+        *) return 1 ;;
+    esac
+}
+# end generated
 
 # Completes a font: the name of a file that ends in .tfm, or of a directory. If there are none, any file name.
 _tfmset_font() {
@@ -13,37 +47,31 @@ _tfmset_file() {
 }
 
 _tfmset() {
-    local word=${COMP_WORDS[COMP_CWORD]} before=${COMP_WORDS[COMP_CWORD - 1]} options='' count=0 ended='' i
-    local commands='counts list check set each stream help'
+    local word=${COMP_WORDS[COMP_CWORD]} before=${COMP_WORDS[COMP_CWORD - 1]} options values count=0 ended='' i
     COMPREPLY=()
 
     if ((COMP_CWORD == 1)); then
         case $word in
-            -*) mapfile -t COMPREPLY < <(compgen -W '-h --help -V --version' -- "$word") ;;
-            *) mapfile -t COMPREPLY < <(compgen -W "$commands" -- "$word") ;;
+            -*) _tfmset_options '' && mapfile -t COMPREPLY < <(compgen -W "$options" -- "$word") ;;
+            *) mapfile -t COMPREPLY < <(compgen -W "$_tfmset_commands" -- "$word") ;;
         esac
         return
     fi
 
-    case ${COMP_WORDS[1]} in
-        counts) options='-h --help' ;;
-        list) options='--all -h --help' ;;
-        check) options='--size -h --help' ;;
-        set | stream) options='--size --limit --missing --workers --capacity --block --record -h --help' ;;
-        each) options='--size --missing --workers --capacity --block --record -h --help' ;;
-        help)
-            ((COMP_CWORD > 2)) || mapfile -t COMPREPLY < <(compgen -W "$commands" -- "$word")
-            return
-            ;;
-        *) return ;;
-    esac
+    _tfmset_options "${COMP_WORDS[1]}"
+    if [[ ${COMP_WORDS[1]} == help ]]; then
+        ((COMP_CWORD > 2)) || mapfile -t COMPREPLY < <(compgen -W "$_tfmset_commands" -- "$word")
+        return
+    elif [[ ! $options ]]; then
+        return
+    fi
 
     # Counts the arguments after the subcommand that are neither options nor their values. Bash splits words at `=`.
     for ((i = 2; i < COMP_CWORD; i++)); do
         if [[ ! $ended && ${COMP_WORDS[i]} == -- ]]; then
             ended=yes
         elif [[ ! $ended && ${COMP_WORDS[i]} == --?* ]]; then
-            [[ ${COMP_WORDS[i]} == --@(all|help) ]] || i=$((i + 1))
+            if _tfmset_values "${COMP_WORDS[i]}"; then i=$((i + 1)); fi
             [[ ${COMP_WORDS[i]} != = ]] || i=$((i + 1))
         elif [[ $ended || ${COMP_WORDS[i]} != -?* ]]; then
             count=$((count + 1))
@@ -56,15 +84,10 @@ _tfmset() {
         elif [[ $before == = ]]; then
             before=${COMP_WORDS[COMP_CWORD - 2]}
         fi
-        case $before in
-            --missing) mapfile -t COMPREPLY < <(compgen -W 'refuse skip' -- "$word") ;;
-            --workers) mapfile -t COMPREPLY < <(compgen -W "$(echo {1..16})" -- "$word") ;;
-            --block) mapfile -t COMPREPLY < <(compgen -W "$(echo {1..8})" -- "$word") ;;
-            --record) mapfile -t COMPREPLY < <(compgen -W '1 2 json' -- "$word") ;;
-        esac
-        case $before in
-            --size | --limit | --missing | --workers | --capacity | --block | --record) return ;;
-        esac
+        if _tfmset_values "$before"; then
+            [[ ! $values ]] || mapfile -t COMPREPLY < <(compgen -W "$values" -- "$word")
+            return
+        fi
         if [[ $word == -* ]]; then
             mapfile -t COMPREPLY < <(compgen -W "$options" -- "$word")
             return

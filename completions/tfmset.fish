@@ -1,5 +1,5 @@
 # Completion of tfmset for fish: subcommands, options, the values of options that have only a few, and file names.
-# checks/packaging compares this file with the program's help.
+# scripts/command_pages writes a part of this file. checks/packaging.py tests the completions in fish.
 
 # Succeeds if there is no subcommand yet.
 function __tfmset_none
@@ -27,7 +27,7 @@ function __tfmset_count
             switch $word
                 case --
                     set ended yes
-                case --all --help -h '--*=*'
+                case (__tfmset_flags) '--*=*'
                 case '--*'
                     set value yes
                 case '*'
@@ -54,6 +54,7 @@ function __tfmset_wants
 end
 
 complete -c tfmset -f
+# begin generated: table, from scripts/commands.toml
 complete -c tfmset -n __tfmset_none -s h -l help -d 'Print help'
 complete -c tfmset -n __tfmset_none -s V -l version -d 'Print the version'
 complete -c tfmset -n __tfmset_none -a counts -d 'Print the twelve counts and the design size of a font'
@@ -63,18 +64,23 @@ complete -c tfmset -n __tfmset_none -a set -d 'Set the lines of files with a fon
 complete -c tfmset -n __tfmset_none -a each -d 'Set the lines of files, each with its own font and step limit'
 complete -c tfmset -n __tfmset_none -a stream -d 'Set lines, and print each record as soon as it is ready'
 complete -c tfmset -n __tfmset_none -a help -d 'Print help'
-
-complete -c tfmset -n '__tfmset_is counts list check set each stream' -s h -l help -d 'Print help'
 complete -c tfmset -n '__tfmset_is list' -l all -d 'Also print the counts, the extensible recipes and all words'
-complete -c tfmset -n '__tfmset_is set stream' -l limit -x -d 'Maximum steps per line, 1 to 16777216'
 complete -c tfmset -n '__tfmset_is check set each stream' -l size -x -d 'Font size in scaled points, 1 to 134217727'
+complete -c tfmset -n '__tfmset_is set stream' -l limit -x -d 'Maximum steps per line, 1 to 16777216'
 complete -c tfmset -n '__tfmset_is set each stream' -l missing -x -a 'refuse skip' -d 'On a missing character'
-complete -c tfmset -n '__tfmset_is set each stream' -l workers -x -a '(seq 16)' -d 'Maximum threads that set lines'
+complete -c tfmset -n '__tfmset_is set each stream' -l workers -x -a '(seq 1 16)' -d 'Maximum threads that set lines'
 complete -c tfmset -n '__tfmset_is set each stream' -l capacity -x -d 'Slots per queue between threads, 1 to 65536'
-complete -c tfmset -n '__tfmset_is set each stream' -l block -x -a '(seq 8)' -d 'Lines per message between threads'
+complete -c tfmset -n '__tfmset_is set each stream' -l block -x -a '(seq 1 8)' -d 'Lines per message between threads'
 complete -c tfmset -n '__tfmset_is set each stream' -l record -x -a '1 2 json' -d 'Record format'
+complete -c tfmset -n '__tfmset_is counts list check set each stream' -s h -l help -d 'Print help'
+complete -c tfmset -n '__tfmset_is help; and test (__tfmset_count) -eq 0' -a 'counts list check set each stream help'
+
+# Prints the options that have no value.
+function __tfmset_flags
+    string split ' ' -- '--all -h --help -V --version'
+end
+# end generated
 
 complete -c tfmset -n '__tfmset_wants font' -a '(__fish_complete_suffix .tfm)'
 complete -c tfmset -n '__tfmset_wants limit' -a 1048576
 complete -c tfmset -n '__tfmset_wants file' -F
-complete -c tfmset -n '__tfmset_is help; and test (__tfmset_count) -eq 0' -a 'counts list check set each stream help'

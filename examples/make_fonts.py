@@ -3,8 +3,8 @@
 
 usage: examples/make_fonts.py [DIRECTORY]   another directory for them
 
-It needs only Python 3 and writes the same bytes each time. checks/pages compares these bytes with the fonts
-that the tests build.
+It needs only Python 3 and writes the same bytes each time. checks/pages.py compares these bytes with the
+fonts that the tests build.
 """
 import struct
 import sys

@@ -32,10 +32,16 @@
  * it only reads may overlap, and may be shared by several calls. Each pointer must be aligned as its type
  * requires. A function writes to no other memory of the caller.
  *
+ * Lengths: each length is a number of elements that the memory really has. A larger number, such as SIZE_MAX
+ * for an array that is known to be long enough, is undefined behaviour.
+ *
  * Memory: functions allocate memory with malloc and realloc, and free all of it before they return.
  *
  * Threads: any thread may call any function at any time. Don't call the library from a signal handler, or in
  * the child process after a fork of a process that has several threads.
+ *
+ * Time: a font's lig/kern program may run until a line has taken `limit` steps. The time of a call therefore
+ * grows with the number of lines times `limit`. For fonts from strangers choose a small limit.
  *
  * Return value: each function except tfmset_version returns one of the five TFMSET_ codes below. The last
  * argument is written to as follows; after any other code it is unchanged:
@@ -52,6 +58,10 @@
 
 #include <stddef.h>
 #include <stdint.h>
+
+#if defined(SIZE_MAX) && SIZE_MAX != 18446744073709551615u
+#error "libtfmset needs a 64-bit size_t"
+#endif
 
 #ifdef __cplusplus
 extern "C" {
@@ -277,6 +287,26 @@ uint32_t tfmset_records(const uint8_t *font, size_t font_length, uint32_t size, 
                         uint32_t policy, const uint8_t *text, size_t text_length, uint32_t version,
                         uint64_t source, uint64_t first, uint8_t *records, size_t records_length,
                         size_t *length);
+
+/* The library was compiled for structs of this layout: their sizes, and the offsets of their last fields. */
+#if defined(__cplusplus) && __cplusplus >= 201103L
+#define TFMSET_ASSERT(fact) static_assert(fact, "the layout of a struct isn't that of libtfmset")
+#elif defined(__STDC_VERSION__) && __STDC_VERSION__ >= 201112L
+#define TFMSET_ASSERT(fact) _Static_assert(fact, "the layout of a struct isn't that of libtfmset")
+#else
+#define TFMSET_ASSERT(fact) extern char tfmset_layout[(fact) ? 1 : -1]
+#endif
+#define TFMSET_LAYOUT(name, size, last, offset) \
+    TFMSET_ASSERT(sizeof(struct name) == (size) && offsetof(struct name, last) == (offset))
+TFMSET_LAYOUT(tfmset_fault, 16, named, 12);
+TFMSET_LAYOUT(tfmset_font, 72, extra_space, 68);
+TFMSET_LAYOUT(tfmset_metrics, 28, remainder, 24);
+TFMSET_LAYOUT(tfmset_pair, 24, pass, 20);
+TFMSET_LAYOUT(tfmset_item, 12, width, 8);
+TFMSET_LAYOUT(tfmset_line, 48, code, 40);
+TFMSET_LAYOUT(tfmset_counts, 16, items, 8);
+#undef TFMSET_LAYOUT
+#undef TFMSET_ASSERT
 
 #ifdef __cplusplus
 }

@@ -28,7 +28,9 @@ On import the module loads the library from the first of these locations that ha
    `dist-packages`);
 4. the directories that the system's dynamic linker searches, such as those in LD_LIBRARY_PATH.
 
-The import raises ImportError if no library is found, or if it can't be loaded.
+The import raises ImportError if no library is found, if it can't be loaded, or if its version isn't that of
+this module (the first two numbers of `__version__` have to be the same): the layout of its structs could
+differ.
 
 The library has no state. Any thread may call any function at any time, and calls of several threads run
 concurrently. Each call reads the font again, which for the font cmr10 takes up to 30 microseconds. It is
@@ -45,7 +47,9 @@ import struct
 from typing import List, NamedTuple, Optional, Sequence, Tuple, Union, overload
 
 __all__ = ["BOUNDARY", "CHARACTER", "KERN", "POINT", "SKIPPED", "SPACE", "Font", "FontRefused", "Item",
-           "Kern", "Ligature", "Line", "Lines", "Metrics", "Refusal", "version"]
+           "Kern", "Ligature", "Line", "Lines", "Metrics", "Refusal", "__version__", "version"]
+
+__version__ = "0.1.0"
 
 POINT = 65536
 """The number of scaled points in a point."""
@@ -156,7 +160,15 @@ def _load() -> ctypes.CDLL:
             function.argtypes, function.restype = types, _u32
     except AttributeError as error:
         raise ImportError(f"{path} isn't libtfmset, or is an older version of it: {error}") from error
+    found = _version(library)
+    if found[:2] != tuple(map(int, __version__.split(".")))[:2]:
+        raise ImportError(f"{path} has version {'.'.join(map(str, found))}, but tfmset.py has {__version__}")
     return library
+
+
+def _version(library: ctypes.CDLL) -> Tuple[int, int, int]:
+    number = library.tfmset_version()
+    return number // 1_000_000, number // 1000 % 1000, number % 1000
 
 
 _library = _load()
@@ -168,8 +180,7 @@ def version() -> Tuple[int, int, int]:
     >>> version() >= (0, 1, 0)
     True
     """
-    number = _library.tfmset_version()
-    return number // 1_000_000, number // 1000 % 1000, number % 1000
+    return _version(_library)
 
 
 class FontRefused(ValueError):
@@ -297,12 +308,13 @@ class Line:
 
     @property
     def items(self) -> ctypes.Array[Item]:
-        """The items of the line, in order, as an array that shares the memory of the result.
+        """The items of the line, in order, as a new array: writing to it changes neither this line nor another.
 
         The array can be passed as a buffer to other modules: `struct.iter_unpack("IIi", line.items)`, or
-        `numpy.frombuffer(line.items, "u4,u4,i4")`. It keeps the items of all lines of the text in memory.
+        `numpy.frombuffer(line.items, "u4,u4,i4")`. As long as a `Line` exists, the items of all lines of its
+        text stay in memory.
         """
-        return _items(self._count).from_buffer(self._all, self._first * ctypes.sizeof(Item))
+        return _items(self._count).from_buffer_copy(self._all, self._first * ctypes.sizeof(Item))
 
     def __repr__(self) -> str:
         return f"<Line of width {self.width}, {self._count} items>"
@@ -319,7 +331,10 @@ class Lines(Sequence[Outcome]):
 
     @property
     def items(self) -> ctypes.Array[Item]:
-        """The items of all lines, in order, as one array."""
+        """The items of all lines, in order, as one array.
+
+        The array isn't a copy, since it may be large: writing to it changes the items of the lines.
+        """
         return _items(self._item_count).from_buffer(self._items)
 
     def __len__(self) -> int:
@@ -348,10 +363,14 @@ class Lines(Sequence[Outcome]):
 
 
 def _number(name: str, value: int, low: int, high: int) -> int:
-    """Returns `value` as an int. Raises ValueError if it isn't from `low` to `high`."""
-    if not low <= operator.index(value) <= high:
-        raise ValueError(f"{name} is {value}, but must be from {low:,} to {high:,}")
-    return operator.index(value)
+    """Returns `value` as an int. Raises ValueError if it isn't from `low` to `high`, and TypeError for a bool
+    and for anything else that isn't an integer."""
+    if isinstance(value, bool):
+        raise TypeError(f"{name} is {value}, but must be an integer")
+    number = int(operator.index(value))
+    if not low <= number <= high:
+        raise ValueError(f"{name} is {number}, but must be from {low:,} to {high:,}")
+    return number
 
 
 def _size(size: Size) -> int:
@@ -369,9 +388,11 @@ def _size(size: Size) -> int:
 
 
 def _bytes(name: str, content: Text) -> bytes:
+    """Returns the contents of a buffer as an object of the type bytes itself. A subclass could report another
+    length than that of its memory."""
     if isinstance(content, str):
         raise TypeError(f"{name} must be bytes: encode the string first, for example by .encode('latin-1')")
-    return content if isinstance(content, bytes) else bytes(memoryview(content))
+    return content if type(content) is bytes else bytes(memoryview(content))
 
 
 class Font:

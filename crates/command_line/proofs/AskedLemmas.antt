@@ -1,4 +1,4 @@
--- Requests: what the words ask for, by what a parse says of them.
+-- The requests of arguments, from the clauses about a parse.
 use Rattle.std.proofs.Common.{◌≡◌, true, List, Option, Some, None, refl, sym, subst}
 use Rattle.std.proofs.lemmas.Option.{none-some, same_Some}
 use Rattle.std.specs.Prelude.{Result}
@@ -10,7 +10,7 @@ use Rattle.command_line.specs.Commands.{AllChoices, tfmset_app}
 use Rattle.command_line.specs.declared.request.Request.{Request}
 
 module _ (choices : AllChoices) where
-  -- what is said of a parse applies to this command
+  -- the clauses about a parse hold for this command
   simple : is_simple (tfmset_app choices) ≡ true
   simple = refl
 
@@ -21,7 +21,7 @@ module _ (choices : AllChoices) where
     rows_of_words : (m : ArgMatches) → HasMatchesOf app words m → subcommand_rows_of m ≡ subcommand_of (tfmset_app choices) words
     rows_of_words m has = (subst (λ a. HasMatchesOf a words m) is has simple).1
 
-    -- what is found in the matches is what the words ask for
+    -- the request found in the matches is the one that the arguments state
     pub asked_in_words : (m : ArgMatches) (found : Option Request) (request : Request) → HasMatchesOf app words m → Finds (IsAskedOf (subcommand_rows_of m)) found
         → found ≡ Some request → IsAskedOf (subcommand_of (tfmset_app choices) words) request
     asked_in_words m (Some other) request has finds one =
@@ -33,6 +33,6 @@ module _ (choices : AllChoices) where
     nothing_in_words m (Some other) has finds none request asks = none-some other (sym none)
     nothing_in_words m None has finds none request asks = finds request (subst (λ s. IsAskedOf s request) (sym (rows_of_words m has)) asks.1)
 
-    -- a parse fails by the first fault of the words, and otherwise there is none
+    -- a parse fails with the first error of the arguments, and otherwise they have no error
     pub faults : {T : Type 0} (r : Result T Error) → (is_simple_and_free app ≡ true → FailsBy (fault_of app words) r) → FailsBy (fault_of (tfmset_app choices) words) r
     faults r fails = subst (λ a. is_simple_and_free a ≡ true → FailsBy (fault_of a words) r) is fails free

@@ -1,4 +1,4 @@
--- How the command is made of its arguments and subcommands.
+-- How the command is built from its arguments and subcommands.
 use Rattle.std.proofs.Common.{◌≡◌, List, Bor, ap, ◌∙◌, map}
 use Rattle.clap.specs.Words.{App, Shape, Text, rule_of, with_subcommand}
 use Rattle.clap.specs.declared.builder.arg.Arg.{Arg}
@@ -13,7 +13,7 @@ use Rattle.command_line.specs.Commands.{Choices, IsArgument, IsCommandOf, IsSubc
 pub as_subcommand : (app : App) (command : Command) → IsCommandOf app command → IsSubcommand app.top command
 as_subcommand app command is = (ap (λ (a : App). a.top) is.0, is.1)
 
--- an option for one of some words, with the one that it has if it isn't given
+-- an option whose value is one of a list, with its default
 pub with_words : (name default : Text) (words : List Text) (names : Bor (List (Bor Text))) (option made : Arg) (value : Bor Text)
     → IsArgument (choice_rule name (parser.Names names)) option → made ≡ record option { default_vals = One value } → value.now ≡ default
     → map (λ (word : Bor Text). word.now) names.now ≡ words
@@ -29,7 +29,7 @@ with_words name default words names option made value is same default_is words_a
 
 -- ---- subcommands
 
--- what a subcommand adds to a command, if it could be made
+-- what a subcommand adds to a command, if building the subcommand succeeded
 abbrev pub Adds : Command → Command → Command → Type 0
 Adds command made added =
     (app : App) (shape : Shape) → IsCommandOf app command → IsSubcommand shape added → IsCommandOf (with_subcommand app shape) made
@@ -41,7 +41,7 @@ module _ {E : Type 0} (command made : Command) (app : App) where
   with_added (Ok added) shape adds is before = adds app shape before is
   with_added (Err e) shape adds is before = absurd adds
 
-  -- the same of a subcommand that has choices
+  -- the command with a subcommand that has options with a list of values
   pub with_choices : (added : Result Command E) (shape : Choices → Shape) → IsOkAnd added (Adds command made)
       → IfOk added (λ a. (choices : Choices) × IsSubcommand (shape choices) a)
       → IsCommandOf app command → (choices : Choices) × IsCommandOf (with_subcommand app (shape choices)) made

@@ -1,4 +1,4 @@
--- The values of arguments: from what the getters of a parse say to the rows of its values.
+-- The values of arguments: from the clauses of the getters of a parse to the rows of its values.
 use Rattle.std.proofs.Common.{arith, ◌≡◌, ℕ, Bool, true, false, List, [], map, Option, Some, None, Bor, refl, ap, sym, subst, ◌∙◌, codes}
 use Rattle.std.proofs.lemmas.Option.{none-some}
 use Rattle.std.specs.Prelude.{Result, option_map, unwrap_or}
@@ -9,21 +9,21 @@ use Rattle.clap.specs.declared.parser.matches.Found.{Found}
 use Rattle.clap.proofs.WalkLemmas.{first_value-rows, one_text-rows, raw_values-rows}
 use Rattle.command_line.specs.Asked.{Finds, IsFlag, IsNumberIn, texts}
 
--- ---- something that fits, or none if nothing does
+-- ---- a value that satisfies a predicate, or None
 
--- a value that is told is the one that is found
+-- if the result is an optional value, it is the one that was found
 pub finds_told : {A B : Type 0} (f : A → B) (r : Option A) (told : Option B) → option_map f r ≡ told → Finds (λ x. told ≡ Some (f x)) r
 finds_told f (Some x) told is = sym is
 finds_told f None told is = λ any has. none-some (f any) (is ∙ has)
 
--- nothing fits if no part of it does
+-- no value satisfies a predicate if no part of it can
 pub no_part : {A B : Type 0} (P : A → Type 0) (Q : B → Type 0) (part : B → A) (r : Option A) (result : Option B) → Finds P r → r ≡ None
     → result ≡ None → ((b : B) → Q b → P (part b)) → Finds Q result
 no_part P Q part r (Some b) finds none is parts = absurd (none-some b (sym is))
 no_part P Q part (Some a) None finds none is parts = absurd (none-some a (sym none))
 no_part P Q part None None finds none is parts = λ b fits. finds (part b) (parts b fits)
 
--- ---- texts and words
+-- ---- texts and arguments
 
 pub text_found : (f : Found) (id : Text) (r : Option (Bor Text)) → option_map (λ s. s.now) r ≡ first_value f id
     → Finds (λ (text : Bor Text). first_of id (rows_of f) ≡ Some text.now) r

@@ -1,4 +1,4 @@
--- Command lines, and what the definitions alone make of them.
+-- Examples of command lines, with the values and errors that the definitions give them.
 use Rattle.std.proofs.Common.{◌≡◌, List, [], ◌∷◌, Option, Some, None, refl, codes}
 use Rattle.std.specs.Prelude.{option_map}
 use Rattle.clap.specs.Words.{Kinds, Text, all_of, fault_of, first_of, one_of, subcommand_of}
@@ -7,7 +7,7 @@ use Rattle.clap.proofs.OnLiterals.{clap_on_literals}
 use Rattle.command_line.specs.Commands.{AllChoices, tfmset_app}
 
 module _ (choices : AllChoices) where
-  -- the first text, the text that is read and all texts of an argument, by the words; none if no subcommand is found
+  -- the first text, the text that is read and all texts of an argument; None if no subcommand is found
   abbrev text_in : Text → List Text → Option (Option Text)
   text_in argument words = option_map (λ s. first_of argument s.1) (subcommand_of (tfmset_app choices) words)
 
@@ -86,7 +86,7 @@ module _ (choices : AllChoices) where
   unfolding clap_on_literals
   stream_files = refl
 
-  -- ---- words that are refused, and help
+  -- ---- invalid arguments, and help
 
   nothing : fault_in [] ≡ DisplayHelpOnMissingArgumentOrSubcommand ∷ []
   unfolding clap_on_literals
@@ -124,7 +124,7 @@ module _ (choices : AllChoices) where
   unfolding clap_on_literals
   no_option = refl
 
-  -- ---- words that are taken
+  -- ---- valid arguments
 
   largest_size : fault_in (codes "check" ∷ codes "--size" ∷ codes "134217727" ∷ codes "f.tfm" ∷ codes "-" ∷ []) ≡ []
   unfolding clap_on_literals

@@ -1,4 +1,4 @@
--- What the words after the program's name ask for, by the values that a parse gives to each argument.
+-- The request that the arguments after the program's name state, by the values that a parse finds for them.
 -- This project's own.
 use Rattle.std.specs.Prelude.{◌≡◌, ◌⊎◌, ◌≤◌, ℕ, List, [], Bool, true, false, Option, Some, None, IsSomeAnd, codes, map, unwrap_or}
 use Rattle.std.specs.Borrow.{Bor}
@@ -19,56 +19,56 @@ use Rattle.command_line.specs.declared.request.Request.{Request}
 use Rattle.command_line.specs.declared.request.Request.TheVariants.{Counts, List as ListFont, Check, Set, Stream, Each}
 use Rattle.command_line.specs.declared.request.Setting.{Setting}
 
--- something that fits, or none if nothing does
+-- a value that satisfies Fits, or None if no value does
 abbrev pub Finds : {A : Type 0} → (A → Type 0) → Option A → Type 0
 Finds Fits (Some found) = Fits found
 Finds {A} Fits None = (any : A) → ¬ Fits any
 
--- the texts of words
+-- the texts of borrowed arguments
 abbrev pub texts : List (Bor Text) → List Text
 texts words = map (λ word. word.now) words
 
 -- ---- values
 
--- this text writes the number, in decimal digits, perhaps after a plus
+-- the text writes the number in decimal digits, possibly after a plus sign
 abbrev pub Writes : Text → ℕ → Type 0
 Writes text number = IsNumeral 10 (without_leading_plus text) × (digits_value 10 (without_leading_plus text) ≡ number)
 
--- there is a text that writes the number, which lies from least to most
+-- there is a text, which writes the number, and the number is from least to most
 abbrev pub IsNumberIn : ℕ → ℕ → Option Text → ℕ → Type 0
 IsNumberIn least most text number = IsSomeAnd text (λ t. Writes t number) × (least ≤ number) × (number ≤ most)
 
--- the word for what is done with missing characters
+-- the value of `--missing` for a policy
 abbrev pub policy_word : Policy → Text
 policy_word Refuse = codes "refuse"
 policy_word Skip = codes "skip"
 
--- the word for the form of records
+-- the value of `--record` for a record format
 abbrev pub version_word : Version → Text
 version_word One = codes "1"
 version_word Two = codes "2"
 version_word Json = codes "json"
 
--- a flag is set by `true`; it isn't by `false`, nor without a text
+-- a flag is set if its value is `true`, and isn't set if its value is `false` or it has none
 abbrev pub IsFlag : Option Text → Bool → Type 0
 IsFlag None set = set ≡ false
 IsFlag (Some text) set = (text ≡ codes "true" → set ≡ true) × (text ≡ codes "false" → set ≡ false)
 
--- ---- requests, by the values of a subcommand's arguments
+-- ---- requests, by the values of the arguments of a subcommand
 
 module _ (rows : List Row) where
-  -- the size of all fonts, or none
+  -- the number of `--size`, or None if the option has no number from 1 to 134217727
   abbrev pub IsSize : Option ℕ → Type 0
   IsSize size = Finds (IsNumberIn 1 134217727 (one_of (codes "size") rows)) size
 
-  -- the threads and the rings of a run
+  -- the numbers of `--capacity`, `--block` and `--workers`
   abbrev pub IsPlan : Plan → Type 0
   IsPlan plan =
       IsNumberIn 1 65536 (one_of (codes "capacity") rows) plan.capacity
       × IsNumberIn 1 8 (one_of (codes "block") rows) plan.block
       × IsNumberIn 1 16 (one_of (codes "workers") rows) plan.workers
 
-  -- the layout of a run
+  -- the values of the options that `set`, `stream` and `each` have in common
   abbrev pub IsLayout : Layout → Type 0
   IsLayout layout =
       IsSize layout.size
@@ -76,11 +76,11 @@ module _ (rows : List Row) where
       × IsPlan layout.plan
       × (first_of (codes "record") rows ≡ Some (version_word layout.version))
 
-  -- the fonts to look at, all in order
+  -- the fonts of `check`, in order, and their size
   abbrev pub IsChecking : Checking → Type 0
   IsChecking asked = (all_of (codes "FONT") rows ≡ Some (texts asked.fonts.items)) × IsSize asked.size
 
-  -- lines to be set with one font: all the files, in order
+  -- the values of `set` or `stream`: the font, the limit, the files in order, and the layout
   abbrev pub IsSetting : Setting → Type 0
   IsSetting asked =
       (first_of (codes "FONT") rows ≡ Some asked.font.now)
@@ -88,11 +88,11 @@ module _ (rows : List Row) where
       × (unwrap_or (all_of (codes "FILE") rows) [] ≡ texts asked.files.items)
       × IsLayout asked.layout
 
-  -- the jobs of `each`: all the words, in order
+  -- the arguments of `each`, in order, and the layout
   abbrev pub AreJobs : Jobs → Type 0
   AreJobs asked = (all_of (codes "WORD") rows ≡ Some (texts asked.words.items)) × IsLayout asked.layout
 
-  -- what the subcommand of this name asks for
+  -- the subcommand of this name and its values state this request
   abbrev pub AsksFor : Text → Request → Type 0
   AsksFor name (Counts font) = (name ≡ codes "counts") × (first_of (codes "FONT") rows ≡ Some font.now)
   AsksFor name (ListFont font all) =
@@ -102,26 +102,29 @@ module _ (rows : List Row) where
   AsksFor name (Stream asked) = (name ≡ codes "stream") × IsSetting asked
   AsksFor name (Each asked) = (name ≡ codes "each") × AreJobs asked
 
--- what a subcommand with its values asks for, if there is one
+-- there is a subcommand, which states this request with its values
 abbrev pub IsAskedOf : Option (Text × List Row) → Request → Type 0
 IsAskedOf subcommand request = IsSomeAnd subcommand (λ s. AsksFor s.1 s.0 request)
 
--- ---- requests, by the words
+-- ---- requests, by the arguments
 
 module _ (choices : AllChoices) (words : List Text) where
-  -- a parse finds no fault in the words, and they ask for this
+  -- a parse of the arguments has no error, and they state this request
   abbrev pub IsAskedWith : Request → Type 0
   IsAskedWith request = (fault_of (tfmset_app choices) words ≡ []) × IsAskedOf (subcommand_of (tfmset_app choices) words) request
 
-  -- why the words are refused: memory, or the first fault that a parse finds, or without one that they ask for nothing
+  -- the error of the arguments: out of memory, or the first error of a parse; or, if a parse has none, that
+  -- they state no request
   abbrev pub IsRefusedWith : Error → Type 0
   IsRefusedWith error =
       HasKind (fault_of (tfmset_app choices) words) error
       ⊎ ((fault_of (tfmset_app choices) words ≡ []) × (kind_of error ≡ MissingSubcommand) × ((request : Request) → ¬ IsAskedWith request))
 
--- the same of the command with some choices; memory may also be refused before there is a command
+-- the arguments state this request for the command with some parsers
 abbrev pub IsAskedBy : List Text → Request → Type 0
 IsAskedBy words request = (choices : AllChoices) × IsAskedWith choices words request
 
+-- the error of the arguments for the command with some parsers, or out of memory, which can also occur
+-- before there is a command
 abbrev pub IsRefusedBy : List Text → Error → Type 0
 IsRefusedBy words error = (kind_of error ≡ OutOfMemory) ⊎ ((choices : AllChoices) × IsRefusedWith choices words error)

@@ -1,5 +1,5 @@
--- The command line as tables: the subcommands, and of each the arguments, with their ranges, choices and defaults.
--- This project's own. What a parse of such a command gives, and in which order it refuses, is stated by `clap`.
+-- The command line as tables: the subcommands, and the arguments of each, with ranges, choices and defaults.
+-- This project's own. The crate `clap` defines the result of a parse and the order of its errors.
 use Rattle.std.specs.Prelude.{◌≡◌, ℕ, List, [], ◌∷◌, ◌++◌, Some, true, false, codes, map, pos}
 use Rattle.std.specs.Borrow.{Bor}
 use Rattle.clap.specs.Lexer.{usize_max}
@@ -13,23 +13,23 @@ use Rattle.clap.specs.declared.builder.value_parser.ValueParser.TheVariants as p
 
 -- ---- arguments
 
--- an argument that has to be given
+-- this argument, required
 abbrev pub needed : Rule → Rule
 needed rule = record rule { required = true }
 
--- an argument with this value if it isn't given
+-- this argument, with a default value
 abbrev pub with_default : Text → Rule → Rule
 with_default value rule = record rule { defaults = value ∷ [] }
 
--- as many words as there are, from one on
+-- an argument with one or more values
 abbrev pub words_rule : Text → Rule
 words_rule name = record (new_rule name) { range = Some (record { start_inclusive = 1; end_inclusive = usize_max }) }
 
--- the option of this name, for a number from 1 to most
+-- the option of this name whose value is a number from 1 to most
 abbrev pub number_rule : Text → ℕ → Rule
 number_rule name most = record (new_rule name) { long = Some name; value_names = 1; parser = Some (parser.Signed (pos 1) (pos most)) }
 
--- the option of this name for one of some words, which the parser has
+-- the option of this name whose value is one that the parser accepts
 abbrev pub choice_rule : Text → ValueParser → Rule
 choice_rule name choices = record (new_rule name) { long = Some name; value_names = 1; parser = Some choices }
 
@@ -37,31 +37,33 @@ choice_rule name choices = record (new_rule name) { long = Some name; value_name
 abbrev pub flag_rule : Text → Rule
 flag_rule name = record (new_rule name) { long = Some name; action = Some SetTrue }
 
--- the parser takes these words and no other
+-- the parser accepts these values and no other
 abbrev pub TakesWords : List Text → ValueParser → Type 0
 TakesWords words (parser.Names names) = map (λ (word : Bor Text). word.now) names.now ≡ words
 TakesWords words _ = ⊥
 
--- ---- the options of a run
+-- ---- options
 
--- what may be done with missing characters, and the forms of records
+-- the values of `--missing`
 abbrev pub missing_words : List Text
 missing_words = codes "refuse" ∷ codes "skip" ∷ []
 
+-- the values of `--record`
 abbrev pub record_words : List Text
 record_words = codes "1" ∷ codes "2" ∷ codes "json" ∷ []
 
--- the parsers of the two options whose value is one of some words: what is done with missing characters, and the form of records
+-- the parsers of `--missing` and `--record`
 pub record Choices : Type 0 where
   pub missing : ValueParser
   pub records : ValueParser
   pub missing_taken : TakesWords missing_words missing
   pub records_taken : TakesWords record_words records
 
+-- the option `--size`, in sp
 abbrev pub size_rule : Rule
 size_rule = number_rule (codes "size") 134217727
 
--- the options of every run, with so many lines in a block by default
+-- the options of `set`, `stream` and `each`, except `--size`, with this default for `--block`
 abbrev pub run_rules : Text → Choices → List Rule
 run_rules block choices =
     with_default (codes "refuse") (choice_rule (codes "missing") choices.missing)
@@ -71,38 +73,45 @@ run_rules block choices =
     ∷ with_default (codes "1") (choice_rule (codes "record") choices.records)
     ∷ []
 
--- the options of a run with one font, with so many lines in a block by default, and the font
+-- the options of `set` and `stream`, with this default for `--block`, and the argument FONT
 abbrev pub setting_rules : Text → Choices → List Rule
 setting_rules block choices =
     size_rule ∷ with_default (codes "1048576") (number_rule (codes "limit") 16777216) ∷ run_rules block choices ++ needed (new_rule (codes "FONT")) ∷ []
 
 -- ---- the subcommands
 
--- a subcommand of this name with these arguments
+-- the subcommand of this name with these arguments
 abbrev pub subcommand_with : Text → List Rule → Shape
 subcommand_with name rules = record (new_app name).top { rules = rules }
 
+-- `counts` takes one font
 abbrev pub counts_shape : Shape
 counts_shape = subcommand_with (codes "counts") (needed (new_rule (codes "FONT")) ∷ [])
 
+-- `list` takes the flag `--all` and one font
 abbrev pub list_shape : Shape
 list_shape = subcommand_with (codes "list") (flag_rule (codes "all") ∷ needed (new_rule (codes "FONT")) ∷ [])
 
+-- `check` takes `--size` and one or more fonts
 abbrev pub check_shape : Shape
 check_shape = subcommand_with (codes "check") (size_rule ∷ needed (words_rule (codes "FONT")) ∷ [])
 
+-- `set` takes its options, a font, and one or more files; a block has one line by default
 abbrev pub set_shape : Choices → Shape
 set_shape choices = subcommand_with (codes "set") (setting_rules (codes "1") choices ++ needed (words_rule (codes "FILE")) ∷ [])
 
+-- `stream` takes its options, a font, and any number of files; a block has eight lines by default
 abbrev pub stream_shape : Choices → Shape
 stream_shape choices = subcommand_with (codes "stream") (setting_rules (codes "8") choices ++ words_rule (codes "FILE") ∷ [])
 
+-- `each` takes its options, and one or more other arguments; a block has one line by default
 abbrev pub each_shape : Choices → Shape
 each_shape choices = subcommand_with (codes "each") (size_rule ∷ run_rules (codes "1") choices ++ needed (words_rule (codes "WORD")) ∷ [])
 
 -- ---- the command
 
--- the command before it has subcommands: its name isn't among the words, it has a version, it shows its help without words, and it wants a subcommand
+-- the command before it has subcommands: its name isn't among the arguments, it has a version, it prints its
+-- help if there are no arguments, and it requires a subcommand
 abbrev pub bare_app : App
 bare_app = record {
   top = record (new_app (codes "tfmset")).top {
@@ -118,31 +127,32 @@ bare_app = record {
 abbrev pub command_with : List Shape → App
 command_with shapes = record { top = record bare_app.top { is_leaf = false }; subs = shapes }
 
--- the parsers of the three subcommands that set lines
+-- the parsers of `set`, `stream` and `each`
 pub record AllChoices : Type 0 where
   pub set : Choices
   pub stream : Choices
   pub each : Choices
 
+-- the whole command, with its six subcommands
 abbrev pub tfmset_app : AllChoices → App
 tfmset_app choices =
     command_with (counts_shape ∷ list_shape ∷ check_shape ∷ set_shape choices.set ∷ stream_shape choices.stream ∷ each_shape choices.each ∷ [])
 
--- ---- how it is made
+-- ---- building the command
 
--- a command with more arguments
+-- the command with these arguments added, in order
 abbrev pub with_rules : App → List Rule → App
 with_rules app [] = app
 with_rules app (rule ∷ rules) = with_rules (with_rule app rule) rules
 
--- the command is this one, with no argument that subcommands share
+-- the built command has this table, and no argument that its subcommands share
 abbrev pub IsCommandOf : App → Command → Type 0
 IsCommandOf app command = (app_of command ≡ app) × ((fields_of command).has_globals ≡ false)
 
--- the subcommand is this one
+-- the built subcommand has this table, and no argument that subcommands share
 abbrev pub IsSubcommand : Shape → Command → Type 0
 IsSubcommand shape command = (shape_of command ≡ shape) × ((fields_of command).has_globals ≡ false)
 
--- the argument is this one
+-- the built argument has this rule, and isn't shared by subcommands
 abbrev pub IsArgument : Rule → Arg → Type 0
 IsArgument rule argument = (rule_of argument ≡ rule) × (argument.global ≡ false)

@@ -1,9 +1,10 @@
-//! The words after the program's name, and what they ask for.
+//! Parses the arguments that follow the program's name, and returns the request that they state.
 #![tactic(auto)]
 
 pub use reading::requested;
 pub use request::{Checking, Jobs, Layout, Request, Setting};
 
 mod commands;
+mod help;
 mod reading;
 mod request;

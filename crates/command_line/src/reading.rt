@@ -1,4 +1,4 @@
-//! From words to what they ask for, by what a parse finds in them.
+//! Returns the request that the arguments state, from the values that a parse finds for them.
 ghost use Rattle.std.specs.Prelude.{◌≡◌, [], map, IfErr, IfOk, Some, codes, option_map, unwrap_or};
 ghost use Rattle.clap.specs.Words.{all_of, first_of, found_of, one_of, rows_of, subcommand_rows_of};
 ghost use Rattle.command_line.specs.Commands.{AllChoices, IsCommandOf, tfmset_app};
@@ -14,7 +14,8 @@ use std::alloc::{AllocError, Global};
 use std::convert::AsStr;
 use tfm_words::Size;
 
-/// Reads the words after the program's name. The error is also how help and the version come.
+/// Parses the arguments that follow the program's name, and returns the request that they state. The error is
+/// the first usage error, or the help or version text if the arguments request it, or a failed allocation.
 pub fn requested<'a, S: AsStr>(alloc: Global, words: &'a [S]) -> Result<Request<'a>, Error>
     ensures asked { IfOk result (IsAskedBy (map S.text words.entry.now)) }
     ensures refused { IfErr result (IsRefusedBy (map S.text words.entry.now)) }
@@ -23,7 +24,8 @@ pub fn requested<'a, S: AsStr>(alloc: Global, words: &'a [S]) -> Result<Request<
     requested_of(alloc, &mut command, words)
 }
 
-/// What the words ask the command for.
+/// Parses the arguments with this command, and returns the request that they state, or the error of the
+/// parse.
 fn requested_of<'a, S: AsStr>(
     alloc: Global,
     command: &mut Command<'a>,
@@ -41,7 +43,7 @@ fn requested_of<'a, S: AsStr>(
     }
 }
 
-/// What a parse found is asked for, if anything is.
+/// Returns the request of the subcommand that the parse found, or `None` if it states none.
 fn given<'a>(alloc: Global, matches: &ArgMatches<'a>) -> Result<Option<Request<'a>>, AllocError>
     ensures { IfOk result (Finds (IsAskedOf (subcommand_rows_of matches.now))) }
 {
@@ -51,7 +53,7 @@ fn given<'a>(alloc: Global, matches: &ArgMatches<'a>) -> Result<Option<Request<'
     }
 }
 
-/// What the subcommand of this name asks for.
+/// Returns the request that the subcommand of this name states, or `None` if it states none.
 fn asked_by<'a>(
     alloc: Global,
     name: &str,
@@ -73,7 +75,7 @@ fn asked_by<'a>(
     }
 }
 
-/// The fonts of `check`.
+/// Returns the fonts that `check` reads, and their size.
 fn asked_fonts<'a>(
     alloc: Global,
     matches: &ArgMatches<'a>,
@@ -88,7 +90,7 @@ fn asked_fonts<'a>(
     Ok(Some(Checking { fonts, size }))
 }
 
-/// The lines of `set` or `stream`, and how they are set.
+/// Returns the font, the limit, the files and the layout of `set` or `stream`.
 fn asked_setting<'a>(
     alloc: Global,
     matches: &ArgMatches<'a>,
@@ -120,7 +122,7 @@ fn font_limit_layout<'a>(matches: &ArgMatches<'a>) -> Option<(&'a str, Limit, La
     ))
 }
 
-/// The files; there may be none.
+/// Returns the files with lines, an empty list if there are none.
 fn asked_files<'a>(alloc: Global, matches: &ArgMatches<'a>) -> Result<Vec<&'a str>, AllocError>
     ensures { IfOk result (λ files.
         unwrap_or (all_of (codes "FILE") (rows_of (found_of matches.now))) [] ≡ texts files.items) }
@@ -131,7 +133,7 @@ fn asked_files<'a>(alloc: Global, matches: &ArgMatches<'a>) -> Result<Vec<&'a st
     }
 }
 
-/// The jobs of `each`.
+/// Returns the arguments and the layout of `each`.
 fn asked_jobs<'a>(alloc: Global, matches: &ArgMatches<'a>) -> Result<Option<Jobs<'a>>, AllocError>
     ensures { IfOk result (Finds (AreJobs (rows_of (found_of matches.now)))) }
 {
@@ -145,7 +147,7 @@ fn asked_jobs<'a>(alloc: Global, matches: &ArgMatches<'a>) -> Result<Option<Jobs
     Ok(Some(Jobs { words, layout }))
 }
 
-/// How the run is laid out.
+/// Returns the options that `set`, `stream` and `each` have in common.
 fn asked_layout(matches: &ArgMatches<'_>) -> Option<Layout>
     ensures { Finds (IsLayout (rows_of (found_of matches.now))) result }
 {
@@ -220,28 +222,28 @@ fn asked_workers(matches: &ArgMatches<'_>) -> Option<Workers>
     Workers::new(number(matches, "workers")? as usize)
 }
 
-/// The number of this option.
+/// Returns the number that this option has.
 fn number(matches: &ArgMatches<'_>, name: &str) -> Option<u32>
     ensures { Finds (IsNumberIn 0 4294967295 (one_of name.now (rows_of (found_of matches.now)))) result }
 {
     matches.get_one(name)
 }
 
-/// The first text of this argument.
+/// Returns the first value of this argument.
 fn text<'a>(matches: &ArgMatches<'a>, name: &str) -> Option<&'a str>
     ensures { Finds (λ text. first_of name.now (rows_of (found_of matches.now)) ≡ Some text.now) result }
 {
     matches.get_str(name)
 }
 
-/// All words of this argument.
+/// Returns all values of this argument.
 fn words<'b, 'a>(matches: &'b ArgMatches<'a>, name: &str) -> Option<&'b [&'a str]>
     ensures { option_map (λ words. texts words.now) result ≡ all_of name.now (rows_of (found_of matches.now)) }
 {
     matches.get_strs(name)
 }
 
-/// Whether this flag is set.
+/// Returns whether this flag is set.
 fn flag(matches: &ArgMatches<'_>, name: &str) -> bool
     ensures { IsFlag (one_of name.now (rows_of (found_of matches.now))) result }
 {

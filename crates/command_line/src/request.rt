@@ -1,73 +1,76 @@
-//! What may be asked for.
+//! The requests that arguments can state.
 use run_plan::Plan;
 use set_line::{Limit, Policy, Version};
 use tfm_words::Size;
 
-/// What the words ask for.
+/// The request that the arguments state, one variant for each subcommand.
 #[derive(Drop)]
 pub enum Request<'a> {
-    /// The counts of a font.
+    /// Prints the twelve counts and the design size of a font.
     Counts {
-        /// The font's name.
+        /// The name of the font; `-` is standard input.
         font: &'a str,
     },
-    /// What a font holds, at its design size.
+    /// Prints the contents of a font at its design size.
     List {
-        /// The font's name.
+        /// The name of the font; `-` is standard input.
         font: &'a str,
-        /// With all that its file says.
+        /// Whether the counts, the extensible recipes and all words of the file are printed, too.
         all: bool,
     },
-    /// Which fonts are accepted.
+    /// Checks whether fonts are accepted, and prints one line for each.
     Check(Checking<'a>),
-    /// The lines of files, set with one font.
+    /// Sets the lines of files with one font, and prints nothing until all are set.
     Set(Setting<'a>),
-    /// The lines of files or of standard input, set with one font, with their records as they come.
+    /// Sets the lines of files or of standard input with one font, and prints each record as soon as it is
+    /// ready.
     Stream(Setting<'a>),
-    /// The lines of files, each set with a font and a limit of its own.
+    /// Sets the lines of files, each with its own font and step limit, and prints nothing until all are set.
     Each(Jobs<'a>),
 }
 
-/// How a run is laid out, and what is printed of it.
+/// The options that `set`, `stream` and `each` have in common: how lines are set, and how they are printed.
 #[derive(Clone, Copy)]
 pub struct Layout {
-    /// The size of all fonts; without it each has its design size.
+    /// The size of all fonts, in sp; `None` means the design size of each font.
     pub size: Option<Size>,
-    /// What is done with missing characters.
+    /// The missing-character policy.
     pub policy: Policy,
-    /// The threads and the rings.
+    /// The capacity and the block of each lane, and the largest number of workers.
     pub plan: Plan,
-    /// The form of the records.
+    /// The record format.
     pub version: Version,
 }
 
-/// Fonts to look at.
+/// The fonts that `check` reads.
 #[derive(Drop)]
 pub struct Checking<'a> {
-    /// Their names, of which one may be `-`, standard input.
+    /// The names of the fonts, in order. At most one may be `-`, for standard input; `requested` doesn't
+    /// check this.
     pub fonts: Vec<&'a str>,
-    /// The size of all; without it each has its design size.
+    /// The size of all fonts, in sp; `None` means the design size of each font.
     pub size: Option<Size>,
 }
 
-/// Lines to be set with one font.
+/// The arguments of `set` or `stream`: a font, and files with lines.
 #[derive(Drop)]
 pub struct Setting<'a> {
-    /// The font's name; `-` is standard input.
+    /// The name of the font; `-` is standard input.
     pub font: &'a str,
-    /// How many steps a line may take.
+    /// The largest number of steps for a line.
     pub limit: Limit,
-    /// The files with the lines; for `stream` no file is standard input.
+    /// The names of the files with lines, in order. With `stream` the list may be empty; the lines are then
+    /// read from standard input.
     pub files: Vec<&'a str>,
-    /// How the run is laid out.
+    /// The options that this subcommand shares with others.
     pub layout: Layout,
 }
 
-/// The jobs of `each`.
+/// The arguments of `each`.
 #[derive(Drop)]
 pub struct Jobs<'a> {
-    /// As they were given: a font, a limit and a file, again and again.
+    /// The triples FONT LIMIT FILE, as one list in order. `requested` doesn't check that they are triples.
     pub words: Vec<&'a str>,
-    /// How the run is laid out.
+    /// The options that `each` shares with other subcommands.
     pub layout: Layout,
 }

@@ -47,3 +47,6 @@ pub ruleset more = (rows_more, rows_more_from_1, rows_where_more, range-all_code
 
 -- a signed number that is passed by value is converted to bits and back
 pub ruleset signed = (to_z-of_z, append_assoc, append-nil)
+
+-- texts that are appended one after the other
+pub ruleset joined = (append_assoc, append-nil)

@@ -1,14 +1,11 @@
--- The text of a font error: its number among all font errors, and what is wrong; and the text for the reason
--- why a text about a font wasn't written.
--- This project's own; what is wrong is described by FaultTexts of `tfm_tables`.
+-- The text of a font error: its number among all font errors, and its description.
+-- This project's own; the description is defined in FaultTexts of `tfm_tables`.
 use Rattle.std.specs.Prelude.{ℕ, ◌==◌, List, ◌++◌, codes, decimal, if◌then◌else◌}
 use Rattle.tfm_words.specs.declared.count_fault.CountFault.{CountFault}
 use Rattle.tfm_words.specs.declared.count_fault.CountFault.TheVariants.{Truncated, CountRange, CharRange, HeaderShort, EmptyTable, TooManyRecipes, LengthEquation}
 use Rattle.tfm_tables.specs.FaultTexts.{font_fault_text}
 use Rattle.tfm_tables.specs.declared.fault.FontFault.{FontFault}
 use Rattle.tfm_tables.specs.declared.fault.FontFault.TheVariants.{Counts, Design, CharIndex, LigStart, FirstNotZero, FixWordRange, Step, OutOfMemory}
-use Rattle.font_texts.specs.declared.fault.FontTextFault.{FontTextFault}
-use Rattle.font_texts.specs.declared.fault.FontTextFault.TheVariants.{Font, OutOfMemory as NoMemory, Write}
 
 -- the number of an error of the counts: 1 if the file ends within them, 8 if it ends after them
 unfoldable pub count_fault_number : CountFault → ℕ
@@ -20,8 +17,7 @@ count_fault_number (EmptyTable _) = 5
 count_fault_number TooManyRecipes = 6
 count_fault_number LengthEquation = 7
 
--- the number of a font error; the checks are made in the order of the numbers 1 to 14, and 15 means that
--- allocation failed
+-- the number of a font error: 1 to 14, in the order of the checks; 15 means that an allocation failed
 unfoldable pub fault_number : FontFault → ℕ
 fault_number (Counts fault) = count_fault_number fault
 fault_number (Design _) = 9
@@ -32,12 +28,6 @@ fault_number (FixWordRange _ _) = 13
 fault_number (Step _ _) = 14
 fault_number OutOfMemory = 15
 
--- the text of a font error: its number, and what is wrong
+-- the text of a font error: its number and its description
 unfoldable pub fault_words : FontFault → List ℕ
 fault_words fault = decimal (fault_number fault) ++ codes " " ++ font_fault_text fault
-
--- the reason why the text about a font wasn't written, or not completely
-unfoldable pub font_text_fault_text : FontTextFault → List ℕ
-font_text_fault_text (Font fault) = codes "font refused: " ++ fault_words fault
-font_text_fault_text NoMemory = codes "out of memory"
-font_text_fault_text Write = codes "output failed"

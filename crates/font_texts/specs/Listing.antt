@@ -36,7 +36,7 @@ listing_rows_text rows = flat_map listing_row_text rows
 abbrev pub listing_row_of : List ℕ → List ℕ → Row
 listing_row_of name word = (name, word ∷ [])
 
--- a line with one field if that exists, and no line otherwise
+-- a line with one field, or no line if there is no field
 abbrev pub row_where : List ℕ → Option (List ℕ) → List Row
 row_where name None = []
 row_where name (Some word) = listing_row_of name word ∷ []

@@ -66,13 +66,12 @@ operation_names =
     ∷ (11, codes "/LIG/>>")
     ∷ []
 
--- the name of the ligature operation of an op code; a code that isn't listed is treated as 0 and has the name
--- of 0
+-- the name of the ligature operation of an op code; a code that isn't listed has the name of code 0
 unfoldable pub operation_name : ℕ → List ℕ
 operation_name op = option_map_or (λ row. row.1) (find (λ row. row.0 == op) operation_names) (codes "LIG")
 
--- the fields of what an instruction does: it points to another instruction, or inserts a kern or a ligature
--- character
+-- the fields of the action of an instruction: it points to another instruction, or inserts a kern or a
+-- ligature character
 unfoldable pub action_words : FontValue → Step → List (List ℕ)
 action_words font step =
     if nat_lt 128 step.skip then codes "goto" ∷ decimal (target_of step) ∷ []
@@ -80,7 +79,7 @@ action_words font step =
     then codes "KRN" ∷ decimal (kern_index_of step) ∷ signed_decimal (kern_at font.words font.size (kern_index_of step)) ∷ []
     else operation_name step.op ∷ decimal step.remainder ∷ []
 
--- the fields of an instruction: its address, its skip, the code to its right, and what it does
+-- the fields of an instruction: its address, its skip, the code to its right, and its action
 unfoldable pub step_words : FontValue → ℕ → Step → List (List ℕ)
 step_words font i step =
     decimal i

@@ -1,72 +1,54 @@
 //! The full listing of a font: its counts, listing, extensible recipes, and each of its lf words.
-ghost use Rattle.std.specs.Prelude.{◌≡◌, ◌≢◌, ◌+◌, ◌*◌, ◌<◌, ◌≤◌, ◌++◌, ◌⊎◌, codes, length, map, take, Some, Ok, Err, IfOk, IfErr, OnOk};
-ghost use Rattle.std.specs.Io.KnownBytes.{Appends};
+ghost use Rattle.std.specs.Prelude.{◌≡◌, ◌+◌, ◌*◌, ◌<◌, ◌≤◌, ◌++◌, codes, length, map, take, IfOk, IfErr, OnOk};
 ghost use Rattle.std.specs.List.{range_with_len};
 ghost use Rattle.tfm_words.specs.Counts.{AreCountsOf};
 ghost use Rattle.tfm_words.specs.declared.table.Table.TheVariants.{Exten};
-ghost use Rattle.tfm_tables.specs.declared.fault.FontFault.{FontFault as Refusal};
-ghost use Rattle.tfm_tables.specs.Acceptance.{font_fault_of};
-ghost use Rattle.tfm_tables.specs.Font.{FontValue, IsFontOf};
+ghost use Rattle.tfm_tables.specs.Font.{FontValue, IsFontOf, IsRefusalOf};
 ghost use Rattle.tfm_tables.specs.Table.{entries_of, table_of};
 ghost use Rattle.font_texts.specs.AllListing.{all_listing_of, piece_words, recipe_row, word_row};
 ghost use Rattle.font_texts.specs.Listing.{listing_row_text, listing_rows_text, spaced};
 
-use crate::appending::{push_hex, push_number};
+use crate::appending::push_hex;
 use crate::counts::push_counts;
-use crate::reading::read_metrics;
-use crate::{FontTextFault, listing};
+use crate::listing;
 use std::alloc::{AllocError, Global};
-use std::io::Write;
 use tfm_tables::{FontFault, FontMetrics};
-use tfm_words::{Counts, Size, Table, word_at};
+use tfm_words::{Counts, Size, Table, push_number, word_at};
 
-/// Reads a font at `size`, or at its design size for `None`, and writes its full listing: the lines of
-/// the twelve counts, the listing, a line for each extensible recipe (tftopl.web, section 14), and a
-/// line for each of the lf words of the file (bytes after these aren't part of the font). All of it is
-/// written by one call of `write_all`, after the font is accepted.
-///
-/// The error is `Font` with the first font error exactly if the font isn't accepted, `OutOfMemory` if
-/// allocation failed, and `Write` if the writer failed. After an error other than `Write`, `out` is
-/// unchanged.
-pub fn list_all_text<W: Write>(
-    alloc: Global,
-    bytes: &[u8],
-    size: Option<Size>,
-    out: &mut W,
-) -> Result<(), FontTextFault>
-    ensures text { OnOk result ((f : FontValue) × IsFontOf bytes.now size f
-        × Appends (W.contents out.old) (W.contents out.new) (all_listing_of f)) }
-    ensures font { (f : Refusal) → result ≡ Err (FontTextFault.Font f) → font_fault_of bytes.now ≡ Some f }
-    ensures refused { (f : Refusal) → font_fault_of bytes.now ≡ Some f
-        → result ≡ Err (FontTextFault.Font f) }
-    ensures untouched { IfErr result (λ fault. fault ≢ FontTextFault.Write → out.new ≡ out.old) }
+/// Reads a font at `size`, or at its design size for `None`, and returns its full listing: the lines of the
+/// twelve counts, the listing, a line for each extensible recipe (tftopl.web, section 14), and a line for
+/// each of the lf words of the file (bytes after these aren't part of the font). The error is that of
+/// `FontMetrics::read`, or `OutOfMemory` if an allocation fails after it.
+pub fn list_all_text(alloc: Global, bytes: &[u8], size: Option<Size>) -> Result<Vec<u8>, FontFault>
+    ensures text { IfOk result (λ text. (f : FontValue) × IsFontOf bytes.now size f
+        × (text.items ≡ all_listing_of f)) }
+    ensures fault { IfErr result (IsRefusalOf bytes.now) }
 {
     let (counts, font) = accepted(alloc, bytes, size)?;
     let words = &bytes[..4 * usize::from(counts.lf())];
-    let text = text_of(alloc, words, &counts, &font).map_err(|_| FontTextFault::OutOfMemory)?;
-    out.write_all(text.as_slice())
-        .map_err(|_| FontTextFault::Write)
+    match text_of(alloc, words, &counts, &font) {
+        Ok(text) => Ok(text),
+        Err(_) => Err(FontFault::OutOfMemory),
+    }
 }
 
-/// Returns the counts in these bytes, and the font, read at `size` or at its design size.
+/// Returns the counts in these bytes, and the font, which is read at `size`, or at its design size for
+/// `None`.
 fn accepted(
     alloc: Global,
     bytes: &[u8],
     size: Option<Size>,
-) -> Result<(Counts, FontMetrics), FontTextFault>
+) -> Result<(Counts, FontMetrics), FontFault>
     ensures counts { IfOk result (λ read. AreCountsOf bytes.now read.0) }
     ensures reach { IfOk result (λ read. AreCountsOf (take (4 * read.0.lf) bytes.now) read.0) }
     ensures ok { IfOk result (λ read. IsFontOf bytes.now size read.1) }
-    ensures font { (f : Refusal) → result ≡ Err (FontTextFault.Font f) → font_fault_of bytes.now ≡ Some f }
-    ensures refused { (f : Refusal) → font_fault_of bytes.now ≡ Some f
-        → result ≡ Err (FontTextFault.Font f) }
-    ensures write { result ≢ Err FontTextFault.Write }
+    ensures fault { IfErr result (IsRefusalOf bytes.now) }
 {
     let counts = match Counts::read(bytes) {
         Ok(counts) => counts,
-        Err(fault) => return Err(FontTextFault::Font(FontFault::Counts(fault))),
+        Err(fault) => return Err(FontFault::Counts(fault)),
     };
-    let font = read_metrics(alloc, bytes, size)?;
+    let font = FontMetrics::read(alloc, bytes, size)?;
     Ok((counts, font))
 }
 
@@ -135,7 +117,7 @@ fn push_recipe(text: &mut Vec<u8>, recipes: &[u8], i: usize) -> Result<(), Alloc
     text.extend_from_slice(b"\n")
 }
 
-#[tactic(auto, unfolding(crate::specs::AllListing::piece_words))]
+#[tactic(auto, using(crate::proofs::ListingLemmas::joined), unfolding(crate::specs::AllListing::piece_words))]
 fn push_pieces(text: &mut Vec<u8>, recipe: [u8; 4]) -> Result<(), AllocError>
     ensures { OnOk result (text.new.items ≡ text.old.items ++ spaced (piece_words recipe)) }
 {

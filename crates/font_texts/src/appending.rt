@@ -3,21 +3,7 @@ ghost use Rattle.std.specs.Fmt.{digit_glyph};
 ghost use Rattle.font_texts.specs.AllListing.{hex_byte, hex_text};
 ghost use Rattle.font_texts.specs.ListingWords.{escaped, escaped_text};
 
-use itoa::{Buffer, Integer};
 use std::alloc::AllocError;
-
-/// Appends the bytes `before`, and then a number in decimal.
-pub fn push_number<I: Integer>(
-    text: &mut Vec<u8>,
-    before: &[u8],
-    number: I,
-) -> Result<(), AllocError>
-    ensures { OnOk result (text.new.items ≡ text.old.items ++ before.now ++ I.text number) }
-{
-    let mut buffer = Buffer::new();
-    text.extend_from_slice(before)?;
-    text.extend_from_slice(buffer.format(number).as_bytes())
-}
 
 fn hex_digit(value: u8) -> u8
     requires { value < 16 }

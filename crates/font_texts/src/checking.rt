@@ -1,61 +1,31 @@
-ghost use Rattle.std.specs.Prelude.{◌≡◌, ◌++◌, ◌⊎◌, IfOk, IfErr, OnOk};
-ghost use Rattle.std.specs.Io.KnownBytes.{Appends};
+ghost use Rattle.std.specs.Prelude.{◌≡◌, ◌++◌, IfOk};
 ghost use Rattle.font_texts.specs.Findings.{finding_line, finding_of};
 
+use crate::Finding;
 use crate::appending::push_escaped_text;
-use crate::{Finding, FontTextFault};
 use std::alloc::{AllocError, Global};
-use std::io::Write;
 use tfm_tables::{FontFault, FontMetrics};
 use tfm_words::Size;
 
-/// Reads a font at `size`, or at its design size for `None`, and writes one line: the name given for
-/// the font, and `accepted` or `refused:` with the number and the text of its first font error. The
-/// name is escaped as in a listing. Returns the same finding; it doesn't depend on the size. The line
-/// is written by one call of `write_all`.
-///
-/// A refused font is not an error. The error is `OutOfMemory` if allocation failed, with `out`
-/// unchanged, or `Write` if the writer failed.
-pub fn check_text<W: Write>(
+/// Reads a font at `size`, or at its design size for `None`. Returns the finding, which doesn't depend on the
+/// size, and its line, as `finding_text` returns it. A refused font isn't an error. Fails if an allocation
+/// fails.
+pub fn check_text(
     alloc: Global,
     name: &str,
     bytes: &[u8],
     size: Option<Size>,
-    out: &mut W,
-) -> Result<Finding, FontTextFault>
-    ensures text { OnOk result
-        (Appends (W.contents out.old) (W.contents out.new) (finding_line (name.now, finding_of bytes.now))) }
-    ensures found { IfOk result (λ finding. finding ≡ finding_of bytes.now) }
-    ensures fault { IfErr result (λ fault.
-        ((fault ≡ FontTextFault.OutOfMemory) × (out.new ≡ out.old))
-        ⊎ (fault ≡ FontTextFault.Write)) }
+) -> Result<(Finding, Vec<u8>), AllocError>
+    ensures found { IfOk result (λ found. found.0 ≡ finding_of bytes.now) }
+    ensures text { IfOk result (λ found. found.1.items ≡ finding_line (name.now, finding_of bytes.now)) }
 {
-    let finding = found(alloc, bytes, size).map_err(|_| FontTextFault::OutOfMemory)?;
-    finding_text(alloc, name, finding, out)?;
-    Ok(finding)
+    let finding = found(alloc, bytes, size)?;
+    let line = finding_text(alloc, name, finding)?;
+    Ok((finding, line))
 }
 
-/// Writes the line of a font with this name and this finding, by one call of `write_all`. The error is
-/// `OutOfMemory` if allocation failed, with `out` unchanged, or `Write` if the writer failed.
-pub fn finding_text<W: Write>(
-    alloc: Global,
-    name: &str,
-    finding: Finding,
-    out: &mut W,
-) -> Result<(), FontTextFault>
-    ensures text { OnOk result
-        (Appends (W.contents out.old) (W.contents out.new) (finding_line (name.now, finding))) }
-    ensures fault { IfErr result (λ fault.
-        ((fault ≡ FontTextFault.OutOfMemory) × (out.new ≡ out.old))
-        ⊎ (fault ≡ FontTextFault.Write)) }
-{
-    let text = line_of(alloc, name, finding).map_err(|_| FontTextFault::OutOfMemory)?;
-    out.write_all(text.as_slice())
-        .map_err(|_| FontTextFault::Write)
-}
-
-/// Returns whether the font in these bytes is accepted, or its first font error. The error is that
-/// allocation failed.
+/// Returns the finding for the font in these bytes: that it is accepted, or its first font error. Fails if an
+/// allocation fails.
 fn found(alloc: Global, bytes: &[u8], size: Option<Size>) -> Result<Finding, AllocError>
     ensures { IfOk result (λ finding. finding ≡ finding_of bytes.now) }
 {
@@ -66,9 +36,10 @@ fn found(alloc: Global, bytes: &[u8], size: Option<Size>) -> Result<Finding, All
     }
 }
 
-/// Returns the line of a font: its name, escaped, and the finding.
+/// Returns the line of a font: this name, escaped as in a listing, and the finding: `accepted`, `refused:`
+/// with the number and the text of the first font error, or `not read`. Fails if an allocation fails.
 #[tactic(auto, unfolding(crate::specs::Findings::finding_line))]
-fn line_of(alloc: Global, name: &str, finding: Finding) -> Result<Vec<u8>, AllocError>
+pub fn finding_text(alloc: Global, name: &str, finding: Finding) -> Result<Vec<u8>, AllocError>
     ensures { IfOk result (λ text. text.items ≡ finding_line (name.now, finding)) }
 {
     let mut text = Vec::new(alloc);

@@ -1,12 +1,8 @@
-ghost use Rattle.std.specs.Prelude.{◌≡◌, ◌≢◌, ◌++◌, ◌∷◌, [], ◌↔◌, map, length, Some, Ok, Err, IfOk, IfErr, OnOk};
-ghost use Rattle.std.specs.Io.KnownBytes.{Appends};
-ghost use Rattle.tfm_tables.specs.declared.fault.FontFault.{FontFault};
-ghost use Rattle.font_texts.specs.CountsText.{count_rows, counts_text_of, head_rows, head_fault_of, count_row_of, count_row_text, count_rows_text};
+ghost use Rattle.std.specs.Prelude.{◌≡◌, ◌++◌, ◌∷◌, [], map, length, None, IfOk, IfErr, OnOk};
+ghost use Rattle.font_texts.specs.CountsText.{IsHeadRefusalOf, count_rows, counts_text_of, head_rows, head_fault_of, count_row_of, count_row_text, count_rows_text};
 
-use crate::FontTextFault;
 use itoa::Buffer;
 use std::alloc::{AllocError, Global};
-use std::io::Write;
 use tfm_tables::FontFault;
 use tfm_words::{Counts, Size, design_size};
 
@@ -14,29 +10,19 @@ use tfm_words::{Counts, Size, design_size};
 /// bytes.
 const TEXT_ROOM: usize = 128;
 
-/// Writes the twelve counts of a font and its design size in scaled points (sp), one per line, by one
-/// call of `write_all`. The names and the order of the counts are those of tftopl.web, section 8. The
-/// tables of the font aren't checked.
+/// Returns the twelve counts of a font and its design size in scaled points (sp), one per line. The names
+/// and the order of the counts are those of tftopl.web, section 8. The tables of the font aren't checked.
 ///
-/// The error is `Font` exactly if the counts or the design size have an error; it is the first one. It
-/// is `OutOfMemory` if allocation failed, and `Write` if the writer failed. After an error other than
-/// `Write`, `out` is unchanged.
-pub fn counts_text<W: Write>(alloc: Global, bytes: &[u8], out: &mut W) -> Result<(), FontTextFault>
-    ensures text { OnOk result
-        (Appends (W.contents out.old) (W.contents out.new) (counts_text_of bytes.now)) }
-    ensures font { (f : FontFault) →
-        (result ≡ Err (FontTextFault.Font f)) ↔ (head_fault_of bytes.now ≡ Some f) }
-    ensures untouched { IfErr result (λ fault. fault ≢ FontTextFault.Write → out.new ≡ out.old) }
+/// The error is the first error of the counts or the design size. It is `OutOfMemory` only if they have none
+/// and an allocation failed.
+pub fn counts_text(alloc: Global, bytes: &[u8]) -> Result<Vec<u8>, FontFault>
+    ensures accepted { IfOk result (λ text. head_fault_of bytes.now ≡ None) }
+    ensures text { IfOk result (λ text. text.items ≡ counts_text_of bytes.now) }
+    ensures fault { IfErr result (IsHeadRefusalOf bytes.now) }
 {
-    let counts = Counts::read(bytes)
-        .map_err(FontFault::Counts)
-        .map_err(FontTextFault::Font)?;
-    let design = design_size(bytes, &counts)
-        .map_err(FontFault::Design)
-        .map_err(FontTextFault::Font)?;
-    let text = text_of(alloc, &counts, design).map_err(|_| FontTextFault::OutOfMemory)?;
-    out.write_all(text.as_slice())
-        .map_err(|_| FontTextFault::Write)
+    let counts = Counts::read(bytes).map_err(FontFault::Counts)?;
+    let design = design_size(bytes, &counts).map_err(FontFault::Design)?;
+    text_of(alloc, &counts, design).map_err(|_| FontFault::OutOfMemory)
 }
 
 /// Returns the text of these counts and this design size.

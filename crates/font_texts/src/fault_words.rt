@@ -1,4 +1,4 @@
-//! The text of a font error: its number, and what is wrong.
+//! The text of a font error: its number and its description.
 ghost use Rattle.std.specs.Prelude.{◌≡◌, Some};
 ghost use Rattle.font_texts.specs.FaultWords.{count_fault_number, fault_number, fault_words};
 
@@ -6,9 +6,9 @@ use std::fmt;
 use tfm_tables::FontFault;
 use tfm_words::CountFault;
 
-/// Formats a font error with its number before it. The numbers 1 to 14 are in the order in which a font
-/// is checked; 15 means that allocation failed. A file that ends within its counts has number 1, and a
-/// file that ends after its counts has number 8.
+/// A font error, which `Display` writes with its number before it. The numbers 1 to 14 are in the order in
+/// which a font is checked; 15 means that an allocation failed. A file that ends within its counts has number
+/// 1, and a file that ends after its counts has number 8.
 #[derive(Clone, Copy, Debug, PartialEq, Eq, Hash)]
 pub struct Numbered(pub FontFault);
 

@@ -1,68 +1,44 @@
-ghost use Rattle.std.specs.Prelude.{◌≡◌, ◌≢◌, ◌<◌, ◌++◌, [], ◌⊎◌, Some, Err, IfOk, IfErr, OnOk, if◌then◌else◌};
-ghost use Rattle.std.specs.Io.KnownBytes.{Appends};
+ghost use Rattle.std.specs.Prelude.{◌≡◌, ◌<◌, ◌++◌, [], IfOk, IfErr, OnOk, if◌then◌else◌};
 ghost use Rattle.tfm_words.specs.declared.table.Table.TheVariants.{Kern, LigKern};
-ghost use Rattle.tfm_tables.specs.declared.fault.FontFault.{FontFault as Refusal};
-ghost use Rattle.tfm_tables.specs.Acceptance.{font_fault_of};
-ghost use Rattle.tfm_tables.specs.Font.{FontValue, IsFontOf};
+ghost use Rattle.tfm_tables.specs.Font.{FontValue, IsFontOf, IsRefusalOf};
 ghost use Rattle.tfm_tables.specs.Character.{exists};
 ghost use Rattle.tfm_tables.specs.Table.{entries_of};
 ghost use Rattle.font_texts.specs.Listing.{boundary_rows, char_row, char_rows, header_rows, kern_row, kern_rows, listing_of, param_row, param_rows, listing_row_text, listing_rows_text, size_rows, step_row, step_rows};
 
-use crate::FontTextFault;
-use crate::reading::read_metrics;
 use crate::rows::{
     push_amount_row, push_char_row, push_flag_where, push_number_or_none, push_number_row,
     push_number_where, push_step_row, push_text_where,
 };
 use std::alloc::{AllocError, Global};
-use std::io::Write;
-use tfm_tables::{Font, FontMetrics, LeftSide};
+use tfm_tables::{Font, FontFault, FontMetrics, LeftSide};
 use tfm_words::Size;
 
-/// Writes the listing of a font, by one call of `write_all`: its check sum, design size and size; what
-/// its header contains beyond these; the boundaries; the characters, instructions, kerns and
-/// parameters. Dimensions are in scaled points (sp), except the slant, which is in units of 2^-20.
-///
-/// The error is `OutOfMemory` if allocation failed, with `out` unchanged, or `Write` if the writer
-/// failed.
-pub fn list_text<W: Write>(alloc: Global, font: &Font, out: &mut W) -> Result<(), FontTextFault>
-    ensures text { OnOk result
-        (Appends (W.contents out.old) (W.contents out.new) (listing_of font.now)) }
-    ensures fault { IfErr result (λ fault.
-        ((fault ≡ FontTextFault.OutOfMemory) × (out.new ≡ out.old))
-        ⊎ (fault ≡ FontTextFault.Write)) }
+/// Returns the listing of a font: its check sum, design size and size; the coding scheme, the family, the
+/// seven-bit flag and the face, if its header contains them; the boundaries; the characters, instructions,
+/// kerns and parameters. Dimensions are in scaled points (sp), except the slant, which is in units of 2^-20.
+/// Fails if an allocation fails.
+pub fn list_text(alloc: Global, font: &Font) -> Result<Vec<u8>, AllocError>
+    ensures { IfOk result (λ text. text.items ≡ listing_of font.now) }
 {
-    let text = text_of(alloc, font).map_err(|_| FontTextFault::OutOfMemory)?;
-    out.write_all(text.as_slice())
-        .map_err(|_| FontTextFault::Write)
+    text_of(alloc, font)
 }
 
-/// Reads a font at `size`, or at its design size for `None`, and writes its listing, as `list_text` does.
-/// For a caller that needs the font for nothing else: the tables that only setting needs aren't computed.
-///
-/// The error is `Font` with the first font error exactly if the font isn't accepted, `OutOfMemory` if
-/// allocation failed, and `Write` if the writer failed. After an error other than `Write`, `out` is
-/// unchanged.
-pub fn list_file_text<W: Write>(
-    alloc: Global,
-    bytes: &[u8],
-    size: Option<Size>,
-    out: &mut W,
-) -> Result<(), FontTextFault>
-    ensures text { OnOk result ((f : FontValue) × IsFontOf bytes.now size f
-        × Appends (W.contents out.old) (W.contents out.new) (listing_of f)) }
-    ensures font { (f : Refusal) → result ≡ Err (FontTextFault.Font f) → font_fault_of bytes.now ≡ Some f }
-    ensures refused { (f : Refusal) → font_fault_of bytes.now ≡ Some f
-        → result ≡ Err (FontTextFault.Font f) }
-    ensures untouched { IfErr result (λ fault. fault ≢ FontTextFault.Write → out.new ≡ out.old) }
+/// Reads a font at `size`, or at its design size for `None`, and returns its listing, as `list_text` does.
+/// The tables that are needed only to set lines aren't made. The error is that of `FontMetrics::read`, or
+/// `OutOfMemory` if an allocation fails after it.
+pub fn list_file_text(alloc: Global, bytes: &[u8], size: Option<Size>) -> Result<Vec<u8>, FontFault>
+    ensures text { IfOk result (λ text. (f : FontValue) × IsFontOf bytes.now size f
+        × (text.items ≡ listing_of f)) }
+    ensures fault { IfErr result (IsRefusalOf bytes.now) }
 {
-    let font = read_metrics(alloc, bytes, size)?;
-    let text = text_of(alloc, &font).map_err(|_| FontTextFault::OutOfMemory)?;
-    out.write_all(text.as_slice())
-        .map_err(|_| FontTextFault::Write)
+    let font = FontMetrics::read(alloc, bytes, size)?;
+    match text_of(alloc, &font) {
+        Ok(text) => Ok(text),
+        Err(_) => Err(FontFault::OutOfMemory),
+    }
 }
 
-/// Returns the listing of a font. The error is that allocation failed.
+/// Returns the listing of a font. Fails if an allocation fails.
 #[tactic(auto, unfolding(crate::specs::Listing::listing_of))]
 pub fn text_of(alloc: Global, font: &FontMetrics) -> Result<Vec<u8>, AllocError>
     ensures { IfOk result (λ text. text.items ≡ listing_of font.now) }

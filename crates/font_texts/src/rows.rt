@@ -6,10 +6,11 @@ ghost use Rattle.tfm_tables.specs.Table.{entries_of};
 ghost use Rattle.font_texts.specs.Listing.{amount_row, flag_where, number_where, listing_row_of, listing_row_text, listing_rows_text, spaced, text_where};
 ghost use Rattle.font_texts.specs.ListingWords.{action_words, char_words, escaped_text, measure_words, operation_name, step_words, tag_words};
 
-use crate::appending::{push_escaped_text, push_number};
+use crate::appending::push_escaped_text;
 use itoa::Integer;
 use std::alloc::AllocError;
 use tfm_tables::{FontMetrics, Metrics, Step, Tag};
+use tfm_words::push_number;
 
 /// Appends one line: a name and a number.
 #[tactic(auto, unfolding(crate::specs::Listing::listing_row_text))]
@@ -25,7 +26,7 @@ pub fn push_number_row<I: Integer>(
     text.extend_from_slice(b"\n")
 }
 
-/// Appends one line: a name and this text, unescaped.
+/// Appends one line: a name and this field, unescaped.
 #[tactic(auto, unfolding(crate::specs::Listing::listing_row_text))]
 pub fn push_word_row(text: &mut Vec<u8>, name: &[u8], word: &[u8]) -> Result<(), AllocError>
     ensures { OnOk result (text.new.items ≡ text.old.items ++ listing_row_text (listing_row_of name.now word.now)) }
@@ -190,21 +191,21 @@ fn push_ligature(text: &mut Vec<u8>, op: u8, remainder: u8) -> Result<(), AllocE
     push_number(text, b" ", remainder)
 }
 
-#[tactic(auto, using(crate::proofs::ListingLemmas::signed), unfolding(crate::specs::ListingWords::action_words, tfm_tables::specs::Acceptance::kern_index_of))]
+#[tactic(auto, using(crate::proofs::ListingLemmas::signed), unfolding(crate::specs::ListingWords::action_words))]
 fn push_action(text: &mut Vec<u8>, font: &FontMetrics, step: Step) -> Result<(), AllocError>
     requires { step.skip ≤ 128 → 128 ≤ step.op → kern_index_of step < entries_of font.now.words Kern }
     ensures { OnOk result (text.new.items ≡ text.old.items ++ spaced (action_words font.now step)) }
 {
-    let remainder = usize::from(step.remainder);
     if step.skip > 128 {
-        return push_number(text, b" goto ", 256 * usize::from(step.op) + remainder);
+        return push_number(text, b" goto ", step.target());
     }
-    if step.op < 128 {
-        return push_ligature(text, step.op, step.remainder);
+    match step.kern_index() {
+        Some(kern) => {
+            push_number(text, b" KRN ", kern)?;
+            push_number(text, b" ", font.kern(kern))
+        }
+        None => push_ligature(text, step.op, step.remainder),
     }
-    let kern = 256 * usize::from(step.op - 128) + remainder;
-    push_number(text, b" KRN ", kern)?;
-    push_number(text, b" ", font.kern(kern))
 }
 
 /// Appends the line of the instruction at address `i`: its address, its skip, the code to its right,

@@ -5,35 +5,11 @@
 
 use anyhow::{Context, bail};
 use line_lane::{Block, Capacity, Feeder, Setter, SourceEnd, Taker, Took, Turn, open};
-use set_line::{Answer, Limit, Line, Outcome, Policy, Terms, set};
+use set_line::{Answer, Line, Outcome, Terms, set};
 use std::alloc::Global;
 use std::env;
 use std::sync::Arc;
-use tfm_tables::Font;
-
-/// A font with the characters a, b and c.
-const FONT: [u32; 20] = [
-    0x0014_0002, // 20 words, 2 of them the header
-    0x0061_0063, // the codes 97 to 99
-    0x0004_0001, // widths, heights
-    0x0001_0001, // depths, italic corrections
-    0, // no program, no kerns
-    0x0000_0002, // no larger characters, 2 parameters
-    0, // the check sum
-    0x00A0_0000, // 10 points
-    0x0100_0000, // a: width 1
-    0x0200_0000, // b: width 2
-    0x0300_0000, // c: width 3
-    0, // width 0, of no character
-    0x0008_0000, // width 1, half of the size
-    0x0004_0000, // width 2, a quarter
-    0x000C_0000, // width 3, three quarters
-    0, // height 0
-    0, // depth 0
-    0, // italic correction 0
-    0, // the slant
-    0x0005_5555, // the space, a third of the size
-];
+use test_support::terms::plain_terms;
 
 /// The text that lines begin with.
 const TEXT: &[u8] =
@@ -60,16 +36,6 @@ impl Tally {
             self.set = self.set.saturating_add(1);
         }
     }
-}
-
-fn terms(alloc: Global) -> Option<Arc<Terms>> {
-    let mut file = Vec::new(alloc);
-    for word in &FONT {
-        file.extend_from_slice(&word.to_be_bytes()).ok()?;
-    }
-    let font = Font::read(alloc, &file, None).ok()?;
-    let terms = Terms::new(font, Limit::new(1_000_000)?, Policy::Refuse);
-    Arc::new(alloc, terms).ok()
 }
 
 /// Sets lines, each by itself.
@@ -138,7 +104,7 @@ fn main(rt: HostRuntime) -> anyhow::Result<()> {
         .get(..number(&words, 2)?)
         .context("lines have at most 80 bytes")?;
     let block = Block::new(number(&words, 3)?).context("blocks have 1 to 8 lines")?;
-    let terms = terms(alloc).context("out of memory")?;
+    let terms = plain_terms(alloc).context("out of memory")?;
     let tally = match way.as_str() {
         "set" => set_alone(alloc, terms, text, lines),
         "lane" => set_in_lane(alloc, terms, text, lines, block),

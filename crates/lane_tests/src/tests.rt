@@ -1,8 +1,8 @@
+mod answers;
 mod bounds;
 mod call_by_call;
 mod lane;
 mod memory;
-mod samples;
 mod script;
 mod threads;
 mod two_lanes;

@@ -98,17 +98,17 @@ pub turned_plain : (font : FontValue) (current next : Symbol) (ahead : List Symb
 turned_plain font current next ahead before after first is sent =
     rw (turn_at font current next ahead None first is) (record { current = refl; ahead = refl; sent = sent })
 
-pub turned_kern : (font : FontValue) (current next : Symbol) (ahead : List Symbol) (amount : ℤ) (before middle after : List Item)
+pub turned_kern : (font : FontValue) (current next : Symbol) (ahead : List Symbol) (amount : ℤ) (before after : List Item)
     → slice_get ahead 0 ≡ Some next → action_between font current next ≡ Some (Kern amount)
-    → middle ≡ before ++ items_of font (of_symbol current ∷ []) → after ≡ middle ++ KernItem amount ∷ []
+    → after ≡ before ++ items_of font (of_symbol current ∷ []) ++ KernItem amount ∷ []
     → HasTurned (turn_of font current ahead) next (drop 1 ahead) before after
 unfolding items_of
-turned_kern font current next ahead amount before middle after first is sent kerned =
+turned_kern font current next ahead amount before after first is sent =
     rw (turn_at font current next ahead (Some (Kern amount)) first is)
     (record {
       current = refl;
       ahead = refl;
-      sent = kerned ∙ ap (λ m. m ++ KernItem amount ∷ []) sent ∙ append_assoc before (items_of font (of_symbol current ∷ [])) (KernItem amount ∷ [])
+      sent = sent ∙ append_assoc before (items_of font (of_symbol current ∷ [])) (KernItem amount ∷ [])
           ∙ ap (λ m. before ++ m) (sym (items_of-append font (of_symbol current ∷ []) (of_kern amount ∷ [])));
     })
 

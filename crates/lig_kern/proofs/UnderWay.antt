@@ -1,40 +1,21 @@
 -- The invariant between two steps of the code, and the outcome at each end of the loop.
-use Rattle.std.proofs.Common.{◌≡◌, ℕ, suc, zero, ◌+◌, ◌-◌, ◌<◌, ◌≤◌, Bool, true, false, List, [], ◌∷◌, ◌++◌, length, length-drop, drop-cons, get_or, map, take, drop, Option, Some, None, arith, rules, refl, ap, sym, subst, ◌∙◌, ◌&&◌}
+use Rattle.std.proofs.Common.{◌≡◌, ℕ, suc, ◌+◌, ◌-◌, ◌<◌, ◌≤◌, Bool, true, false, List, [], ◌∷◌, ◌++◌, length, length-drop, drop-cons, get_or, map, take, drop, Option, Some, None, arith, rules, refl, ap, sym, subst, ◌∙◌, ◌&&◌}
 use Rattle.std.specs.Prelude.{if◌then◌else◌, is_some, nat_lt, Result, Ok, Err, IfOk}
-use Rattle.std.proofs.Math.Seq.{take-append_seam, take-length}
-use Rattle.std.proofs.lemmas.List.{length-take}
+use Rattle.std.proofs.Math.Seq.{take-length}
 use Rattle.std.proofs.lemmas.Bool.{ltb-true, ltb-false, true≢false}
 use Rattle.std.specs.List.{slice_get}
 use Rattle.std.specs.Option.{option_map, option_map_or}
+use Rattle.tfm_words.specs.Appending.{StaysInFront}
+use Rattle.tfm_words.proofs.AppendingLemmas.{front_at_once, front_of_append, front_through}
 use Rattle.tfm_tables.specs.Font.{FontValue}
 use Rattle.tfm_tables.specs.Program.{program_of, right_code_of}
 use Rattle.lig_kern.specs.declared.symbol.Symbol.{Symbol}
 use Rattle.lig_kern.specs.declared.symbol.Symbol.TheVariants.{Left, Char, Right}
 use Rattle.lig_kern.specs.declared.item.Item.{Item}
 use Rattle.lig_kern.specs.Rewriting.{of_symbol, items_of, right_end}
-use Rattle.lig_kern.specs.Result.{HasNoResultWithin, IsAppendedResult, StaysInFront, result_after}
+use Rattle.lig_kern.specs.Result.{HasNoResultWithin, IsAppendedResult, result_after}
 use Rattle.lig_kern.specs.Ahead.{EndsAfter, HasTurned, IsUnderWay, finish, turn_of, symbols_ahead}
 use Rattle.lig_kern.proofs.Onward.{option_map-twice, result_is}
-
--- ---- the items at the front
-
-pub front_at_once : (xs : List Item) → StaysInFront xs xs
-front_at_once xs = take-length xs
-
-pub front_of_append : (xs ys zs : List Item) → zs ≡ xs ++ ys → StaysInFront xs zs
-front_of_append xs ys zs e = rw e (take-append_seam xs ys)
-
-take_shorter : (n m : ℕ) (zs : List Item) → n ≤ m → take n (take m zs) ≡ take n zs
-take_shorter zero m zs h = refl
-take_shorter (suc n) zero zs h = absurd (omega arith)
-take_shorter (suc n) (suc m) [] h = refl
-take_shorter (suc n) (suc m) (z ∷ zs) h = ap (λ more. z ∷ more) (take_shorter n m zs (omega arith))
-
-pub front_through : (xs ys zs : List Item) → StaysInFront xs ys → StaysInFront ys zs → StaysInFront xs zs
-front_through xs ys zs a b =
-    let short : length xs ≤ length ys = omega (arith, length-take (length xs) ys, ap length a) in
-    let through : take (length xs) (take (length ys) zs) ≡ take (length xs) zs = take_shorter (length xs) (length ys) zs short in
-    sym through ∙ ap (take (length xs)) b ∙ a
 
 -- ---- the loop
 
@@ -180,8 +161,6 @@ pub ended_of : {E : Type 0} (font : FontValue) (run : List ℕ) (right : Bool) (
     → IsUnderWay font run right before used current ahead out → IfOk r (EndsAfter font run right limit before after)
 ended_of font run right before used limit current ahead out after (Ok steps) ends way = ends run right before way
 ended_of font run right before used limit current ahead out after (Err fault) ends way = tt
-
-pub ruleset fronts = (front_at_once, front_of_append, front_through)
 
 pub ruleset ways = (front_at_once, front_of_append, front_through, under_way_first, under_way_next)
 

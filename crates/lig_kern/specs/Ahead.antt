@@ -2,6 +2,7 @@
 -- to the left of the current symbol is already in the list of items. This project's own; each such state
 -- represents a configuration (defined in Rewriting).
 use Rattle.std.specs.Prelude.{◌≡◌, ℕ, zero, suc, ◌+◌, ◌<◌, Bool, true, false, List, [], ◌∷◌, ◌++◌, map, take, drop, reverse, get_or, Option, Some, None, MatchOption, if◌then◌else◌}
+use Rattle.tfm_words.specs.Appending.{StaysInFront}
 use Rattle.tfm_tables.specs.Font.{FontValue}
 use Rattle.lig_kern.specs.declared.symbol.Symbol.{Symbol}
 use Rattle.lig_kern.specs.declared.symbol.Symbol.TheVariants.{Char, Right}
@@ -11,7 +12,7 @@ use Rattle.lig_kern.specs.declared.item.Item.{Item}
 use Rattle.std.specs.Option.{option_map}
 use Rattle.lig_kern.specs.Matching.{action_between}
 use Rattle.lig_kern.specs.Rewriting.{of_symbol, of_kern, items_of}
-use Rattle.lig_kern.specs.Result.{HasNoResultWithin, IsAppendedResult, StaysInFront, result_after}
+use Rattle.lig_kern.specs.Result.{HasNoResultWithin, IsAppendedResult, result_after}
 
 -- the symbols ahead of the current one: the characters that operations put there (the last one comes first),
 -- then the remainder of the run, then the right boundary if `right` is true

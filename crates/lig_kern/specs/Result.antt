@@ -1,7 +1,7 @@
 -- The result of a run: the number of steps that lead to a final configuration, and the items of that
 -- configuration.
 -- Public source: The METAFONTbook, Appendix F; the limit on steps is this project's own.
-use Rattle.std.specs.Prelude.{◌≡◌, ℕ, ◌+◌, ◌≤◌, Bool, List, ◌++◌, length, take, Option, Some, None, is_some}
+use Rattle.std.specs.Prelude.{◌≡◌, ℕ, ◌+◌, ◌≤◌, Bool, List, ◌++◌, Option, Some, None, is_some}
 use Rattle.std.specs.List.{find, range_with_len}
 use Rattle.std.specs.Option.{option_and_then, option_map}
 use Rattle.tfm_tables.specs.Font.{FontValue}
@@ -42,7 +42,3 @@ pub record IsAppendedResult (font : FontValue) (run : List ℕ) (right : Bool) (
   pub result : IsResultOf font run right (record { steps = steps; items = items })
   pub within : steps ≤ limit
   pub appended : after ≡ before ++ items
-
--- the items of the list before are still at the front of the list after
-abbrev pub StaysInFront : List Item → List Item → Type 0
-StaysInFront before after = take (length before) after ≡ before

@@ -1,5 +1,5 @@
 //! The symbols of a run that follow the current one.
-ghost use Rattle.std.specs.Prelude.{◌≡◌, List, [], ◌∷◌, drop, OnOk};
+ghost use Rattle.std.specs.Prelude.{◌≡◌, List, [], ◌∷◌, drop, OnOk, if◌then◌else◌};
 ghost use Rattle.std.specs.List.{slice_get};
 ghost use Rattle.lig_kern.specs.declared.symbol.Symbol.TheVariants.{Char as CharSymbol};
 ghost use Rattle.lig_kern.specs.Ahead.{symbols_ahead};
@@ -73,6 +73,15 @@ impl<'a> Ahead<'a> {
             self.right = false;
         } else {
             self.rest = &self.rest[1..];
+        }
+    }
+
+    /// Removes the next symbol unless it is kept.
+    pub fn pass_unless(&mut self, kept: bool)
+        ensures { self.new ≡ (if kept then self.old else drop 1 self.old) }
+    {
+        if !kept {
+            self.pass();
         }
     }
 

@@ -32,17 +32,17 @@ fn ligature(op: u8, code: u8) -> Action
 }
 
 /// Returns the action of the instruction at an address.
-#[tactic(auto, unfolding(crate::specs::Matching::action_of, tfm_tables::specs::Acceptance::kern_index_of))]
+#[tactic(auto, unfolding(crate::specs::Matching::action_of))]
 fn action(font: &Font, address: usize) -> Action
     requires within { address < entries_of font.now.words LigKern }
     requires skip { (step_at font.now.words address).skip ≤ 128 }
     ensures { result ≡ action_of font.now (step_at font.now.words address) }
 {
     let step = font.step(address);
-    if step.op < 128 {
-        return ligature(step.op, step.remainder);
+    match step.kern_index() {
+        Some(kern) => Action::Kern(font.kern(kern)),
+        None => ligature(step.op, step.remainder),
     }
-    Action::Kern(font.kern(256 * usize::from(step.op - 128) + usize::from(step.remainder)))
 }
 
 /// Returns the action of a font's lig/kern program between two neighbours (tftopl.web, section 13;

@@ -1,11 +1,13 @@
 //! Sets one run, step by step.
 ghost use Rattle.std.specs.Prelude.{◌≡◌, ℕ, ◌≤◌, ◌++◌, Bool, List, [], ◌∷◌, ◌&&◌, drop, length, map, is_some, Err, Some, IfOk, OnOk, OnErr, MatchOption};
 ghost use Rattle.std.specs.List.{slice_get};
+ghost use Rattle.tfm_words.specs.Appending.{StaysInFront};
 ghost use Rattle.tfm_tables.specs.Program.{program_of, right_code_of};
 ghost use Rattle.lig_kern.specs.declared.word_fault.WordFault.TheVariants.{TooManySteps as TooMany};
 ghost use Rattle.lig_kern.specs.Rewriting.{items_of, of_symbol};
-ghost use Rattle.lig_kern.specs.Result.{HasNoResultWithin, IsAppendedResult, StaysInFront};
+ghost use Rattle.lig_kern.specs.Result.{HasNoResultWithin, IsAppendedResult};
 ghost use Rattle.lig_kern.specs.declared.item.Item.{Item as ItemValue};
+ghost use Rattle.lig_kern.specs.declared.item.Item.TheVariants.{Kern as KernItem};
 ghost use Rattle.lig_kern.specs.declared.symbol.Symbol.{Symbol as SymbolValue};
 ghost use Rattle.lig_kern.specs.declared.symbol.Symbol.TheVariants.{Char as CharSymbol};
 ghost use Rattle.lig_kern.specs.Ahead.{EndsAfter, HasTurned, IsUnderWay, stays, symbols_ahead, turn_of};
@@ -16,7 +18,7 @@ use std::alloc::AllocError;
 use tfm_tables::Font;
 
 /// Appends the item of a symbol to `out`: a character with its width; a boundary has no item.
-#[tactic(auto, using(crate::proofs::UnderWay::fronts), unfolding(crate::specs::Rewriting::items_of))]
+#[tactic(auto, using(tfm_words::proofs::AppendingLemmas::fronts), unfolding(crate::specs::Rewriting::items_of))]
 fn push_symbol(font: &Font, symbol: Symbol, out: &mut Vec<Item>) -> Result<(), AllocError>
     ensures front { StaysInFront out.old.items out.new.items }
     ensures sent { OnOk result (out.new.items ≡ out.old.items ++ items_of font.now (of_symbol symbol ∷ [])) }
@@ -28,8 +30,24 @@ fn push_symbol(font: &Font, symbol: Symbol, out: &mut Vec<Item>) -> Result<(), A
     Ok(())
 }
 
+/// Appends the item of a symbol, and a kern after it.
+#[tactic(auto, using(tfm_words::proofs::AppendingLemmas::fronts))]
+fn push_with_kern(
+    font: &Font,
+    symbol: Symbol,
+    amount: i32,
+    out: &mut Vec<Item>,
+) -> Result<(), AllocError>
+    ensures front { StaysInFront out.old.items out.new.items }
+    ensures sent { OnOk result (out.new.items ≡ out.old.items ++ items_of font.now (of_symbol symbol ∷ []) ++ KernItem amount ∷ []) }
+{
+    push_symbol(font, symbol, out)?;
+    out.push(Item::Kern(amount))?;
+    Ok(())
+}
+
 /// Appends the item of the left one of two symbols, which a ligature passes, if the ligature keeps it.
-#[tactic(auto, using(crate::proofs::UnderWay::fronts), unfolding(crate::specs::Rewriting::items_of))]
+#[tactic(auto, using(tfm_words::proofs::AppendingLemmas::fronts), unfolding(crate::specs::Rewriting::items_of))]
 fn push_kept(font: &Font, keep: bool, symbol: Symbol, out: &mut Vec<Item>) -> Result<(), AllocError>
     ensures front { StaysInFront out.old.items out.new.items }
     ensures sent { OnOk result (out.new.items ≡ out.old.items ++ items_of font.now (map of_symbol (stays keep symbol))) }
@@ -44,7 +62,7 @@ fn push_kept(font: &Font, keep: bool, symbol: Symbol, out: &mut Vec<Item>) -> Re
 /// Makes one step between the current symbol and the next one, which is the first symbol ahead. Appends
 /// the items of the symbols that the step passes, and of its kern, and returns the symbol that is
 /// current afterwards.
-#[tactic(auto, using(crate::proofs::UnderWay::fronts))]
+#[tactic(auto, using(tfm_words::proofs::AppendingLemmas::fronts))]
 fn step(
     font: &Font,
     current: Symbol,
@@ -63,8 +81,7 @@ fn step(
             Ok(next)
         }
         Some(Action::Kern(amount)) => {
-            push_symbol(font, current, out)?;
-            out.push(Item::Kern(amount))?;
+            push_with_kern(font, current, amount, out)?;
             ahead.pass();
             Ok(next)
         }
@@ -76,9 +93,7 @@ fn step(
                 pass,
             },
         ) => {
-            if !keep_right {
-                ahead.pass();
-            }
+            ahead.pass_unless(keep_right);
             let passed_left = u8::from(keep_left);
             if pass < passed_left {
                 ahead.put(code)?;
@@ -99,7 +114,7 @@ fn step(
 /// exactly that character: nothing matches, the match is a kern, or a ligature replaces both. Returns
 /// the code of the symbol that is current afterwards, or `None`, with nothing appended, if another
 /// operation matches.
-#[tactic(auto, using(crate::proofs::UnderWay::fronts))]
+#[tactic(auto, using(tfm_words::proofs::AppendingLemmas::fronts))]
 fn plain_step(
     font: &Font,
     current: Symbol,
@@ -118,8 +133,7 @@ fn plain_step(
             Ok(Some(next))
         }
         Some(Action::Kern(kern)) => {
-            push_symbol(font, current, out)?;
-            out.push(Item::Kern(kern))?;
+            push_with_kern(font, current, kern, out)?;
             Ok(Some(next))
         }
         Some(
@@ -134,23 +148,30 @@ fn plain_step(
     }
 }
 
-/// Makes steps from the beginning of a run while each step consumes exactly one character. Returns the
-/// number of steps, which is also the number of characters consumed, and the symbol that is current
-/// afterwards. This is the fast path: it needs no list of symbols ahead.
+/// How far the setting of a run has come: the number of steps made, and the symbol that is current.
+#[derive(Clone, Copy)]
+struct Progress {
+    steps: u32,
+    current: Symbol,
+}
+
+/// Makes steps from the beginning of a run while each step consumes exactly one character. The
+/// number of steps is also the number of characters consumed. This is the fast path: it needs no list of
+/// symbols ahead.
 #[tactic(auto, using(crate::proofs::UnderWay::ways))]
 fn set_plainly(
     font: &Font,
     word: &[u8],
     steps_left: u32,
     out: &mut Vec<Item>,
-) -> Result<(u32, Symbol), AllocError>
+) -> Result<Progress, AllocError>
     ensures within { IfOk result (λ reached.
-        (reached.0 ≤ steps_left) × (reached.0 ≤ length word.now)) }
+        (reached.steps ≤ steps_left) × (reached.steps ≤ length word.now)) }
     ensures front { StaysInFront out.old.items out.new.items }
     ensures under_way { IfOk result (λ reached. (right stands : Bool)
         → stands ≡ (right && is_some (right_code_of (program_of font.now.words)))
-        → IsUnderWay font.now word.now right out.old.items reached.0 reached.1
-        (symbols_ahead [] (drop reached.0 word.now) stands) out.new.items) }
+        → IsUnderWay font.now word.now right out.old.items reached.steps reached.current
+        (symbols_ahead [] (drop reached.steps word.now) stands) out.new.items) }
 {
     let most = if word.len() < steps_left as usize {
         word.len() as u32
@@ -158,19 +179,33 @@ fn set_plainly(
         steps_left
     };
     if most == 0 {
-        return Ok((0, Symbol::Left));
+        return Ok(Progress {
+            steps: 0,
+            current: Symbol::Left,
+        });
     }
     let Some(first) = plain_step(font, Symbol::Left, word[0], out)? else {
-        return Ok((0, Symbol::Left));
+        return Ok(Progress {
+            steps: 0,
+            current: Symbol::Left,
+        });
     };
     let mut current = first;
     for used in 1..most {
         match plain_step(font, Symbol::Char(current), word[used as usize], out)? {
-            None => return Ok((used, Symbol::Char(current))),
+            None => {
+                return Ok(Progress {
+                    steps: used,
+                    current: Symbol::Char(current),
+                });
+            }
             Some(after) => current = after,
         }
     }
-    Ok((most, Symbol::Char(current)))
+    Ok(Progress {
+        steps: most,
+        current: Symbol::Char(current),
+    })
 }
 
 /// Returns whether the right boundary follows a run: it is requested, and the font has a right boundary
@@ -182,25 +217,24 @@ fn right_stands(font: &Font, right: bool) -> bool
 }
 
 /// Makes steps until no symbol is ahead of the current one, and then appends the item of the current
-/// one. Returns the number of all steps of the run, including the `taken` ones before this call, or
-/// `None` if `steps_left` steps in all don't reach the end.
+/// one. Returns the number of all steps of the run, including those before this call, or `None` if
+/// `steps_left` steps in all don't reach the end.
 #[tactic(auto, using(crate::proofs::UnderWay::ends))]
 fn finish(
     font: &Font,
-    from: Symbol,
+    reached: Progress,
     ahead: &mut Ahead<'_>,
-    taken: u32,
     steps_left: u32,
     out: &mut Vec<Item>,
 ) -> Result<Option<u32>, AllocError>
-    requires { taken ≤ steps_left }
+    requires { reached.steps ≤ steps_left }
     ensures front { StaysInFront out.old.items out.new.items }
     ensures ended { IfOk result (λ steps. (run : List ℕ) (right : Bool) (before : List ItemValue)
-        → IsUnderWay font.now run right before taken from ahead.old out.old.items
+        → IsUnderWay font.now run right before reached.steps reached.current ahead.old out.old.items
         → EndsAfter font.now run right steps_left before out.new.items steps) }
 {
-    let mut current = from;
-    for used in taken..steps_left {
+    let mut current = reached.current;
+    for used in reached.steps..steps_left {
         let Some(next) = ahead.first() else {
             push_symbol(font, current, out)?;
             return Ok(Some(used));
@@ -216,7 +250,7 @@ fn finish(
 
 /// Makes all steps of a run, and then appends the item of its last symbol. Returns the number of steps,
 /// or `None` if `steps_left` steps don't reach the end.
-#[tactic(auto, using(crate::proofs::UnderWay::fronts))]
+#[tactic(auto, using(tfm_words::proofs::AppendingLemmas::fronts))]
 fn run_steps(
     font: &Font,
     word: &[u8],
@@ -228,14 +262,14 @@ fn run_steps(
     ensures ended { IfOk result
         (EndsAfter font.now word.now right steps_left out.old.items out.new.items) }
 {
-    let (plain_steps, current) = set_plainly(font, word, steps_left, out)?;
+    let reached = set_plainly(font, word, steps_left, out)?;
     let stands = right_stands(font, right);
-    if plain_steps as usize == word.len() && !stands {
-        push_symbol(font, current, out)?;
-        return Ok(Some(plain_steps));
+    if reached.steps as usize == word.len() && !stands {
+        push_symbol(font, reached.current, out)?;
+        return Ok(Some(reached.steps));
     }
-    let mut ahead = Ahead::new(*out.allocator(), &word[plain_steps as usize..], stands);
-    finish(font, current, &mut ahead, plain_steps, steps_left, out)
+    let mut ahead = Ahead::new(*out.allocator(), &word[reached.steps as usize..], stands);
+    finish(font, reached, &mut ahead, steps_left, out)
 }
 
 /// Sets one run of character codes with the lig/kern program of a font (The METAFONTbook, Appendix F),

@@ -1,4 +1,4 @@
--- What a setter and a taker have, read off the ends of the two rings.
+-- The states of a setter and of a taker, from their ends of the two rings.
 -- This project's own.
 use Rattle.std.specs.Prelude.{◌≡◌, ℕ, ◌+◌, ◌≤◌, Bool, true, false, List, [], ◌++◌, length, None, is_some}
 use Rattle.set_line.specs.Terms.{TermsValue}
@@ -12,20 +12,23 @@ use Rattle.line_lane.specs.declared.receiver.Receiver.{Receiver}
 use Rattle.line_lane.specs.declared.ending.SourceEnd.{SourceEnd}
 use Rattle.line_lane.specs.declared.ending.LaneEnd.{LaneEnd}
 
--- an end of the ring on which lines go, and one of the ring on which answers come
+-- the sender of the ring of lines, in the feeder
 abbrev pub LineSender : Type 0
 LineSender = Sender (List ℕ) SourceEnd
 
+-- the receiver of the ring of lines, in the setter
 abbrev pub LineReceiver : Type 0
 LineReceiver = Receiver (List ℕ) SourceEnd
 
+-- the sender of the ring of results, in the setter
 abbrev pub AnswerSender : Type 0
 AnswerSender = Sender AnswerValue LaneEnd
 
+-- the receiver of the ring of results, in the taker
 abbrev pub AnswerReceiver : Type 0
 AnswerReceiver = Receiver AnswerValue LaneEnd
 
--- a setter: the lines it has seen and given answers to, and what is in its hands
+-- the state of a setter: its settings, the lines received, the results sent, and what is buffered
 abbrev pub setter_state : TermsValue → LineReceiver → AnswerSender → Bool → SetterState
 setter_state terms receiver sender ready = record {
   terms = terms;
@@ -40,20 +43,21 @@ setter_state terms receiver sender ready = record {
   pushed = messages_sent sender;
 }
 
--- the lines and the answers in hand fit into one message; an end is in hand only with a ready message, and was sent only
--- with none
+-- the buffered lines and results of a setter fit into one message; the next message has an end only if it is
+-- ready, and none is ready after an end was sent
 abbrev pub IsInHand : LineReceiver → AnswerSender → Bool → Type 0
 IsInHand receiver sender ready =
     (length receiver.hand.items + length sender.hand.items ≤ 8)
     × (ready ≡ false → sender.hand.ending ≡ None)
     × (ready ≡ true → end_sent sender ≡ None)
 
--- a taker: the answers it has given out, those it still holds, and the end
+-- the state of a taker: the results taken, those still buffered, and the end
 abbrev pub taker_state : AnswerReceiver → Bool → TakerState
 taker_state receiver ended =
     record { taken = items_taken receiver; held = receiver.hand.items; ending = end_received receiver; ended = ended }
 
--- the answers taken and those held are all that were received; it has ended only with none held, after an end
+-- the results taken and those buffered are all that were received; a taker has returned the end only if none
+-- is buffered and an end was received
 abbrev pub IsAllReceived : AnswerReceiver → Bool → Type 0
 IsAllReceived receiver ended =
     (items_taken receiver ++ receiver.hand.items ≡ items_received receiver)

@@ -1,4 +1,4 @@
--- The answers of lines, and the end of a lane.
+-- The results of lines, and the end of a lane.
 -- This project's own.
 use Rattle.std.specs.Prelude.{◌≡◌, ℕ, List, length, map, take}
 use Rattle.set_line.specs.Terms.{TermsValue}
@@ -8,15 +8,16 @@ use Rattle.line_lane.specs.declared.ending.SourceEnd.TheVariants.{Complete as So
 use Rattle.line_lane.specs.declared.ending.LaneEnd.{LaneEnd}
 use Rattle.line_lane.specs.declared.ending.LaneEnd.TheVariants.{Complete, SourceFailed}
 
--- the answers of lines: as many as there are lines, each with these terms, its line and the outcome that is defined for them
+-- the results of lines with these settings: for each line its answer, which has the settings, the line and
+-- its defined result
 abbrev pub answers_of : TermsValue → List (List ℕ) → List AnswerValue
 answers_of terms lines = map (answer_of terms) lines
 
--- what was taken are the answers of the first of the lines that were fed
+-- the results taken are those of the first lines that were fed
 abbrev pub pipeline : TermsValue → List (List ℕ) → List AnswerValue → Type 0
 pipeline terms fed taken = taken ≡ answers_of terms (take (length taken) fed)
 
--- the end of a lane whose source ended so
+-- the end of a lane that isn't abandoned, from the end of its source
 abbrev pub lane_end_of : SourceEnd → LaneEnd
 lane_end_of SourceComplete = Complete
 lane_end_of (Failed fault) = SourceFailed fault

@@ -1,4 +1,4 @@
--- What an end of a ring of messages has sent or received, and has in hand.
+-- The messages that an end of a ring has sent or received, and the items that it has buffered.
 -- This project's own; `sent` and `received` are those of `rtrb`.
 use Rattle.std.specs.Prelude.{◌≡◌, ℕ, ◌-◌, List, length, take, Option}
 use Rattle.rtrb.specs.Ring.{sent, received, SameProducer, SameConsumer}
@@ -11,7 +11,7 @@ module _ {T E : Type 0} where
   abbrev pub items_sent : Sender T E → List T
   items_sent o = items_of (sent o.producer)
 
-  -- how many messages were sent
+  -- the number of messages sent
   abbrev pub messages_sent : Sender T E → ℕ
   messages_sent o = length (sent o.producer)
 
@@ -23,7 +23,7 @@ module _ {T E : Type 0} where
   abbrev pub items_received : Receiver T E → List T
   items_received i = items_of (received i.consumer)
 
-  -- how many messages were received
+  -- the number of messages received
   abbrev pub messages_received : Receiver T E → ℕ
   messages_received i = length (received i.consumer)
 
@@ -31,21 +31,23 @@ module _ {T E : Type 0} where
   abbrev pub end_received : Receiver T E → Option E
   end_received i = end_of (received i.consumer)
 
-  -- the items received that aren't in hand any more
+  -- the items received that aren't buffered any more
   abbrev pub items_taken : Receiver T E → List T
   items_taken i = take (length (items_received i) - length i.hand.items) (items_received i)
 
-  -- an end of the same ring
+  -- a sender of the same ring
   abbrev pub SameSender : Sender T E → Sender T E → Type 0
   SameSender a b = SameProducer a.producer b.producer
 
+  -- a receiver of the same ring
   abbrev pub SameReceiver : Receiver T E → Receiver T E → Type 0
   SameReceiver a b = SameConsumer a.consumer b.consumer
 
-  -- the same end of a ring, with nothing sent or received since
+  -- the same sender, with nothing sent since and the same items buffered
   abbrev pub IsSenderAsBefore : Sender T E → Sender T E → Type 0
   IsSenderAsBefore a b = SameSender a b × (sent b.producer ≡ sent a.producer) × (b.hand ≡ a.hand)
 
+  -- the same receiver, with nothing received since and the same items buffered
   abbrev pub IsReceiverAsBefore : Receiver T E → Receiver T E → Type 0
   IsReceiverAsBefore a b = SameReceiver a b × (received b.consumer ≡ received a.consumer) × (b.hand ≡ a.hand)
 

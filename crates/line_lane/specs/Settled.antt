@@ -1,4 +1,4 @@
--- A lane whose ends have come together again.
+-- A lane whose endpoints were brought together again.
 -- This project's own.
 use Rattle.std.specs.Prelude.{◌≡◌, ◌&&◌, Bool, true, false, Some, is_some}
 use Rattle.std.specs.Option.{option_map}
@@ -12,12 +12,13 @@ use Rattle.line_lane.specs.declared.taker.Taker.{Taker}
 use Rattle.line_lane.specs.declared.ending.LaneEnd.{LaneEnd}
 use Rattle.line_lane.specs.declared.ending.LaneEnd.TheVariants.{GaveUp}
 
--- whether a lane is over: its feeder is closed, its setter is done, and its taker gave out the end
+-- whether a lane is finished: its feeder is closed, its setter is done, and its taker has returned the end
 abbrev pub is_over : Feeder → Setter → Taker → Bool
 is_over f s t = is_some (feeder_end f) && (is_done (state_of s) && (hands_of t).ended)
 
--- a lane that is over with this end: the one that was taken. It is that of a lane given up exactly if the setter made that;
--- else it is that of the feeder, and what was taken are the answers of all lines that were fed
+-- a lane is finished with this end, which was taken. If the lane was abandoned, this end is `GaveUp`;
+-- otherwise it is the end that a lane has for the end of its source, and the results taken are those of all
+-- lines that were fed
 abbrev pub IsSettled : Feeder → Setter → Taker → LaneEnd → Type 0
 IsSettled f s t end =
     (is_over f s t ≡ true)
@@ -26,7 +27,7 @@ IsSettled f s t end =
     × (is_given_up (state_of s).made ≡ false → option_map lane_end_of (feeder_end f) ≡ Some end)
     × (is_given_up (state_of s).made ≡ false → taken t ≡ answers_of (state_of s).terms (fed f))
 
--- the same ends, with nothing fed, set, sent or taken since
+-- the same endpoints, with nothing fed, set, sent or taken since
 pub record AreAsBefore (f : Feeder) (s : Setter) (t : Taker) (g : Feeder) (u : Setter) (v : Taker) : Type 0 where
   pub feeder : SameFeeder f g
   pub lines : IsAsFed f g
@@ -35,7 +36,8 @@ pub record AreAsBefore (f : Feeder) (s : Setter) (t : Taker) (g : Feeder) (u : S
   pub taker : SameTaker t v
   pub hands : hands_of v ≡ hands_of t
 
--- ends that have looked at each other: on each ring what was received is the first of what was sent, and all of it after an end
+-- endpoints that were brought together: on each ring the items received are the first of those sent, and all
+-- of them once an end was received, which is the end sent
 pub record HaveMet (f : Feeder) (s : Setter) (t : Taker) : Type 0 where
   pub first_lines : IsFirstOf (state_of s).seen (items_sent f.sender)
   pub all_lines : is_some (state_of s).source ≡ true → (state_of s).seen ≡ items_sent f.sender

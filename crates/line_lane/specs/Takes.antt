@@ -1,4 +1,4 @@
--- What a taker has, and what a take makes of that.
+-- The state of a taker, and how each call of `take` changes it.
 -- This project's own.
 use Rattle.std.specs.Prelude.{◌≡◌, ◌<◌, length, Bool, true, false, List, [], ◌∷◌, ◌++◌, Option, Some, None}
 use Rattle.set_line.specs.Answer.{AnswerValue, IsRight}
@@ -7,7 +7,8 @@ use Rattle.line_lane.specs.declared.ending.LaneEnd.{LaneEnd}
 use Rattle.line_lane.specs.declared.took.Took.{Took}
 use Rattle.line_lane.specs.declared.took.Took.TheVariants.{Nothing, Answer, End}
 
--- the answers given out, those still held, the end after them if that was received, and whether the end was given out
+-- the results taken, those still buffered, the end after them if it was received, and whether the end was
+-- taken
 pub record TakerState : Type 0 where
   pub taken : List AnswerValue
   pub held : List AnswerValue
@@ -18,12 +19,14 @@ pub record TakerState : Type 0 where
 abbrev pub empty_handed : TakerState
 empty_handed = record { taken = []; held = []; ending = None; ended = false }
 
--- an answer comes out of those held; if none is held it comes out of a message, which is received only before the end
+-- the result taken is the first buffered one; if none is buffered, it is from a message, which is received
+-- only if no end was received before
 abbrev pub TakesFrom : List AnswerValue → AnswerValue → TakerState → TakerState → Type 0
 TakesFrom (first ∷ rest) answer s t = (answer ≡ first) × (t.held ≡ rest) × (t.ending ≡ s.ending)
 TakesFrom [] answer s t = (s.ending ≡ None) × (length t.held < 8)
 
--- an end comes out if no answer is held: the one that was received. It comes again and again, and changes nothing then
+-- an end is taken if no result is buffered: the one that was received before, if any. Taking it again changes
+-- nothing
 abbrev pub TakesEnd : LaneEnd → TakerState → TakerState → Type 0
 TakesEnd end s t =
     (s.held ≡ [])
@@ -31,14 +34,15 @@ TakesEnd end s t =
     × (t ≡ record { taken = s.taken; held = []; ending = Some end; ended = true })
     × (s.ended ≡ true → t ≡ s)
 
--- a take: nothing, only if no answer and no end is in hand; an answer, which is right for its terms and line; or the end
+-- the return value of `take`: nothing, only if no result and no end was buffered; the next result, which is
+-- the defined one for its line and settings; or the end
 abbrev pub Takes : TakerState → Took → TakerState → Type 0
 Takes s Nothing t = (t ≡ s) × (s.held ≡ []) × (s.ending ≡ None) × (s.ended ≡ false)
 Takes s (Answer answer) t =
     IsRight answer × (s.ended ≡ false) × (t.ended ≡ false) × (t.taken ≡ s.taken ++ answer ∷ []) × TakesFrom s.held answer s t
 Takes s (End end) t = TakesEnd end s t
 
--- what is in hand was taken; or nothing is in hand, and nothing changes
+-- the next buffered result or the end was taken; or nothing is buffered, and nothing changes
 abbrev pub IsTakenFromHand : TakerState → Option Took → TakerState → Type 0
 IsTakenFromHand s None t = (t ≡ s) × (s.held ≡ []) × (s.ending ≡ None) × (s.ended ≡ false)
 IsTakenFromHand s (Some took) t = Takes s took t × ((took ≡ Nothing) → ⊥)

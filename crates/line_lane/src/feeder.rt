@@ -1,4 +1,4 @@
-//! Lines go in.
+//! The feeder of a lane.
 ghost use Rattle.std.specs.Prelude.{◌≡◌, ◌<◌, [], true, None, length, is_some};
 ghost use Rattle.std.proofs.Props.{props};
 ghost use Rattle.line_lane.specs.Rings.{end_sent};
@@ -7,7 +7,8 @@ use crate::sender::Sender;
 use crate::{Block, OfferFault, SourceEnd};
 use set_line::Line;
 
-/// The end where lines go in.
+/// The endpoint of a lane where lines are fed. It collects them in an open block, and sends a full block to
+/// the setter as one message.
 #[derive(Drop)]
 pub struct Feeder {
     pub(crate) sender: Sender<Line, SourceEnd>,
@@ -28,7 +29,11 @@ impl Feeder {
         self.sender.ended.is_some()
     }
 
-    /// Feeds a line. It joins the open block, which is sent once it is full.
+    /// Feeds a line: appends it to the open block, and sends this block if it is full then.
+    ///
+    /// The error is `Closed` if the feeder is closed, and `NoRoom` if the line would fill the open block and
+    /// no free slot was found for the block. Both return the line, and nothing is fed: the open block is
+    /// unchanged.
     pub fn offer(&mut self, line: Line) -> Result<(), OfferFault>
         ensures lane { SameFeeder self.old self.new }
         ensures end { feeder_end self.new ≡ feeder_end self.old }
@@ -54,8 +59,8 @@ impl Feeder {
         Ok(())
     }
 
-    /// Sends the open block, if it has lines: false, and nothing changes, if no room for it was
-    /// seen.
+    /// Sends the open block as one message, unless it is empty. Returns false, with the open block unchanged,
+    /// if no free slot was found for it.
     pub fn flush(&mut self) -> bool
         ensures lane { SameFeeder self.old self.new }
         ensures fed { fed self.new ≡ fed self.old }
@@ -75,8 +80,9 @@ impl Feeder {
         true
     }
 
-    /// Closes the feeder: the open block is sent, with this end last. False, and nothing changes,
-    /// if no room for it was seen. On a closed feeder the first end stands.
+    /// Closes the feeder: sends the open block as one message, with this end after its lines. Returns false,
+    /// with the open block unchanged, if no free slot was found for it. A feeder that is closed keeps its
+    /// first end, and the return value is true.
     pub fn close(&mut self, end: SourceEnd) -> bool
         ensures lane { SameFeeder self.old self.new }
         ensures fed { fed self.new ≡ fed self.old }

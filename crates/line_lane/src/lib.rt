@@ -1,4 +1,6 @@
-//! One lane: lines go in at one end, a setter sets them, and answers come out at the other, in order.
+//! The lane of one source: lines are fed to a [`Feeder`], a [`Setter`] sets them, and a [`Taker`] returns
+//! their results in order. A ring, which is a bounded queue with one producer and one consumer, connects each
+//! of these endpoints with the next, so that each may be in a thread of its own.
 #![tactic(auto)]
 
 pub use ending::{LaneEnd, SourceEnd};
@@ -16,11 +18,11 @@ pub use turn::Turn;
 mod ending;
 mod fault;
 mod feeder;
+mod hand;
 mod meeting;
 mod message;
 mod offer_fault;
 mod opening;
-mod places;
 mod receiver;
 mod sender;
 mod setter;

@@ -1,4 +1,4 @@
-//! The two ends of a ring in one thread.
+//! Brings the two ends of a ring together in one thread.
 ghost use Rattle.std.specs.Prelude.{◌≡◌, true, is_some};
 ghost use Rattle.rtrb.specs.Ring.{IsPair};
 ghost use Rattle.line_lane.specs.Known.{IsAllKnown, messages, places};
@@ -7,8 +7,9 @@ ghost use Rattle.line_lane.specs.Rings.{IsFirstOf, IsReceiverAsBefore, IsSenderA
 use crate::receiver::Receiver;
 use crate::sender::Sender;
 
-/// Lets the ends of one ring look at each other. Nothing is sent or received. What was received is the
-/// first of what was sent, and all of it after an end.
+/// Updates what the two ends of one ring know about its free slots and its messages. Nothing is sent or
+/// received. The contract states that the items received are the first of those sent, and all of them once an
+/// end was received.
 pub(crate) fn meet<T: Drop, E: Copy>(sender: &mut Sender<T, E>, receiver: &mut Receiver<T, E>)
     requires { IsPair sender.old.producer receiver.old.consumer }
     ensures sender { IsSenderAsBefore sender.old sender.new }

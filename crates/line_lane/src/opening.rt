@@ -1,4 +1,4 @@
-//! A lane is opened.
+//! Opens a lane.
 ghost use Rattle.std.specs.Prelude.{◌≡◌, [], None, IfOk};
 ghost use Rattle.std.specs.Arc.{arc_value};
 ghost use Rattle.line_lane.specs.Turns.{fresh};
@@ -15,8 +15,8 @@ use set_line::{OutOfMemory, Terms};
 use std::alloc::Global;
 use std::sync::Arc;
 
-/// Opens a lane with these terms: two rings with places for this many messages each, and blocks of this
-/// many lines. Memory is taken for the rings' places alone.
+/// Opens a lane with these settings: two rings with `capacity` slots each, and blocks of `block` lines.
+/// Memory is allocated for the rings only. The error means that an allocation failed.
 pub fn open(
     alloc: Global,
     terms: Arc<Terms>,
@@ -40,12 +40,12 @@ pub fn open(
     };
     let setter = Setter {
         terms,
-        receiver: Receiver::new(lines_out),
+        receiver: Receiver::new(alloc, lines_out),
         sender: Sender::new(alloc, answers_in),
         ready: false,
     };
     let taker = Taker {
-        receiver: Receiver::new(answers_out),
+        receiver: Receiver::new(alloc, answers_out),
         ended: false,
     };
     Ok((feeder, setter, taker))

@@ -4,25 +4,26 @@ ghost use Rattle.std.specs.Coded.{Coded-set, coded_option};
 ghost use Rattle.rtrb.specs.Ring.{SameConsumer, known_items, received};
 ghost use Rattle.line_lane.specs.Messages.{IsFilled, end_of};
 
+use crate::hand::Hand;
 use crate::message::{Filled, Message};
 use rtrb::Consumer;
 use std::alloc::Global;
-use std::mem;
 
-/// The end that receives, with the message that was received last.
+/// The receiving end of a ring, with the items of the last received message that weren't taken yet.
 #[derive(Drop)]
 pub(crate) struct Receiver<T, E> {
     pub consumer: Consumer<Message<T, E>, Global, Filled>,
-    pub hand: Message<T, E>,
+    pub hand: Hand<T, E>,
     ghost told: { hand.ending ≡ end_of (received consumer) } by { Coded-set (coded_option E.code) _ _ },
 }
 
-/// Receives a message that was seen, in place of the one before. It is a function by itself, since one
-/// that moves a message clears the room for that at its beginning. An empty one needn't be dropped.
+/// Receives a message that is known to be in the ring, in place of the previous one. This is a function of
+/// its own because a function that moves a message first clears the space for it, which a call of `receive`
+/// that finds no message doesn't need.
 #[inline(never)]
 fn pop<T: Drop, E: Copy>(
     consumer: &mut Consumer<Message<T, E>, Global, Filled>,
-    hand: &mut Message<T, E>,
+    hand: &mut Hand<T, E>,
 )
     requires { 0 < length (known_items consumer.old) }
     ensures known { length (known_items consumer.old) ≡ length (known_items consumer.new) + 1 }
@@ -31,13 +32,8 @@ fn pop<T: Drop, E: Copy>(
     ensures few { length hand.new.items ≤ 8 }
     ensures filled { IsFilled hand.new }
 {
-    let next = consumer.pop_known();
-    if hand.len() == 0 {
-        mem::forget(mem::replace(hand, next));
-    } else {
-        *hand = next;
-    }
-    // Called for its clause: a message has at most eight items.
+    hand.fill(consumer.pop_known());
+    // For the proof: the contract of `len` states that a message has at most eight items.
     let _ = hand.len();
 }
 
@@ -47,19 +43,20 @@ impl<T: Drop, E: Copy> Receiver<T, E> {
     ghost use Rattle.line_lane.specs.Rings.{SameReceiver, end_received, items_received, messages_received};
     ghost use Rattle.line_lane.specs.Known.{HasNoneIf, messages};
 
-    /// An end that has received nothing.
-    pub fn new(consumer: Consumer<Message<T, E>, Global, Filled>) -> Self
+    /// Returns the receiving end of a ring from which nothing was received.
+    pub fn new(alloc: Global, consumer: Consumer<Message<T, E>, Global, Filled>) -> Self
         requires { received consumer ≡ [] }
         ensures consumer { result.consumer ≡ consumer }
         ensures hand { result.hand ≡ nothing }
     {
         Receiver {
             consumer,
-            hand: Message::new(),
+            hand: Hand::new(alloc),
         }
     }
 
-    /// Receives a message into the hand: false, and nothing changes, if none was seen.
+    /// Receives a message into the hand. Returns false, with the hand unchanged, if no message was found. No
+    /// end may have been received before.
     pub fn receive(&mut self) -> bool
         requires { end_received self.old ≡ None }
         ensures same { SameReceiver self.old self.new }

@@ -9,12 +9,12 @@ use rtrb::Producer;
 use std::alloc::Global;
 use std::mem;
 
-/// The end that sends, with the message that is being made.
+/// The sending end of a ring, with the next message, whose items are still being added.
 #[derive(Drop)]
 pub(crate) struct Sender<T, E> {
     pub producer: Producer<Message<T, E>, Global, Filled>,
     pub hand: Message<T, E>,
-    /// The end that was sent.
+    /// The end that was sent, if any.
     pub ended: Option<E>,
     pub alloc: Global,
     ghost last: { ends_last (sent producer) ≡ true },
@@ -28,7 +28,7 @@ impl<T: Drop, E: Copy> Sender<T, E> {
     ghost use Rattle.line_lane.specs.Rings.{SameSender, end_sent, items_sent, messages_sent};
     ghost use Rattle.line_lane.specs.Known.{HasNoneIf, places};
 
-    /// An end that has sent nothing, with nothing in hand.
+    /// Returns the sending end of a ring into which nothing was sent, with an empty next message.
     pub fn new(alloc: Global, producer: Producer<Message<T, E>, Global, Filled>) -> Self
         requires { sent producer ≡ [] }
         ensures producer { result.producer ≡ producer }
@@ -36,13 +36,13 @@ impl<T: Drop, E: Copy> Sender<T, E> {
     {
         Sender {
             producer,
-            hand: Message::new(),
+            hand: Message::new(alloc),
             ended: None,
             alloc,
         }
     }
 
-    /// Whether there is room for a message: false if none was seen.
+    /// Returns whether a free slot was found. The receiver may free one at any time.
     pub fn has_room(&mut self) -> bool
         ensures same { SameSender self.old self.new }
         ensures sent { sent self.new.producer ≡ sent self.old.producer }
@@ -53,7 +53,8 @@ impl<T: Drop, E: Copy> Sender<T, E> {
         !self.producer.is_full()
     }
 
-    /// Sends the message in hand, and begins a new one.
+    /// Sends the next message, and begins a new one. A free slot must be known, no end may have been sent
+    /// before, and the message must have an item or an end.
     pub fn send(&mut self)
         requires room { 0 < known_free self.old.producer }
         requires unended { end_sent self.old ≡ None }
@@ -67,7 +68,7 @@ impl<T: Drop, E: Copy> Sender<T, E> {
         ensures known { (places self.old).known ≡ (places self.new).known + 1 }
     {
         self.ended = self.hand.ending();
-        let next = Message::new();
+        let next = Message::new(self.alloc);
         self.producer
             .push_reserved(mem::replace(&mut self.hand, next));
     }

@@ -1,4 +1,4 @@
-//! Lines are set.
+//! The setter of a lane.
 ghost use Rattle.std.specs.Prelude.{◌≡◌, [], true};
 ghost use Rattle.std.specs.Arc.{arc_value};
 ghost use Rattle.std.proofs.Props.{props};
@@ -7,6 +7,7 @@ ghost use Rattle.line_lane.specs.Lane.{lane_end_of};
 ghost use Rattle.line_lane.specs.Turns.{IsOrderly, end_with};
 ghost use Rattle.line_lane.specs.Hands.{IsInHand, setter_state};
 
+use crate::hand::Hand;
 use crate::message::Message;
 use crate::receiver::Receiver;
 use crate::sender::Sender;
@@ -14,7 +15,7 @@ use crate::{LaneEnd, SourceEnd, Turn};
 use set_line::{Answer, Line, OutOfMemory, Terms, set};
 use std::sync::Arc;
 
-/// The end that sets lines.
+/// The endpoint of a lane that sets lines: it receives messages of lines, and sends messages of results.
 #[derive(Drop)]
 pub struct Setter {
     pub(crate) terms: Arc<Terms>,
@@ -26,7 +27,7 @@ pub struct Setter {
     ghost filled: { ready ≡ true → IsFilled sender.hand } by { Prim.hlevel props },
 }
 
-/// The end of a lane whose source ended so.
+/// Returns the end of a lane whose source ended with `end`, unless the lane is abandoned.
 fn lane_end(end: SourceEnd) -> LaneEnd
     ensures { result ≡ lane_end_of end }
 {
@@ -36,8 +37,9 @@ fn lane_end(end: SourceEnd) -> LaneEnd
     }
 }
 
-/// Whether no line is left to be set. The answers get their end then, if the lines have one.
-fn finish(lines: &Message<Line, SourceEnd>, answers: &mut Message<Answer, LaneEnd>) -> bool
+/// Returns whether no received line is left to be set. If none is left and the lines have an end, sets the
+/// end of the results.
+fn finish(lines: &Hand<Line, SourceEnd>, answers: &mut Message<Answer, LaneEnd>) -> bool
     ensures ready { result ≡ are_none lines.now.items }
     ensures items { answers.new.items ≡ answers.old.items }
     ensures ending { answers.new.ending
@@ -58,14 +60,14 @@ impl Setter {
     ghost use Rattle.line_lane.specs.Ends.{SameSetter, state_of};
     ghost use Rattle.line_lane.specs.Known.{KnowsAfter, KnowsTheSame};
 
-    /// Whether an end was made.
+    /// Returns whether the setter has made the end of the lane, whether or not this end was sent.
     fn has_made_end(&self) -> bool
         ensures { result ≡ is_some (state_of self.now).made }
     {
         self.sender.ended.is_some() || self.sender.hand.ending().is_some()
     }
 
-    /// Whether the lane was given up.
+    /// Returns whether the lane is abandoned.
     fn has_given_up(&self) -> bool
         ensures { result ≡ is_given_up (state_of self.now).made }
     {
@@ -79,7 +81,7 @@ impl Setter {
         self.receiver.hand.ending().is_some() && self.has_made_end() && !self.ready
     }
 
-    /// Sends the ready message, if room for it is seen.
+    /// Sends the ready message. Returns `Blocked`, with nothing changed, if no free slot was found.
     fn send(&mut self) -> Turn
         requires { self.old.ready ≡ true }
         ensures lane { SameSetter self.old self.new }
@@ -94,7 +96,8 @@ impl Setter {
         Turn::Moved
     }
 
-    /// Sets the first line in hand. If memory is refused it stays in hand.
+    /// Sets the first received line that isn't set yet. The error means that an allocation failed; nothing
+    /// has changed then.
     fn set_first(&mut self) -> Result<Turn, OutOfMemory>
         requires ready { self.old.ready ≡ false }
         requires lines { are_none (state_of self.old).lines ≡ false }
@@ -123,7 +126,8 @@ impl Setter {
         }
     }
 
-    /// Receives a message, if one is seen. A setter that gave up drops its lines.
+    /// Receives a message. The setter of an abandoned lane drops its lines. Returns `Idle`, with nothing
+    /// changed, if no message was found.
     fn receive(&mut self) -> Turn
         requires ready { self.old.ready ≡ false }
         requires lines { (state_of self.old).lines ≡ [] }
@@ -145,11 +149,14 @@ impl Setter {
         Turn::Moved
     }
 
-    /// Does the first of these that applies: `Done`, if nothing remains to be done; a ready message
-    /// is sent, or `Blocked` if no room for it is seen; the first line in hand is set; a message is
-    /// received, or `Idle` if none is seen. Once all lines of a message are set, their answers, with
-    /// the end if it had one, are the ready message. If memory is refused, the line stays in hand
-    /// and nothing changes: a later turn tries it again.
+    /// Makes one turn: sends the ready message, sets a line or receives a message, the first of these that
+    /// applies. If nothing remains to be done, returns `Done`. If a message of results is ready, sends it, or
+    /// returns `Blocked` if no free slot was found. If a received line isn't set yet, sets the first such
+    /// line. Otherwise receives a message, or returns `Idle` if no message was found.
+    ///
+    /// Once all lines of a message are set, their results are ready to be sent as one message, with the end
+    /// of the lane if the message had the source's end. The error means that an allocation failed; nothing
+    /// has changed then, and a later turn tries the same line again.
     #[tactic(auto, using(crate::proofs::TurnLemmas::turns_kept))]
     pub fn turn(&mut self) -> Result<Turn, OutOfMemory>
         ensures lane { SameSetter self.old self.new }
@@ -175,9 +182,9 @@ impl Setter {
         Ok(self.receive())
     }
 
-    /// Gives the lane up. The lines in hand are dropped, and the answers in hand are the ready
-    /// message, with `GaveUp` as end; lines that are received later are dropped, until the source's
-    /// end is. A setter that has made a message with an end already is left as it is.
+    /// Abandons the lane: drops the received lines that aren't set yet, and makes the results that aren't
+    /// sent yet the ready message, with the end `GaveUp`. Lines that are received later are dropped, up to
+    /// the source's end. Nothing changes if the setter has already made the end of the lane.
     pub fn give_up(&mut self)
         ensures lane { SameSetter self.old self.new }
         ensures orderly { IsOrderly (state_of self.new) }

@@ -1,4 +1,4 @@
-//! The ends of a lane come together again.
+//! Brings the three endpoints of a lane together again.
 ghost use Rattle.std.specs.Prelude.{◌≡◌, true, false, Some, IfOk, IfErr, MatchOption};
 ghost use Rattle.line_lane.specs.Lane.{pipeline};
 ghost use Rattle.line_lane.specs.Ends.{IsLane, fed, state_of, taken, taker_end};
@@ -12,18 +12,18 @@ ghost use Rattle.line_lane.specs.declared.ending.LaneEnd.TheVariants.{GaveUp};
 use crate::meeting::meet;
 use crate::{Feeder, LaneEnd, Setter, Taker};
 
-/// A lane that isn't over: its three ends.
+/// The three endpoints of a lane that isn't finished.
 #[derive(Drop)]
 pub struct Open {
-    /// The end where lines go in.
+    /// The endpoint where lines are fed.
     pub feeder: Feeder,
-    /// The end that sets lines.
+    /// The endpoint that sets lines.
     pub setter: Setter,
-    /// The end where answers come out.
+    /// The endpoint from which results are taken.
     pub taker: Taker,
 }
 
-/// The end of a lane that is over.
+/// Returns the end of a lane, or `None` if the lane isn't finished.
 fn end_of_lane(feeder: &Feeder, setter: &Setter, taker: &Taker) -> Option<LaneEnd>
     ensures { MatchOption result
         (is_over feeder.now setter.now taker.now ≡ false)
@@ -37,7 +37,8 @@ fn end_of_lane(feeder: &Feeder, setter: &Setter, taker: &Taker) -> Option<LaneEn
     }
 }
 
-/// Lets the three ends of a lane look at each other.
+/// Updates what the three endpoints of a lane know about its two rings. The contract states that on each ring
+/// the items received are the first of those sent.
 fn look(feeder: &mut Feeder, setter: &mut Setter, taker: &mut Taker)
     requires { IsLane feeder.old setter.old taker.old }
     ensures before { AreAsBefore feeder.old setter.old taker.old feeder.new setter.new taker.new }
@@ -48,12 +49,15 @@ fn look(feeder: &mut Feeder, setter: &mut Setter, taker: &mut Taker)
     meet(&mut setter.sender, &mut taker.receiver);
 }
 
-/// Settles a lane, whose three ends come from one `open`. A lane is over if the feeder is closed,
-/// the setter is done, and the taker gave out the end, which is answered; else the ends come back as
-/// they were. In any case the answers taken are those of the first of the lines fed; of a lane that is
-/// over and wasn't given up they are the answers of all. An end that the taker gave out, other than
-/// that of a lane given up, comes only from a lane that is over. What the setter saw are the first of the
-/// lines fed.
+/// Settles a lane: brings its three endpoints, which must come from one `open`, together and checks whether
+/// the lane is finished. It is finished if the feeder is closed, the setter is done, and the taker has
+/// returned the end; this end is the return value then. Otherwise the error contains the endpoints, with
+/// nothing fed, set, sent or taken since.
+///
+/// In both cases the results that were taken are those of the first lines that were fed; if the lane is
+/// finished and wasn't abandoned, they are the results of all of them. If the taker has returned an end other
+/// than `GaveUp`, the lane is finished; if it has returned `GaveUp`, the lane is abandoned. The lines that
+/// the setter received are the first of those that were fed.
 pub fn settle(feeder: Feeder, setter: Setter, taker: Taker) -> Result<LaneEnd, Open>
     requires { IsLane feeder setter taker }
     ensures pipeline { pipeline (state_of setter).terms (fed feeder) (taken taker) }

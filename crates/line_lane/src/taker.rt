@@ -1,4 +1,4 @@
-//! Answers come out.
+//! The taker of a lane.
 ghost use Rattle.std.proofs.Props.{props};
 ghost use Rattle.line_lane.specs.Hands.{IsAllReceived};
 
@@ -6,7 +6,7 @@ use crate::receiver::Receiver;
 use crate::{LaneEnd, Took};
 use set_line::Answer;
 
-/// The end where answers come out.
+/// The endpoint of a lane from which results are taken.
 #[derive(Drop)]
 pub struct Taker {
     pub(crate) receiver: Receiver<Answer, LaneEnd>,
@@ -20,14 +20,15 @@ impl Taker {
     ghost use Rattle.line_lane.specs.Known.{HasNoneIf, answer_messages, is_nothing};
     ghost use Rattle.line_lane.specs.Ends.{SameTaker, hands_of, pops, received_answers, taken};
 
-    /// What is in hand: an answer, or else the end.
+    /// Takes the next result of the last received message or, if none is left, the end. Returns `None`, with
+    /// nothing changed, if there is neither.
     fn take_held(&mut self) -> Option<Took>
         ensures lane { SameTaker self.old self.new }
         ensures took { IsTakenFromHand (hands_of self.old) result (hands_of self.new) }
         ensures none { answer_messages self.new ≡ answer_messages self.old }
     {
         if let Some(answer) = self.receiver.hand.take_first() {
-            // Called for its clause: an answer is right.
+            // For the proof: the contract of `outcome` states that the result is the defined one.
             let _ = answer.outcome();
             return Some(Took::Answer(answer));
         }
@@ -36,8 +37,8 @@ impl Taker {
         Some(Took::End(end))
     }
 
-    /// Takes the next answer, or the end once all answers were taken, which comes again then; or
-    /// nothing, if no message was seen.
+    /// Takes the next result or, after the last one, the end of the lane, which each later call returns
+    /// again. Returns `Nothing` if no message was found. At most one message is received.
     pub fn take(&mut self) -> Took
         ensures lane { SameTaker self.old self.new }
         ensures took { Takes (hands_of self.old) result (hands_of self.new) }

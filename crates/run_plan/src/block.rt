@@ -2,7 +2,7 @@ ghost use Rattle.std.specs.Prelude.{◌≡◌, ◌≤◌, ◌↔◌, IsSome, IfS
 
 use std::marker::Model;
 
-/// How many lines a message of a full block has: from 1 to 8.
+/// The number of lines in a full block, which is sent as one message: 1 to 8.
 #[derive(Clone, Copy, Debug, PartialEq, Eq, PartialOrd, Ord, Hash)]
 pub struct Block {
     lines: usize,
@@ -21,7 +21,7 @@ impl Model for Block {
 }
 
 impl Block {
-    /// Blocks of this many lines, or `None` outside 1 to 8.
+    /// Returns the block of this many lines, or `None` outside 1 to 8.
     pub fn new(lines: usize) -> Option<Self>
         ensures range { IsSome result ↔ ((1 ≤ lines) × (lines ≤ 8)) }
         ensures value { IfSome result (λ block. block ≡ lines) }
@@ -33,7 +33,7 @@ impl Block {
         }
     }
 
-    /// How many lines.
+    /// Returns the number of lines.
     pub fn get(self) -> usize
         ensures value { result ≡ self }
         ensures range { (1 ≤ result) × (result ≤ 8) }

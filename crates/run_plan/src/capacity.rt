@@ -2,7 +2,7 @@ ghost use Rattle.std.specs.Prelude.{◌≡◌, ◌≤◌, ◌↔◌, IsSome, IfS
 
 use std::marker::Model;
 
-/// How many messages each ring of a lane has places for: from 1 to 65,536.
+/// The number of slots of each ring of a lane, one for each message: 1 to 65,536.
 #[derive(Clone, Copy, Debug, PartialEq, Eq, PartialOrd, Ord, Hash)]
 pub struct Capacity {
     messages: usize,
@@ -21,7 +21,7 @@ impl Model for Capacity {
 }
 
 impl Capacity {
-    /// Places for this many messages, or `None` outside 1 to 65,536.
+    /// Returns the capacity of this many messages, or `None` outside 1 to 65,536.
     pub fn new(messages: usize) -> Option<Self>
         ensures range { IsSome result ↔ ((1 ≤ messages) × (messages ≤ 65536)) }
         ensures value { IfSome result (λ capacity. capacity ≡ messages) }
@@ -33,7 +33,7 @@ impl Capacity {
         }
     }
 
-    /// How many messages.
+    /// Returns the number of messages.
     pub fn get(self) -> usize
         ensures value { result ≡ self }
         ensures range { (1 ≤ result) × (result ≤ 65536) }

@@ -1,5 +1,5 @@
-//! How a run is laid out: the places on its rings, the lines in a message, and its threads, each a number
-//! in its range.
+//! The plan of a batch: the slots of its rings, the lines in a message, and the threads that set lines. Each
+//! of these numbers is in its range.
 #![tactic(auto)]
 
 pub use block::Block;

@@ -1,12 +1,12 @@
 use crate::{Block, Capacity, Workers};
 
-/// How a run is laid out.
+/// The layout of the lanes and threads of a batch.
 #[derive(Clone, Copy, Debug, PartialEq, Eq, Hash)]
 pub struct Plan {
-    /// How many messages each ring of a lane has places for.
+    /// The number of slots of each ring of a lane.
     pub capacity: Capacity,
-    /// How many lines go into a message.
+    /// The number of lines in a full block.
     pub block: Block,
-    /// How many threads set lines, at most; never more than there are sources.
+    /// The largest number of threads that set lines. A batch starts at most one for each source.
     pub workers: Workers,
 }

@@ -2,7 +2,7 @@ ghost use Rattle.std.specs.Prelude.{◌≡◌, ◌≤◌, ◌↔◌, IsSome, IfS
 
 use std::marker::Model;
 
-/// How many threads set lines, at most: from 1 to 16.
+/// The largest number of threads that set lines: 1 to 16.
 #[derive(Clone, Copy, Debug, PartialEq, Eq, PartialOrd, Ord, Hash)]
 pub struct Workers {
     threads: usize,
@@ -21,7 +21,7 @@ impl Model for Workers {
 }
 
 impl Workers {
-    /// This many threads, or `None` outside 1 to 16.
+    /// Returns the workers for this many threads, or `None` outside 1 to 16.
     pub fn new(threads: usize) -> Option<Self>
         ensures range { IsSome result ↔ ((1 ≤ threads) × (threads ≤ 16)) }
         ensures value { IfSome result (λ workers. workers ≡ threads) }
@@ -33,7 +33,7 @@ impl Workers {
         }
     }
 
-    /// How many threads.
+    /// Returns the number of threads.
     pub fn get(self) -> usize
         ensures value { result ≡ self }
         ensures range { (1 ≤ result) × (result ≤ 16) }

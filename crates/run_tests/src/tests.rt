@@ -1,6 +1,5 @@
 mod callers;
 mod collectors;
-mod entries;
 mod failing;
 mod flushing;
 mod many_lines;
@@ -9,9 +8,7 @@ mod memory;
 mod plans;
 mod readers;
 mod reports;
-mod samples;
 mod slow;
 mod stopping;
 mod threads;
-mod trickle;
 mod waking;

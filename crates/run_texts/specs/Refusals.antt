@@ -1,19 +1,19 @@
--- The fault of a text, by what a lower crate says: a collector of its run took no more, or a font has no text.
+-- The error of a batch and its output for an error of a lower crate: the reason why a collector takes no more
+-- results, or a font error.
 -- This project's own.
-use Rattle.font_texts.specs.declared.fault.FontTextFault.{FontTextFault}
-use Rattle.font_texts.specs.declared.fault.FontTextFault.TheVariants.{Font as NoFont, OutOfMemory as NoRoom, Write as NotWritten}
+use Rattle.tfm_tables.specs.declared.fault.FontFault.{FontFault}
+use Rattle.tfm_tables.specs.declared.fault.FontFault.TheVariants.{OutOfMemory as NoRoom}
 use Rattle.set_run.specs.declared.collector.Refusal.{Refusal}
 use Rattle.set_run.specs.declared.collector.Refusal.TheVariants.{OutOfMemory as NoMemory, Output}
 use Rattle.run_texts.specs.declared.fault.ToolFault.{ToolFault}
 use Rattle.run_texts.specs.declared.fault.ToolFault.TheVariants.{Font, OutOfMemory, Write}
 
--- the fault of a text, by what was refused
+-- the error for the reason why a collector takes no more results
 abbrev pub fault_of : Refusal → ToolFault
 fault_of NoMemory = OutOfMemory
 fault_of Output = Write
 
--- the fault of the text of a font: the same one
-abbrev pub fault_of_font_text : FontTextFault → ToolFault
-fault_of_font_text (NoFont fault) = Font fault
-fault_of_font_text NoRoom = OutOfMemory
-fault_of_font_text NotWritten = Write
+-- the error for a `FontFault`: `OutOfMemory` if an allocation failed, otherwise the font error
+abbrev pub fault_of_font : FontFault → ToolFault
+fault_of_font NoRoom = OutOfMemory
+fault_of_font fault = Font fault

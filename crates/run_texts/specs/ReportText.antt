@@ -1,4 +1,4 @@
--- The text of a run's report, and its summary.
+-- The output for the report of a batch, and the summary of a batch.
 -- This project's own.
 use Rattle.std.specs.Prelude.{ℕ, ◌+◌, Bool, true, false, List, [], ◌∷◌, ◌++◌, count_by, sum_by, min, ◌-◌, ◌^◌}
 use Rattle.std.specs.List.{list_any}
@@ -12,7 +12,7 @@ use Rattle.set_run.specs.declared.run_end.ClosedLane.{ClosedLane}
 use Rattle.run_texts.specs.RunText.{head_text, lane_text, is_refused, why_of}
 use Rattle.run_texts.specs.declared.summary.Summary.{Summary}
 
--- whether a lane's source failed at a read, or made too many for one line
+-- whether a read of the source of a lane failed, or a line needed too many reads
 abbrev pub is_unread : LaneEnd → Bool
 is_unread (SourceFailed Read) = true
 is_unread (SourceFailed ReadBound) = true
@@ -20,7 +20,7 @@ is_unread (SourceFailed OutOfMemory) = false
 is_unread Complete = false
 is_unread GaveUp = false
 
--- whether memory was wanted for a lane
+-- whether an allocation failed in the source or the setter of a lane
 abbrev pub is_wanting : LaneEnd → Bool
 is_wanting (SourceFailed OutOfMemory) = true
 is_wanting GaveUp = true
@@ -29,21 +29,22 @@ is_wanting (SourceFailed ReadBound) = false
 is_wanting Complete = false
 
 module _ {S : Type 0} where
-  -- the texts of lanes, of which the first has this number
+  -- the output of lanes, one after the other; the first source has this number
   abbrev pub lanes_text : ℕ → Version → List (LaneReport S) → List ℕ
   lanes_text number version [] = []
   lanes_text number version (lane ∷ lanes) =
       lane_text number version lane.answers (why_of lane.end) ++ lanes_text (number + 1) version lanes
 
-  -- the text of a run: what its version begins with, and the texts of all lanes in order
+  -- the output of a batch: the first line of the record format, if it has one, and the output of all lanes in
+  -- order
   abbrev pub run_text : Version → List (LaneReport S) → List ℕ
   run_text version lanes = head_text version ++ lanes_text 1 version lanes
 
-  -- how many lines of all lanes were refused, told up to 2^64 - 1
+  -- the number of refused lines of all lanes, or 2^64 - 1 if it is larger
   abbrev pub refused_in : List (LaneReport S) → ℕ
   refused_in lanes = min (2 ^ 64 - 1) (sum_by (λ lane. count_by is_refused lane.answers) lanes)
 
-  -- how a run went, in short
+  -- the summary of a batch with these reports of its lanes
   abbrev pub summary_of_run : List (LaneReport S) → Summary
   summary_of_run lanes = record {
     refused = refused_in lanes;
@@ -51,7 +52,7 @@ module _ {S : Type 0} where
     memory = list_any (λ lane. is_wanting lane.end) lanes;
   }
 
-  -- the same of lanes that were closed, of which this many lines were refused
+  -- the summary of a batch with these closed lanes and this many refused lines
   abbrev pub summary_of_lanes : ℕ → List (ClosedLane S) → Summary
   summary_of_lanes refused lanes = record {
     refused = min (2 ^ 64 - 1) refused;

@@ -1,4 +1,4 @@
--- What a run that was set and written has to do with its sources.
+-- The relations of the reports and the output of a batch to its sources.
 -- This project's own.
 use Rattle.std.specs.Prelude.{◌≡◌, ℕ, List, map, Option}
 use Rattle.std.specs.List.{AllZip}
@@ -15,29 +15,30 @@ use Rattle.run_texts.specs.ReportText.{run_text, summary_of_run}
 use Rattle.run_texts.specs.declared.summary.Summary.{Summary}
 
 module _ {S : Type 0} where
-  -- this report's text was written, and this is its summary
+  -- the output for these reports was written, and this is their summary
   abbrev pub IsWritten : Version → List (LaneReport S) → Option (List ℕ) → Option (List ℕ) → Summary → Type 0
   IsWritten version reports before after summary =
       Appends before after (run_text version reports) × (summary ≡ summary_of_run reports)
 
-  -- the reports of sources that all have these terms, place by place
+  -- reports of these sources, in the same order; all sources have these settings
   abbrev pub AreReportedWith :
       (S → Option (List (List ℕ))) → (S → Option SourceFault) → TermsValue → List S → List (LaneReport S) → Type 0
   AreReportedWith to_come failed terms sources reports =
       AllZip (λ source report. IsReported to_come failed terms source report) sources reports
 
-  -- a source together with its terms
+  -- a pair of this source and these settings
   abbrev pub HasTerms : TermsValue → S → S × Arc TermsValue Global → Type 0
   HasTerms terms source pair = (pair.0 ≡ source) × (arc_value pair.1 ≡ terms)
 
 module _ {S O : Type 0} where
-  -- reports of sources, which came back in their places: each is of the same origin
+  -- reports of these sources, in the same order; the source that a report contains has the origin of the
+  -- reported one
   abbrev pub AreOwnReports :
       (S → Option (List (List ℕ))) → (S → Option SourceFault) → (S → O) → List (S × Arc TermsValue Global) → List (LaneReport S) → Type 0
   AreOwnReports to_come failed origin sources reports =
       AreReported to_come failed sources reports × AreBack origin sources (map (λ report. report.source) reports)
 
-  -- the same of sources that all have these terms
+  -- the same for sources that all have these settings
   abbrev pub AreOwnReportsWith :
       (S → Option (List (List ℕ))) → (S → Option SourceFault) → (S → O) → TermsValue → List S → List (LaneReport S) → Type 0
   AreOwnReportsWith to_come failed origin terms sources reports =

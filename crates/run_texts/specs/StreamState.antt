@@ -1,4 +1,4 @@
--- Where a run stands whose lines are written as they come.
+-- The state of a batch whose output is written as the results arrive.
 -- This project's own.
 use Rattle.std.specs.Prelude.{◌≡◌, ℕ, ◌+◌, List, [], ◌∷◌, ◌++◌, length, count_by, Option}
 use Rattle.std.specs.Io.KnownBytes.{Appends}
@@ -11,33 +11,35 @@ use Rattle.run_texts.specs.Streaming.{SourceLine, merged_text, of_source}
 use Rattle.run_texts.specs.declared.lane_count.LaneCount.{LaneCount}
 use Rattle.run_texts.specs.declared.stream.Stream.{Stream}
 
--- these are the lines of events: the source of a lane has a number that is greater by one
+-- these are the output lines of these events; the number of a source is the index of its lane plus 1
 abbrev pub AreLinesOf : Version → List Event → List SourceLine → Type 0
 AreLinesOf version events lines =
     (of_source 0 lines ≡ [])
     × ((lane : ℕ) → of_source (lane + 1) lines ≡ event_lines (lane + 1) version 0 (of_lane lane events))
 
--- a lane has this many answers, and of these this many refusals
+-- the counts are the number of these results and the number of refused lines among them
 abbrev pub IsCountOf : LaneCount → List AnswerValue → Type 0
 IsCountOf count answers = (count.answers ≡ length answers) × (count.refused ≡ count_by is_refused answers)
 
--- the same of lanes, of which the first has this number
+-- these are the counts of the results of each lane; the first lane has this index
 abbrev pub AreCounts : List Event → ℕ → List LaneCount → Type 0
 AreCounts events number [] = Unit {0}
 AreCounts events number (count ∷ counts) = IsCountOf count (answers_in number events) × AreCounts events (number + 1) counts
 
--- the first bytes of a block were written, and the others are left in it
+-- the first bytes of a buffer were written, and the other bytes are left in it
 abbrev pub MovesOut : Option (List ℕ) → List ℕ → Option (List ℕ) → List ℕ → Type 0
 MovesOut before block after left = (written : List ℕ) × Appends before after written × (written ++ left ≡ block)
 
--- what was written and what waits in the block, together, are what the version begins with and then the lines of these events
+-- the bytes that were written, followed by the bytes in the buffer, are the first line of the record format,
+-- if it has one, and then the lines of these events
 abbrev pub AreOut : Version → List Event → Option (List ℕ) → Option (List ℕ) → List ℕ → Type 0
 AreOut version events before after block =
     (lines : List SourceLine)
     × AreLinesOf version events lines
     × MovesOut before (head_text version ++ merged_text lines) after block
 
--- how a stream began: what its writer held and the name of the reference to it, the version, and how many lanes there are
+-- the state of a stream at its start: the contents of its writer, the name of the reference to the writer,
+-- the record format, and the number of lanes
 pub record StreamStart : Type 0 where
   pub before : Option (List ℕ)
   pub name : ℕ
@@ -45,7 +47,7 @@ pub record StreamStart : Type 0 where
   pub lanes : ℕ
 
 module _ {W : Type 0} where
-  -- a stream that began so was given these events
+  -- a stream that began in this state has taken these events
   abbrev pub IsStreamOf : (W → Option (List ℕ)) → StreamStart → Stream W → List Event → Type 0
   IsStreamOf contents start stream events =
       (stream.out.ghost_name ≡ start.name)

@@ -1,4 +1,4 @@
--- The text of a run that is written while the run goes on: the lines of all sources, as they came.
+-- The output that is written as the results arrive: the lines of all sources, merged.
 -- This project's own.
 use Rattle.std.specs.Prelude.{◌≡◌, ℕ, ◌+◌, ◌≤◌, ◌==◌, ◌⊎◌, List, [], ◌∷◌, ◌++◌, length, map, All, Option, Some, None, if◌then◌else◌}
 use Rattle.std.specs.List.{concat}
@@ -17,42 +17,43 @@ use Rattle.set_run.specs.declared.run_end.ClosedLane.{ClosedLane}
 use Rattle.set_run.specs.declared.report.LaneReport.{LaneReport}
 use Rattle.run_texts.specs.RunText.{end_text, head_text, lane_text, why_of}
 
--- the records of answers, line by line, of which the first has this place
+-- the records of results, each as a line; the first one has this line number
 abbrev pub record_lines : ℕ → ℕ → Version → List AnswerValue → List (List ℕ)
 record_lines source place version [] = []
 record_lines source place version (answer ∷ answers) =
     record_text source place answer.outcome version ∷ record_lines source (place + 1) version answers
 
--- the end line of a source with this many answers, if it has ended
+-- the end line of a source with this many results, if the source has ended
 abbrev pub end_lines : ℕ → Version → Option LaneEnd → ℕ → List (List ℕ)
 end_lines source version None answers = []
 end_lines source version (Some end) answers = end_text source version (why_of end) answers ∷ []
 
--- the lines of a source: the record of each of its answers, and after them its end line, if it has ended
+-- the output lines of a source: the record of each of its results, and then its end line, if the source has
+-- ended
 abbrev pub lane_lines : ℕ → Version → List AnswerValue → Option LaneEnd → List (List ℕ)
 lane_lines source version answers end = record_lines source 1 version answers ++ end_lines source version end (length answers)
 
--- a line of a text, together with the number of its source
+-- a line of the output, with the number of its source
 abbrev pub SourceLine : Type 0
 SourceLine = ℕ × List ℕ
 
--- those of the lines that are of this source, in order
+-- the lines of this source, in order
 abbrev pub of_source : ℕ → List SourceLine → List (List ℕ)
 of_source source [] = []
 of_source source (line ∷ lines) = if line.0 == source then line.1 ∷ of_source source lines else of_source source lines
 
--- the text of all lines, one after the other
+-- the output of all lines, one after the other
 abbrev pub merged_text : List SourceLine → List ℕ
 merged_text [] = []
 merged_text (line ∷ lines) = line.1 ++ merged_text lines
 
--- each of the lines is of one of this many sources, which are numbered from 1
+-- each line belongs to one of this many sources, which are numbered from 1
 abbrev pub AreOfSources : ℕ → List SourceLine → Type 0
 AreOfSources sources lines = All (λ line. (1 ≤ line.0) × (line.0 ≤ sources)) lines
 
 module _ {S : Type 0} where
-  -- of each source, the first of which has this number, the lines are those of its report; joined they are its text in a
-  -- text that has all of one source before all of the next
+  -- the lines of each source are those of its report, and joined together they are the part of this source in
+  -- the output that is written in the order of the sources; the first source has this number
   abbrev pub HaveLines : ℕ → Version → List (LaneReport S) → List SourceLine → Type 0
   HaveLines number version [] lines = Unit {0}
   HaveLines number version (report ∷ reports) lines =
@@ -60,25 +61,27 @@ module _ {S : Type 0} where
       × (concat (of_source number lines) ≡ lane_text number version report.answers (why_of report.end))
       × HaveLines (number + 1) version reports lines
 
-  -- lines that are those of all reports, merged in some order, and no others
+  -- these are the lines of all reports, merged in some order, and no others
   abbrev pub IsMerge : Version → List (LaneReport S) → List SourceLine → Type 0
   IsMerge version reports lines = HaveLines 1 version reports lines × AreOfSources (length reports) lines
 
-  -- what the version begins with was written, and after it such lines
+  -- the first line of the record format, if it has one, was written, and then the lines of all reports,
+  -- merged
   abbrev pub IsStreamed : Version → List (LaneReport S) → Option (List ℕ) → Option (List ℕ) → Type 0
   IsStreamed version reports before after =
       (lines : List SourceLine) × IsMerge version reports lines × Appends before after (head_text version ++ merged_text lines)
 
 module _ {S : Type 0} where
-  -- each source with the terms that stand beside it
+  -- each source with the settings that it is paired with
   abbrev pub with_own_terms : List (S × Arc TermsValue Global) → List (TermsValue × S)
   with_own_terms sources = map (λ source. (arc_value source.1, source.0)) sources
 
-  -- each source with these terms
+  -- each source with these settings
   abbrev pub with_these_terms : TermsValue → List S → List (TermsValue × S)
   with_these_terms terms sources = map (λ source. (terms, source)) sources
 
-  -- the lines of a source, as far as they came: those of some closed lane that is true to it; which source was handed back isn't said
+  -- the lines of a source, as far as they arrived: those of some closed lane of this source; it isn't stated
+  -- which source the lane returns
   abbrev pub HasCome :
       (S → Option (List (List ℕ))) → (S → Option SourceFault) → Version → ℕ → TermsValue × S → List SourceLine → Type 0
   HasCome to_come failed version number source lines =
@@ -87,20 +90,20 @@ module _ {S : Type 0} where
       × IsClosed to_come failed source.0 source.1 answers lane
       × (of_source number lines ≡ lane_lines number version answers lane.end)
 
-  -- the same of all sources, of which the first has this number
+  -- the same for all sources; the first source has this number
   abbrev pub HaveCome :
       (S → Option (List (List ℕ))) → (S → Option SourceFault) → Version → ℕ → List (TermsValue × S) → List SourceLine → Type 0
   HaveCome to_come failed version number [] lines = Unit {0}
   HaveCome to_come failed version number (source ∷ sources) lines =
       HasCome to_come failed version number source lines × HaveCome to_come failed version (number + 1) sources lines
 
-  -- lines of sources as far as they came, merged in some order, and no others
+  -- these are the lines of the sources, as far as they arrived, merged in some order, and no others
   abbrev pub IsPartOfMerge :
       (S → Option (List (List ℕ))) → (S → Option SourceFault) → Version → List (TermsValue × S) → List SourceLine → Type 0
   IsPartOfMerge to_come failed version sources lines =
       HaveCome to_come failed version 1 sources lines × AreOfSources (length sources) lines
 
-  -- a first part of such a text was written: it may end within a line
+  -- a first part of such an output was written; it may end within a line
   abbrev pub IsCutShort :
       (S → Option (List (List ℕ))) → (S → Option SourceFault) → Version → List (TermsValue × S) → Option (List ℕ) → Option (List ℕ) → Type 0
   IsCutShort to_come failed version sources before after =
@@ -111,7 +114,7 @@ module _ {S : Type 0} where
       × (written ++ unwritten ≡ head_text version ++ merged_text lines)
       × Appends before after written
 
-  -- nothing was written, or such a text, which ends with a whole line
+  -- nothing was written, or all of such an output, which ends with a whole line
   abbrev pub IsCutAtLine :
       (S → Option (List (List ℕ))) → (S → Option SourceFault) → Version → List (TermsValue × S) → Option (List ℕ) → Option (List ℕ) → Type 0
   IsCutAtLine to_come failed version sources before after =

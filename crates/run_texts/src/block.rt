@@ -2,7 +2,7 @@ ghost use Rattle.std.specs.Prelude.{◌≡◌};
 
 use std::marker::Model;
 
-/// A piece of a text, to which nothing more is appended.
+/// A filled buffer of the output of a lane. Nothing more is appended to it.
 #[derive(Drop)]
 pub(crate) struct TextBlock {
     bytes: Vec<u8>,
@@ -17,21 +17,21 @@ impl Model for TextBlock {
 }
 
 impl TextBlock {
-    /// These bytes.
+    /// Returns a buffer with these bytes.
     pub fn new(bytes: Vec<u8>) -> Self
         ensures { result ≡ bytes.items }
     {
         TextBlock { bytes }
     }
 
-    /// Its bytes.
+    /// Returns the bytes as a slice.
     pub fn as_slice(&self) -> &[u8]
         ensures { result.now ≡ self.now }
     {
         self.bytes.as_slice()
     }
 
-    /// Its bytes, to be kept.
+    /// Returns the bytes as a vector.
     pub fn into_vec(self) -> Vec<u8>
         ensures { result.items ≡ self }
     {

@@ -1,23 +1,26 @@
 ghost use Rattle.std.specs.Prelude.{◌≡◌, Some};
 ghost use Rattle.run_texts.specs.FaultTexts.{tool_fault_text};
-ghost use Rattle.run_texts.specs.Refusals.{fault_of, fault_of_font_text};
+ghost use Rattle.run_texts.specs.Refusals.{fault_of, fault_of_font};
+ghost use Rattle.run_texts.specs.declared.fault.ToolFault.TheVariants.{OutOfMemory as NoMemory};
 
-use font_texts::{FontTextFault, Numbered};
+use font_texts::Numbered;
 use set_run::{Refusal, RunFault};
-use std::error::Error;
+use std::alloc::AllocError;
 use std::fmt;
 use tfm_tables::FontFault;
+use thiserror::Error;
 
-/// Why a text was not written, or not to its end. Its message is what the program says of it.
-#[derive(Debug, Drop)]
+/// The reason why the output wasn't written completely. `Display` writes the text that the program prints
+/// after `tfmset: `.
+#[derive(Debug, Drop, Error)]
 pub enum ToolFault {
-    /// The font is refused.
+    /// The font isn't accepted; this is its first font error.
     Font(FontFault),
-    /// The run has no report.
+    /// The batch failed.
     Run(RunFault),
-    /// A request for memory was refused.
+    /// An allocation failed.
     OutOfMemory,
-    /// The writer failed.
+    /// The writer failed; a part of the output may have been written.
     Write,
 }
 
@@ -40,8 +43,6 @@ impl fmt::Display for ToolFault {
     }
 }
 
-impl Error for ToolFault {}
-
 impl From<Refusal> for ToolFault {
     ghost from_gives = { λ refusal fault. fault ≡ fault_of refusal };
 
@@ -53,14 +54,21 @@ impl From<Refusal> for ToolFault {
     }
 }
 
-impl From<FontTextFault> for ToolFault {
-    ghost from_gives = { λ fault told. told ≡ fault_of_font_text fault };
+impl From<FontFault> for ToolFault {
+    ghost from_gives = { λ fault told. told ≡ fault_of_font fault };
 
-    fn from(fault: FontTextFault) -> ToolFault {
+    fn from(fault: FontFault) -> ToolFault {
         match fault {
-            FontTextFault::Font(fault) => ToolFault::Font(fault),
-            FontTextFault::OutOfMemory => ToolFault::OutOfMemory,
-            FontTextFault::Write => ToolFault::Write,
+            FontFault::OutOfMemory => ToolFault::OutOfMemory,
+            fault => ToolFault::Font(fault),
         }
+    }
+}
+
+impl From<AllocError> for ToolFault {
+    ghost from_gives = { λ _ fault. fault ≡ NoMemory };
+
+    fn from(_error: AllocError) -> ToolFault {
+        ToolFault::OutOfMemory
     }
 }

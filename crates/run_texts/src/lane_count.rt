@@ -1,11 +1,11 @@
 ghost use Rattle.std.specs.Prelude.{◌≤◌};
 
-/// How many answers of a lane have their records.
+/// The number of records of a lane so far, and the number of refused lines among them.
 #[derive(Clone, Copy, Debug)]
 pub(crate) struct LaneCount {
-    /// All of them.
+    /// The number of results that have a record.
     pub answers: u64,
-    /// Those of refused lines.
+    /// The number of refused lines among them.
     pub refused: u64,
     ghost within: { refused ≤ answers },
 }

@@ -1,4 +1,4 @@
-//! The text of a lane, kept while its run goes on.
+//! The output of a lane, kept in memory until the batch is done.
 ghost use Rattle.std.specs.Prelude.{◌≡◌, ◌+◌, ◌<◌, ◌^◌, ◌++◌, [], ◌∷◌, count_by, IfErr, OnErr, OnOk};
 ghost use Rattle.std.specs.Io.KnownBytes.{Appends};
 ghost use Rattle.std.specs.List.{concat};
@@ -16,13 +16,14 @@ use std::io::Write;
 use std::marker::Model;
 use std::mem;
 
-/// A block with this many bytes takes no more records.
+/// A buffer with this many bytes or more is full: the next record begins a new buffer.
 const FULL: usize = 65_536;
 
-/// A block has room for this many bytes at once: more than it needs, mostly, for its last record.
+/// The capacity with which each buffer after the first begins. It is larger than `FULL`, so that most buffers
+/// don't have to grow for their last record.
 const ROOM: usize = 73_728;
 
-/// The text of a lane, in blocks of which the last one is being filled.
+/// The output of a lane, in buffers. Lines are appended to the last one.
 #[derive(Drop)]
 pub(crate) struct LaneText {
     blocks: Vec<TextBlock>,
@@ -44,7 +45,7 @@ impl Model for LaneText {
     } };
 }
 
-/// Writes blocks, of which each is given back as soon as it is written.
+/// Writes buffers in order, and frees each when it is written.
 fn write_blocks<W: Write>(blocks: Vec<TextBlock>, out: &mut W) -> Result<(), Refusal>
     ensures written { OnOk result (Appends (W.contents out.old) (W.contents out.new)
         (concat blocks.items)) }
@@ -58,7 +59,7 @@ fn write_blocks<W: Write>(blocks: Vec<TextBlock>, out: &mut W) -> Result<(), Ref
 }
 
 impl LaneText {
-    /// No text yet. It takes no memory.
+    /// Returns the empty output of a lane. This allocates no memory.
     pub fn new(alloc: Global) -> Self
         ensures { result ≡ record { text = []; answers = 0; refused = 0 } }
     {
@@ -69,14 +70,14 @@ impl LaneText {
         }
     }
 
-    /// How many of its answers are refusals.
+    /// Returns the number of refused lines.
     pub fn refused(&self) -> u64
         ensures { result ≡ self.now.refused }
     {
         self.count.refused
     }
 
-    /// Begins a block.
+    /// Begins a new buffer. The output is unchanged, also if an allocation fails.
     fn begin_block(&mut self) -> Result<(), AllocError>
         ensures { self.new ≡ self.old }
     {
@@ -92,7 +93,7 @@ impl LaneText {
         }
     }
 
-    /// Begins a block if the last one is full.
+    /// Begins a new buffer if the last one is full. The output is unchanged, also if an allocation fails.
     fn make_room(&mut self) -> Result<(), Refusal>
         ensures as_before { self.new ≡ self.old }
         ensures refusal { IfErr result (λ refusal. refusal ≡ NoMemory) }
@@ -103,7 +104,8 @@ impl LaneText {
         self.begin_block().map_err(|_| Refusal::OutOfMemory)
     }
 
-    /// Appends the record of its next answer.
+    /// Appends the record of the next result of the lane with this index, and counts it. After an error the
+    /// output and the counts are unchanged.
     pub fn take(
         &mut self,
         lane: usize,
@@ -126,7 +128,7 @@ impl LaneText {
             .push_record(lane, answer, version, texts, &mut self.last)
     }
 
-    /// Appends its end line.
+    /// Appends the end line of the lane with this index. After an error the output is unchanged.
     pub fn end(&mut self, lane: usize, end: LaneEnd, version: Version) -> Result<(), Refusal>
         requires { lane + 1 < 2 ^ 64 }
         ensures ended { OnOk result (self.new ≡ record {
@@ -140,7 +142,7 @@ impl LaneText {
         self.count.push_end(lane, end, version, &mut self.last)
     }
 
-    /// Writes the text, and gives its memory back.
+    /// Writes the output, and frees its memory.
     pub fn write<W: Write>(self, out: &mut W) -> Result<(), Refusal>
         ensures written { OnOk result (Appends (W.contents out.old) (W.contents out.new) self.text) }
         ensures refusal { IfErr result (λ refusal. refusal ≡ Output) }

@@ -1,22 +1,25 @@
-//! The texts of runs: the records and end lines of sources, kept until the run is over, or written as they come.
+//! Writes the output of batches: the records and end lines of sources, either kept until the batch is done,
+//! or written as the results arrive.
 #![tactic(auto)]
 
 pub use fault::ToolFault;
-pub use setting::{accepted, set_each, set_text};
-pub use streamed_setting::stream_text;
-pub use streaming::stream_each;
+pub use font_setting::{FontSetting, terms_of, with_terms};
+pub use options::OutputOptions;
+pub use setting::{set_each, set_text};
+pub use streaming::{stream_each, stream_text};
 pub use summary::{Summary, status};
 
 mod block;
 mod fault;
+mod font_setting;
 mod item_texts;
 mod lane_count;
 mod lane_text;
+mod options;
 mod record;
 mod run_summary;
 mod run_text;
 mod setting;
 mod stream;
-mod streamed_setting;
 mod streaming;
 mod summary;

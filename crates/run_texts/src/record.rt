@@ -1,4 +1,4 @@
-//! The lines of a text, one by one: its first line, the record of an answer, and the end of a lane.
+//! Appends lines of the output: its first line, the record of a result, and the end line of a lane.
 ghost use Rattle.std.specs.Prelude.{◌≡◌, ◌+◌, ◌<◌, ◌^◌, ◌++◌, [], ◌∷◌, count_by, IfErr, OnErr, OnOk};
 ghost use Rattle.set_line.specs.Record.{record_text};
 ghost use Rattle.set_run.specs.declared.collector.Refusal.TheVariants.{OutOfMemory as NoMemory};
@@ -11,7 +11,7 @@ use set_line::{Answer, Outcome, RecordNumber, RecordTexts, Version, record_outco
 use set_run::Refusal;
 use std::alloc::AllocError;
 
-/// The word for the end of a lane.
+/// Returns the reason for the end of a lane, as the end line states it.
 #[tactic(auto, unfolding(crate::specs::RunText::why_of))]
 fn why(end: LaneEnd) -> &'static [u8]
     ensures { result.now ≡ why_of end }
@@ -25,7 +25,7 @@ fn why(end: LaneEnd) -> &'static [u8]
     }
 }
 
-/// Appends what a text begins with.
+/// Appends the first line of the output, which only record format 2 has. After an error `text` is unchanged.
 pub(crate) fn push_head(version: Version, text: &mut Vec<u8>) -> Result<(), Refusal>
     ensures text { OnOk result (text.new.items ≡ text.old.items ++ head_text version) }
     ensures as_before { OnErr result (text.new.items ≡ text.old.items) }
@@ -39,7 +39,7 @@ pub(crate) fn push_head(version: Version, text: &mut Vec<u8>) -> Result<(), Refu
     }
 }
 
-/// Appends the end line of a source that has this many answers.
+/// Appends the end line of the source with this number, which has this many results.
 #[tactic(auto, unfolding(crate::specs::RunText::end_text))]
 fn push_end_line(
     source: u64,
@@ -57,7 +57,7 @@ fn push_end_line(
     }
 }
 
-/// Appends an end line in words.
+/// Appends an end line of record format 1 or 2.
 #[tactic(auto, unfolding(crate::specs::RunText::words_end))]
 fn push_words_end(
     source: u64,
@@ -99,7 +99,7 @@ fn push_json_end(
 }
 
 impl LaneCount {
-    /// No answer yet.
+    /// Returns the counts of a lane without results.
     pub fn new() -> Self
         ensures answers { result.answers ≡ 0 }
         ensures refused { result.refused ≡ 0 }
@@ -110,7 +110,9 @@ impl LaneCount {
         }
     }
 
-    /// Appends the record of the lane's next answer, and counts it.
+    /// Appends the record of the next result of the lane with this index, and counts it. The error is
+    /// `OutOfMemory`: an allocation failed, or the lane already has 2^64 - 1 results. After an error `text`
+    /// and the counts are unchanged.
     pub fn push_record(
         &mut self,
         lane: usize,
@@ -147,7 +149,8 @@ impl LaneCount {
         Ok(())
     }
 
-    /// Appends the lane's end line.
+    /// Appends the end line of the lane with this index. The error is `OutOfMemory`, and `text` is unchanged
+    /// after it.
     pub fn push_end(
         &self,
         lane: usize,

@@ -1,4 +1,4 @@
-//! How a run went, in short.
+//! The summary of a batch.
 ghost use Rattle.std.specs.Prelude.{◌≡◌, ℕ, false, min, ◌-◌, ◌^◌, sum_by};
 ghost use Rattle.std.specs.List.{list_any};
 ghost use Rattle.std.specs.Option.{option_map_or};
@@ -10,7 +10,7 @@ use crate::lane_text::LaneText;
 use line_lane::{LaneEnd, SourceFault};
 use set_run::ClosedLane;
 
-/// How many lines of all lanes were refused, told up to 2^64 - 1.
+/// Returns the number of refused lines of all lanes, or 2^64 - 1 if it is larger.
 pub(crate) fn all_refused(lanes: &[LaneText]) -> u64
     ensures { result ≡ min (2 ^ 64 - 1) (sum_by (λ lane. lane.refused) lanes.now) }
 {
@@ -21,7 +21,8 @@ pub(crate) fn all_refused(lanes: &[LaneText]) -> u64
     count
 }
 
-/// The same, of lanes whose records are only counted.
+/// Returns the number of refused lines of all lanes, or 2^64 - 1 if it is larger, from the counts of lanes
+/// whose output isn't kept.
 pub(crate) fn all_counted(counts: &[LaneCount]) -> u64
     ensures { result ≡ min (2 ^ 64 - 1) (sum_by (λ count. count.refused) counts.now) }
 {
@@ -32,8 +33,8 @@ pub(crate) fn all_counted(counts: &[LaneCount]) -> u64
     refused
 }
 
-/// Whether some source failed at a read, or made too many for one line.
-fn some_unread<S>(lanes: &[ClosedLane<S>]) -> bool
+/// Returns whether a read of some source failed, or a line needed too many reads.
+fn any_unread<S>(lanes: &[ClosedLane<S>]) -> bool
     ensures { result ≡ list_any (λ lane. option_map_or is_unread lane.end false) lanes.now }
 {
     let mut some = false;
@@ -46,8 +47,8 @@ fn some_unread<S>(lanes: &[ClosedLane<S>]) -> bool
     some
 }
 
-/// Whether memory was wanted for some lane.
-fn some_wanting<S>(lanes: &[ClosedLane<S>]) -> bool
+/// Returns whether some lane ended because an allocation failed.
+fn any_out_of_memory<S>(lanes: &[ClosedLane<S>]) -> bool
     ensures { result ≡ list_any (λ lane. option_map_or is_wanting lane.end false) lanes.now }
 {
     let mut some = false;
@@ -60,14 +61,14 @@ fn some_wanting<S>(lanes: &[ClosedLane<S>]) -> bool
     some
 }
 
-/// The summary of a run with this many refused lines, whose lanes ended so.
+/// Returns the summary of a batch with this many refused lines and these lanes.
 pub(crate) fn summary_of<S>(refused: u64, lanes: &[ClosedLane<S>]) -> Summary
     ensures { (lines : ℕ) → refused ≡ min (2 ^ 64 - 1) lines
         → result ≡ summary_of_lanes lines lanes.now }
 {
     Summary {
         refused,
-        read_failed: some_unread(lanes),
-        memory: some_wanting(lanes),
+        read_failed: any_unread(lanes),
+        memory: any_out_of_memory(lanes),
     }
 }

@@ -1,4 +1,4 @@
-//! The texts of a run's lanes, kept while it goes on.
+//! Collects the output of all lanes of a batch in memory, and writes it when the batch is done.
 ghost use Rattle.std.specs.Prelude.{◌≡◌, ℕ, ◌++◌, flat_map, length, [], ⊤, Err, IfErr, IfOk, IfSome, OnOk};
 ghost use Rattle.std.specs.Io.KnownBytes.{Appends};
 ghost use Rattle.set_line.specs.declared.version.Version.{Version as Form};
@@ -17,23 +17,23 @@ use std::alloc::{AllocError, Global};
 use std::io::Write;
 use std::marker::{Brand, PhantomData};
 
-/// A run whose texts are kept.
+/// For the proof: the number of lanes and the record format of a batch whose output is kept.
 pub(crate) trait Kept {
-    /// How many lanes it has.
+    /// The number of lanes.
     ghost lanes: { ℕ };
 
-    /// The form of its records.
+    /// The record format.
     ghost version: { Form };
 }
 
-/// A placeholder: the proof of the caller chooses both.
+/// A placeholder: the proof of the caller chooses both values.
 impl Kept for Brand {
     ghost lanes = { 0 };
 
     ghost version = { One };
 }
 
-/// The texts of a run's lanes.
+/// The output of all lanes of a batch.
 #[derive(Drop)]
 pub(crate) struct RunTexts<K: Kept> {
     pub version: Version,
@@ -42,7 +42,7 @@ pub(crate) struct RunTexts<K: Kept> {
     of: PhantomData<K>,
 }
 
-/// Writes texts in order. Each is given back as soon as it is written.
+/// Writes the output of lanes in order, and frees that of each lane when it is written.
 fn write_lanes<W: Write>(lanes: Vec<LaneText>, out: &mut W) -> Result<(), Refusal>
     ensures written { OnOk result (Appends (W.contents out.old) (W.contents out.new)
         (flat_map (λ lane. lane.text) lanes.items)) }
@@ -55,7 +55,7 @@ fn write_lanes<W: Write>(lanes: Vec<LaneText>, out: &mut W) -> Result<(), Refusa
 }
 
 impl<K: Kept> RunTexts<K> {
-    /// No text yet of any of this many lanes.
+    /// Returns an empty output for each of this many lanes. Fails if an allocation fails.
     pub fn new(alloc: Global, count: usize, version: Version) -> Result<Self, AllocError>
         ensures version { IfOk result (λ texts. texts.version ≡ version) }
         ensures lanes { IfOk result (λ texts. length texts.lanes.items ≡ count) }
@@ -73,7 +73,8 @@ impl<K: Kept> RunTexts<K> {
         })
     }
 
-    /// Writes them, after what their version begins with.
+    /// Writes the first line of the record format, if it has one, and then the output of all lanes in order.
+    /// After `OutOfMemory` nothing was written.
     #[tactic(auto, using(crate::proofs::RunTextLemmas::appends_more))]
     pub fn write<W: Write>(self, alloc: Global, out: &mut W) -> Result<(), Refusal>
         ensures written { OnOk result (Appends (W.contents out.old) (W.contents out.new)

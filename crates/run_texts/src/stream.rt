@@ -1,6 +1,7 @@
-//! Lines on their way to a writer.
-ghost use Rattle.std.specs.Prelude.{◌≡◌, ◌≤◌, ◌<◌, [], take, length, vec_len, is_ok, IfOk, IfSome, IsNone, OnOk};
+//! Collects the output of a batch in a buffer, and writes it as the results arrive.
+ghost use Rattle.std.specs.Prelude.{◌≡◌, ◌≤◌, ◌<◌, [], take, length, vec_len, is_ok, IfErr, IfOk, IfSome, IsNone, OnOk};
 ghost use Rattle.std.specs.Io.KnownBytes.{Appends, Keeps};
+ghost use Rattle.set_run.specs.declared.collector.Refusal.TheVariants.{OutOfMemory as NoMemory};
 ghost use Rattle.set_run.specs.Events.{Answered, Ended, Gets, Keeps as KeepsGiven};
 ghost use Rattle.run_texts.specs.RunText.{head_text};
 ghost use Rattle.run_texts.specs.StreamState.{AreCounts, IsStreamOf, MovesOut, StreamStart};
@@ -14,13 +15,14 @@ use set_run::Refusal;
 use std::alloc::{AllocError, Global};
 use std::io::{ErrorKind, Write};
 
-/// A block with this many bytes is written before anything is appended.
+/// A buffer with this many bytes or more is full: it is written before a line is appended.
 const FULL: usize = 65_536;
 
-/// A block has room for this many: more than it needs, mostly, for its last line.
+/// The capacity with which the buffer begins. It is larger than `FULL`, so that the buffer rarely has to grow
+/// for its last line.
 const ROOM: usize = 73_728;
 
-/// The lines of a run: those that wait in a block, and the writer to which they go.
+/// The output of a batch: the writer, and a buffer with the lines that weren't written yet.
 #[derive(Drop)]
 pub(crate) struct Stream<'a, W> {
     pub out: &'a mut W,
@@ -30,7 +32,8 @@ pub(crate) struct Stream<'a, W> {
     pub texts: ItemTexts,
 }
 
-/// Writes once. How many bytes that took: none if it was interrupted. `None` if they are refused.
+/// Writes with one call, and returns the number of bytes that were written: 0 if the call was interrupted.
+/// Returns `None` if the writer fails or writes none.
 #[tactic(auto, using(crate::proofs::StreamLemmas::appends))]
 fn write_once<W: Write>(bytes: &[u8], out: &mut W) -> Option<usize>
     ensures took { IfSome result (λ count. (count ≤ length bytes.now)
@@ -45,7 +48,8 @@ fn write_once<W: Write>(bytes: &[u8], out: &mut W) -> Option<usize>
     }
 }
 
-/// Writes as many of these bytes as the writer takes, and tells how many: all, unless some are refused.
+/// Writes these bytes until all are written or the writer fails, and returns the number of bytes that were
+/// written.
 #[tactic(auto, using(crate::proofs::StreamLemmas::appends))]
 fn write_some<W: Write>(bytes: &[u8], out: &mut W) -> usize
     ensures within { result ≤ length bytes.now }
@@ -64,7 +68,7 @@ fn write_some<W: Write>(bytes: &[u8], out: &mut W) -> usize
     done
 }
 
-/// Writes the block, and empties it. What the writer refuses stays in the block.
+/// Writes the buffer, and empties it. After an error the bytes that weren't written are still in the buffer.
 #[tactic(auto, using(crate::proofs::StreamLemmas::moves))]
 pub(crate) fn write_block<W: Write>(block: &mut Vec<u8>, out: &mut W) -> Result<(), Refusal>
     ensures emptied { OnOk result (block.new.items ≡ []) }
@@ -82,19 +86,17 @@ pub(crate) fn write_block<W: Write>(block: &mut Vec<u8>, out: &mut W) -> Result<
     Err(Refusal::Output)
 }
 
-/// A block with what a text begins with.
+/// Returns a buffer with the first line of the record format, if it has one.
 pub(crate) fn first_block(alloc: Global, version: Version) -> Result<Vec<u8>, Refusal>
-    ensures { IfOk result (λ block. block.items ≡ head_text version) }
+    ensures head { IfOk result (λ block. block.items ≡ head_text version) }
+    ensures refusal { IfErr result (λ refusal. refusal ≡ NoMemory) }
 {
-    let mut block = match Vec::with_capacity(alloc, ROOM) {
-        Ok(block) => block,
-        Err(_) => return Err(Refusal::OutOfMemory),
-    };
+    let mut block = Vec::with_capacity(alloc, ROOM).map_err(|_| Refusal::OutOfMemory)?;
     push_head(version, &mut block)?;
     Ok(block)
 }
 
-/// Counts of this many lanes without answers.
+/// Returns the counts of this many lanes without results.
 pub(crate) fn no_answers(alloc: Global, lanes: usize) -> Result<Vec<LaneCount>, AllocError>
     ensures lanes { IfOk result (λ counts. length counts.items ≡ lanes) }
     ensures none { IfOk result (λ counts. AreCounts [] 0 counts.items) }
@@ -107,7 +109,8 @@ pub(crate) fn no_answers(alloc: Global, lanes: usize) -> Result<Vec<LaneCount>, 
 }
 
 impl<W: Write> Stream<'_, W> {
-    /// Writes the block, and empties it. What the writer refuses stays in the block.
+    /// Writes the buffer, and empties it. After an error the bytes that weren't written are still in the
+    /// buffer.
     pub fn write_out(&mut self) -> Result<(), Refusal>
         ensures same { (self.new.out.ghost_name ≡ self.old.out.ghost_name)
             × (self.new.version ≡ self.old.version)
@@ -119,7 +122,7 @@ impl<W: Write> Stream<'_, W> {
         write_block(&mut self.block, &mut *self.out)
     }
 
-    /// Writes the block if it is full.
+    /// Writes the buffer if it is full.
     fn make_room(&mut self) -> Result<(), Refusal>
         ensures lanes { length self.new.counts.items ≡ length self.old.counts.items }
         ensures given { (start : StreamStart)
@@ -131,7 +134,8 @@ impl<W: Write> Stream<'_, W> {
         self.write_out()
     }
 
-    /// Takes the next answer of a lane: its record goes into the block.
+    /// Takes the next result of the lane with this index, and appends its record to the buffer. A full buffer
+    /// is written first.
     pub fn take(&mut self, lane: usize, answer: &Answer) -> Result<(), Refusal>
         requires { lane < length self.old.counts.items }
         ensures lanes { length self.new.counts.items ≡ length self.old.counts.items }
@@ -153,7 +157,8 @@ impl<W: Write> Stream<'_, W> {
         Ok(())
     }
 
-    /// Takes the end of a lane: its line goes into the block.
+    /// Takes the end of the lane with this index, and appends its end line to the buffer. A full buffer is
+    /// written first.
     pub fn end(&mut self, lane: usize, end: LaneEnd) -> Result<(), Refusal>
         requires { lane < length self.old.counts.items }
         ensures lanes { length self.new.counts.items ≡ length self.old.counts.items }
@@ -172,7 +177,7 @@ impl<W: Write> Stream<'_, W> {
         Ok(())
     }
 
-    /// Writes what waits, and flushes the writer.
+    /// Writes the buffer and flushes the writer, unless the buffer is empty.
     pub fn flush(&mut self) -> Result<(), Refusal>
         ensures lanes { length self.new.counts.items ≡ length self.old.counts.items }
         ensures emptied { OnOk result (self.new.block.items ≡ []) }
@@ -182,13 +187,7 @@ impl<W: Write> Stream<'_, W> {
         if self.block.is_empty() {
             return Ok(());
         }
-        match self.write_out() {
-            Ok(()) => (),
-            Err(refusal) => return Err(refusal),
-        }
-        match self.out.flush() {
-            Ok(()) => Ok(()),
-            Err(_) => Err(Refusal::Output),
-        }
+        self.write_out()?;
+        self.out.flush().map_err(|_| Refusal::Output)
     }
 }

@@ -1,38 +1,38 @@
-//! Sources of lines, set in one run, whose lines are written as they come.
-ghost use Rattle.std.specs.Prelude.{◌≡◌, true, ◌<◌, ◌≤◌, ◌⊎◌, ⊤, List, [], Err, None, length, map, sum_by, IfErr, IfOk, OnOk, vec_len};
+//! Batches whose output is written as the results arrive.
+ghost use Rattle.std.specs.Prelude.{◌≡◌, true, ◌<◌, ◌≤◌, ◌⊎◌, ⊤, List, [], Err, None, Some, length, map, sum_by, IfErr, IfOk, OnOk, vec_len};
 ghost use Rattle.set_run.specs.declared.report.LaneReport.{LaneReport as Lane};
 ghost use Rattle.set_run.specs.declared.run_fault.RunFault.{RunFault as Fault};
 ghost use Rattle.set_run.specs.declared.run_fault.RunFault.TheVariants.{TooManySources, OutOfMemory as NoMemory, Thread};
 ghost use Rattle.set_run.specs.Reports.{AreBack, IsCollected, IsWhole};
 ghost use Rattle.tfm_tables.specs.declared.fault.FontFault.{FontFault as FontRefusal};
+ghost use Rattle.tfm_tables.specs.Acceptance.{font_fault_of};
+ghost use Rattle.tfm_tables.specs.Font.{FontValue, IsFontOf};
 ghost use Rattle.run_texts.specs.ReportText.{summary_of_lanes, summary_of_run};
 ghost use Rattle.run_texts.specs.Endings.{is_text_fault};
-ghost use Rattle.run_texts.specs.Setting.{AreOwnReports};
-ghost use Rattle.run_texts.specs.Streaming.{IsCutAtLine, IsCutShort, IsStreamed, with_own_terms};
+ghost use Rattle.run_texts.specs.Setting.{AreOwnReports, AreOwnReportsWith};
+ghost use Rattle.run_texts.specs.Streaming.{IsCutAtLine, IsCutShort, IsStreamed, with_own_terms, with_these_terms};
 ghost use Rattle.run_texts.specs.StreamState.{IsStreamOf, MovesOut};
 
+use crate::font_setting::with_font;
 use crate::item_texts::ItemTexts;
 use crate::lane_count::LaneCount;
 use crate::run_summary::{all_counted, summary_of};
 use crate::stream::{Stream, first_block, no_answers, write_block};
-use crate::{Summary, ToolFault};
+use crate::{FontSetting, OutputOptions, Summary, ToolFault};
 use line_lane::LaneEnd;
-use set_line::{Answer, Terms, Version};
-use set_run::{
-    Collector, Gate, LineSource, MOST_SOURCES, Plan, Refusal, RunEnd, RunFault, run_into,
-};
+use set_line::{Answer, Terms};
+use set_run::{Collector, Gate, LineSource, MOST_SOURCES, Refusal, RunEnd, RunFault, run_into};
 use std::alloc::Global;
 use std::io::Write;
 use std::marker::{Brand, PhantomData};
 use std::sync::{Arc, Wait};
 use std::thread::Threads;
-use std::time::Clock;
 
-/// How a stream began.
+/// For the proof: the state of a stream at its start.
 pub(crate) trait Beginning {
     ghost use Rattle.run_texts.specs.StreamState.{StreamStart};
 
-    /// Its start.
+    /// The state at the start.
     ghost start: { StreamStart };
 }
 
@@ -44,7 +44,7 @@ impl Beginning for Brand {
     ghost start = { record { before = None; name = 0; version = One; lanes = 0 } };
 }
 
-/// A stream that began at the start that `K` stands for.
+/// The stream of a batch. For the proof: `K` has the state in which it began.
 #[derive(Drop)]
 struct Begun<'a, W, K> {
     stream: Stream<'a, W>,
@@ -73,17 +73,17 @@ impl<W: Write, K: Beginning> Collector for Begun<'_, W, K> {
     }
 }
 
-/// Sets the lines of all sources in one run over a stream, which is handed back.
+/// Sets the lines of all sources in one batch that writes to a stream. Returns the stream, and the end of the
+/// batch or the reason why it failed. If it failed, the stream is unchanged.
 fn run_over<'a, R, S, G, W, K>(
     rt: &R,
     alloc: Global,
     sources: Vec<(S, Arc<Terms>)>,
-    plan: Plan,
-    gate: &G,
+    options: &OutputOptions<'_, G>,
     stream: Stream<'a, W>,
 ) -> (Stream<'a, W>, Result<RunEnd<S>, RunFault>)
 where
-    R: Threads + Wait + Clock + Sync,
+    R: Threads + Wait + Sync,
     S: LineSource + Send + Drop,
     G: Gate + Sync,
     W: Write,
@@ -102,12 +102,13 @@ where
         stream,
         of: PhantomData,
     };
-    let (begun, ran) = run_into(rt, alloc, sources, plan, gate, begun);
+    let (begun, ran) = run_into(rt, alloc, sources, options.batch(), begun);
     (begun.stream, ran)
 }
 
-/// Writes what waits, and tells how a run with this end went. If memory was refused, the lines
-/// before that are written, too.
+/// Writes the contents of the buffer, and returns the summary of a batch with this end. If an allocation
+/// failed, the lines before the failure are written first, and the error is `OutOfMemory`. If the writer
+/// fails, or failed before, the error is `Write`.
 fn finish<W: Write, S>(
     block: &mut Vec<u8>,
     counts: &[LaneCount],
@@ -127,67 +128,61 @@ fn finish<W: Write, S>(
     if run.refusal == Some(Refusal::Output) {
         return Err(ToolFault::Write);
     }
-    match write_block(block, out) {
-        Ok(()) => (),
-        Err(_) => return Err(ToolFault::Write),
-    }
+    write_block(block, out).map_err(|_| ToolFault::Write)?;
     match run.refusal {
         None => Ok(summary_of(all_counted(counts), run.lanes.as_slice())),
         Some(_) => Err(ToolFault::OutOfMemory),
     }
 }
 
-/// Sets the lines of all sources, each with its terms, in one run, and writes the record of each answer
-/// as it comes: first the records of any source, in the order of its lines, and after its last record
-/// its end line. Nothing was written if `Run` is answered. After `Write` the text that was written may
-/// end within a line; after `OutOfMemory` it doesn't. It never answers `Font`.
+/// Sets the lines of all sources, each with its settings, in one batch, and writes the output as the results
+/// arrive: the first line of the record format, if it has one, and then the records and end lines. The
+/// records of a source are in the order of its lines, and its end line follows its last record; lines of
+/// other sources may be between them. Returns the summary.
+///
+/// The error is `Run` if the batch failed, with `TooManySources` exactly if there are more than 64 sources:
+/// `out` is unchanged. It is `OutOfMemory` if an allocation fails: the output ends with a whole line, or
+/// nothing was written. It is `Write` if the writer fails: the output may end within a line. It is never
+/// `Font`.
 pub fn stream_each<R, S, G, W>(
     rt: &R,
     alloc: Global,
     sources: Vec<(S, Arc<Terms>)>,
-    plan: Plan,
-    version: Version,
-    gate: &G,
+    options: &OutputOptions<'_, G>,
     out: &mut W,
 ) -> Result<Summary, ToolFault>
 where
-    R: Threads + Wait + Clock + Sync,
+    R: Threads + Wait + Sync,
     S: LineSource + Send + Drop,
     G: Gate + Sync,
     W: Write,
     ensures text { IfOk result (λ summary. (reports : List (Lane S))
         × AreOwnReports S.to_come S.failed S.origin sources.items reports
-        × IsStreamed version reports (W.contents out.old) (W.contents out.new)
+        × IsStreamed options.now.version reports (W.contents out.old) (W.contents out.new)
         × (summary ≡ summary_of_run reports)) }
     ensures many { 64 < vec_len sources → result ≡ Err (ToolFault.Run TooManySources) }
     ensures few { vec_len sources ≤ 64 → (fault : Fault) → result ≡ Err (ToolFault.Run fault)
         → (fault ≡ NoMemory) ⊎ (fault ≡ Thread) }
     ensures run { (fault : Fault) → result ≡ Err (ToolFault.Run fault) → out.new ≡ out.old }
     ensures font { (fault : FontRefusal) → result ≡ Err (ToolFault.Font fault) → ⊥ }
-    ensures write { result ≡ Err ToolFault.Write → IsCutShort S.to_come S.failed version
+    ensures write { result ≡ Err ToolFault.Write → IsCutShort S.to_come S.failed options.now.version
         (with_own_terms sources.items) (W.contents out.old) (W.contents out.new) }
-    ensures memory { result ≡ Err ToolFault.OutOfMemory → IsCutAtLine S.to_come S.failed version
+    ensures memory { result ≡ Err ToolFault.OutOfMemory → IsCutAtLine S.to_come S.failed options.now.version
         (with_own_terms sources.items) (W.contents out.old) (W.contents out.new) }
 {
     if sources.len() > MOST_SOURCES {
         return Err(ToolFault::Run(RunFault::TooManySources));
     }
-    let block = match first_block(alloc, version) {
-        Ok(block) => block,
-        Err(_) => return Err(ToolFault::OutOfMemory),
-    };
-    let counts = match no_answers(alloc, sources.len()) {
-        Ok(counts) => counts,
-        Err(_) => return Err(ToolFault::OutOfMemory),
-    };
+    let block = first_block(alloc, options.version)?;
+    let counts = no_answers(alloc, sources.len())?;
     let stream = Stream {
         out,
         block,
         counts,
-        version,
+        version: options.version,
         texts: ItemTexts::new(alloc),
     };
-    let (stream, ran) = run_over::<R, S, G, W, Brand>(rt, alloc, sources, plan, gate, stream);
+    let (stream, ran) = run_over::<R, S, G, W, Brand>(rt, alloc, sources, options, stream);
     let Stream {
         out: writer,
         mut block,
@@ -198,5 +193,53 @@ where
     match ran {
         Ok(run) => finish(&mut block, counts.as_slice(), writer, &run),
         Err(fault) => Err(ToolFault::Run(fault)),
+    }
+}
+
+/// Reads a font, sets the lines of all sources with it in one batch, and writes the output as `stream_each`
+/// does. The error is `Font`, with the first font error, exactly if the font isn't accepted: `out` is
+/// unchanged. Otherwise the errors are those of `stream_each`; `OutOfMemory` is also returned if an
+/// allocation fails before the batch.
+pub fn stream_text<R, S, G, W>(
+    rt: &R,
+    font: &FontSetting<'_>,
+    sources: Vec<S>,
+    options: &OutputOptions<'_, G>,
+    out: &mut W,
+) -> Result<Summary, ToolFault>
+where
+    R: AllocGlobal + Threads + Wait + Sync,
+    S: LineSource + Send + Drop,
+    G: Gate + Sync,
+    W: Write,
+    ensures text { IfOk result (λ summary. (f : FontValue) × (reports : List (Lane S))
+        × IsFontOf font.now.bytes.now font.now.size f
+        × AreOwnReportsWith S.to_come S.failed S.origin
+        (record { font = f; limit = font.now.limit; policy = font.now.policy }) sources.items reports
+        × IsStreamed options.now.version reports (W.contents out.old) (W.contents out.new)
+        × (summary ≡ summary_of_run reports)) }
+    ensures font { (fault : FontRefusal) → result ≡ Err (ToolFault.Font fault)
+        → (font_fault_of font.now.bytes.now ≡ Some fault) × (out.new ≡ out.old) }
+    ensures refused { (fault : FontRefusal) → font_fault_of font.now.bytes.now ≡ Some fault
+        → result ≡ Err (ToolFault.Font fault) }
+    ensures many { 64 < vec_len sources → (result ≡ Err (ToolFault.Run TooManySources))
+        ⊎ (result ≡ Err ToolFault.OutOfMemory)
+        ⊎ ((fault : FontRefusal) × (result ≡ Err (ToolFault.Font fault))) }
+    ensures few { vec_len sources ≤ 64 → (fault : Fault) → result ≡ Err (ToolFault.Run fault)
+        → (fault ≡ NoMemory) ⊎ (fault ≡ Thread) }
+    ensures run { (fault : Fault) → result ≡ Err (ToolFault.Run fault) → out.new ≡ out.old }
+    ensures write { result ≡ Err ToolFault.Write → (f : FontValue) × IsFontOf font.now.bytes.now font.now.size f
+        × IsCutShort S.to_come S.failed options.now.version (with_these_terms
+        (record { font = f; limit = font.now.limit; policy = font.now.policy }) sources.items)
+        (W.contents out.old) (W.contents out.new) }
+    ensures memory { result ≡ Err ToolFault.OutOfMemory → (out.new ≡ out.old)
+        ⊎ ((f : FontValue) × IsFontOf font.now.bytes.now font.now.size f
+        × IsCutAtLine S.to_come S.failed options.now.version (with_these_terms
+        (record { font = f; limit = font.now.limit; policy = font.now.policy }) sources.items)
+        (W.contents out.old) (W.contents out.new)) }
+{
+    match with_font(rt.alloc(), font, sources) {
+        Ok(sources) => stream_each(rt, rt.alloc(), sources, options, out),
+        Err(fault) => Err(fault),
     }
 }

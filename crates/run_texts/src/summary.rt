@@ -1,19 +1,19 @@
 ghost use Rattle.std.specs.Prelude.{◌≡◌};
 ghost use Rattle.run_texts.specs.Endings.{summary_status};
 
-/// How setting lines went, in short.
+/// The summary of a batch.
 #[derive(Clone, Copy, Debug, PartialEq, Eq, Hash)]
 pub struct Summary {
-    /// How many lines were refused.
+    /// The number of refused lines, or 2^64 - 1 if it is larger.
     pub refused: u64,
-    /// Some source failed at a read, or made too many for one line.
+    /// A read of some source failed, or a line needed too many reads.
     pub read_failed: bool,
-    /// Memory was refused to some source or setter.
+    /// An allocation failed in a source or a setter.
     pub memory: bool,
 }
 
-/// The status that the program ends with after a text was written: 5 if memory was refused, else 4 if
-/// a source wasn't read to its end, else 1 if a line was refused, else 0.
+/// Returns the exit status after the output was written: 5 if an allocation failed; otherwise 4 if a source
+/// wasn't read to its end; otherwise 1 if a line was refused; otherwise 0.
 pub fn status(summary: &Summary) -> u8
     ensures { result ≡ summary_status summary.now }
 {

@@ -1,12 +1,10 @@
 -- The lines of a text, one after the other.
-use Rattle.std.proofs.Common.{◌≡◌, ℕ, Bool, true, false, ◌+◌, ◌<◌, ◌≤◌, ◌==◌, List, [], ◌∷◌, ◌++◌, length, take, drop, arith, refl, ap, sym, ◌∙◌, append_assoc, append-nil, length-append, length-drop}
-use Rattle.std.proofs.Math.Seq.{take-length}
+use Rattle.std.proofs.Common.{◌≡◌, ℕ, Bool, true, false, ◌<◌, ◌==◌, List, [], ◌∷◌, ◌++◌, length, arith, refl, ap, sym, ◌∙◌, append_assoc, length-append}
 use Rattle.std.specs.Prelude.{⊤, cond}
-use Rattle.std.specs.List.{All, onto_first, slice_split, position_or_len}
+use Rattle.std.specs.List.{All, onto_first, slice_split}
 use Rattle.std.proofs.lemmas.Bool.Decides.{nat_tests}
-use Rattle.std.proofs.lemmas.List.Splits.{slice_split_none, slice_split_at, slice_split_first, length-slice_split}
+use Rattle.std.proofs.lemmas.List.Splits.{slice_split_none, slice_split_at, length-slice_split}
 use Rattle.set_line.specs.Lines.{without_empty_last, with_feeds, lines_of, AreWholeText, AreWholeWithFeed, HasNoFeed}
-use Rattle.set_line.proofs.OnwardLemmas.{drop-more, slice_split_to_end}
 
 more_lines : (line : List ℕ) (lines : List (List ℕ)) → 0 < length lines → without_empty_last (line ∷ lines) ≡ line ∷ without_empty_last lines
 more_lines line [] some = absurd (omega arith)
@@ -17,43 +15,12 @@ last_line : (line : List ℕ) → 0 < length line → without_empty_last (line �
 last_line [] some = absurd (omega arith)
 last_line (byte ∷ line) some = refl
 
-pub no_lines : (so_far : List (List ℕ)) (rest : List ℕ) → length rest ≡ 0 → so_far ++ lines_of rest ≡ so_far
-unfolding lines_of
-no_lines so_far [] none = append-nil so_far
-no_lines so_far (byte ∷ rest) none = absurd (omega arith)
-
-pub line_at_end : (rest line behind : List ℕ) (at : ℕ) → at ≡ position_or_len (λ byte. byte == 10) rest → at ≤ length rest → 0 < length rest
-    → line ≡ take at rest → behind ≡ drop at rest → length behind ≡ 0 → lines_of rest ≡ line ∷ []
-unfolding lines_of
-line_at_end rest line behind at is within some front back none =
-    let end : at ≡ length rest = omega (arith, length-drop at rest, ap length back) in
-    let whole : line ≡ rest = front ∙ ap (λ n. take n rest) end ∙ take-length rest in
-    rw (slice_split_to_end (λ byte. byte == 10) rest (sym is ∙ end)) (last_line rest some ∙ ap (λ xs. xs ∷ []) (sym whole))
-
-pub line_and_more : (rest line behind more : List ℕ) (at byte : ℕ) → at ≡ position_or_len (λ b. b == 10) rest
-    → line ≡ take at rest → behind ≡ drop at rest → behind ≡ byte ∷ more → lines_of rest ≡ line ∷ lines_of more
-unfolding lines_of
-line_and_more rest line behind more at byte is front back cut =
-    let whole : drop at rest ≡ byte ∷ more = sym back ∙ cut in
-    let within : position_or_len (λ b. b == 10) rest < length rest = omega (arith, is, length-drop at rest, ap length whole) in
-    let after : drop (at + 1) rest ≡ more = drop-more at rest ∙ ap (drop 1) whole in
-    ap without_empty_last (slice_split_first (λ b. b == 10) rest 0 within)
-    ∙ more_lines _ (slice_split (λ b. b == 10) (drop (position_or_len (λ b. b == 10) rest + 1) rest)) (omega (arith, length-slice_split (λ b. b == 10) (drop (position_or_len (λ b. b == 10) rest + 1) rest)))
-    ∙ ap (λ n. take n rest ∷ without_empty_last (slice_split (λ b. b == 10) (drop (n + 1) rest))) (sym is)
-    ∙ ap (λ xs. xs ∷ without_empty_last (slice_split (λ b. b == 10) (drop (at + 1) rest))) (sym front)
-    ∙ ap (λ xs. line ∷ without_empty_last (slice_split (λ b. b == 10) xs)) after
-
 -- one line more
 pub one_line_more : (so_far so_far' : List (List ℕ)) (line pushed rest more all : List ℕ) → so_far' ≡ so_far ++ pushed ∷ [] → pushed ≡ line
     → lines_of rest ≡ line ∷ lines_of more → so_far ++ lines_of rest ≡ lines_of all → so_far' ++ lines_of more ≡ lines_of all
 one_line_more so_far so_far' line pushed rest more all appended same cut whole =
     ap (λ xs. xs ++ lines_of more) (appended ∙ ap (λ x. so_far ++ x ∷ []) same)
     ∙ append_assoc so_far (line ∷ []) (lines_of more) ∙ ap (λ xs. so_far ++ xs) (sym cut) ∙ whole
-
-pub last_line_more : (so_far so_far' : List (List ℕ)) (line pushed rest all : List ℕ) → so_far' ≡ so_far ++ pushed ∷ [] → pushed ≡ line
-    → lines_of rest ≡ line ∷ [] → so_far ++ lines_of rest ≡ lines_of all → so_far' ≡ lines_of all
-last_line_more so_far so_far' line pushed rest all appended same cut whole =
-    appended ∙ ap (λ x. so_far ++ x ∷ []) same ∙ ap (λ xs. so_far ++ xs) (sym cut) ∙ whole
 
 -- ---- the laws
 

@@ -1,32 +1,14 @@
--- What stands in front of a text that grows.
-use Rattle.std.proofs.Common.{◌≡◌, ℕ, suc, zero, ◌-◌, ◌<◌, ◌≤◌, List, [], ◌∷◌, ◌++◌, length, take, drop, get_or, flat_map, arith, refl, ap, sym, ◌∙◌, append_assoc, append-nil, length-append}
+-- What is appended to a text in parts, and when the text has no room for it.
+use Rattle.std.proofs.Common.{◌≡◌, ℕ, ◌-◌, ◌<◌, ◌≤◌, List, [], ◌∷◌, ◌++◌, length, take, drop, get_or, flat_map, arith, ap, sym, ◌∙◌, append_assoc, append-nil, length-append}
 use Rattle.std.specs.Prelude.{Result, Ok, Err, OnOk, OnErr, vec_capacity}
 use Rattle.std.specs.Global.{Vec}
 use Rattle.std.specs.List.{join_by}
-use Rattle.std.proofs.Math.Seq.{take-append_seam, take-length}
+use Rattle.std.proofs.Math.Seq.{take-length}
 use Rattle.std.proofs.lemmas.Grind.{flat_map-append}
-use Rattle.std.proofs.lemmas.List.{length-take}
 use Rattle.std.proofs.lemmas.List.Folds.{length-flat_map-take}
 use Rattle.lig_kern.specs.declared.item.Item.{Item}
-use Rattle.set_line.specs.Record.{HasNoRoomFor, StaysInFront, item_text}
-
-pub front_at_once : (xs : List ℕ) → StaysInFront xs xs
-front_at_once xs = take-length xs
-
-pub front_of_append : (xs ys zs : List ℕ) → zs ≡ xs ++ ys → StaysInFront xs zs
-front_of_append xs ys zs e = rw e (take-append_seam xs ys)
-
-take_shorter : (n m : ℕ) (zs : List ℕ) → n ≤ m → take n (take m zs) ≡ take n zs
-take_shorter zero m zs h = refl
-take_shorter (suc n) zero zs h = absurd (omega arith)
-take_shorter (suc n) (suc m) [] h = refl
-take_shorter (suc n) (suc m) (z ∷ zs) h = ap (λ more. z ∷ more) (take_shorter n m zs (omega arith))
-
-pub front_through : (xs ys zs : List ℕ) → StaysInFront xs ys → StaysInFront ys zs → StaysInFront xs zs
-front_through xs ys zs a b =
-    let short : length xs ≤ length ys = omega (arith, length-take (length xs) ys, ap length a) in
-    let through : take (length xs) (take (length ys) zs) ≡ take (length xs) zs = take_shorter (length xs) (length ys) zs short in
-    sym through ∙ ap (take (length xs)) b ∙ a
+use Rattle.tfm_words.specs.Appending.{HasNoRoomFor}
+use Rattle.set_line.specs.Record.{item_text}
 
 -- what was appended in two parts was appended as one
 pub appended_at_once : {T E : Type 0} (r : Result T E) (before one two after : List ℕ)
@@ -39,8 +21,6 @@ pub appended_behind : {T E : Type 0} (r : Result T E) (before one two middle aft
     → middle ≡ before ++ one → OnOk r (after ≡ middle ++ two) → OnOk r (after ≡ before ++ (one ++ two))
 appended_behind (Ok value) before one two middle after first is = is ∙ ap (λ xs. xs ++ two) first ∙ append_assoc before one two
 appended_behind (Err fault) before one two middle after first is = tt
-
-pub ruleset fronts = (front_at_once, front_of_append, front_through)
 
 -- ---- room
 

@@ -8,6 +8,7 @@ use Rattle.lig_kern.specs.Result.{Setting}
 use Rattle.set_line.specs.Pieces.{Portion}
 use Rattle.set_line.specs.Answer.{setting_of, within_limit}
 
+-- the setting with these steps and items
 abbrev pub setting : ℕ → List Item → Setting
 setting steps items = record { steps = steps; items = items }
 

@@ -1,7 +1,6 @@
 -- The record of a result: one line, with the number of the source and the line number.
 -- This project's own.
-use Rattle.std.specs.Prelude.{◌≡◌, ℕ, ◌+◌, ◌<◌, Bool, true, false, List, [], ◌++◌, length, take, codes, decimal, flat_map, vec_capacity, vec_len}
-use Rattle.std.specs.Global.{Vec}
+use Rattle.std.specs.Prelude.{ℕ, Bool, true, false, List, [], ◌++◌, codes, decimal, flat_map}
 use Rattle.std.specs.Fmt.{signed_decimal}
 use Rattle.lig_kern.specs.declared.item.Item.{Item}
 use Rattle.lig_kern.specs.declared.item.Item.TheVariants.{Char, Kern, Space, Skipped}
@@ -50,13 +49,3 @@ unfoldable pub record_text : ℕ → ℕ → Outcome → Version → List ℕ
 record_text source place outcome One = words_record false source place outcome
 record_text source place outcome Two = words_record true source place outcome
 record_text source place outcome Json = json_record source place outcome
-
--- the text after is the text before, followed by other bytes: used for a text while it grows; no definition
--- uses it
-abbrev pub StaysInFront : List ℕ → List ℕ → Type 0
-StaysInFront before after = take (length before) after ≡ before
-
--- the capacity of a list is too small for these bytes after its own: used for a text while it grows; no
--- definition uses it
-abbrev pub HasNoRoomFor : Vec ℕ → List ℕ → Type 0
-HasNoRoomFor text more = vec_capacity text < vec_len text + length more

@@ -4,6 +4,7 @@ use Rattle.std.specs.Prelude.{ℕ}
 use Rattle.tfm_tables.specs.Font.{FontValue}
 use Rattle.set_line.specs.declared.policy.Policy.{Policy}
 
+-- the font, the largest number of steps for a line, and the policy
 pub record TermsValue : Type 0 where
   pub font : FontValue
   pub limit : ℕ

@@ -1,8 +1,8 @@
-ghost use Rattle.std.specs.Prelude.{◌≡◌, ◌==◌, ◌+◌, ◌<◌, ◌≤◌, ◌∷◌, [], List, length, map, IfOk, IfSome, MatchOption};
-ghost use Rattle.std.specs.List.{position_or_len};
+ghost use Rattle.std.specs.Prelude.{◌≡◌, ◌+◌, ◌<◌, ◌∷◌, [], length, drop, IfOk, IfSome, MatchOption};
 ghost use Rattle.set_line.specs.Lines.{lines_of};
 
 use crate::{Line, OutOfMemory};
+use memchr::memchr;
 use std::alloc::{AllocError, Global};
 
 /// Cuts a text into its lines: the bytes between its line feeds. The bytes after the last line feed are a
@@ -16,18 +16,21 @@ pub fn lines(alloc: Global, bytes: &[u8]) -> Result<Vec<Line>, OutOfMemory>
     }
 }
 
-/// Returns the index of the first line feed, or the length if there is none.
-#[tactic(auto, using(crate::proofs::PlaceLemmas::places))]
-fn feed_or_end(bytes: &[u8]) -> usize
-    ensures place { result ≡ position_or_len (λ byte. byte == 10) bytes.now }
-    ensures within { result ≤ length bytes.now }
+/// Cuts the first line off a text: returns the line without its line feed, and the text after the line feed.
+/// In a text without a line feed the line is the whole text. Returns `None` for an empty text.
+pub fn first_line(text: &[u8]) -> Option<(&[u8], &[u8])>
+    ensures cut { MatchOption result (lines_of text.now ≡ [])
+        (λ cut. lines_of text.now ≡ cut.0.now ∷ lines_of cut.1.now) }
+    ensures rest { IfSome result (λ cut. cut.1.now ≡ drop (length cut.0.now + 1) text.now) }
+    ensures shorter { IfSome result (λ cut. length cut.1.now < length text.now) }
 {
-    for i in 0..bytes.len() {
-        if bytes[i] == b'\n' {
-            return i;
-        }
+    if text.is_empty() {
+        return None;
     }
-    bytes.len()
+    match memchr(b'\n', text) {
+        Some(feed) => Some((&text[..feed], &text[feed + 1..])),
+        None => Some((text, &text[text.len()..])),
+    }
 }
 
 fn cut_lines(alloc: Global, bytes: &[u8]) -> Result<Vec<Line>, AllocError>
@@ -35,13 +38,9 @@ fn cut_lines(alloc: Global, bytes: &[u8]) -> Result<Vec<Line>, AllocError>
 {
     let mut lines = Vec::new(alloc);
     let mut rest = bytes;
-    while !rest.is_empty() {
-        let (line, behind) = rest.split_at(feed_or_end(rest));
+    while let Some((line, more)) = first_line(rest) {
         lines.push(Line::new(Vec::from_slice(alloc, line)?))?;
-        match behind.split_first() {
-            Some((_, more)) => rest = more,
-            None => return Ok(lines),
-        }
+        rest = more;
     }
     Ok(lines)
 }

@@ -113,27 +113,28 @@ fn cut_piece<'a>(terms: &Terms, line: &'a [u8]) -> Result<Option<(&'a [u8], &'a 
 /// Sets a run, unless it is empty, and appends its items. `used` is the number of steps before it. Returns
 /// the number of steps with it, or `None` if that is above the limit.
 fn add_run(
-    font: &Font,
+    terms: &Terms,
     run: &[u8],
     right: bool,
     used: u32,
-    limit: u32,
     items: &mut Vec<Item>,
 ) -> Result<Option<u32>, AllocError>
-    requires { used ≤ limit }
-    ensures within { IfOk result (λ steps. IfSome steps (λ n. n ≤ limit)) }
+    requires { used ≤ terms.now.limit }
+    ensures within { IfOk result (λ steps.
+        IfSome steps (λ n. (n ≤ terms.now.limit) × (n ≤ 16777216))) }
     ensures few { IfOk result (λ steps.
         IfSome steps (AreFew used items.old.items run.now items.new.items)) }
     ensures reached { IfOk result (λ steps.
-        Reaches (onward font.now limit (setting used items.old.items)
+        Reaches (onward terms.now.font terms.now.limit (setting used items.old.items)
         (run_of run.now right)) steps items.new.items) }
 {
+    let limit = terms.limit().get();
     if run.is_empty() {
         return Ok(Some(used));
     }
     result_within_limit();
     few_items();
-    match set_word(font, run, right, limit - used, items) {
+    match set_word(terms.font(), run, right, limit - used, items) {
         Ok(steps) => Ok(Some(used + steps)),
         Err(WordFault::TooManySteps) => Ok(None),
         Err(WordFault::OutOfMemory) => Err(AllocError),
@@ -142,31 +143,31 @@ fn add_run(
 
 /// Sets a piece whose missing characters are skipped: each part between them is a run.
 fn set_parts(
-    font: &Font,
+    terms: &Terms,
     piece: &[u8],
     used: u32,
-    limit: u32,
     items: &mut Vec<Item>,
 ) -> Result<Option<u32>, AllocError>
-    requires { used ≤ limit }
-    ensures within { IfOk result (λ steps. IfSome steps (λ n. n ≤ limit)) }
+    requires { used ≤ terms.now.limit }
+    ensures within { IfOk result (λ steps.
+        IfSome steps (λ n. (n ≤ terms.now.limit) × (n ≤ 16777216))) }
     ensures few { IfOk result (λ steps.
         IfSome steps (AreFew used items.old.items piece.now items.new.items)) }
     ensures reached { IfOk result (λ steps.
-        Reaches (onward font.now limit (setting used items.old.items)
-        (portions_of_piece SkipPolicy font.now piece.now)) steps items.new.items) }
+        Reaches (onward terms.now.font terms.now.limit (setting used items.old.items)
+        (portions_of_piece SkipPolicy terms.now.font piece.now)) steps items.new.items) }
 {
     let mut rest = piece;
     let mut so_far = used;
-    while let Some((part, code, behind)) = cut_part(font, rest) {
-        let Some(steps) = add_run(font, part, false, so_far, limit, items)? else {
+    while let Some((part, code, behind)) = cut_part(terms.font(), rest) {
+        let Some(steps) = add_run(terms, part, false, so_far, items)? else {
             return Ok(None);
         };
         items.push(Item::Skipped(code))?;
         so_far = steps;
         rest = behind;
     }
-    add_run(font, rest, true, so_far, limit, items)
+    add_run(terms, rest, true, so_far, items)
 }
 
 /// Sets a piece: the bytes between two spaces.
@@ -186,10 +187,9 @@ fn set_piece(
         Reaches (onward terms.now.font terms.now.limit (setting used items.old.items)
         (portions_of_piece terms.now.policy terms.now.font piece.now)) steps items.new.items) }
 {
-    let limit = terms.limit().get();
     match terms.policy() {
-        Policy::Refuse => add_run(terms.font(), piece, true, used, limit, items),
-        Policy::Skip => set_parts(terms.font(), piece, used, limit, items),
+        Policy::Refuse => add_run(terms, piece, true, used, items),
+        Policy::Skip => set_parts(terms, piece, used, items),
     }
 }
 

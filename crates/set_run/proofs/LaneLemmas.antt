@@ -1,7 +1,8 @@
 -- What a lane that has ended says of its source.
-use Rattle.std.proofs.Common.{rules, arith, ◌≡◌, ◌⊎◌, inl, inr, ℕ, ◌≤◌, List, [], ◌∷◌, length, take, Option, Some, None, Bool, true, false, refl, ap, sym, subst, ◌∙◌}
+use Rattle.std.proofs.Common.{rules, arith, ◌≡◌, ◌⊎◌, inl, inr, ℕ, ◌≤◌, List, [], ◌∷◌, length, get_or, take, Option, Some, None, Bool, true, false, refl, ap, sym, subst, ◌∙◌}
 use Rattle.std.proofs.lemmas.List.{length-map, length-take, take-take, take-map}
 use Rattle.std.specs.Prelude.{min, is_some}
+use Rattle.std.specs.List.{remove}
 use Rattle.std.specs.Arc.{arc_value}
 use Rattle.std.specs.declared.sync.Arc.{Arc}
 use Rattle.std.specs.declared.alloc.Global.{Global}
@@ -185,3 +186,9 @@ module _ {S O : Type 0} where
               )),
         ),
       )
+
+-- the first taker was taken
+pub first_taken : (old new : List LaneTaker) (first : LaneTaker) → (old ≡ [] → ⊥) → first ≡ get_or old 0 first → new ≡ remove old 0
+    → old ≡ first ∷ new
+first_taken [] new first some is rest = absurd (some refl)
+first_taken (t ∷ ts) new first some is rest = ap (λ x. x ∷ ts) (sym is) ∙ ap (λ xs. first ∷ xs) (sym rest)

@@ -1,5 +1,5 @@
 -- A level of a run: its lane begins, the levels below come back, and its lane ends.
-use Rattle.std.proofs.Common.{rules, arith, ◌≡◌, ℕ, ◌+◌, ◌<◌, ◌≤◌, ◌%◌, zero, suc, Bool, true, false, List, [], ◌∷◌, ◌++◌, length, get_or, Option, None, refl, ap, sym, subst, ◌∙◌}
+use Rattle.std.proofs.Common.{rules, arith, ◌≡◌, ◌⊎◌, inl, inr, ℕ, ◌+◌, ◌<◌, ◌≤◌, ◌%◌, zero, suc, Bool, true, false, List, [], ◌∷◌, ◌++◌, length, get_or, Option, None, refl, ap, sym, subst, ◌∙◌}
 use Rattle.std.proofs.lemmas.List.{length-append, map-append}
 use Rattle.std.specs.Prelude.{map, set, All, IsSome, IsTrue, is_none, Result, Ok, Err, IfOk, IfErr, IsOk, IsOkAnd, OnOk}
 use Rattle.std.specs.Result.{is_err}
@@ -12,7 +12,7 @@ use Rattle.set_line.specs.Terms.{TermsValue}
 use Rattle.line_lane.specs.Ends.{SameFeeder, taken}
 use Rattle.line_lane.specs.declared.setter.Setter.{Setter}
 use Rattle.line_lane.specs.declared.fault.SourceFault.{SourceFault}
-use Rattle.set_run.specs.Events.{Event, LaneEvent, answers_in, lane_events, of_lane}
+use Rattle.set_run.specs.Events.{Event, answers_in, lane_events, of_lane}
 use Rattle.set_run.specs.Workers.{HasOneMore, IsWorked}
 use Rattle.set_run.specs.Collecting.{AllLanes, IsFreshTaker, IsTold, IsToldBy, IsToldFirst, SameLane}
 use Rattle.set_run.specs.Given.{HandsBack}
@@ -24,6 +24,8 @@ use Rattle.set_run.specs.declared.collector_thread.Collected.{Collected}
 use Rattle.set_run.specs.declared.source_thread.Feeding.{Feeding}
 use Rattle.set_run.specs.declared.lane_taker.LaneTaker.{LaneTaker}
 use Rattle.set_run.specs.declared.run_end.ClosedLane.{ClosedLane}
+use Rattle.set_run.specs.declared.run_fault.RunFault.{RunFault}
+use Rattle.set_run.specs.declared.run_fault.RunFault.TheVariants.{TooManySources, OutOfMemory, Thread}
 use Rattle.set_run.proofs.Zips.{zip_length, zip_last, zip_none, zip_place, zip_there}
 use Rattle.set_run.proofs.SameEnds.{still_lane}
 use Rattle.set_run.proofs.LaneLemmas.{closed_of}
@@ -72,6 +74,12 @@ both_ok (Err e) P Q one two = tt
 pub reserved : {T E : Type 0} (r : Result T E) (P : Type 0) (failed : Bool) → failed ≡ is_err r → failed ≡ false → OnOk r P → P
 reserved (Ok x) P failed is none has = has
 reserved (Err e) P failed is none has = absurd (false≢true (sym none ∙ is))
+
+-- a fault that isn't the number of sources
+pub short : (fault : RunFault) → (fault ≡ TooManySources → ⊥) → (fault ≡ OutOfMemory) ⊎ (fault ≡ Thread)
+short TooManySources few = absurd (few refl)
+short OutOfMemory few = inl refl
+short Thread few = inr refl
 
 -- ---- numbers of a level
 
@@ -124,37 +132,27 @@ same_at_worker i s t workers workers1 workers2 workers3 with_one same back =
     let last = zip_last IsWorked x y s t place.0 in (last.1, place.1 last.0)
 
 -- the same of the takers
-same_lanes : (a b : LaneTaker) (lanes lanes1 lanes2 lanes3 : List LaneTaker) → lanes1 ≡ lanes ++ a ∷ [] → AllZip SameLane lanes1 lanes2
-    → lanes2 ≡ lanes3 ++ b ∷ [] → AllZip SameLane lanes lanes3 × SameLane a b
+same_lanes : (a b : LaneTaker) (lanes lanes1 lanes2 lanes3 : List LaneTaker) → lanes1 ≡ a ∷ lanes → AllZip SameLane lanes1 lanes2
+    → lanes2 ≡ b ∷ lanes3 → AllZip SameLane lanes lanes3 × SameLane a b
 same_lanes a b lanes lanes1 lanes2 lanes3 more same back =
-    zip_last SameLane lanes lanes3 a b
-    (subst (λ l. AllZip SameLane l (lanes3 ++ b ∷ [])) more (subst (λ l. AllZip SameLane lanes1 l) back same))
+    let both : AllZip SameLane (a ∷ lanes) (b ∷ lanes3) =
+    subst (λ l. AllZip SameLane l (b ∷ lanes3)) more (subst (λ l. AllZip SameLane lanes1 l) back same)
+    in (both.1, both.0)
 
-some_lanes : (a : LaneTaker) (lanes lanes1 lanes2 : List LaneTaker) → lanes1 ≡ lanes ++ a ∷ [] → AllZip SameLane lanes1 lanes2
+some_lanes : (a : LaneTaker) (lanes lanes1 lanes2 : List LaneTaker) → lanes1 ≡ a ∷ lanes → AllZip SameLane lanes1 lanes2
     → lanes2 ≡ [] → ⊥
 some_lanes a lanes lanes1 lanes2 more same none =
-    zip_none SameLane lanes a (subst (λ l. AllZip SameLane l []) more (subst (λ l. AllZip SameLane lanes1 l) none same))
+    subst (λ l. AllZip SameLane l []) more (subst (λ l. AllZip SameLane lanes1 l) none same)
 
 -- ---- lanes, the last of which ends
 
--- the last lane, and the lanes before it
-told_last : (P : List LaneEvent → LaneTaker → Type 0) (last : ℕ) (events : List Event) (ts : List LaneTaker) (t : LaneTaker)
-    → AllLanes P last events (ts ++ t ∷ []) → AllLanes P (last + 1) events ts × P (of_lane last events) t
-told_last P last events [] t all = let at : last + 0 ≡ last = omega arith in (tt, subst (λ n. P (of_lane n events) t) at all.0)
-told_last P last events (x ∷ ts) t all =
-    let long : last + length (ts ++ t ∷ []) ≡ last + 1 + length ts = omega (arith, length-append ts (t ∷ [])) in
-    let more = told_last P last events ts t all.1 in ((subst (λ n. P (of_lane n events) x) long all.0, more.0), more.1)
+-- all of a list with a first element
+all_more : {T : Type 0} (P : T → Type 0) (x : T) (xs : List T) → P x → All P xs → All P (x ∷ xs)
+all_more P x xs here rest zero d below = here
+all_more P x xs here rest (suc k) d below = rest k d (omega (arith, below))
 
--- all of a list with a last element
-all_last : {T : Type 0} (P : T → Type 0) (xs : List T) (x : T) → All P (xs ++ x ∷ []) → All P xs × P x
-all_last P [] x all = ((λ k d below. absurd (omega (arith, below))), all 0 x (omega arith))
-all_last P (y ∷ ys) x all =
-    let rest : All P (ys ++ x ∷ []) = λ k d below. all (suc k) d (omega (arith, below)) in
-    let more = all_last P ys x rest in (all_first P y ys (all 0 y (omega arith)) more.0, more.1)
-  where
-    all_first : {T : Type 0} (P : T → Type 0) (y : T) (ys : List T) → P y → All P ys → All P (y ∷ ys)
-    all_first P y ys here rest zero d below = here
-    all_first P y ys here rest (suc k) d below = rest k d (omega (arith, below))
+all_parts : {T : Type 0} (P : T → Type 0) (x : T) (xs : List T) → All P (x ∷ xs) → All P xs × P x
+all_parts P x xs all = ((λ k d below. all (suc k) d (omega (arith, below))), all 0 x (omega arith))
 
 all_append : {T : Type 0} (P : T → Type 0) (xs : List T) (x : T) → All P xs → P x → All P (xs ++ x ∷ [])
 all_append P [] x all one zero d below = one
@@ -251,19 +249,19 @@ module _ {S : Type 0} where
       let open_to : (r : Option Refusal) → r ≡ collected'.refusal → IsTrue (is_none r) → IsTrue (is_none collected.refusal) =
       λ r e none. subst (λ x. IsTrue (is_none x)) (e ∙ own_refusal) none
       in let long : length sources ≡ length rest + 1 = ap length was ∙ length-append rest (source ∷ []) in
-      let long_lanes : length lanes1 ≡ length lanes + 1 = ap length more ∙ length-append lanes (l ∷ []) in record {
+      let long_lanes : length lanes1 ≡ length lanes + 1 = omega (arith, ap length more) in record {
         places_kept = ap places own_collector ∙ below.places_kept;
         same = of_taker.0;
         told = λ has fresh_lanes.
             let (events, has', all, are, others) =
-            below.told has (subst (All IsFreshTaker) (sym more) (all_append IsFreshTaker lanes l fresh_lanes fresh.4))
-            in let of_last = told_last IsToldFirst (length rest) events collected'.lanes.items d
-            (subst (λ ts. AllLanes IsToldFirst (length rest) events ts) popped all)
-            in let facts = closed_of to_come failed origin source start back s t l d one (of_lane (length rest) events) is fresh own.0 handed finished of_last.1
+            below.told has (subst (All IsFreshTaker) (sym more) (all_more IsFreshTaker l lanes fresh.4 fresh_lanes))
+            in let of_last : AllLanes IsToldFirst (length rest) events (d ∷ collected'.lanes.items) =
+            subst (λ ts. AllLanes IsToldFirst (length rest) events ts) popped all
+            in let facts = closed_of to_come failed origin source start back s t l d one (of_lane (length rest) events) is fresh own.0 handed finished of_last.0
             in let at : 0 + length rest ≡ length rest = omega arith in (
               events,
               subst (λ c. given c events) (sym own_collector) has',
-              subst (λ k. AllLanes IsToldFirst k events collected'.lanes.items) (sym long) of_last.0,
+              subst (λ k. AllLanes IsToldFirst k events collected'.lanes.items) (sym long) of_last.1,
               subst (λ xs. AreClosed to_come failed events 0 xs closed') (sym was)
                   (subst (λ ys. AreClosed to_come failed events 0 (rest ++ source ∷ []) ys) (sym now)
                   (closed_more to_come failed events 0 rest source closed one are
@@ -272,10 +270,10 @@ module _ {S : Type 0} where
               subst (λ k. HasNoOthers events k) (omega (arith, long, long_lanes)) others,
             );
         ended = λ none.
-            (all_last (λ lane. IsSome lane.end) collected'.lanes.items d
+            (all_parts (λ lane. IsSome lane.end) d collected'.lanes.items
             (subst (All (λ lane. IsSome lane.end)) popped (below.ended (open_to collected'.refusal refl none)))).0;
         whole = λ none.
-            let last = (all_last (λ lane. IsSome lane.end) collected'.lanes.items d
+            let last = (all_parts (λ lane. IsSome lane.end) d collected'.lanes.items
             (subst (All (λ lane. IsSome lane.end)) popped (below.ended (open_to collected'.refusal refl none)))).1 in
             subst (All (λ lane. IsSome lane.end)) (sym now)
             (all_append (λ lane. IsSome lane.end) closed one (below.whole (open_to collected'.refusal refl none))
@@ -289,22 +287,23 @@ module _ {S : Type 0} where
       }
 
 -- nothing came of lanes of which nothing was taken
-none_told : (last : ℕ) (ts : List LaneTaker) → All IsFreshTaker ts → AllLanes IsTold last [] ts
-none_told last [] fresh = tt
-none_told last (t ∷ ts) fresh =
+none_told : (first : ℕ) (ts : List LaneTaker) → All IsFreshTaker ts → AllLanes IsTold first [] ts
+none_told first [] fresh = tt
+none_told first (t ∷ ts) fresh =
     let own = fresh 0 t (omega arith) in (
       (
         ap (λ answers. lane_events answers None) (sym own.0) ∙ ap (λ end. lane_events (taken t.taker) end) (sym own.2),
         own.2 ∙ sym own.1,
       ),
-      none_told last ts (λ k d below. fresh (suc k) d (omega (arith, below))),
+      none_told (first + 1) ts (λ k d below. fresh (suc k) d (omega (arith, below))),
     )
 
 -- the first came in any case
-all_first : (ok : Bool) (last : ℕ) (events : List Event) (ts : List LaneTaker) → AllLanes (IsToldBy ok) last events ts → AllLanes IsToldFirst last events ts
-all_first ok last events [] all = tt
-all_first true last events (t ∷ ts) all = (told_first (of_lane (last + length ts) events) t all.0, all_first true last events ts all.1)
-all_first false last events (t ∷ ts) all = (all.0, all_first false last events ts all.1)
+all_first : (ok : Bool) (first : ℕ) (events : List Event) (ts : List LaneTaker) → AllLanes (IsToldBy ok) first events ts
+    → AllLanes IsToldFirst first events ts
+all_first ok first events [] all = tt
+all_first true first events (t ∷ ts) all = (told_first (of_lane first events) t all.0, all_first true (first + 1) events ts all.1)
+all_first false first events (t ∷ ts) all = (all.0, all_first false (first + 1) events ts all.1)
 
 module _ {S O C : Type 0} where
   -- without a source, what was collected is all

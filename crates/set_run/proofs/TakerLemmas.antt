@@ -1,7 +1,6 @@
 -- What a collector was given of takers.
-use Rattle.std.proofs.Common.{arith, ◌≡◌, ℕ, zero, suc, ◌+◌, ◌<◌, Bool, true, false, List, [], ◌∷◌, ◌++◌, length, get_or, Option, Some, None, refl, ap, sym, subst, ◌∙◌}
+use Rattle.std.proofs.Common.{arith, ◌≡◌, ℕ, zero, suc, ◌+◌, ◌<◌, ◌≤◌, Bool, true, false, List, [], ◌∷◌, ◌++◌, length, get_or, Option, Some, None, refl, ap, sym, subst, ◌∙◌}
 use Rattle.std.proofs.Math.Seq.{take-length, take-append_seam}
-use Rattle.std.proofs.lemmas.List.{length-set}
 use Rattle.std.specs.Prelude.{set, is_some, if◌then◌else◌}
 use Rattle.set_line.specs.Answer.{AnswerValue}
 use Rattle.line_lane.specs.Rings.{IsFirstOf}
@@ -126,54 +125,52 @@ module _ {C : Type 0} (given : C → List Event → Type 0) where
 -- ---- all lanes
 
 -- lanes of which nothing more came
-keep_told : (ok : Bool) (last : ℕ) (before after : List Event) (ts : List LaneTaker)
-    → ((other : ℕ) → other < last + length ts → of_lane other after ≡ of_lane other before) → AllLanes IsTold last before ts
-    → AllLanes (IsToldBy ok) last after ts
-keep_told ok last before after [] same all = tt
-keep_told ok last before after (t ∷ ts) same all = (
-  subst (λ told. IsToldBy ok told t) (sym (same (last + length ts) (omega arith))) (told_by ok (of_lane (last + length ts) before) t all.0),
-  keep_told ok last before after ts (λ other below. same other (omega (arith, below))) all.1,
+keep_told : (ok : Bool) (first : ℕ) (before after : List Event) (ts : List LaneTaker)
+    → ((other : ℕ) → first ≤ other → of_lane other after ≡ of_lane other before) → AllLanes IsTold first before ts
+    → AllLanes (IsToldBy ok) first after ts
+keep_told ok first before after [] same all = tt
+keep_told ok first before after (t ∷ ts) same all = (
+  subst (λ told. IsToldBy ok told t) (sym (same first (omega arith))) (told_by ok (of_lane first before) t all.0),
+  keep_told ok (first + 1) before after ts (λ other from. same other (omega (arith, from))) all.1,
 )
 
 -- something came of one lane
-change_told : (ok : Bool) (last lane : ℕ) (before after : List Event) (ts : List LaneTaker) (i : ℕ) (t' : LaneTaker) → i < length ts
-    → lane + i + 1 ≡ last + length ts → SameOthers lane before after → IsToldBy ok (of_lane lane after) t' → AllLanes IsTold last before ts
-    → AllLanes (IsToldBy ok) last after (set ts i t')
-change_told ok last lane before after [] i t' below at others told all = absurd (omega (arith, below))
-change_told ok last lane before after (t ∷ ts) zero t' below at others told all =
-    let own : lane ≡ last + length ts = omega (arith, at) in (
+change_told : (ok : Bool) (first lane : ℕ) (before after : List Event) (ts : List LaneTaker) (i : ℕ) (t' : LaneTaker) → i < length ts
+    → lane ≡ first + i → SameOthers lane before after → IsToldBy ok (of_lane lane after) t' → AllLanes IsTold first before ts
+    → AllLanes (IsToldBy ok) first after (set ts i t')
+change_told ok first lane before after [] i t' below at others told all = absurd (omega (arith, below))
+change_told ok first lane before after (t ∷ ts) zero t' below at others told all =
+    let own : lane ≡ first = omega (arith, at) in (
       subst (λ n. IsToldBy ok (of_lane n after) t') own told,
-      keep_told ok last before after ts (λ other less. others other (λ same. absurd (omega (arith, less, own, same)))) all.1,
+      keep_told ok (first + 1) before after ts (λ other from. others other (λ same. absurd (omega (arith, from, own, same)))) all.1,
     )
-change_told ok last lane before after (t ∷ ts) (suc i) t' below at others told all =
-    let long : length (set ts i t') ≡ length ts = length-set ts i t' in
-    let here : lane + i + 1 ≡ last + length ts = omega (arith, at) in
-    let differ : last + length ts ≡ lane → ⊥ = λ same. absurd (omega (arith, here, same)) in (
-      subst (λ n. IsToldBy ok (of_lane (last + n) after) t) (sym long)
-          (subst (λ told. IsToldBy ok told t) (sym (others (last + length ts) differ)) (told_by ok (of_lane (last + length ts) before) t all.0)),
-      change_told ok last lane before after ts i t' (omega (arith, below)) here others told all.1,
+change_told ok first lane before after (t ∷ ts) (suc i) t' below at others told all =
+    let differ : first ≡ lane → ⊥ = λ same. absurd (omega (arith, at, same)) in (
+      subst (λ told. IsToldBy ok told t) (sym (others first differ)) (told_by ok (of_lane first before) t all.0),
+      change_told ok (first + 1) lane before after ts i t' (omega (arith, below)) (omega (arith, at)) others told all.1,
     )
 
 module _ {C : Type 0} (given : C → List Event → Type 0) where
   -- what came of one lane came of all
-  pub tells_one : (ts : List LaneTaker) (i lane : ℕ) (old new : LaneTaker) (c c' : C) (ok : Bool) → i < length ts → lane + i + 1 ≡ length ts
-      → old ≡ get_or ts i old → TellsLane given lane old c ok new c' → TellsLanes given ts c ok (set ts i new) c'
-  tells_one ts i lane old new c c' ok below at is tells = λ events has all.
+  pub tells_one : (ts : List LaneTaker) (lane : ℕ) (old new : LaneTaker) (c c' : C) (ok : Bool) → lane < length ts
+      → old ≡ get_or ts lane old → TellsLane given lane old c ok new c' → TellsLanes given ts c ok (set ts lane new) c'
+  tells_one ts lane old new c c' ok below is tells = λ events has all.
       let told : IsTold (of_lane lane events) old =
-      subst (λ o. IsTold (of_lane lane events) o) (sym is) (there 0 ts i lane events old below (omega (arith, at)) all)
+      subst (λ o. IsTold (of_lane lane events) o) (sym is) (there 0 ts lane lane events old below (omega arith) all)
       in let (events', has', others, told') = tells events has told in (
         events',
         has',
-        (λ other from. others other (λ same. absurd (omega (arith, from, at, same)))),
-        change_told ok 0 lane events events' ts i new below (omega (arith, at)) others told' all,
+        (λ other from. others other (λ same. absurd (omega (arith, from, below, same)))),
+        change_told ok 0 lane events events' ts lane new below (omega arith) others told' all,
       )
     where
-      there : (last : ℕ) (ts : List LaneTaker) (i lane : ℕ) (events : List Event) (d : LaneTaker) → i < length ts → lane + i + 1 ≡ last + length ts
-          → AllLanes IsTold last events ts → IsTold (of_lane lane events) (get_or ts i d)
-      there last [] i lane events d below at all = absurd (omega (arith, below))
-      there last (t ∷ ts) zero lane events d below at all =
-          let own : last + length ts ≡ lane = omega (arith, at) in subst (λ n. IsTold (of_lane n events) t) own all.0
-      there last (t ∷ ts) (suc i) lane events d below at all = there last ts i lane events d (omega (arith, below)) (omega (arith, at)) all.1
+      there : (first : ℕ) (ts : List LaneTaker) (i lane : ℕ) (events : List Event) (d : LaneTaker) → i < length ts → lane ≡ first + i
+          → AllLanes IsTold first events ts → IsTold (of_lane lane events) (get_or ts i d)
+      there first [] i lane events d below at all = absurd (omega (arith, below))
+      there first (t ∷ ts) zero lane events d below at all =
+          let own : first ≡ lane = omega (arith, at) in subst (λ n. IsTold (of_lane n events) t) own all.0
+      there first (t ∷ ts) (suc i) lane events d below at all =
+          there (first + 1) ts i lane events d (omega (arith, below)) (omega (arith, at)) all.1
 
   pub tells_all_same : (ts : List LaneTaker) (c : C) → TellsLanes given ts c true ts c
   tells_all_same ts c = λ events has all. (events, has, (λ other from. refl), all)
@@ -210,7 +207,7 @@ module _ {C : Type 0} (given : C → List Event → Type 0) where
   tells_all_kept ts ts' c c' c'' ok first keeps = λ events has all.
       let (events', has', others, all') = first events has all in (events', keeps events' has', others, weaken ok 0 events' ts' all')
     where
-      weaken : (ok : Bool) (last : ℕ) (events : List Event) (ts : List LaneTaker) → AllLanes (IsToldBy true) last events ts
-          → AllLanes (IsToldBy ok) last events ts
-      weaken ok last events [] all = tt
-      weaken ok last events (t ∷ ts) all = (told_by ok (of_lane (last + length ts) events) t all.0, weaken ok last events ts all.1)
+      weaken : (ok : Bool) (first : ℕ) (events : List Event) (ts : List LaneTaker) → AllLanes (IsToldBy true) first events ts
+          → AllLanes (IsToldBy ok) first events ts
+      weaken ok first events [] all = tt
+      weaken ok first events (t ∷ ts) all = (told_by ok (of_lane first events) t all.0, weaken ok (first + 1) events ts all.1)

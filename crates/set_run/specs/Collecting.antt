@@ -1,4 +1,4 @@
--- Takers, and what was given of their lanes among the events that a collector was given.
+-- The takers of lanes, compared with the events of these lanes that a collector has received.
 -- This project's own.
 use Rattle.std.specs.Prelude.{◌≡◌, ◌≤◌, ℕ, ◌+◌, Bool, true, false, List, [], ◌∷◌, length, None, is_some}
 use Rattle.line_lane.specs.Rings.{IsFirstOf}
@@ -10,47 +10,50 @@ use Rattle.set_run.specs.declared.lane_taker.LaneTaker.{LaneTaker}
 abbrev pub SameLane : LaneTaker → LaneTaker → Type 0
 SameLane a b = SameTaker a.taker b.taker
 
--- nothing was taken yet
+-- nothing was taken from the lane yet
 abbrev pub IsFreshTaker : LaneTaker → Type 0
 IsFreshTaker t = (taken t.taker ≡ []) × (taker_end t.taker ≡ None) × (t.end ≡ None)
 
--- all that was taken of a lane was given of it
+-- these events of a lane are all results that were taken, and the end if it was taken
 abbrev pub IsTold : List LaneEvent → LaneTaker → Type 0
 IsTold told t = (told ≡ lane_events (taken t.taker) t.end) × (t.end ≡ taker_end t.taker)
 
--- the first of the answers that were taken were given of it; and all of them, if it has ended
+-- these events of a lane are the first of the results that were taken; all of them, and then the end, if the
+-- lane has ended
 abbrev pub IsToldFirst : List LaneEvent → LaneTaker → Type 0
 IsToldFirst told t =
     (told ≡ lane_events (answers_among told) t.end)
     × IsFirstOf (answers_among told) (taken t.taker)
     × (is_some t.end ≡ true → (answers_among told ≡ taken t.taker) × (t.end ≡ taker_end t.taker))
 
--- `IsTold` if nothing was refused, else `IsToldFirst`
+-- `IsTold` if nothing was refused, otherwise `IsToldFirst`
 abbrev pub IsToldBy : Bool → List LaneEvent → LaneTaker → Type 0
 IsToldBy true told t = IsTold told t
 IsToldBy false told t = IsToldFirst told t
 
--- what holds of each lane, of which the last has this number, and each one before it the next number
+-- a property of each lane and its events; the first lane has this number, and each later one the next number
 abbrev pub AllLanes : (List LaneEvent → LaneTaker → Type 0) → ℕ → List Event → List LaneTaker → Type 0
-AllLanes P last events [] = Unit {0}
-AllLanes P last events (t ∷ ts) = P (of_lane (last + length ts) events) t × AllLanes P last events ts
+AllLanes P first events [] = Unit {0}
+AllLanes P first events (t ∷ ts) = P (of_lane first events) t × AllLanes P (first + 1) events ts
 
--- nothing more was given of other lanes than this one
+-- the events of lanes other than this one are unchanged
 abbrev pub SameOthers : ℕ → List Event → List Event → Type 0
 SameOthers lane before after = (other : ℕ) → (other ≡ lane → ⊥) → of_lane other after ≡ of_lane other before
 
--- nothing more was given of lanes from this number on
+-- the events of lanes with this number or a larger one are unchanged
 abbrev pub SameFrom : ℕ → List Event → List Event → Type 0
 SameFrom lanes before after = (other : ℕ) → lanes ≤ other → of_lane other after ≡ of_lane other before
 
 module _ {C : Type 0} where
-  -- a collector was given what was taken of one lane; the last of it perhaps was refused
+  -- a collector has received what was taken from one lane, except for a last result or end if that was
+  -- refused
   abbrev pub TellsLane : (C → List Event → Type 0) → ℕ → LaneTaker → C → Bool → LaneTaker → C → Type 0
   TellsLane given lane t before ok t' after =
       (events : List Event) → given before events → IsTold (of_lane lane events) t
       → (events' : List Event) × given after events' × SameOthers lane events events' × IsToldBy ok (of_lane lane events') t'
 
-  -- a collector was given what was taken of all lanes; the last of it perhaps was refused
+  -- a collector has received what was taken from all lanes, except for a last result or end if that was
+  -- refused
   abbrev pub TellsLanes : (C → List Event → Type 0) → List LaneTaker → C → Bool → List LaneTaker → C → Type 0
   TellsLanes given ts before ok ts' after =
       (events : List Event) → given before events → AllLanes IsTold 0 events ts

@@ -1,4 +1,4 @@
--- What comes back to the thread that started the others: what was collected, and the lanes that have ended.
+-- The results of the levels that start the threads: the takers and the collector, and the closed lanes.
 -- This project's own.
 use Rattle.std.specs.Prelude.{◌≡◌, ℕ, ◌+◌, List, [], length, map, All, Option, IsSome, IsTrue, is_none}
 use Rattle.std.specs.List.{AllZip}
@@ -15,8 +15,9 @@ use Rattle.set_run.specs.declared.lane_taker.LaneTaker.{LaneTaker}
 use Rattle.set_run.specs.declared.run_end.ClosedLane.{ClosedLane}
 
 module _ {C : Type 0} where
-  -- what was collected of these takers: each is of the same lane, the collector was given what was taken, each lane has ended unless
-  -- something was refused, and that is the collector's refusal
+  -- the result of the collection from these takers: each taker is of the same lane, the collector has
+  -- received what was taken, each lane has ended unless something was refused, and this is the refusal of the
+  -- collector
   pub record Collects (places : C → ℕ) (given : C → List Event → Type 0) (refused : C → Option Refusal → Type 0) (lanes : List LaneTaker) (before : C) (back : Collected C) : Type 0 where
     pub places_kept : places back.collector ≡ places before
     pub same : AllZip SameLane lanes back.lanes.items
@@ -25,7 +26,10 @@ module _ {C : Type 0} where
     pub refuses : refused back.collector back.refusal
 
 module _ {S O C : Type 0} where
-  -- the same, with the lanes of sources that have ended, if nothing had been taken of any lane before; each has its source back
+  -- the result of the levels of these sources: the takers of the other lanes, the closed lanes of the
+  -- sources, and the collector. If the collector had received nothing and nothing had been taken before, the
+  -- events that it has received agree with these lanes and are of no others. Each lane has ended unless
+  -- something was refused, and each closed lane has its source
   pub record Gathers (to_come : S → Option (List (List ℕ))) (failed : S → Option SourceFault) (origin : S → O) (places : C → ℕ)
       (given : C → List Event → Type 0) (refused : C → Option Refusal → Type 0) (sources : List (S × Arc TermsValue Global)) (lanes : List LaneTaker) (before : C) (closed : List (ClosedLane S))
       (back : Collected C) : Type 0 where

@@ -1,4 +1,4 @@
--- A lane of a run, when it begins and when it ends.
+-- A lane of a batch when it is opened and when it is closed.
 -- This project's own.
 use Rattle.std.specs.Prelude.{◌≡◌, ℕ, List, [], ◌∷◌, ◌++◌, true, get_or, None, Some}
 use Rattle.std.specs.Arc.{arc_value}
@@ -20,12 +20,13 @@ use Rattle.set_run.specs.declared.source_thread.Feeding.{Feeding}
 use Rattle.set_run.specs.declared.lane_taker.LaneTaker.{LaneTaker}
 use Rattle.set_run.specs.declared.run_end.ClosedLane.{ClosedLane}
 
--- the setters, worker by worker, and the takers of the lanes that have begun and not ended
+-- the setters, worker by worker, and the takers of the open lanes
 pub record Held : Type 0 where
   pub workers : List (List Setter)
   pub lanes : List LaneTaker
 
--- the ends of one lane with these terms, into which nothing was fed, and which wasn't given up
+-- the endpoints of one lane with these settings: nothing was fed or taken, the feeder isn't closed, and
+-- `HadSeenALine` holds for the setter
 abbrev pub IsFresh : TermsValue → Feeder → Setter → LaneTaker → Type 0
 IsFresh terms feeder setter lane =
     IsLane feeder setter lane.taker
@@ -36,9 +37,10 @@ IsFresh terms feeder setter lane =
     × HadSeenALine (state_of setter)
 
 module _ {S : Type 0} where
-  -- a lane has ended: the source is the one that came back, and the end the one that the collector was given; what was taken are
-  -- the answers of the first of the lines that were fed, and so what the setter saw are the first of them; and an end that was taken,
-  -- unless the lane was given up, is that of a lane that is over
+  -- a closed lane: its source is the one that the thread returned, and its end is the one that the collector
+  -- received. The results taken are those of the first lines fed, and the lines that the setter received are
+  -- the first of those fed. If an end other than `GaveUp` was taken, the lane is finished with this end; if
+  -- `GaveUp` was taken, the setter has abandoned the lane
   abbrev pub IsFinished : Feeding S → Setter → LaneTaker → ClosedLane S → Type 0
   IsFinished feeding setter lane closed =
       (closed.source ≡ feeding.source)
@@ -48,24 +50,27 @@ module _ {S : Type 0} where
       × IsFirstOf (state_of setter).seen (fed feeding.feeder)
       × (taker_end lane.taker ≡ Some GaveUp → is_given_up (state_of setter).made ≡ true)
 
-  -- a lane begins: its setter is given to a worker, its taker stands after those of the other lanes, and its feeder beside the source
+  -- a lane is opened: its setter is the last one of a worker, its taker precedes those of the other open
+  -- lanes, and its feeder is next to the source
   abbrev pub Begins : ℕ → S × Arc TermsValue Global → Feeding S → Held → Held → Type 0
   Begins worker source feeding before after =
       (feeding.source ≡ source.0)
       × ((setter : Setter) × (lane : LaneTaker) × IsFresh (arc_value source.1) feeding.feeder setter lane
-      × HasOneMore worker setter before.workers after.workers × (after.lanes ≡ before.lanes ++ lane ∷ []))
+      × HasOneMore worker setter before.workers after.workers × (after.lanes ≡ lane ∷ before.lanes))
 
--- a lane can end: there are a setter at the worker and a taker, and the last of each are the ends of one lane with the feeder
+-- a lane can be closed: the worker has a setter, there is a taker, and the feeder, the last setter of the
+-- worker and the first taker are the endpoints of one lane
 abbrev pub CanEnd : ℕ → Feeder → Held → Type 0
 CanEnd worker feeder held =
     (get_or held.workers worker [] ≡ [] → ⊥)
     × (held.lanes ≡ [] → ⊥)
     × ((setter : Setter) (lane : LaneTaker) (workers : List (List Setter)) (lanes : List LaneTaker)
-    → HasOneMore worker setter workers held.workers → held.lanes ≡ lanes ++ lane ∷ [] → IsLane feeder setter lane.taker)
+    → HasOneMore worker setter workers held.workers → held.lanes ≡ lane ∷ lanes → IsLane feeder setter lane.taker)
 
 module _ {S : Type 0} where
-  -- a lane has ended: the last setter of the worker and the last taker are gone, and there is one more closed lane
+  -- a lane was closed: the last setter of the worker and the first taker are removed, and one closed lane is
+  -- appended
   abbrev pub Ends : ℕ → Feeding S → List (ClosedLane S) → List (ClosedLane S) → Held → Held → Type 0
   Ends worker feeding closed closed' before after =
       (setter : Setter) × (lane : LaneTaker) × (one : ClosedLane S) × HasOneMore worker setter after.workers before.workers
-      × (before.lanes ≡ after.lanes ++ lane ∷ []) × (closed' ≡ closed ++ one ∷ []) × IsFinished feeding setter lane one
+      × (before.lanes ≡ lane ∷ after.lanes) × (closed' ≡ closed ++ one ∷ []) × IsFinished feeding setter lane one

@@ -1,4 +1,4 @@
--- What a run reports of a source.
+-- The report of a batch on each source.
 -- This project's own.
 use Rattle.std.specs.Prelude.{◌≡◌, ◌≤◌, ℕ, ◌+◌, List, [], ◌∷◌, length, take, map, All, Option, Some, None, IsSome, IfSome}
 use Rattle.std.specs.List.{AllZip}
@@ -17,19 +17,21 @@ use Rattle.set_run.specs.declared.report.LaneReport.{LaneReport}
 use Rattle.set_run.specs.declared.run_end.ClosedLane.{ClosedLane}
 use Rattle.set_run.specs.declared.run_end.RunEnd.{RunEnd}
 
--- the answers of the first of the lines that were to come; of a source that doesn't tell its lines, of some list of lines
+-- these are the results of the first of the lines that were to come; if those weren't known, of some list of
+-- lines
 abbrev pub AreFirstAnswers : TermsValue → List AnswerValue → Option (List (List ℕ)) → Type 0
 AreFirstAnswers terms answers (Some lines) = answers ≡ answers_of terms (take (length answers) lines)
 AreFirstAnswers terms answers None = (lines : List (List ℕ)) × (answers ≡ answers_of terms lines)
 
--- the answers of all lines that were to come, and none is to come any more; of a source that doesn't tell its lines, the
--- answers of some list of lines
+-- these are the results of all lines that were to come, and none is to come any more; if the lines weren't
+-- known, these are the results of some list of lines
 abbrev pub AreAllAnswers : TermsValue → List AnswerValue → Option (List (List ℕ)) → Option (List (List ℕ)) → Type 0
 AreAllAnswers terms answers (Some lines) after = (answers ≡ answers_of terms lines) × (after ≡ Some [])
 AreAllAnswers terms answers None after = (lines : List (List ℕ)) × (answers ≡ answers_of terms lines)
 
--- a lane as it was seen from outside: its terms; the lines that its source told at the call, and its fault, if it had failed;
--- its answers, and its end if it has one; and of the source as it was handed back, the lines that it tells and its fault
+-- a lane seen from outside: its settings; the lines of the source that were to come at the call, if they were
+-- known, and the error of the source, if it had failed before; the results of the lane, and its end, if it
+-- has one; and the lines to come and the error of the source as it was returned
 pub record LaneSeen : Type 0 where
   pub terms : TermsValue
   pub before : Option (List (List ℕ))
@@ -39,17 +41,19 @@ pub record LaneSeen : Type 0 where
   pub after : Option (List (List ℕ))
   pub fails : Option SourceFault
 
--- a lane whose source had failed with this fault has no answers, and its end, if it has one, is this fault; the source keeps it
+-- a lane whose source had failed with this error before the call: it has no results, its end, if it has one,
+-- is this error, and the source keeps the error
 abbrev pub HadFailed : SourceFault → LaneSeen → Type 0
 HadFailed fault lane =
     (lane.fails ≡ Some fault)
     × (lane.answers ≡ [])
     × ((end : LaneEnd) → lane.end ≡ Some end → end ≡ SourceFailed fault)
 
--- what holds of a lane: it has the answers of the first of its source's lines; one that is complete has all of them, and its
--- source hasn't failed; the source of one that ended with its fault has that fault; whatever the end, a source that hasn't
--- failed has given the first of its lines, as many as have answers or more, and tells the rest; and what holds of a source that
--- had failed at the call
+-- a lane agrees with its source: it has the results of the first lines of the source; if the lane is
+-- complete, it has the results of all lines, and the source hasn't failed; if the lane ended with an error of
+-- the source, the source has this error. A source that hasn't failed has returned its first lines, at least
+-- as many as have results, and the others are still to come. `HadFailed` holds if the source had failed
+-- before the call
 abbrev pub IsTrueToSource : LaneSeen → Type 0
 IsTrueToSource lane =
     AreFirstAnswers lane.terms lane.answers lane.before
@@ -59,7 +63,7 @@ IsTrueToSource lane =
     × ((fault : SourceFault) → lane.failed ≡ Some fault → HadFailed fault lane)
 
 module _ {S : Type 0} where
-  -- the same, of a source, its terms, and the report of its lane
+  -- `IsTrueToSource` for a source, its settings and the report of its lane
   abbrev pub IsReported :
       (S → Option (List (List ℕ))) → (S → Option SourceFault) → TermsValue → S → LaneReport S → Type 0
   IsReported to_come failed terms source report =
@@ -73,18 +77,19 @@ module _ {S : Type 0} where
         fails = failed report.source;
       })
 
-  -- the reports of sources with their terms, place by place
+  -- `IsReported` for each source with its settings and the report with the same index
   abbrev pub AreReported :
       (S → Option (List (List ℕ))) → (S → Option SourceFault) → List (S × Arc TermsValue Global) → List (LaneReport S) → Type 0
   AreReported to_come failed sources reports =
       AllZip (λ source report. IsReported to_come failed (arc_value source.1) source.0 report) sources reports
 
-  -- each source that tells its lines has the answers of all of them, in order
+  -- each source whose lines are known has the results of all of them, in order
   abbrev pub AreAnswered : (S → Option (List (List ℕ))) → List (S × Arc TermsValue Global) → List (LaneReport S) → Type 0
   AreAnswered to_come sources reports =
       AllZip (λ source report. IfSome (to_come source.0) (λ lines. report.answers ≡ answers_of (arc_value source.1) lines)) sources reports
 
-  -- a closed lane with these answers is true to its source as it was at the call, and as it was handed back
+  -- `IsTrueToSource` for a closed lane with these results, its source at the call, and the source as it was
+  -- returned
   abbrev pub IsClosed :
       (S → Option (List (List ℕ))) → (S → Option SourceFault) → TermsValue → S → List AnswerValue → ClosedLane S → Type 0
   IsClosed to_come failed terms source answers lane =
@@ -98,8 +103,8 @@ module _ {S : Type 0} where
         fails = failed lane.source;
       })
 
-  -- the lanes of sources, of which the first has this number: what was given of each of them are its answers and then its end, if it has
-  -- one, and it is true to its source
+  -- the closed lanes of sources, of which the first has this number: the events of each lane are its results
+  -- and then its end, if it has one, and the lane agrees with its source
   abbrev pub AreClosed :
       (S → Option (List (List ℕ))) → (S → Option SourceFault) → List Event → ℕ → List (S × Arc TermsValue Global) → List (ClosedLane S) → Type 0
   AreClosed to_come failed events number [] [] = Unit {0}
@@ -110,12 +115,13 @@ module _ {S : Type 0} where
       × IsClosed to_come failed (arc_value source.1) source.0 (answers_in number events) lane
       × AreClosed to_come failed events (number + 1) sources lanes
 
--- nothing was given of a lane that there isn't
+-- there are no events of lanes with this number or a larger one
 abbrev pub HasNoOthers : List Event → ℕ → Type 0
 HasNoOthers events lanes = (lane : ℕ) → lanes ≤ lane → of_lane lane events ≡ []
 
 module _ {S C : Type 0} where
-  -- what a collector was given in a run over these sources, if it had been given nothing: the events of their lanes and no others
+  -- if a collector had received nothing before a batch with these sources, it has received the events of
+  -- their lanes and no others
   abbrev pub IsCollected :
       (S → Option (List (List ℕ))) → (S → Option SourceFault) → (C → List Event → Type 0) → List (S × Arc TermsValue Global) → RunEnd S → C → C → Type 0
   IsCollected to_come failed given sources run before after =
@@ -123,17 +129,17 @@ module _ {S C : Type 0} where
       → (events : List Event) × given after events × AreClosed to_come failed events 0 sources run.lanes.items × HasNoOthers events (length sources)
 
 module _ {S O : Type 0} where
-  -- these sources, in order, are those that were handed in: each is of the same origin
+  -- these sources have, in order, the same origins as those of the call
   abbrev pub AreBack : (S → O) → List (S × Arc TermsValue Global) → List S → Type 0
   AreBack origin sources back = map origin back ≡ map (λ source. origin source.0) sources
 
 module _ {S : Type 0} where
-  -- if no refusal is told, each lane has ended
+  -- if there is no refusal, each lane has ended
   abbrev pub IsWhole : RunEnd S → Type 0
   IsWhole run = run.refusal ≡ None → All (λ lane. IsSome lane.end) run.lanes.items
 
 module _ {S : Type 0} where
-  -- the reports of lanes that have ended, each with the answers in its place
+  -- the reports of lanes that have all ended; each has the results with the same index
   abbrev pub AreReportsOf : List (ClosedLane S) → List (List AnswerValue) → List (LaneReport S) → Type 0
   AreReportsOf [] [] [] = Unit {0}
   AreReportsOf (lane ∷ lanes) (answers ∷ lists) (report ∷ reports) =

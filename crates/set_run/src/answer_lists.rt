@@ -1,4 +1,4 @@
-//! The collector that keeps all answers.
+//! The collector that keeps all results.
 ghost use Rattle.std.specs.Prelude.{◌≡◌, [], length, replicate, IfOk};
 
 use crate::{Answers, Collector, Refusal};
@@ -6,14 +6,14 @@ use line_lane::LaneEnd;
 use set_line::Answer;
 use std::alloc::{AllocError, Global};
 
-/// The answers of each lane, in order.
+/// The results of each lane, in order.
 #[derive(Drop)]
 pub(crate) struct AnswerLists {
     pub lists: Vec<Answers>,
 }
 
 impl AnswerLists {
-    /// For this many lanes, of which nothing came yet.
+    /// Returns empty lists for this many lanes. The error means that an allocation failed.
     pub fn new(alloc: Global, lanes: usize) -> Result<Self, AllocError>
         ensures { IfOk result (λ c. c.lists.items ≡ replicate lanes []) }
     {
@@ -39,10 +39,8 @@ impl Collector for AnswerLists {
     ghost quiet = { λ c. ⊤ };
 
     fn take(&mut self, lane: usize, answer: Answer) -> Result<(), Refusal> {
-        match self.lists[lane].push(answer) {
-            Ok(()) => Ok(()),
-            Err(_) => Err(Refusal::OutOfMemory),
-        }
+        self.lists[lane].push(answer)?;
+        Ok(())
     }
 
     fn end(&mut self, _lane: usize, _end: LaneEnd) -> Result<(), Refusal> {

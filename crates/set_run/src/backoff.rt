@@ -1,22 +1,24 @@
 use std::hint;
 use std::time::Duration;
 
-/// How many looks without result only let a moment pass.
+/// The number of polls without a result, in a row, that are followed by a pause. After the next one the
+/// thread sleeps.
 const LOOKS: u32 = 14;
 
-/// The moments become longer up to this look.
+/// The number of times that the length of the pauses is doubled.
 const LONGEST: u32 = 6;
 
-/// How long a thread sleeps then, at most, unless it is woken, in milliseconds.
+/// The longest time of the first sleep in a row, in milliseconds. A wake-up ends a sleep earlier.
 const LEAST_SLEEP: u64 = 1;
 
-/// How long in the end, when nobody wakes it: so a silent source costs next to nothing.
+/// The longest time of any sleep, in milliseconds: waiting for a source without lines then takes hardly any
+/// processor time.
 const MOST_SLEEP: u64 = 50;
 
-/// After this many sleeps they become no longer.
+/// The number of times that the time of the sleeps is doubled.
 const DOUBLINGS: u32 = 6;
 
-/// Looks without result, one after the other.
+/// The numbers of polls without a result and of sleeps, in a row.
 #[derive(Drop)]
 pub(crate) struct Backoff {
     looks: u32,
@@ -31,13 +33,14 @@ impl Backoff {
         }
     }
 
-    /// A look had a result.
+    /// Starts again from the shortest pause, after a poll with a result.
     pub fn renew(&mut self) {
         self.looks = 0;
         self.sleeps = 0;
     }
 
-    /// Lets a moment pass. False when enough of them have passed, and the thread is to sleep.
+    /// Pauses and returns true: the thread polls again. Returns false, without a pause, if the thread has
+    /// polled often enough and should sleep.
     pub fn looks_again(&mut self) -> bool {
         if self.looks >= LOOKS {
             return false;
@@ -49,7 +52,8 @@ impl Backoff {
         true
     }
 
-    /// How long the thread sleeps now, at most. The next time it is twice as long.
+    /// Returns the longest time of the next sleep. It doubles with each sleep in a row, up to 50
+    /// milliseconds.
     pub fn sleep_time(&mut self) -> Duration {
         let millis = LEAST_SLEEP << self.sleeps.min(DOUBLINGS);
         self.sleeps = self.sleeps.saturating_add(1);

@@ -1,42 +1,52 @@
-//! What is made of the answers of a run, as they come.
+//! Collectors, which receive the results of a batch.
 ghost use Rattle.std.specs.Prelude.{◌≡◌, ◌<◌, ℕ, List, Option, None, OnOk, is_ok};
 ghost use Rattle.std.specs.Result.{result_err};
 ghost use Rattle.line_lane.specs.declared.ending.LaneEnd.{LaneEnd as End};
 ghost use Rattle.set_run.specs.declared.collector.Refusal.{Refusal as Refused};
+ghost use Rattle.set_run.specs.declared.collector.Refusal.TheVariants.{OutOfMemory as NoMemory};
 ghost use Rattle.set_run.specs.Events.{Answered, Ended, Event, Gets, Keeps};
 
 use line_lane::LaneEnd;
 use set_line::Answer;
+use std::alloc::AllocError;
 
-/// Why a collector takes no more.
+/// The reason why a collector takes no more.
 #[derive(Clone, Copy, Debug, PartialEq, Eq, Hash)]
 pub enum Refusal {
-    /// Memory was refused to it.
+    /// An allocation failed.
     OutOfMemory,
-    /// Its output was refused.
+    /// Its output couldn't be written.
     Output,
 }
 
-/// A collector is given each answer of a run as it comes, and the end of each lane after its answers.
-/// Lanes have the numbers of their sources, from 0. Within a lane answers come in order; which lane is
-/// next isn't said. The thread that called the run makes all these calls.
+impl From<AllocError> for Refusal {
+    ghost from_gives = { λ error refusal. refusal ≡ NoMemory };
+
+    fn from(_: AllocError) -> Self {
+        Refusal::OutOfMemory
+    }
+}
+
+/// Receives the results of a batch as they come, and the end of each lane after its results. Lanes have the
+/// numbers of their sources, from 0. The results of one lane come in the order of its lines; the order among
+/// different lanes isn't specified. All calls are made in the thread that called the batch.
 ///
-/// Once it refuses anything it is called no more, and the run is stopped. Before the thread waits, it is
-/// told so: then it can write what it keeps back.
+/// After a refusal the collector isn't called again, and the batch is stopped. Before the thread sleeps, it
+/// calls `about_to_wait`, so that the collector can write what it has buffered.
 pub trait Collector {
-    /// How many lanes it has places for.
+    /// The number of lanes that the collector can receive results of.
     ghost lanes: { Self → ℕ };
 
-    /// Whether these events, in this order, are what it was given.
+    /// Whether these events, in this order, are those that the collector has received.
     ghost given: { Self → List Event → Type 0 };
 
-    /// Whether this is what it has refused, if anything.
+    /// Whether this is the refusal of the collector, if it has refused anything.
     ghost refused: { Self → Option Refused → Type 0 };
 
-    /// Whether nothing that it was given is kept back.
+    /// Whether nothing that the collector has received is still waiting to be written.
     ghost quiet: { Self → Type 0 };
 
-    /// The next answer of a lane. One that is refused wasn't given.
+    /// Receives the next result of a lane. A result that is refused doesn't count as received.
     fn take(&mut self, lane: usize, answer: Answer) -> Result<(), Refusal>
         requires lane { lane < lanes self.old }
         requires willing { refused self.old None }
@@ -44,7 +54,8 @@ pub trait Collector {
         ensures given { Gets given self.old (lane, Answered answer) (is_ok result) self.new }
         ensures refused { refused self.new (result_err result) };
 
-    /// A lane has ended so: nothing more follows. An end that is refused wasn't given.
+    /// Receives the end of a lane: no result of this lane follows. An end that is refused doesn't count as
+    /// received.
     fn end(&mut self, lane: usize, end: LaneEnd) -> Result<(), Refusal>
         requires lane { lane < lanes self.old }
         requires willing { refused self.old None }
@@ -52,7 +63,8 @@ pub trait Collector {
         ensures given { Gets given self.old (lane, Ended end) (is_ok result) self.new }
         ensures refused { refused self.new (result_err result) };
 
-    /// No answer is there: the thread is about to wait.
+    /// Writes what the collector has buffered, if anything: no result is available, and the thread is about
+    /// to sleep.
     fn about_to_wait(&mut self) -> Result<(), Refusal>
         requires { refused self.old None }
         ensures quiet { OnOk result (quiet self.new) }

@@ -1,4 +1,4 @@
-//! The thread that collects: it takes the answers of all lanes, and gives them to the collector.
+//! The collecting thread: it takes the results of all lanes and gives them to the collector.
 ghost use Rattle.std.specs.Prelude.{◌≡◌, ◌≤◌, ◌↔◌, All, IsSome, IsTrue, None, is_none, is_ok, vec_len};
 ghost use Rattle.std.specs.List.{AllZip};
 ghost use Rattle.std.specs.Result.{result_err};
@@ -6,14 +6,12 @@ ghost use Rattle.set_run.specs.Collecting.{SameLane, TellsLanes};
 ghost use Rattle.set_run.specs.Events.{Keeps};
 
 use crate::backoff::Backoff;
-use crate::came::Came;
 use crate::lane_taker::LaneTaker;
 use crate::signals::Signals;
 use crate::{Collector, Gate, Refusal, Stage};
 use std::sync::Wait;
 
-/// Takes what is there of all lanes, one lane after the other. Whether anything came. The last lane has
-/// number 0.
+/// Takes the available results of all lanes, lane by lane. Returns whether there were any.
 fn go_round<C: Collector>(
     signals: &Signals,
     lanes: &mut Vec<LaneTaker>,
@@ -26,31 +24,30 @@ fn go_round<C: Collector>(
     ensures told { TellsLanes C.given lanes.old.items collector.old (is_ok result) lanes.new.items collector.new }
     ensures refused { C.refused collector.new (result_err result) }
 {
-    let mut came = false;
-    for i in 0..lanes.len() {
-        let lane = lanes.len() - 1 - i;
-        let took = lanes[i].take_some(lane, signals.lines(), collector)?;
+    let mut any = false;
+    for lane in 0..lanes.len() {
+        let took = lanes[lane].take_some(lane, signals.lines_before_wake(), collector)?;
         signals.answers_taken(lane, took);
-        came |= took != Came::Nothing;
+        any |= took;
     }
-    Ok(came)
+    Ok(any)
 }
 
-/// Whether the collector was given the end of each lane.
+/// Returns whether the collector has received the end of each lane.
 fn have_ended(lanes: &[LaneTaker]) -> bool
     ensures { IsTrue result ↔ All (λ lane. IsSome lane.end) lanes.now }
 {
     lanes.iter().all(|lane| lane.end.is_some())
 }
 
-/// Sleeps, while the collector keeps nothing back.
+/// Sleeps until there may be results. Nothing that the collector has received may be waiting to be written.
 fn sleep<R: Wait, C: Collector>(rt: &R, signals: &Signals, backoff: &mut Backoff, _collector: &C)
     requires { C.quiet _collector.now }
 {
     signals.sleep_as_collector(rt, backoff);
 }
 
-/// Lets a moment pass; or, if enough of them have, tells the collector and sleeps.
+/// Pauses; or, after enough pauses, calls the collector's `about_to_wait` and sleeps.
 fn wait<R: Wait, C: Collector>(
     rt: &R,
     signals: &Signals,
@@ -70,8 +67,8 @@ fn wait<R: Wait, C: Collector>(
     Ok(())
 }
 
-/// Takes the answers of all lanes up to their ends, unless the collector refuses something: then this is
-/// answered.
+/// Takes the results of all lanes up to their ends. The error is the refusal of the collector, after which
+/// nothing more is taken.
 fn collect_all<R: Wait, C: Collector>(
     rt: &R,
     signals: &Signals,
@@ -99,7 +96,7 @@ fn collect_all<R: Wait, C: Collector>(
     unreachable!()
 }
 
-/// What was collected: takers and collector, and what it refused, if anything.
+/// The takers and the collector after the collection, and the refusal of the collector, if any.
 #[derive(Drop)]
 pub(crate) struct Collected<C> {
     pub lanes: Vec<LaneTaker>,
@@ -107,7 +104,8 @@ pub(crate) struct Collected<C> {
     pub refusal: Option<Refusal>,
 }
 
-/// The work of the collecting thread: it enters the gate, and takes the answers of all lanes.
+/// Does the work of the collecting thread: passes the start barrier, and takes the results of all lanes up to
+/// their ends or to the first refusal.
 pub(crate) fn collect<R: Wait, G: Gate, C: Collector>(
     rt: &R,
     gate: &G,

@@ -1,25 +1,25 @@
-//! Where a run's threads may be held.
+//! The start barrier of the threads of a batch.
 
-/// What a thread of a run does.
+/// The task of a thread of a batch.
 #[derive(Clone, Copy, Debug, PartialEq, Eq, Hash)]
 pub enum Stage {
-    /// It asks a source for its lines.
+    /// It reads the lines of a source.
     Source,
     /// It sets the lines of some lanes.
     Setter,
-    /// It collects the answers of all lanes.
+    /// It collects the results of all lanes.
     Collector,
 }
 
-/// A gate that each thread of a run enters once. A gate may wait.
+/// A start barrier, which each thread of a batch passes once. The barrier may wait.
 pub trait Gate {
-    /// Called by the thread of a source with the number of its lane, before it asks for the first line;
-    /// by the thread of a setter with its own number, before its first turn; and by the collector with
-    /// 0, once all threads were started and before its first take. Numbers begin with 0.
+    /// Passes the barrier. The thread of a source calls it with the number of its lane, before it reads the
+    /// first line; a worker with its own number, before its first turn; and the collecting thread with 0,
+    /// after all threads were started and before it takes results. Numbers start at 0.
     fn enter(&self, stage: Stage, number: usize);
 }
 
-/// A gate that holds nobody.
+/// A start barrier that never waits.
 #[derive(Clone, Copy, Debug, Drop)]
 pub struct NoGate;
 

@@ -1,9 +1,10 @@
-//! One lane of a run: it begins, and it ends.
+//! The lanes of a batch: how a lane is opened, and how it is closed.
 ghost use Rattle.std.specs.Prelude.{◌≡◌, ◌<◌, ◌≤◌, ◌%◌, ◌++◌, ◌∷◌, [], length, vec_capacity, vec_len, IfOk};
 ghost use Rattle.std.specs.Arc.{arc_value};
 ghost use Rattle.line_lane.specs.Ends.{IsLane};
 ghost use Rattle.set_run.specs.Lanes.{Begins, CanEnd, Ends, IsFinished, IsFresh};
 
+use crate::context::Context;
 use crate::lane_taker::LaneTaker;
 use crate::source_thread::Feeding;
 use crate::worker::{Worker, give, take_back};
@@ -13,7 +14,18 @@ use set_line::{OutOfMemory, Terms};
 use std::alloc::Global;
 use std::sync::Arc;
 
-/// Opens a lane with these terms.
+/// The lanes of a batch.
+#[derive(Drop)]
+pub(crate) struct BatchLanes<S> {
+    /// The lanes that are closed, in the order of their sources.
+    pub closed: Vec<ClosedLane<S>>,
+    /// The setters of the open lanes, worker by worker.
+    pub workers: Vec<Worker>,
+    /// The takers of the open lanes, in the order of their numbers.
+    pub takers: Vec<LaneTaker>,
+}
+
+/// Opens a lane with these settings. The error means that an allocation failed.
 fn open_lane(
     alloc: Global,
     plan: &Plan,
@@ -25,10 +37,10 @@ fn open_lane(
     Ok((feeder, setter, LaneTaker { taker, end: None }))
 }
 
-/// A lane begins: it is opened with these terms, and its setter is given to a worker.
-pub(crate) fn begin<S: Drop>(
-    alloc: Global,
-    plan: &Plan,
+/// Opens the lane of a source: appends its setter to those of a worker, puts its taker before the others, and
+/// returns its feeder with the source. The error means that an allocation failed.
+pub(crate) fn begin<R, G, S: Drop>(
+    context: &Context<'_, R, G>,
     number: usize,
     source: (S, Arc<Terms>),
     workers: &mut Vec<Worker>,
@@ -40,27 +52,27 @@ pub(crate) fn begin<S: Drop>(
         (record { workers = workers.new.items; lanes = lanes.new.items })) }
 {
     let (source, terms) = source;
-    let (feeder, setter, lane) = open_lane(alloc, plan, terms)?;
+    let (feeder, setter, lane) = open_lane(context.alloc, &context.plan, terms)?;
     give(workers, number, setter)?;
-    match lanes.push(lane) {
+    match lanes.insert(0, lane) {
         Ok(()) => Ok(Feeding { source, feeder }),
         Err(_) => Err(OutOfMemory),
     }
 }
 
-/// A lane whose ends have come back.
+/// Closes a lane, from its three endpoints.
 fn finish_lane<S: Drop>(feeding: Feeding<S>, setter: Setter, lane: LaneTaker) -> ClosedLane<S>
     requires { IsLane feeding.feeder setter lane.taker }
     ensures { IsFinished feeding setter lane result }
 {
     let Feeding { source, feeder } = feeding;
     let LaneTaker { taker, end } = lane;
-    // Called for its clauses: what was taken are the answers of what was fed.
+    // For the proof: the contract of `settle` states that the results taken are those of the first lines fed.
     let _ = settle(feeder, setter, taker);
     ClosedLane { source, end }
 }
 
-/// Appends a lane, for which there is room.
+/// Appends a lane. There must be room for it.
 fn push<S: Drop>(closed: &mut Vec<ClosedLane<S>>, lane: ClosedLane<S>)
     requires { vec_len closed.old < vec_capacity closed.old }
     ensures items { closed.new.items ≡ closed.old.items ++ lane ∷ [] }
@@ -72,7 +84,16 @@ fn push<S: Drop>(closed: &mut Vec<ClosedLane<S>>, lane: ClosedLane<S>)
     }
 }
 
-/// A lane ends: it is settled, and stands after the others.
+/// Removes and returns the first taker. There must be one.
+fn take_first(takers: &mut Vec<LaneTaker>) -> LaneTaker
+    requires { takers.old.items ≡ [] → ⊥ }
+    ensures { takers.old.items ≡ result ∷ takers.new.items }
+{
+    takers.remove(0)
+}
+
+/// Closes the first open lane, whose number is `number`, after its source's thread was joined, and appends it
+/// to the closed lanes.
 pub(crate) fn end<S: Drop>(
     number: usize,
     feeding: Feeding<S>,
@@ -92,8 +113,6 @@ pub(crate) fn end<S: Drop>(
     let Some(setter) = take_back(workers, number) else {
         unreachable!()
     };
-    let Some(lane) = lanes.pop() else {
-        unreachable!()
-    };
+    let lane = take_first(lanes);
     push(closed, finish_lane(feeding, setter, lane));
 }

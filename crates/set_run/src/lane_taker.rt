@@ -1,14 +1,13 @@
-//! The end of a lane that the collecting thread has.
+//! The endpoint of a lane in the collecting thread.
 ghost use Rattle.std.specs.Prelude.{◌≡◌, ◌<◌, None, is_ok};
 ghost use Rattle.std.specs.Result.{result_err};
 ghost use Rattle.line_lane.specs.Ends.{SameTaker};
 ghost use Rattle.set_run.specs.Collecting.{TellsLane};
 
-use crate::came::Came;
 use crate::{Collector, Refusal};
 use line_lane::{LaneEnd, Taker, Took};
 
-/// A taker, with the end of its lane once the collector was given it.
+/// A taker, and the end of its lane once the collector has received this end.
 #[derive(Drop)]
 pub(crate) struct LaneTaker {
     pub taker: Taker,
@@ -16,7 +15,7 @@ pub(crate) struct LaneTaker {
 }
 
 impl LaneTaker {
-    /// Takes what comes next, and gives it to the collector. Whether anything came.
+    /// Takes the next result or the end, and gives it to the collector. Returns whether there was one.
     fn take<C: Collector>(&mut self, lane: usize, collector: &mut C) -> Result<bool, Refusal>
         requires lane { lane < C.lanes collector.old }
         requires willing { C.refused collector.old None }
@@ -30,27 +29,26 @@ impl LaneTaker {
         }
         match self.taker.take() {
             Took::Nothing => Ok(false),
-            Took::Answer(answer) => match collector.take(lane, answer) {
-                Ok(()) => Ok(true),
-                Err(refusal) => Err(refusal),
-            },
-            Took::End(end) => match collector.end(lane, end) {
-                Ok(()) => {
-                    self.end = Some(end);
-                    Ok(true)
-                }
-                Err(refusal) => Err(refusal),
-            },
+            Took::Answer(answer) => {
+                collector.take(lane, answer)?;
+                Ok(true)
+            }
+            Took::End(end) => {
+                collector.end(lane, end)?;
+                self.end = Some(end);
+                Ok(true)
+            }
         }
     }
 
-    /// Takes what is there, at most this many answers.
+    /// Takes the available results and the end, together at most `most`, and gives them to the collector.
+    /// Returns whether there were any.
     pub fn take_some<C: Collector>(
         &mut self,
         lane: usize,
         most: usize,
         collector: &mut C,
-    ) -> Result<Came, Refusal>
+    ) -> Result<bool, Refusal>
         requires lane { lane < C.lanes collector.old }
         requires willing { C.refused collector.old None }
         ensures same { SameTaker self.old.taker self.new.taker }
@@ -60,13 +58,9 @@ impl LaneTaker {
     {
         for takes in 0..most {
             if !self.take(lane, collector)? {
-                return Ok(if takes > 0 {
-                    Came::Moved
-                } else {
-                    Came::Nothing
-                });
+                return Ok(takes > 0);
             }
         }
-        Ok(Came::Moved)
+        Ok(true)
     }
 }

@@ -1,4 +1,7 @@
-//! Many sources of lines, each set by a lane of its own, in threads.
+//! Sets the lines of many sources in one batch, with a lane and a thread for each source.
+//!
+//! [`run`] returns a report of all results, and [`run_into`] gives the results to a [`Collector`] as they
+//! come.
 #![tactic(auto)]
 
 pub use collector::{Collector, Refusal};
@@ -10,25 +13,26 @@ pub use run_end::{ClosedLane, RunEnd};
 pub use run_fault::RunFault;
 pub use run_plan::{Plan, Workers};
 pub use running::run;
-pub use running_into::{MOST_SOURCES, run_into};
+pub use running_into::{BatchOptions, MOST_SOURCES, run_into};
 pub use source::LineSource;
 
 mod answer_lists;
 mod backoff;
-mod came;
 mod collector;
 mod collector_thread;
+mod context;
 mod gate;
 mod lane;
 mod lane_taker;
 mod list_source;
+mod not_started;
+mod progress;
 mod reader_source;
 mod report;
 mod run_end;
 mod run_fault;
 mod running;
 mod running_into;
-mod shortage;
 mod signals;
 mod source;
 mod source_thread;

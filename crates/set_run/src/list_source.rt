@@ -6,7 +6,7 @@ use set_line::Line;
 use std::snapshot::Snapshot;
 use std::vec;
 
-/// A source that gives the lines of a list, in order, and never fails.
+/// A source that returns the lines of a list, in order, and never fails.
 #[derive(Drop)]
 pub struct ListSource {
     lines: vec::IntoIter<Line>,
@@ -14,7 +14,7 @@ pub struct ListSource {
 }
 
 impl ListSource {
-    /// A source of these lines. No list of lines fails, now or later.
+    /// Returns a source of these lines. The contract also states that a list of lines never fails.
     pub fn new(lines: Vec<Line>) -> Self
         ensures to_come { ⟦<ListSource as LineSource>⟧.to_come result ≡ Some lines.items }
         ensures origin { ⟦<ListSource as LineSource>⟧.origin result ≡ lines.items }

@@ -18,7 +18,8 @@ mod buffer;
 mod raw_line;
 mod state;
 
-/// A source that gives the lines of the bytes that a reader gives.
+/// A source that reads its lines from a reader. Each line feed ends a line; the bytes after the last one are
+/// a line unless there are none.
 #[derive(Drop)]
 pub struct ReaderSource<R> {
     reader: R,
@@ -29,7 +30,7 @@ pub struct ReaderSource<R> {
 }
 
 impl<R: Read> ReaderSource<R> {
-    /// A source of the lines of this reader, which isn't read yet.
+    /// Returns a source of the lines of this reader. Nothing is read yet, and no memory is allocated.
     pub fn new(alloc: Global, reader: R) -> Self
         ensures to_come { ⟦<ReaderSource<R> as LineSource>⟧.to_come result
             ≡ option_map lines_of (R.remaining reader) }
@@ -46,7 +47,8 @@ impl<R: Read> ReaderSource<R> {
         }
     }
 
-    /// The next line of a reader that neither came to its end nor failed.
+    /// Reads the next line, or returns `None` at the end. The source must be open: it hasn't reached the end
+    /// or failed before.
     fn read_line(&mut self) -> Result<Option<Line>, SourceFault>
         requires { self.old.state ≡ ReaderState.Open }
         ensures reads { let before = prepend_known self.old.buffer (R.remaining self.old.reader) in
@@ -95,7 +97,7 @@ impl<R: Read> LineSource for ReaderSource<R> {
         }
     }
 
-    /// Whether the next line stands in what was read last.
+    /// Returns whether the bytes that were read last contain the end of the next line.
     fn is_ready(&self) -> bool {
         self.buffer.has_feed()
     }

@@ -1,4 +1,4 @@
-//! What a run answers.
+//! The report of a batch.
 ghost use Rattle.std.specs.Prelude.{◌≡◌, ◌↔◌, ◌++◌, ◌∷◌, [], All, IsTrue, is_ok, if◌then◌else◌};
 ghost use Rattle.line_lane.specs.declared.ending.LaneEnd.TheVariants.{Complete};
 
@@ -7,7 +7,7 @@ use set_line::Answer;
 use std::alloc::AllocError;
 use std::marker::Model;
 
-/// The answers of a lane, in order.
+/// The results of a lane, in order.
 #[derive(Debug, Drop)]
 pub struct Answers {
     list: Vec<Answer>,
@@ -29,7 +29,7 @@ impl Answers {
         Answers { list }
     }
 
-    /// One answer more.
+    /// Appends a result. If an allocation fails, nothing is appended.
     pub(crate) fn push(&mut self, answer: Answer) -> Result<(), AllocError>
         ensures { self.new ≡ (if is_ok result then self.old ++ answer ∷ [] else self.old) }
     {
@@ -37,7 +37,7 @@ impl Answers {
         Ok(())
     }
 
-    /// The answers.
+    /// Returns the results as a slice, in order.
     pub fn as_slice(&self) -> &[Answer]
         ensures { result.now ≡ self.now }
     {
@@ -45,18 +45,18 @@ impl Answers {
     }
 }
 
-/// What became of a source.
+/// The report of one source.
 #[derive(Debug, Drop)]
 pub struct LaneReport<S> {
-    /// The source, as its thread handed it back.
+    /// The source, as its thread returned it.
     pub source: S,
-    /// The answers of its lines.
+    /// The results of its lines, in order.
     pub answers: Answers,
     /// How its lane ended.
     pub end: LaneEnd,
 }
 
-/// What became of each source, in order.
+/// The reports of the sources, in the order of the sources.
 #[derive(Debug, Drop)]
 pub struct Report<S> {
     lanes: Vec<LaneReport<S>>,
@@ -78,21 +78,14 @@ impl<S> Report<S> {
         Report { lanes }
     }
 
-    /// What became of each source.
+    /// Returns the report of each source, in the order of the sources.
     pub fn lanes(&self) -> &[LaneReport<S>]
         ensures { result.now ≡ self.now }
     {
         self.lanes.as_slice()
     }
 
-    /// What became of each source, to be kept: each source comes back with it.
-    pub fn into_lanes(self) -> Vec<LaneReport<S>>
-        ensures { result.items ≡ self }
-    {
-        self.lanes
-    }
-
-    /// Whether every lane is complete.
+    /// Returns whether every lane is complete.
     pub fn is_finished(&self) -> bool
         ensures { IsTrue result ↔ All (λ lane. lane.end ≡ Complete) self.now }
     {

@@ -1,22 +1,22 @@
-//! How a run over a collector ended.
+//! How a batch with a collector ended.
 use crate::Refusal;
 use line_lane::LaneEnd;
 
-/// What became of a source whose answers a collector was given.
+/// A source whose results a collector received, and the end of its lane.
 #[derive(Debug, Drop)]
 pub struct ClosedLane<S> {
-    /// The source, as its thread handed it back.
+    /// The source, as its thread returned it.
     pub source: S,
-    /// How its lane ended; `None` if the collector wasn't given its end, as it refused that or
+    /// How its lane ended, or `None` if the collector didn't receive the end, because it refused the end or
     /// something before it.
     pub end: Option<LaneEnd>,
 }
 
-/// How a run over a collector ended.
+/// How a batch with a collector ended.
 #[derive(Debug, Drop)]
 pub struct RunEnd<S> {
-    /// What became of each source, in order.
+    /// The closed lane of each source, in the order of the sources.
     pub lanes: Vec<ClosedLane<S>>,
-    /// What the collector refused, if anything; if nothing, each lane has its end.
+    /// The refusal of the collector, if any. If there is none, each lane has its end.
     pub refusal: Option<Refusal>,
 }

@@ -1,10 +1,23 @@
-/// Why a run has no report.
+ghost use Rattle.std.specs.Prelude.{◌≡◌};
+ghost use Rattle.set_run.specs.declared.run_fault.RunFault.TheVariants.{OutOfMemory as NoMemory};
+
+use std::alloc::AllocError;
+
+/// The reason why a batch failed.
 #[derive(Clone, Copy, Debug, PartialEq, Eq, Hash)]
 pub enum RunFault {
-    /// More than 64 sources.
+    /// There are more than 64 sources.
     TooManySources,
-    /// Memory was refused.
+    /// An allocation failed in the thread that called the batch.
     OutOfMemory,
-    /// A thread was refused.
+    /// A thread couldn't be started.
     Thread,
+}
+
+impl From<AllocError> for RunFault {
+    ghost from_gives = { λ error fault. fault ≡ NoMemory };
+
+    fn from(_: AllocError) -> Self {
+        RunFault::OutOfMemory
+    }
 }

@@ -1,4 +1,4 @@
-//! A run whose answers are kept.
+//! A batch that returns a report of all results.
 ghost use Rattle.std.specs.Prelude.{All, ◌≡◌, ◌++◌, ◌∷◌, [], ◌<◌, ◌≤◌, ◌⊎◌, Err, IfOk, IfErr, IsSome, MatchResult, get_or, length, map, vec_len};
 ghost use Rattle.set_run.specs.declared.run_fault.RunFault.TheVariants.{TooManySources, OutOfMemory as NoMemory, Thread};
 ghost use Rattle.line_lane.specs.declared.ending.LaneEnd.TheVariants.{Complete};
@@ -6,15 +6,16 @@ ghost use Rattle.set_run.specs.Reports.{AreAnswered, AreBack, AreReported, AreRe
 
 use crate::answer_lists::AnswerLists;
 use crate::{
-    Answers, ClosedLane, Gate, LaneReport, LineSource, MOST_SOURCES, Plan, Report, RunFault,
-    run_into,
+    Answers, BatchOptions, ClosedLane, Gate, LaneReport, LineSource, MOST_SOURCES, Plan, Report,
+    RunFault, run_into,
 };
 use set_line::Terms;
 use std::alloc::{AllocError, Global};
 use std::sync::{Arc, Wait};
 use std::thread::Threads;
 
-/// The reports of lanes that have all ended, each with its answers: from the last one down.
+/// Returns the reports of lanes that have all ended, each with its results. The error means that an
+/// allocation failed.
 fn reports_of<S: Drop>(
     alloc: Global,
     lanes: Vec<ClosedLane<S>>,
@@ -42,15 +43,16 @@ fn reports_of<S: Drop>(
     Ok(reports)
 }
 
-/// Sets the lines of up to 64 sources, each with its terms: a lane and a thread for each, as many
-/// threads that set lines as the plan says, at most, and this thread to collect the answers. It may
-/// wait: for its threads, for a source and for the gate.
+/// Sets the lines of up to 64 sources, each with its settings, and returns a report of each source. There are
+/// one lane and one thread per source, and at most as many workers as the plan states; the calling thread is
+/// the collecting thread. It may wait for its threads, for a source and for the start barrier.
 ///
-/// A lane whose setter is refused memory is given up, and the others go on. Faults:
-/// `TooManySources`, which is looked for first; `OutOfMemory`, if memory was refused to this
-/// thread; `Thread`, if a thread was refused. After a fault all threads that were started have
-/// been joined, and sources and answers are gone. Without sources the report is empty, and there is
-/// no fault but `OutOfMemory`.
+/// If an allocation fails in a setter, its lane is abandoned and the others continue.
+///
+/// Errors: `TooManySources`, checked first; `OutOfMemory`, if an allocation fails in the calling thread;
+/// `Thread`, if a thread can't be started. After an error all started threads have been joined, and the
+/// sources and results are dropped. Without sources the report is empty, and the only possible error is
+/// `OutOfMemory`.
 #[tactic(auto, using(crate::proofs::FinishedLemmas::answered))]
 pub fn run<R: Threads + Wait + Sync, S: LineSource + Send + Drop, G: Gate + Sync>(
     rt: &R,
@@ -73,16 +75,13 @@ pub fn run<R: Threads + Wait + Sync, S: LineSource + Send + Drop, G: Gate + Sync
     if sources.len() > MOST_SOURCES {
         return Err(RunFault::TooManySources);
     }
-    let Ok(lists) = AnswerLists::new(alloc, sources.len()) else {
-        return Err(RunFault::OutOfMemory);
-    };
-    let (lists, ended) = run_into(rt, alloc, sources, plan, gate, lists);
+    let lists = AnswerLists::new(alloc, sources.len())?;
+    let options = BatchOptions { plan, gate };
+    let (lists, ended) = run_into(rt, alloc, sources, options, lists);
     let ended = ended?;
     if ended.refusal.is_some() {
         return Err(RunFault::OutOfMemory);
     }
-    match reports_of(alloc, ended.lanes, lists.lists) {
-        Ok(reports) => Ok(Report::new(reports)),
-        Err(_) => Err(RunFault::OutOfMemory),
-    }
+    let reports = reports_of(alloc, ended.lanes, lists.lists)?;
+    Ok(Report::new(reports))
 }

@@ -1,12 +1,13 @@
-//! A run over a collector.
+//! A batch whose results are given to a collector.
 ghost use Rattle.std.specs.Prelude.{◌≡◌, ◌+◌, ◌<◌, ◌≤◌, ◌⊎◌, [], None, Err, IfOk, IfErr, IsOk, map, vec_capacity, vec_len};
 ghost use Rattle.set_run.specs.declared.run_fault.RunFault.TheVariants.{TooManySources, OutOfMemory as NoMemory, Thread};
 ghost use Rattle.set_run.specs.Gathering.{Gathers};
 ghost use Rattle.set_run.specs.Reports.{AreBack, IsCollected, IsWhole};
 
 use crate::collector_thread::Collected;
-use crate::lane_taker::LaneTaker;
-use crate::shortage::{Shortage, Unbegun};
+use crate::context::Context;
+use crate::lane::BatchLanes;
+use crate::not_started::NotStarted;
 use crate::signals::Signals;
 use crate::spawning::start_sources;
 use crate::worker::Worker;
@@ -17,10 +18,17 @@ use std::sync::{Arc, Wait};
 use std::thread;
 use std::thread::{Scope, Threads};
 
-/// How many sources a run takes at most.
+/// The largest number of sources of a batch.
 pub const MOST_SOURCES: usize = 64;
 
-/// As many workers without setters as there are to be threads that set lines.
+/// The options of a batch: its plan, and the start barrier of its threads.
+#[derive(Drop)]
+pub struct BatchOptions<'a, G> {
+    pub plan: Plan,
+    pub gate: &'a G,
+}
+
+/// Returns this many workers without setters. The error means that an allocation failed.
 fn empty_workers(alloc: Global, threads: usize) -> Result<Vec<Worker>, AllocError>
     ensures made { IfOk result (λ workers. vec_len workers ≡ threads) }
     ensures none { threads ≡ 0 → IsOk result }
@@ -32,70 +40,88 @@ fn empty_workers(alloc: Global, threads: usize) -> Result<Vec<Worker>, AllocErro
     Ok(workers)
 }
 
-/// The run, with its threads in one scope.
+/// Returns the lanes of a batch before any lane is open, with room for all closed lanes. The error means that
+/// an allocation failed.
+fn no_lanes<S: Drop>(
+    alloc: Global,
+    sources: usize,
+    threads: usize,
+) -> Result<BatchLanes<S>, AllocError>
+    ensures closed { IfOk result (λ lanes. lanes.closed.items ≡ []) }
+    ensures room { IfOk result (λ lanes. sources ≤ vec_capacity lanes.closed) }
+    ensures workers { IfOk result (λ lanes. vec_len lanes.workers ≡ threads) }
+    ensures takers { IfOk result (λ lanes. lanes.takers.items ≡ []) }
+    ensures none { sources ≡ 0 → threads ≡ 0 → IsOk result }
+{
+    let workers = empty_workers(alloc, threads)?;
+    Ok(BatchLanes {
+        closed: Vec::with_capacity(alloc, sources)?,
+        workers,
+        takers: Vec::new(alloc),
+    })
+}
+
+/// Runs the threads of a batch in one scope.
 fn run_threads<
     R: Threads + Wait + Sync,
     S: LineSource + Send + Drop,
     G: Gate + Sync,
     C: Collector + Drop,
 >(
-    rt: &R,
-    alloc: Global,
+    context: &Context<'_, R, G>,
     sources: Vec<(S, Arc<Terms>)>,
-    plan: &Plan,
-    gate: &G,
-    closed: Vec<ClosedLane<S>>,
-    workers: Vec<Worker>,
+    lanes: BatchLanes<S>,
     collector: C,
-) -> Result<(Vec<ClosedLane<S>>, Collected<C>), Unbegun<C>>
-    requires some { 0 < vec_len sources → 0 < vec_len workers }
-    requires places { vec_len sources ≤ C.lanes collector }
+) -> Result<(Vec<ClosedLane<S>>, Collected<C>), NotStarted<C>>
+    requires some { 0 < vec_len sources → 0 < vec_len lanes.workers }
+    requires places { vec_len sources + vec_len lanes.takers ≤ C.lanes collector }
     requires willing { C.refused collector None }
-    requires none { closed.items ≡ [] }
-    requires room { vec_len sources ≤ vec_capacity closed }
+    requires none { lanes.closed.items ≡ [] }
+    requires room { vec_len sources ≤ vec_capacity lanes.closed }
     ensures gathered { IfOk result (λ back. Gathers S.to_come S.failed S.origin C.lanes C.given C.refused
-        sources.items [] collector back.0.items back.1) }
-    ensures begun { vec_len sources ≡ 0 → vec_len workers ≡ 0 → IsOk result }
-    ensures unbegun { IfErr result (λ unbegun. unbegun.collector ≡ collector) }
+        sources.items lanes.takers.items collector back.0.items back.1) }
+    ensures begun { vec_len sources ≡ 0 → vec_len lanes.workers ≡ 0 → IsOk result }
+    ensures not_started { IfErr result (λ not_started. not_started.collector ≡ collector) }
 {
-    let signals = Signals::new(plan, workers.len());
-    let signals = &signals;
-    let lanes: Vec<LaneTaker> = Vec::new(alloc);
     thread::scope(
         thread::scope_env(),
-        rt,
-        move |scope| -> Result<(Vec<ClosedLane<S>>, Collected<C>), Unbegun<C>>
-            requires some { 0 < vec_len sources → 0 < vec_len workers }
-            requires places { vec_len sources + vec_len lanes ≤ C.lanes collector }
+        context.rt,
+        move |scope| -> Result<(Vec<ClosedLane<S>>, Collected<C>), NotStarted<C>>
+            requires some { 0 < vec_len sources → 0 < vec_len lanes.workers }
+            requires places { vec_len sources + vec_len lanes.takers ≤ C.lanes collector }
             requires willing { C.refused collector None }
-            requires none { closed.items ≡ [] }
-            requires room { vec_len sources ≤ vec_capacity closed }
+            requires none { lanes.closed.items ≡ [] }
+            requires room { vec_len sources ≤ vec_capacity lanes.closed }
             ensures gathered { IfOk result (λ back. Gathers S.to_come S.failed S.origin C.lanes C.given C.refused
-                sources.items lanes.items collector back.0.items back.1) }
-            ensures begun { vec_len sources ≡ 0 → vec_len workers ≡ 0 → IsOk result }
-            ensures unbegun { IfErr result (λ unbegun. unbegun.collector ≡ collector) }
+                sources.items lanes.takers.items collector back.0.items back.1) }
+            ensures begun { vec_len sources ≡ 0 → vec_len lanes.workers ≡ 0 → IsOk result }
+            ensures not_started { IfErr result (λ not_started. not_started.collector ≡ collector) }
         {
-            let (closed, _, collected) = start_sources(
-                scope, rt, gate, signals, alloc, plan, sources, closed, workers, lanes, collector,
-            )?;
+            let (closed, _, collected) = start_sources(scope, context, sources, lanes, collector)?;
             Ok((closed, collected))
         },
     )
 }
 
-/// Sets the lines of up to 64 sources, each with its terms, and gives the answers to a collector as they
-/// come: a lane and a thread for each source, as many threads that set lines as the plan says, at most,
-/// and this thread to collect. It may wait: for its threads, for a source and for the gate.
+/// Sets the lines of up to 64 sources, each with its settings, and gives the results to a collector as they
+/// come. There are one lane and one thread per source, and at most as many workers as the plan states; the
+/// calling thread is the collecting thread. It may wait for its threads, for a source and for the start
+/// barrier.
 ///
-/// The collector comes back. If the run ended, it was given the answers of the first lines of each
-/// source, in order, and after them the lane's end, if that has one: the answers of all lines, if
-/// it is `Complete`. If the collector refused something it isn't called any more, and the threads are
-/// stopped and joined; a source that is inside a read can't be stopped, so the run ends once none is.
+/// Returns the collector. If there is no error, and the collector had received nothing before the call, it
+/// has received for each source the results of the first lines, in order, and then the end of the lane, if
+/// the lane has one; these are the results of all lines if the end is `Complete`. For a source whose lines
+/// aren't known, the contract states only that the results are those of some lines. If the collector refuses
+/// something, it isn't called again, and the threads are stopped and joined. A thread that is reading a
+/// source can't be stopped: the call returns only after such a read has returned.
 ///
-/// A lane whose setter is refused memory is given up, and the others go on. Faults:
-/// `TooManySources`, which is looked for first; `OutOfMemory`, if memory was refused to this thread;
-/// `Thread`, if a thread was refused. After a fault all threads that were started have been joined, the
-/// sources are gone, and the collector wasn't called. Without sources there is no fault.
+/// If an allocation fails in a setter, its lane is abandoned and the others continue.
+///
+/// Errors: `TooManySources`, checked first; `OutOfMemory`, if an allocation fails in the calling thread
+/// before it collects results; `Thread`, if a thread can't be started. After an error all started threads
+/// have been joined, the sources are dropped, and the collector wasn't called. Without sources there is no
+/// error.
+#[tactic(auto, using(crate::proofs::SpawningLemmas::short))]
 pub fn run_into<
     R: Threads + Wait + Sync,
     S: LineSource + Send + Drop,
@@ -105,8 +131,7 @@ pub fn run_into<
     rt: &R,
     alloc: Global,
     sources: Vec<(S, Arc<Terms>)>,
-    plan: Plan,
-    gate: &G,
+    options: BatchOptions<'_, G>,
     collector: C,
 ) -> (C, Result<RunEnd<S>, RunFault>)
     requires lanes { vec_len sources ≤ C.lanes collector }
@@ -127,14 +152,20 @@ pub fn run_into<
     if sources.len() > MOST_SOURCES {
         return (collector, Err(RunFault::TooManySources));
     }
+    let BatchOptions { plan, gate } = options;
     let threads = plan.workers.get().min(sources.len());
-    let Ok(workers) = empty_workers(alloc, threads) else {
+    let Ok(lanes) = no_lanes(alloc, sources.len(), threads) else {
         return (collector, Err(RunFault::OutOfMemory));
     };
-    let Ok(closed) = Vec::with_capacity(alloc, sources.len()) else {
-        return (collector, Err(RunFault::OutOfMemory));
+    let signals = Signals::new(&plan, threads);
+    let context = Context {
+        rt,
+        gate,
+        signals,
+        alloc,
+        plan,
     };
-    match run_threads(rt, alloc, sources, &plan, gate, closed, workers, collector) {
+    match run_threads(&context, sources, lanes, collector) {
         Ok((lanes, collected)) => {
             let Collected {
                 lanes: _,
@@ -143,17 +174,6 @@ pub fn run_into<
             } = collected;
             (collector, Ok(RunEnd { lanes, refusal }))
         }
-        Err(
-            Unbegun {
-                collector,
-                shortage,
-            },
-        ) => (
-            collector,
-            Err(match shortage {
-                Shortage::Memory => RunFault::OutOfMemory,
-                Shortage::Thread => RunFault::Thread,
-            }),
-        ),
+        Err(NotStarted { collector, fault }) => (collector, Err(fault)),
     }
 }

@@ -1,8 +1,7 @@
-//! What the threads of a run share: the stop flag, and a bell for each thread, by which the others wake it.
+//! The values that the threads of a batch share: the stop flag, and for each thread a signal that wakes it.
 ghost use Rattle.std.specs.Prelude.{◌<◌};
 
 use crate::backoff::Backoff;
-use crate::came::Came;
 use crate::{MOST_SOURCES, Plan};
 use crossbeam_utils::CachePadded;
 use std::array;
@@ -10,13 +9,13 @@ use std::sync::Wait;
 use std::sync::atomic::{AtomicBool, Ordering};
 use std::thread::Parker;
 
-/// How many workers there are at most.
+/// The largest number of workers.
 const MOST_WORKERS: usize = 16;
 
-/// How many lines, or moves, follow one another at most before the other side is woken.
+/// The largest number of lines, or of moves, in a row before the thread at the other end is woken.
 const MOST_AT_ONCE: usize = 512;
 
-/// What wakes a thread. Bells of different threads lie on different lines of the cache.
+/// The wake-up of one thread. The wake-ups of different threads are in different cache lines.
 #[derive(Drop)]
 struct Bell {
     parker: CachePadded<Parker>,
@@ -29,12 +28,12 @@ impl Bell {
         }
     }
 
-    /// Wakes the thread, if it sleeps, or else ends its next sleep before it begins.
+    /// Wakes the thread if it sleeps. Otherwise its next sleep ends immediately.
     fn ring(&self) {
         self.parker.unpark();
     }
 
-    /// Sleeps until the bell is rung, or the time is over.
+    /// Sleeps until the thread is woken, at most for the sleep time of `backoff`.
     fn sleep<R: Wait>(&self, rt: &R, backoff: &mut Backoff) {
         self.parker.park_timeout(rt, backoff.sleep_time());
     }
@@ -46,7 +45,7 @@ fn ring_all(bells: &[Bell]) {
     }
 }
 
-/// What the threads of a run share.
+/// The values that the threads of a batch share.
 #[derive(Drop)]
 pub(crate) struct Signals {
     stop: AtomicBool,
@@ -60,7 +59,7 @@ pub(crate) struct Signals {
 }
 
 impl Signals {
-    /// Those of a run of this plan, with this many threads that set lines.
+    /// Returns the values for a batch of this plan, with this many workers.
     pub fn new(plan: &Plan, threads: usize) -> Self {
         let half = (plan.capacity.get() / 2).max(1);
         let block = plan.block.get();
@@ -77,13 +76,15 @@ impl Signals {
         }
     }
 
-    /// How many lines half a ring has places for: before this many it isn't worth while to wake a thread.
-    pub fn lines(&self) -> usize {
+    /// Returns the number of lines after which a thread is woken: as many as the messages in half the slots
+    /// of a ring have, at most 512.
+    pub fn lines_before_wake(&self) -> usize {
         self.lines
     }
 
-    /// How many moves a setter makes of this many lines.
-    pub fn moves(&self) -> usize {
+    /// Returns the largest number of moves in one visit of a worker to a lane: as many as are needed to set
+    /// the lines of the messages in half the slots of a ring, at most 512.
+    pub fn moves_per_visit(&self) -> usize {
         self.moves
     }
 
@@ -91,7 +92,8 @@ impl Signals {
         self.stop.load(Ordering::SeqCst)
     }
 
-    /// Stops the run: each thread returns as soon as it looks, and those that sleep are woken.
+    /// Stops the batch: sets the stop flag, and wakes the threads of the sources and the workers. Each of
+    /// them returns when it reads the flag.
     pub fn stop(&self) {
         self.stop.store(true, Ordering::SeqCst);
         ring_all(&self.sources);
@@ -102,17 +104,19 @@ impl Signals {
         &self.sources[lane % MOST_SOURCES]
     }
 
-    /// The bell of the worker that sets the lines of this lane.
+    /// Returns the wake-up of the worker that sets the lines of this lane.
     fn worker_of(&self, lane: usize) -> &Bell {
         &self.workers[lane % self.threads % MOST_WORKERS]
     }
 
-    /// The thread of a source has fed lines to its lane.
+    /// Wakes the worker of a lane. The thread of the source calls it after it has fed lines, before it
+    /// sleeps, and when it is done.
     pub fn lines_fed(&self, lane: usize) {
         self.worker_of(lane).ring();
     }
 
-    /// The thread of a source waits until there may be room.
+    /// Waits, in the thread of a source, until there may be a free slot: pauses, or wakes the lane's worker
+    /// and sleeps.
     pub fn wait_as_source<R: Wait>(&self, rt: &R, lane: usize, backoff: &mut Backoff) {
         if backoff.looks_again() {
             return;
@@ -121,28 +125,30 @@ impl Signals {
         self.source(lane).sleep(rt, backoff);
     }
 
-    /// A worker has moved lines of a lane. This many of its lanes have lower numbers.
-    pub fn lines_set(&self, number: usize, lower: usize) {
-        let lane = number.wrapping_add(lower.wrapping_mul(self.threads));
+    /// Wakes the source's thread and the collecting thread. A worker calls it after it has made moves in a
+    /// lane.
+    pub fn lines_set(&self, lane: usize) {
         self.source(lane).ring();
         self.collector.ring();
     }
 
-    /// A worker waits until there may be lines, or room for answers.
+    /// Waits, in the thread of a worker, until there may be lines or free slots for results: pauses or
+    /// sleeps.
     pub fn wait_as_worker<R: Wait>(&self, rt: &R, number: usize, backoff: &mut Backoff) {
         if !backoff.looks_again() {
             self.worker_of(number).sleep(rt, backoff);
         }
     }
 
-    /// What the collecting thread's look at a lane brought.
-    pub fn answers_taken(&self, lane: usize, came: Came) {
-        if came == Came::Moved {
+    /// Records that the collecting thread has visited a lane: wakes the lane's worker if results or the end
+    /// were taken (`any`).
+    pub fn answers_taken(&self, lane: usize, any: bool) {
+        if any {
             self.worker_of(lane).ring();
         }
     }
 
-    /// The collecting thread sleeps until there may be answers.
+    /// Sleeps, in the collecting thread, until there may be results.
     pub fn sleep_as_collector<R: Wait>(&self, rt: &R, backoff: &mut Backoff) {
         self.collector.sleep(rt, backoff);
     }

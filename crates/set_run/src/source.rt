@@ -6,9 +6,9 @@ ghost use Rattle.set_run.specs.Sources.{Reads};
 use line_lane::SourceFault;
 use set_line::Line;
 
-/// A source of lines. In proofs it may tell the lines that are still to come, and goes on telling them
-/// until it fails; of a source that doesn't tell them, nothing is said of its lines. And it tells its
-/// origin, what it was made of, for good.
+/// A source of lines. For the proof: `to_come` is the list of the lines still to come, or `None` if they
+/// aren't known to the contract. Lines that are known stay known until the source fails. `failed` is the
+/// error, once the source has failed. `origin` is what the source was made from, and never changes.
 pub trait LineSource {
     ghost to_come: { Self → Option (List (List ℕ)) };
 
@@ -18,16 +18,17 @@ pub trait LineSource {
 
     ghost origin: { Self → Origin };
 
-    /// The next line; `None` if none is to come, now and later; or a fault, once and for all.
+    /// Returns the next line, or `None` if no line is left. After an error each later call returns the same
+    /// error.
     fn next_line(&mut self) -> Result<Option<Line>, SourceFault>
         ensures reads { Reads (to_come self.old) (failed self.old) result (to_come self.new) (failed self.new) }
         ensures origin { origin self.new ≡ origin self.old };
 
-    /// Whether `next_line` would return without waiting. It decides only when lines are sent and when the
-    /// worker is woken, never what is set. True: the lines that were fed may wait in the open block until it
-    /// is full. False: the open block is sent and the worker is woken before `next_line` is called. A source
-    /// without an `is_ready` of its own is always ready, so that its blocks are full; one whose `next_line`
-    /// may wait should define it.
+    /// Returns whether `next_line` would return without waiting. The return value affects only when lines are
+    /// sent and when the worker is woken, never the results. If it is true, the lines that were fed may wait
+    /// in the open block until the block is full. If it is false, the open block is sent and the worker is
+    /// woken before `next_line` is called. The default is true, with which a block is sent only when it is
+    /// full or the source has ended; a source whose `next_line` may wait should define this method.
     fn is_ready(&self) -> bool {
         true
     }

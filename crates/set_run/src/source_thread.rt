@@ -1,4 +1,4 @@
-//! The thread of a source: it feeds the source's lines to its lane.
+//! The thread of a source: it reads the lines of the source and feeds them to its lane.
 ghost use Rattle.std.specs.Prelude.{◌≡◌, ◌++◌, ◌∷◌, [], None, Some, IsTrue, length, if◌then◌else◌};
 ghost use Rattle.line_lane.specs.Ends.{SameFeeder, fed, feeder_end, open_lines};
 ghost use Rattle.line_lane.specs.Messages.{first_end};
@@ -21,7 +21,8 @@ pub(crate) struct Feeding<S> {
     pub feeder: Feeder,
 }
 
-/// What the thread of a source promises: source and feeder as they were when it began.
+/// The promise of the thread of a source, with the source and the feeder as they were when the thread
+/// started.
 #[derive(Drop)]
 pub(crate) struct FedFrom<S>(pub Snapshot<Feeding<S>>);
 
@@ -29,7 +30,8 @@ impl<S: LineSource> Promise<Feeding<S>> for FedFrom<S> {
     ghost kept_by = { λ p r. HandsBack S.to_come S.failed S.origin p.0.value r };
 }
 
-/// Feeds a line, as soon as there is room for it; false if the run is stopped.
+/// Feeds a line, as soon as there is room for it. Returns false, with the line dropped, if the batch is
+/// stopped before or the feeder is closed.
 fn offer<R: Wait>(rt: &R, signals: &Signals, number: usize, feeder: &mut Feeder, line: Line) -> bool
     ensures lane { SameFeeder feeder.old feeder.new }
     ensures end { feeder_end feeder.new ≡ feeder_end feeder.old }
@@ -51,7 +53,7 @@ fn offer<R: Wait>(rt: &R, signals: &Signals, number: usize, feeder: &mut Feeder,
     unreachable!()
 }
 
-/// Sends the lines of the open block, as soon as there is room for them; false if the batch is stopped.
+/// Sends the open block, as soon as there is room for it. Returns false if the batch is stopped before.
 fn flush<R: Wait>(rt: &R, signals: &Signals, number: usize, feeder: &mut Feeder) -> bool
     ensures lane { SameFeeder feeder.old feeder.new }
     ensures end { feeder_end feeder.new ≡ feeder_end feeder.old }
@@ -71,7 +73,7 @@ fn flush<R: Wait>(rt: &R, signals: &Signals, number: usize, feeder: &mut Feeder)
     unreachable!()
 }
 
-/// Closes the feeder, as soon as there is room for its end; false if the run is stopped.
+/// Closes the feeder, as soon as there is room for the end. Returns false if the batch is stopped before.
 fn close<R: Wait>(
     rt: &R,
     signals: &Signals,
@@ -96,20 +98,20 @@ fn close<R: Wait>(
     unreachable!()
 }
 
-/// Tells the worker of lines that were fed, if they are many, or the next one isn't there yet. How many
-/// it wasn't told of, with the next one.
-fn tell(signals: &Signals, number: usize, unheard: usize, is_ready: bool) -> usize {
-    if unheard >= signals.lines() || unheard > 0 && !is_ready {
+/// Wakes the worker if enough lines were fed since the last wake-up, or if some were and the source isn't
+/// ready. Returns the number of lines since the last wake-up, with the next line.
+fn wake_if_due(signals: &Signals, number: usize, unannounced: usize, is_ready: bool) -> usize {
+    if unannounced >= signals.lines_before_wake() || unannounced > 0 && !is_ready {
         signals.lines_fed(number);
         1
     } else {
-        unheard.saturating_add(1)
+        unannounced.saturating_add(1)
     }
 }
 
-/// Feeds a source's lines, each after the one before it was accepted. Lines that were fed are sent before a
-/// source that isn't ready is asked for the next one: none of them waits for it in the open block. How they
-/// end; `None` if the batch is stopped.
+/// Reads the lines of a source and feeds them, each before the next one is read. If the source isn't ready,
+/// the open block is sent before the next line is read, so that no line waits in the block for the source.
+/// Returns how the source ended, or `None` if the batch is stopped before or the feeder is closed.
 fn feed_lines<R: Wait, S: LineSource>(
     rt: &R,
     signals: &Signals,
@@ -127,7 +129,7 @@ fn feed_lines<R: Wait, S: LineSource>(
         → StaysFailed (S.failed source.old) (fed feeder.new) (S.failed source.new) }
     ensures origin { S.origin source.new ≡ S.origin source.old }
 {
-    let mut unheard = 0;
+    let mut unannounced = 0;
     for _ in rt.forever() {
         if signals.is_stopped() {
             return None;
@@ -136,7 +138,7 @@ fn feed_lines<R: Wait, S: LineSource>(
         if !is_ready && !flush(rt, signals, number, feeder) {
             return None;
         }
-        unheard = tell(signals, number, unheard, is_ready);
+        unannounced = wake_if_due(signals, number, unannounced, is_ready);
         match source.next_line() {
             Ok(Some(line)) => {
                 if !offer(rt, signals, number, feeder, line) {
@@ -150,8 +152,8 @@ fn feed_lines<R: Wait, S: LineSource>(
     unreachable!()
 }
 
-/// The work of a source's thread: it enters the gate, feeds the source's lines, and closes the feeder
-/// with their end.
+/// Does the work of a source's thread: passes the start barrier, feeds the lines of the source, and closes
+/// the feeder with the end of the source, unless the batch is stopped before.
 pub(crate) fn feed<R: Wait, S: LineSource, G: Gate>(
     rt: &R,
     gate: &G,

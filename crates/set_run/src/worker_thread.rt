@@ -1,9 +1,9 @@
-//! The thread of a setter: it sets the lines of its lanes.
+//! The thread of a worker: it sets the lines of its lanes.
 ghost use Rattle.std.specs.List.{AllZip};
 ghost use Rattle.set_run.specs.Workers.{IsWorked};
 
 use crate::backoff::Backoff;
-use crate::came::Came;
+use crate::progress::Progress;
 use crate::signals::Signals;
 use crate::worker::Worker;
 use crate::{Gate, Stage};
@@ -11,7 +11,7 @@ use std::snapshot::Snapshot;
 use std::sync::Wait;
 use std::thread::Promise;
 
-/// What the thread of a setter promises: its lanes' setters as they were when it began.
+/// The promise of the thread of a worker, with its setters as they were when the thread started.
 #[derive(Drop)]
 pub(crate) struct WorkedFrom(pub Snapshot<Worker>);
 
@@ -19,7 +19,8 @@ impl Promise<Worker> for WorkedFrom {
     ghost kept_by = { λ p r. AllZip IsWorked p.0.value r };
 }
 
-/// The work of a setter's thread: it enters the gate, and gives its lanes turns until all are done.
+/// Does the work of a worker's thread: passes the start barrier, and gives turns to its lanes until all are
+/// done or the batch is stopped.
 pub(crate) fn work<R: Wait, G: Gate>(
     rt: &R,
     gate: &G,
@@ -33,10 +34,10 @@ pub(crate) fn work<R: Wait, G: Gate>(
     let mut worker = worker;
     let mut backoff = Backoff::new();
     for _ in rt.forever() {
-        match worker.go_round(signals, number) {
-            Came::Done => return worker,
-            Came::Moved => backoff.renew(),
-            Came::Nothing => signals.wait_as_worker(rt, number, &mut backoff),
+        match worker.go_round(signals) {
+            Progress::Done => return worker,
+            Progress::Made => backoff.renew(),
+            Progress::None => signals.wait_as_worker(rt, number, &mut backoff),
         }
     }
     unreachable!()

@@ -1,31 +1,17 @@
-ghost use Rattle.std.specs.Prelude.{◌≡◌, [], ◌∷◌, ◌+◌, ◌*◌, ◌≤◌, ◌<◌, ◌-◌, ◌||◌, length, not, nat_le};
+ghost use Rattle.std.specs.Prelude.{◌≡◌, [], ◌∷◌, ◌≤◌, ◌<◌, ◌-◌, ◌||◌, not, nat_le};
 ghost use Rattle.std.specs.List.{range_with_len, flat_map};
 ghost use Rattle.tfm_words.specs.Counts.{AreCountsOf};
 ghost use Rattle.tfm_words.specs.CountFaults.{AnswersFirst};
-ghost use Rattle.tfm_tables.specs.Table.{entries_of, entry_at, table_of};
+ghost use Rattle.tfm_tables.specs.Table.{entries_of, entry_at};
 ghost use Rattle.tfm_words.specs.declared.table.Table.TheVariants.{LigKern};
-ghost use Rattle.tfm_tables.specs.Character.{char_info_of, exists as exists_in};
-ghost use Rattle.tfm_tables.specs.Program.{program_of, right_code_of, step_at as step_at_address};
+ghost use Rattle.tfm_tables.specs.Character.{exists as exists_in};
+ghost use Rattle.tfm_tables.specs.Program.{program_of, right_code_of};
 ghost use Rattle.tfm_tables.specs.Acceptance.{all_measure_faults, codes_of, first_entry_faults, index_faults, instruction_faults, is_measure, is_right_code, is_zero, measure_faults, parameter_faults, start_faults, step_faults, table_faults, table_measure_faults};
 
+use crate::entries::{char_info, exists, right_code, step_at};
 use crate::tables::entry;
 use crate::{FontFault, Part, Step};
 use tfm_words::{Counts, Table};
-
-/// Returns the char_info word of a code from `bc` to `ec`.
-#[tactic(auto, unfolding(crate::specs::Character::char_info_of))]
-pub fn char_info(words: &[u8], counts: &Counts, code: u16) -> [u8; 4]
-    requires lawful { AreCountsOf words.now counts.now }
-    requires coded { (counts.now.bc ≤ code) × (code ≤ counts.now.ec) }
-    ensures { result ≡ char_info_of words.now code }
-{
-    entry(
-        words,
-        counts,
-        Table::CharInfo,
-        usize::from(code - counts.bc()),
-    )
-}
 
 fn check_index(code: u16, table: Table, index: u8, entries: u16) -> Result<(), FontFault>
     requires { code < 256 }
@@ -173,43 +159,6 @@ fn check_parameters(words: &[u8], counts: &Counts) -> Result<(), FontFault>
     Ok(())
 }
 
-/// Returns whether the font has a character with this code: a char_info word whose width index isn't 0.
-#[tactic(auto, unfolding(crate::specs::Character::exists, crate::specs::Character::is_coded))]
-pub fn exists(words: &[u8], counts: &Counts, code: u8) -> bool
-    requires { AreCountsOf words.now counts.now }
-    ensures { result ≡ exists_in words.now code }
-{
-    let code = u16::from(code);
-    counts.bc() <= code && code <= counts.ec() && char_info(words, counts, code)[0] != 0
-}
-
-/// Returns the instruction at address `i`.
-#[tactic(auto, unfolding(crate::specs::Program::step_at))]
-pub fn step_at(words: &[u8], counts: &Counts, i: usize) -> Step
-    requires lawful { AreCountsOf words.now counts.now }
-    requires within { i < entries_of words.now LigKern }
-    ensures { result ≡ step_at_address words.now i }
-{
-    Step::of(entry(words, counts, Table::LigKern, i))
-}
-
-/// Returns the code of the right boundary character, which the first instruction may specify.
-#[tactic(auto, using(crate::proofs::ProgramLemmas::instructions), unfolding(crate::specs::Program::right_code_of))]
-pub fn right_code(words: &[u8], counts: &Counts) -> Option<u8>
-    requires { AreCountsOf words.now counts.now }
-    ensures { result ≡ right_code_of (program_of words.now) }
-{
-    if counts.nl() == 0 {
-        return None;
-    }
-    let first = step_at(words, counts, 0);
-    if first.skip == 255 {
-        Some(first.next)
-    } else {
-        None
-    }
-}
-
 fn check_part(index: usize, part: Part, is_wrong: bool) -> Result<(), FontFault>
     ensures { AnswersFirst ((is_wrong, FontFault.Step index part) ∷ []) result }
 {
@@ -245,19 +194,13 @@ fn check_step(
     ensures { AnswersFirst (step_faults words.now i step) result }
 {
     let steps = usize::from(counts.nl());
-    let target = 256 * usize::from(step.op) + usize::from(step.remainder);
     if step.skip > 128 {
-        return check_part(i, Part::Restart, target >= steps);
+        return check_part(i, Part::Restart, step.target() >= steps);
     }
     check_part(i, Part::Next, !is_right(words, counts, right, step.next))?;
-    if step.op < 128 {
-        check_part(i, Part::Ligature, !exists(words, counts, step.remainder))?;
-    } else {
-        check_part(
-            i,
-            Part::Kern,
-            target - 128 * 256 >= usize::from(counts.nk()),
-        )?;
+    match step.kern_index() {
+        None => check_part(i, Part::Ligature, !exists(words, counts, step.remainder))?,
+        Some(kern) => check_part(i, Part::Kern, kern >= usize::from(counts.nk()))?,
     }
     let following = i + usize::from(step.skip) + 1;
     check_part(i, Part::Skip, step.skip < 128 && following >= steps)

@@ -4,13 +4,13 @@ ghost use Rattle.tfm_words.specs.declared.table.Table.TheVariants.{Kern, Param};
 ghost use Rattle.tfm_tables.specs.Table.{entries_of, entry_at};
 ghost use Rattle.tfm_tables.specs.Character.{is_coded, measures_of, metrics_of, tag_of, tag_with};
 ghost use Rattle.tfm_tables.specs.Measure.{kern_at, measure_at, parameter_of};
-ghost use Rattle.tfm_tables.specs.Program.{begin_at, left_start_of, program_of, start_of, tag_start, target_of};
+ghost use Rattle.tfm_tables.specs.Program.{begin_at, left_start_of, program_of, start_of, tag_start};
 ghost use Rattle.tfm_tables.specs.declared.left_side.LeftSide.TheVariants.{Char};
 ghost use Rattle.tfm_tables.specs.Sound.{HasSoundTables, IsScalableEntry};
 ghost use Rattle.tfm_tables.specs.Decoded.{character_of, characters_of, kerns_of, parameters_of};
 
 use crate::character::Character;
-use crate::checks::{char_info, exists, step_at};
+use crate::entries::{char_info, exists, step_at};
 use crate::tables::entry;
 use crate::{Metrics, Step, Tag};
 use std::alloc::{AllocError, Global};
@@ -119,18 +119,12 @@ fn tag(number: u8, remainder: u8) -> Tag
     }
 }
 
-fn target(step: Step) -> usize
-    ensures { result ≡ target_of step }
-{
-    256 * usize::from(step.op) + usize::from(step.remainder)
-}
-
 #[tactic(auto, unfolding(crate::specs::Program::begin_at))]
 fn begin(program: &[Step], first: u8) -> usize
     ensures { result ≡ begin_at program.now first }
 {
     match program.get(usize::from(first)) {
-        Some(step) if step.skip > 128 => target(*step),
+        Some(step) if step.skip > 128 => step.target(),
         _ => usize::from(first),
     }
 }
@@ -150,7 +144,7 @@ pub fn left_start(program: &[Step]) -> Option<usize>
     ensures { result ≡ left_start_of program.now }
 {
     match program.last() {
-        Some(step) if step.skip == 255 => Some(target(*step)),
+        Some(step) if step.skip == 255 => Some(step.target()),
         _ => None,
     }
 }

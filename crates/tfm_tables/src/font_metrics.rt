@@ -13,7 +13,8 @@ ghost use Rattle.tfm_tables.specs.Decoded.{character_of};
 ghost use Rattle.tfm_tables.specs.Sound.{HasSoundTables, IsSoundStep};
 
 use crate::character::Character;
-use crate::checks::{check_tables, right_code};
+use crate::checks::check_tables;
+use crate::entries::right_code;
 use crate::{FontFault, LeftSide, Metrics, Step, Tag, decoding, header};
 use std::alloc::{AllocError, Global};
 use std::marker::Model;

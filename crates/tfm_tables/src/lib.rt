@@ -15,6 +15,7 @@ pub use tag::Tag;
 mod character;
 mod checks;
 mod decoding;
+mod entries;
 mod fault;
 mod font;
 mod font_metrics;

@@ -1,5 +1,6 @@
-ghost use Rattle.std.specs.Prelude.{◌≡◌, length};
-ghost use Rattle.tfm_tables.specs.Program.{step_of};
+ghost use Rattle.std.specs.Prelude.{◌≡◌, length, nat_le, Some, None, if◌then◌else◌};
+ghost use Rattle.tfm_tables.specs.Program.{step_of, target_of};
+ghost use Rattle.tfm_tables.specs.Acceptance.{kern_index_of};
 
 /// An instruction of the lig/kern program: its four bytes in the file (tftopl.web, section 13).
 #[derive(Clone, Copy, Debug, PartialEq, Eq, Hash)]
@@ -30,5 +31,23 @@ impl Step {
             op,
             remainder,
         }
+    }
+    /// Returns the address to which the instruction points if its skip is above 128.
+    pub fn target(self) -> usize
+        ensures { result ≡ target_of self }
+    {
+        256 * usize::from(self.op) + usize::from(self.remainder)
+    }
+
+    /// Returns the index of the kern that the instruction inserts if it matches, or `None` if it inserts a
+    /// character.
+    #[tactic(auto, unfolding(crate::specs::Acceptance::kern_index_of))]
+    pub fn kern_index(self) -> Option<usize>
+        ensures { result ≡ (if nat_le 128 self.op then Some (kern_index_of self) else None) }
+    {
+        if self.op < 128 {
+            return None;
+        }
+        Some(256 * usize::from(self.op - 128) + usize::from(self.remainder))
     }
 }

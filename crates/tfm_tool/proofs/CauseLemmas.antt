@@ -1,10 +1,10 @@
 -- Why nothing was written for a request.
-use Rattle.std.proofs.Common.{arith, rules, ◌≡◌, ◌≢◌, ℕ, zero, suc, ◌+◌, ◌*◌, ◌<◌, ◌≤◌, ◌⊎◌, inl, inr, true, List, [], ◌∷◌, ◌++◌, length, get_or, map, take, Option, Some, None, Bor, codes, refl, ap, sym, subst, ◌∙◌}
+use Rattle.std.proofs.Common.{arith, rules, ◌≡◌, ◌≢◌, ℕ, zero, suc, ◌+◌, ◌*◌, ◌<◌, ◌≤◌, ◌⊎◌, inl, inr, true, false, List, [], ◌∷◌, ◌++◌, length, get_or, map, take, Option, Some, None, Bor, codes, refl, ap, sym, subst, ◌∙◌}
 use Rattle.std.proofs.lemmas.Bool.{true≢false}
 use Rattle.std.proofs.lemmas.List.Elements.{All-cons}
 use Rattle.std.proofs.lemmas.List.{length-map}
 use Rattle.std.proofs.lemmas.Slice.Zip.{AllZip-long}
-use Rattle.std.specs.Prelude.{◌==◌, ◌||◌, All, IfOk, IfSome, IsErrAnd, Result, Ok, Err}
+use Rattle.std.specs.Prelude.{◌==◌, ◌||◌, All, IfErr, IfOk, IfSome, IsErrAnd, Result, Ok, Err}
 use Rattle.std.specs.Arc.{arc_value}
 use Rattle.std.specs.List.{AllZip}
 use Rattle.std.specs.declared.alloc.Global.{Global}
@@ -29,10 +29,11 @@ use Rattle.tfm_tool.specs.FontFaults.{IsAcceptedJob, IsFirstRefused, IsRefusedFo
 use Rattle.tfm_tool.specs.Jobs.{AreTermsOf, AreWordsOfJobs, HasTermsOf, IsFaultOfWords, IsOpenedWith, JobValue, job_value, jobs_in}
 use Rattle.tfm_tool.specs.Kept.{HaveSameFont}
 use Rattle.tfm_tool.specs.Named.{OfKnown, file_bytes_of, font_bytes_of}
-use Rattle.tfm_tool.specs.Told.{AreSourcesOf, IsSourceOf, Told}
+use Rattle.tfm_tool.specs.Told.{Told}
+use Rattle.tfm_tool.specs.Requests.{IsSourceWith}
 use Rattle.tfm_tool.specs.Status.{BeforeText, failure_of, is_refusal, status_of}
-use Rattle.tfm_tool.specs.declared.exit.Failure.{Failure}
-use Rattle.tfm_tool.specs.declared.exit.Failure.TheVariants.{Tool, FontRefused, FontAndText, TooManyFiles, TwoFonts}
+use Rattle.tfm_tool.specs.declared.failure.Failure.{Failure}
+use Rattle.tfm_tool.specs.declared.failure.Failure.TheVariants.{Tool, FontRefused, FontAndText, TooManyFiles, TwoFonts}
 use Rattle.tfm_tool.specs.declared.files.ReadFault.{ReadFault}
 use Rattle.tfm_tool.specs.declared.files.ReadFault.TheVariants.{NotRead as Unread, OutOfMemory as NoRoom}
 use Rattle.tfm_tool.specs.declared.jobs.Job.{Job}
@@ -79,6 +80,11 @@ refused_on (Err told) failure IsFault is refused = subst (λ f. (f ≡ Tool OutO
 pub before_map : {A : Type 0} (r : Result A Failure) (P Q : Failure → Type 0) → ((failure : Failure) → P failure → Q failure) → BeforeText r P → BeforeText r Q
 before_map (Ok a) P Q to is = tt
 before_map (Err failure) P Q to is = λ before. to failure (is before)
+
+-- nothing that is told is a refusal
+pub before_none : {A : Type 0} (r : Result A Failure) (P : Failure → Type 0) → IfErr r (λ failure. is_refusal failure ≡ false) → BeforeText r P
+before_none (Ok a) P none = tt
+before_none (Err failure) P none = λ before. absurd (true≢false (sym before ∙ none))
 
 -- and what holds of the failure that is told
 pub before_at : {A : Type 0} (r : Result A Failure) (failure : Failure) (P : Failure → Type 0) → r ≡ Err failure → BeforeText r P → is_refusal failure ≡ true → P failure
@@ -184,10 +190,10 @@ few_of_jobs known layout tell words jobs pairs sources lawful is has opened =
 -- ---- sources, and what was done
 
 -- there are as many sources as files
-pub few_sources : {S : Type 0} (tell : S → Told) (known : List ℕ → Option (List ℕ)) (names : List (Bor (List ℕ))) (sources : List S)
-    → AreSourcesOf (file_bytes_of known names) (map tell sources) → length names ≤ 64 → length sources ≤ 64
-few_sources tell known names sources are few =
-    let long : length (map tell sources) ≡ length (file_bytes_of known names) = AllZip-long IsSourceOf (file_bytes_of known names) (map tell sources) are in
+pub few_sources : {S : Type 0} (tell : S → Told × TermsValue) (known : List ℕ → Option (List ℕ)) (terms : TermsValue) (names : List (Bor (List ℕ))) (sources : List S)
+    → AllZip (IsSourceWith terms) (file_bytes_of known names) (map tell sources) → length names ≤ 64 → length sources ≤ 64
+few_sources tell known terms names sources are few =
+    let long : length (map tell sources) ≡ length (file_bytes_of known names) = AllZip-long (IsSourceWith terms) (file_bytes_of known names) (map tell sources) are in
     omega (arith, long, length-map sources tell, length-map names (λ name. known name.now), few)
 
 -- a request that was done had no fault

@@ -7,32 +7,20 @@ use Rattle.std.specs.Prelude.{IfOk, IfSome, Result, Ok, Err}
 use Rattle.std.specs.Arc.{arc_value}
 use Rattle.std.specs.declared.alloc.Global.{Global}
 use Rattle.std.specs.declared.sync.Arc.{Arc}
-use Rattle.std.specs.Io.KnownBytes.{Appends, Keeps}
 use Rattle.std.specs.Char.{is_ascii_digit}
 use Rattle.std.specs.List.{AllZip, list_all}
 use Rattle.std.specs.Str.Parse.{digits_value, without_leading_plus}
 use Rattle.tfm_tables.specs.Font.{FontValue, IsFontOf}
 use Rattle.set_line.specs.Terms.{TermsValue}
-use Rattle.line_lane.specs.declared.fault.SourceFault.{SourceFault}
-use Rattle.set_run.specs.Reports.{AreReported, IsReported}
-use Rattle.set_run.specs.declared.report.LaneReport.{LaneReport}
-use Rattle.run_texts.specs.Endings.{summary_status}
-use Rattle.run_texts.specs.ReportText.{run_text}
-use Rattle.run_texts.specs.Setting.{AreOwnReports, IsWritten}
-use Rattle.run_texts.specs.declared.summary.Summary.{Summary}
-use Rattle.tfm_tool.specs.Jobs.{AreTermsOf, HasTermsOf, IsOpenedWith, IsSourceOfJob, JobValue, job_value, jobs_in, told_with_terms}
-use Rattle.tfm_tool.specs.Kept.{kept_of}
-use Rattle.tfm_tool.specs.Named.{OfKnown}
-use Rattle.tfm_tool.specs.Requests.{IsEachSet}
-use Rattle.tfm_tool.specs.Status.{AfterText}
-use Rattle.tfm_tool.specs.Told.{IsSourceOf, Told, told_by}
-use Rattle.command_line.specs.declared.request.Jobs.{Jobs}
+use Rattle.run_texts.specs.Setting.{HasTerms}
+use Rattle.tfm_tool.specs.Jobs.{AreTermsFor, AreTermsOf, HasTermsOf, IsOpenedWith, IsSourceOfJob, JobValue, job_value, jobs_in, told_with_terms}
+use Rattle.tfm_tool.specs.Kept.{HaveSameFont, kept_of}
+use Rattle.tfm_tool.specs.Named.{OfKnown, file_bytes_of}
+use Rattle.tfm_tool.specs.Requests.{IsSourceWith}
+use Rattle.tfm_tool.specs.Told.{IsSourceOf, Told}
 use Rattle.command_line.specs.declared.request.Layout.{Layout}
-use Rattle.tfm_tool.specs.declared.exit.Failure.{Failure}
 use Rattle.tfm_tool.specs.declared.jobs.Job.{Job}
-use Rattle.tfm_tool.proofs.CheckingLemmas.{kept_text}
-use Rattle.tfm_tool.proofs.KnownLemmas.{after_map, of_known, same_of_kept}
-use Rattle.tfm_tool.proofs.SourceLemmas.{same_status, same_text, told_report}
+use Rattle.tfm_tool.proofs.KnownLemmas.{of_known, same_of_kept}
 
 -- ---- words
 
@@ -73,66 +61,49 @@ all_jobs all rest done is none =
 
 -- ---- terms
 
--- the font of a job, of which as many bytes are kept as a font can have
-pub job_font : (known : Option (List ℕ)) (bytes : List ℕ) (size : Option ℕ) (font : FontValue) → IfSome known (λ all. bytes ≡ kept_of all)
-    → IsFontOf bytes size font → OfKnown known (λ all. IsFontOf all size font)
-job_font known bytes size font kept is = of_known known bytes (λ all. IsFontOf all size font) (same_of_kept known bytes kept) is (λ all same. same.font size font is)
+-- terms of a font in these bytes, of which as many are kept as a font can have
+pub known_terms : (known : Option (List ℕ)) (bytes : List ℕ) (layout : Layout) (limit : ℕ) (terms : TermsValue) → IfSome known (λ all. HaveSameFont bytes all)
+    → ((font : FontValue) × IsFontOf bytes layout.size font × (terms ≡ record { font = font; limit = limit; policy = layout.policy }))
+    → AreTermsFor known layout limit terms
+known_terms known bytes layout limit terms same (font, is, are) =
+    subst (AreTermsFor known layout limit) (sym are)
+    (of_known known bytes (λ all. IsFontOf all layout.size font) same is (λ all has. has.font layout.size font is), refl, refl)
 
 -- ---- sources
 
--- the source of each job's file has the job's terms
-pub sources_of_jobs : {S : Type 0} (known : List ℕ → Option (List ℕ)) (layout : Layout) (tell : S → Told) (jobs : List Job)
-    (pairs : List (Bor (List ℕ) × Arc TermsValue Global)) (sources : List (S × Arc TermsValue Global))
-    → AllZip (HasTermsOf known layout) jobs pairs → AllZip (IsOpenedWith known tell) pairs sources
-    → AllZip (IsSourceOfJob known layout) (map job_value jobs) (map (told_with_terms tell) sources)
-sources_of_jobs known layout tell [] [] [] has opened = tt
-sources_of_jobs known layout tell [] [] (s ∷ sources) has opened = elim opened [ ]
-sources_of_jobs known layout tell [] (p ∷ pairs) sources has opened = elim has [ ]
-sources_of_jobs known layout tell (j ∷ jobs) [] sources has opened = elim has [ ]
-sources_of_jobs known layout tell (j ∷ jobs) (p ∷ pairs) [] has opened = elim opened [ ]
-sources_of_jobs known layout tell (j ∷ jobs) (p ∷ pairs) (s ∷ sources) has opened =
-    let is : IsSourceOf (known j.file.now) (tell s.0) = subst (λ name. IsSourceOf (known name.now) (tell s.0)) has.0.0 opened.0.0 in
-    let terms : AreTermsOf known layout (job_value j) (arc_value s.1) =
-    subst (λ arc. AreTermsOf known layout (job_value j) (arc_value arc)) (sym opened.0.1) has.0.1 in
-    ((is, terms), sources_of_jobs known layout tell jobs pairs sources has.1 opened.1)
+-- what holds of two lists and of the second and a third, place by place, holds of the first and the third
+zipped : {A B C A' C' : Type 0} (P : A → B → Type 0) (Q : B → C → Type 0) (R : A' → C' → Type 0) (f : A → A') (g : C → C')
+    → ((a : A) (b : B) (c : C) → P a b → Q b c → R (f a) (g c)) → (xs : List A) (ys : List B) (zs : List C)
+    → AllZip P xs ys → AllZip Q ys zs → AllZip R (map f xs) (map g zs)
+zipped P Q R f g both [] [] [] one two = tt
+zipped P Q R f g both [] [] (c ∷ zs) one two = elim two [ ]
+zipped P Q R f g both [] (b ∷ ys) zs one two = elim one [ ]
+zipped P Q R f g both (a ∷ xs) [] zs one two = elim one [ ]
+zipped P Q R f g both (a ∷ xs) (b ∷ ys) [] one two = elim two [ ]
+zipped P Q R f g both (a ∷ xs) (b ∷ ys) (c ∷ zs) one two = (both a b c one.0 two.0, zipped P Q R f g both xs ys zs one.1 two.1)
 
--- the same of an answer that may be an error
-pub sources_if_ok : {S D E : Type 0} (items : D → List (S × Arc TermsValue Global)) (r : Result D E) (known : List ℕ → Option (List ℕ)) (layout : Layout)
-    (tell : S → Told) (jobs : List Job) (words : List (Bor (List ℕ))) (pairs : List (Bor (List ℕ) × Arc TermsValue Global))
-    → map job_value jobs ≡ jobs_in words → AllZip (HasTermsOf known layout) jobs pairs → IfOk r (λ sources. AllZip (IsOpenedWith known tell) pairs (items sources))
-    → IfOk r (λ sources. AllZip (IsSourceOfJob known layout) (jobs_in words) (map (told_with_terms tell) (items sources)))
-sources_if_ok items (Ok sources) known layout tell jobs words pairs is has opened =
-    subst (λ values. AllZip (IsSourceOfJob known layout) values (map (told_with_terms tell) (items sources))) is
-    (sources_of_jobs known layout tell jobs pairs (items sources) has opened)
-sources_if_ok items (Err e) known layout tell jobs words pairs is has opened = opened
+module _ {S : Type 0} (known : List ℕ → Option (List ℕ)) (tell : S → Told) where
+  -- the source of each job's file has the job's terms
+  pub sources_of_jobs : {D E : Type 0} (items : D → List (S × Arc TermsValue Global)) (r : Result D E) (layout : Layout) (jobs : List Job)
+      (words : List (Bor (List ℕ))) (pairs : List (Bor (List ℕ) × Arc TermsValue Global))
+      → map job_value jobs ≡ jobs_in words → AllZip (HasTermsOf known layout) jobs pairs → IfOk r (λ sources. AllZip (IsOpenedWith known tell) pairs (items sources))
+      → IfOk r (λ sources. AllZip (IsSourceOfJob known layout) (jobs_in words) (map (told_with_terms tell) (items sources)))
+  sources_of_jobs items (Ok sources) layout jobs words pairs is has opened =
+      subst (λ values. AllZip (IsSourceOfJob known layout) values (map (told_with_terms tell) (items sources))) is
+      (zipped (HasTermsOf known layout) (IsOpenedWith known tell) (IsSourceOfJob known layout) job_value (told_with_terms tell) (λ job named source h o. (
+        subst (λ name. IsSourceOf (known name.now) (tell source.0)) h.0 o.0,
+        subst (λ arc. AreTermsOf known layout (job_value job) (arc_value arc)) (sym o.1) h.1,
+      )) jobs pairs (items sources) has opened)
+  sources_of_jobs items (Err e) layout jobs words pairs is has opened = opened
 
--- ---- what is printed
-
-module _ {S : Type 0} (to_come : S → Option (List (List ℕ))) (failed : S → Option SourceFault) where
-  reported_each : (sources : List (S × Arc TermsValue Global)) (reports : List (LaneReport S)) → AreReported to_come failed sources reports
-      → AllZip (λ source report. IsReported (λ told. told.lines) (λ told. told.fault) source.1 source.0 report)
-      (map (told_with_terms (told_by to_come failed)) sources) (map (told_report to_come failed) reports)
-  reported_each [] [] are = tt
-  reported_each [] (r ∷ reports) are = elim are [ ]
-  reported_each (s ∷ sources) [] are = elim are [ ]
-  reported_each (s ∷ sources) (r ∷ reports) are = (are.0, reported_each sources reports are.1)
-
-  -- a run over the sources of jobs, and then its end
-  pub each_then_finished : {O : Type 0} (origin : S → O) (r : Result ℕ Failure) (known : List ℕ → Option (List ℕ)) (asked : Jobs) (sources : List (S × Arc TermsValue Global))
-      (w w' w'' : Option (List ℕ)) (summary : Summary)
-      → AllZip (IsSourceOfJob known asked.layout) (jobs_in asked.words.items) (map (told_with_terms (told_by to_come failed)) sources)
-      → ((reports : List (LaneReport S)) × AreOwnReports to_come failed origin sources reports × IsWritten asked.layout.version reports w w' summary)
-      → Keeps w' w'' → AfterText r (λ status. status ≡ summary_status summary) → AfterText r (IsEachSet known w w'' asked)
-  each_then_finished origin r known asked sources w w' w'' summary are text kept worst =
-      after_map r (λ status. status ≡ summary_status summary) (IsEachSet known w w'' asked)
-      (λ status is. (
-        map (told_with_terms (told_by to_come failed)) sources,
-        are,
-        (
-          map (told_report to_come failed) text.0,
-          reported_each sources text.0 text.1.0,
-          subst (λ t. Appends w w'' t) (sym (same_text to_come failed asked.layout.version text.0))
-              (kept_text w w' w'' (run_text asked.layout.version text.0) text.2.0 kept),
-          is ∙ (ap summary_status text.2.1 ∙ sym (same_status to_come failed text.0)),
-        ),
-      )) worst
+  -- the source of each file has the terms that all share
+  pub sources_of_files : {D E : Type 0} (items : D → List (S × Arc TermsValue Global)) (r : Result D E) (terms : TermsValue)
+      (names : List (Bor (List ℕ))) (pairs : List (Bor (List ℕ) × Arc TermsValue Global))
+      → AllZip (HasTerms terms) names pairs → IfOk r (λ sources. AllZip (IsOpenedWith known tell) pairs (items sources))
+      → IfOk r (λ sources. AllZip (IsSourceWith terms) (file_bytes_of known names) (map (told_with_terms tell) (items sources)))
+  sources_of_files items (Ok sources) terms names pairs has opened =
+      zipped (HasTerms terms) (IsOpenedWith known tell) (IsSourceWith terms) (λ name. known name.now) (told_with_terms tell) (λ name named source h o. (
+        subst (λ name. IsSourceOf (known name.now) (tell source.0)) h.0 o.0,
+        ap arc_value o.1 ∙ h.1,
+      )) names pairs (items sources) has opened
+  sources_of_files items (Err e) terms names pairs has opened = opened

@@ -1,39 +1,60 @@
--- Lemmas on the faults of the texts of fonts.
-use Rattle.std.proofs.Common.{rules, ◌≡◌, Option, Some, None, Result, Ok, Err, refl}
+-- Lemmas on the errors of the texts of fonts.
+use Rattle.std.proofs.Common.{rules, ◌≡◌, ℕ, List, Option, Some, None, Result, Ok, Err, refl, ap, sym, subst, ◌∙◌}
+use Rattle.std.specs.Prelude.{OnOk}
 use Rattle.std.specs.Result.{IsErrAnd}
-use Rattle.font_texts.specs.declared.fault.FontTextFault.{FontTextFault}
-use Rattle.font_texts.specs.declared.fault.FontTextFault.TheVariants.{Font as NoFont, OutOfMemory as NoRoom, Write as NotWritten}
+use Rattle.font_texts.specs.CountsText.{IsHeadRefusalOf, head_fault_of}
+use Rattle.tfm_tables.specs.Acceptance.{font_fault_of}
+use Rattle.tfm_tables.specs.Font.{IsRefusalOf}
 use Rattle.tfm_tables.specs.declared.fault.FontFault.{FontFault}
-use Rattle.run_texts.specs.Refusals.{fault_of_font_text}
+use Rattle.tfm_tables.specs.declared.fault.FontFault.TheVariants.{OutOfMemory as NoRoom}
+use Rattle.run_texts.specs.Refusals.{fault_of_font}
 use Rattle.run_texts.specs.declared.fault.ToolFault.{ToolFault}
 use Rattle.run_texts.specs.declared.fault.ToolFault.TheVariants.{Font, Run}
 use Rattle.set_run.specs.declared.run_fault.RunFault.{RunFault}
 
--- only a refused font is told as one, with its own fault
-of_refused_font : (fault : FontTextFault) (f : FontFault) → fault_of_font_text fault ≡ Font f → fault ≡ NoFont f
-of_refused_font (NoFont g) f is = search rules
-of_refused_font NoRoom f is = absurd (search rules)
-of_refused_font NotWritten f is = absurd (search rules)
+-- an error is the first one of a font, or that an allocation failed if it has none
+abbrev pub IsFirst : Option FontFault → FontFault → Type 0
+IsFirst first NoRoom = first ≡ None
+IsFirst first fault = first ≡ Some fault
 
-module _ (fault : FontTextFault) (f : FontFault) where
-  pub is_of_refused_font : (r : Result (Unit {0}) ToolFault) → IsErrAnd r (λ told. told ≡ fault_of_font_text fault) → r ≡ Err (Font f) → fault ≡ NoFont f
-  is_of_refused_font (Ok u) tells is = absurd (search rules)
-  is_of_refused_font (Err told) tells is = of_refused_font fault f (search rules)
+pub of_font : (bytes : List ℕ) (fault : FontFault) → IsRefusalOf bytes fault → IsFirst (font_fault_of bytes) fault
+of_font bytes NoRoom is = is
+of_font bytes fault is = is
 
-  -- and a refused font is told as one
-  pub tells_refused_font : (r : Result (Unit {0}) ToolFault) → IsErrAnd r (λ told. told ≡ fault_of_font_text fault) → fault ≡ NoFont f → r ≡ Err (Font f)
-  tells_refused_font (Ok u) tells is = elim tells [ ]
-  tells_refused_font (Err told) tells is = search rules
+pub of_head : (bytes : List ℕ) (fault : FontFault) → IsHeadRefusalOf bytes fault → IsFirst (head_fault_of bytes) fault
+of_head bytes NoRoom is = is
+of_head bytes fault is = is
 
--- no text of a font ends as a run does
-not_of_run : (fault : FontTextFault) (f : RunFault) → fault_of_font_text fault ≡ Run f → ⊥
-not_of_run (NoFont g) f is = absurd (search rules)
+is_first : (first : Option FontFault) (fault f : FontFault) → IsFirst first fault → fault_of_font fault ≡ Font f → first ≡ Some f
+is_first first NoRoom f is told = absurd (search rules)
+is_first first fault f is told = search rules
+
+first_is : (first : Option FontFault) (fault f : FontFault) → IsFirst first fault → first ≡ Some f → fault_of_font fault ≡ Font f
+first_is first NoRoom f is has = absurd (search rules)
+first_is first fault f is has = search rules
+
+not_of_run : (fault : FontFault) (f : RunFault) → fault_of_font fault ≡ Run f → ⊥
 not_of_run NoRoom f is = absurd (search rules)
-not_of_run NotWritten f is = absurd (search rules)
+not_of_run fault f is = absurd (search rules)
 
-pub is_not_of_run : (fault : FontTextFault) (f : RunFault) (r : Result (Unit {0}) ToolFault) → IsErrAnd r (λ told. told ≡ fault_of_font_text fault) → r ≡ Err (Run f) → ⊥
-is_not_of_run fault f (Ok u) tells is = absurd (search rules)
-is_not_of_run fault f (Err told) tells is = not_of_run fault f (search rules)
+-- what a call that hands such an error on returns
+module _ {A : Type 0} (first : Option FontFault) (fault : FontFault) (is : IsFirst first fault) where
+  pub told_first : (r : Result A ToolFault) → IsErrAnd r (λ told. told ≡ fault_of_font fault) → (f : FontFault) → r ≡ Err (Font f) → first ≡ Some f
+  told_first (Ok a) tells f was = absurd (search rules)
+  told_first (Err told) tells f was = is_first first fault f is (search rules)
+
+  pub first_told : (r : Result A ToolFault) → IsErrAnd r (λ told. told ≡ fault_of_font fault) → (f : FontFault) → first ≡ Some f → r ≡ Err (Font f)
+  first_told (Ok a) tells f has = elim tells [ ]
+  first_told (Err told) tells f has = ap Err (tells ∙ first_is first fault f is has)
+
+  pub told_no_run : (r : Result A ToolFault) → IsErrAnd r (λ told. told ≡ fault_of_font fault) → (f : RunFault) → r ≡ Err (Run f) → ⊥
+  told_no_run (Ok a) tells f was = absurd (search rules)
+  told_no_run (Err told) tells f was = not_of_run fault f (search rules)
+
+-- what follows if a call succeeds
+pub on_ok : {E : Type 0} (r : Result (Unit {0}) E) (P Q : Type 0) → (P → Q) → OnOk r P → OnOk r Q
+on_ok (Ok u) P Q to p = to p
+on_ok (Err e) P Q to p = tt
 
 -- a text that was written is of a font without the fault that alone stops it
 pub has_no_fault : (first : Option FontFault) (r : Result (Unit {0}) ToolFault) → {u : Unit {0}} → r ≡ Ok u

@@ -161,23 +161,6 @@ kept_at_end (Some all) (Some rest) (Some left) read bytes first then end kept =
     let whole : all ≡ read = first ∙ (ap (λ l. read ++ l) (then ∙ end) ∙ append-nil read) in
     subst (λ r. bytes ≡ kept_of r) (sym whole) kept
 
--- what is kept of all that a reader had has the font of all of it
-pub same_of_known : (remaining : Option (List ℕ)) (bytes : List ℕ) → IfSome remaining (λ all. bytes ≡ kept_of all) → IfSome remaining (λ all. HaveSameFont bytes all)
-same_of_known None bytes read = read
-same_of_known (Some all) bytes read = subst (λ b. HaveSameFont b all) (sym read) (kept_have_same_font all)
-
--- the text of the counts that was written is that of all that was to be read
-pub counts_written : (remaining : Option (List ℕ)) (bytes : List ℕ) (w w' : Option (List ℕ)) → IfSome remaining (λ all. HaveSameFont bytes all)
-    → Appends w w' (counts_text_of bytes) → IfSome remaining (λ all. Appends w w' (counts_text_of all))
-counts_written None bytes w w' same written = same
-counts_written (Some all) bytes w w' same written = subst (λ t. Appends w w' t) same.counts written
-
--- the same of an answer that may be an error
-pub same_if_kept : {E D : Type 0} (remaining : Option (List ℕ)) (items : D → List ℕ) (r : Result D E) (dash : Type 0) → IfOk r (λ bytes. IfSome remaining (λ all. items bytes ≡ kept_of all))
-    → IfOk r (λ bytes. dash → IfSome remaining (λ all. HaveSameFont (items bytes) all))
-same_if_kept remaining items (Ok bytes) dash read = λ _. same_of_known remaining (items bytes) read
-same_if_kept remaining items (Err e) dash read = read
-
 -- what was ensured of an answer that is no error
 pub at_ok : {E : Type 0} (r : Result (Unit {0}) E) (P : Type 0) → is_ok r ≡ true → OnOk r P → P
 at_ok (Ok u) P ok p = p

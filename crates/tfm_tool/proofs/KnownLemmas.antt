@@ -1,16 +1,12 @@
 -- Fonts and files of which the bytes are known, and statuses after a whole text.
 use Rattle.std.proofs.Common.{arith, ◌≡◌, ℕ, ◌+◌, ◌<◌, true, false, List, [], ◌∷◌, ◌++◌, length, take, get_or, map, Option, Some, None, Bor, refl, ap, sym, subst, ◌∙◌, add-one}
-use Rattle.std.proofs.Math.Seq.{take-suc}
-use Rattle.std.proofs.lemmas.List.{map-append}
 use Rattle.std.specs.Prelude.{Result, Ok, Err, IfOk, IfSome, codes, if◌then◌else◌}
 use Rattle.std.specs.Str.{bytes_eq}
-use Rattle.std.specs.List.{AllZip}
 use Rattle.tfm_tables.specs.Font.{FontValue, IsFontOf}
 use Rattle.tfm_tool.specs.Kept.{HaveSameFont, kept_of}
 use Rattle.tfm_tool.specs.Named.{OfKnown, file_bytes_of, font_bytes_of, stream_bytes_of}
 use Rattle.tfm_tool.specs.Status.{AfterText, failure_of, is_after_text, status_of}
-use Rattle.tfm_tool.specs.Told.{AreSourcesOf, IsSourceOf, Told}
-use Rattle.tfm_tool.specs.declared.exit.Failure.{Failure}
+use Rattle.tfm_tool.specs.declared.failure.Failure.{Failure}
 use Rattle.tfm_tool.specs.declared.files.ReadFault.{ReadFault}
 use Rattle.tfm_tool.specs.declared.files.ReadFault.TheVariants.{NotRead as Unread, OutOfMemory as NoRoom}
 use Rattle.tfm_tool.proofs.KeptLemmas.{kept_have_same_font}
@@ -57,24 +53,6 @@ after_map (Ok status) P Q to is = to status is
 after_map (Err failure) P Q to is = λ after. to (status_of failure) (is after)
 
 -- ---- sources of files
-
--- one more place
-next : {A B : Type 0} (P : A → B → Type 0) (xs : List A) (ys : List B) (x : A) (y : B) → AllZip P xs ys → P x y → AllZip P (xs ++ x ∷ []) (ys ++ y ∷ [])
-next P [] [] x y all one = (one, tt)
-next P [] (b ∷ ys) x y all one = elim all [ ]
-next P (a ∷ xs) [] x y all one = elim all [ ]
-next P (a ∷ xs) (b ∷ ys) x y all one = (all.0, next P xs ys x y all.1 one)
-
--- one file more is one source more
-pub source_more : {S : Type 0} (tell : S → Told) (known : List ℕ → Option (List ℕ)) (names : List (Bor (List ℕ))) (sources : List S) (i : ℕ) (d : Bor (List ℕ)) (source : S)
-    → i < length names → AreSourcesOf (file_bytes_of known (take i names)) (map tell sources) → IsSourceOf (known (get_or names i d).now) (tell source)
-    → AreSourcesOf (file_bytes_of known (take (i + 1) names)) (map tell (sources ++ source ∷ []))
-source_more tell known names sources i d source within are is =
-    let split : take (i + 1) names ≡ take i names ++ get_or names i d ∷ [] = rw add-one (take-suc names i d within) in
-    let bytes : file_bytes_of known (take (i + 1) names) ≡ file_bytes_of known (take i names) ++ known (get_or names i d).now ∷ [] =
-    ap (file_bytes_of known) split ∙ map-append (λ name. known name.now) (take i names) (get_or names i d ∷ []) in
-    let told : map tell (sources ++ source ∷ []) ≡ map tell sources ++ tell source ∷ [] = map-append tell sources (source ∷ []) in
-    rw (bytes, told) (next IsSourceOf (file_bytes_of known (take i names)) (map tell sources) (known (get_or names i d).now) (tell source) are is)
 
 -- if there is a file, a stream is of the files
 pub stream_of_files : (known : List ℕ → Option (List ℕ)) (input : Option (List ℕ)) (names : List (Bor (List ℕ))) → 0 < length names → file_bytes_of known names ≡ stream_bytes_of known input names

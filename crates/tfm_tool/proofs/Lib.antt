@@ -1,7 +1,6 @@
 pub mod FontTextLemmas
 pub mod StatusLemmas
 pub mod JobLemmas
-pub mod ListLemmas
 pub mod KeptLemmas
 pub mod CheckingLemmas
 pub mod NamedLemmas

@@ -1,29 +1,31 @@
 -- What is printed of sources is what is printed of what they tell.
 use Rattle.std.proofs.Common.{◌≡◌, ℕ, suc, ◌+◌, List, [], ◌∷◌, ◌++◌, fold, length, map, Option, refl, ap, sym, subst, ◌∙◌}
-use Rattle.std.specs.List.{list_any}
-use Rattle.std.specs.Prelude.{count_by, ◌||◌, IfSome, Result}
+use Rattle.std.specs.List.{AllZip, list_any}
+use Rattle.std.specs.Prelude.{count_by, ◌||◌, IfOk, Result, Ok, Err}
+use Rattle.std.specs.declared.alloc.Global.{Global}
+use Rattle.std.specs.declared.sync.Arc.{Arc}
 use Rattle.std.specs.Io.KnownBytes.{Appends, Keeps}
 use Rattle.set_line.specs.Terms.{TermsValue}
 use Rattle.set_line.specs.declared.version.Version.{Version}
 use Rattle.line_lane.specs.declared.fault.SourceFault.{SourceFault}
+use Rattle.set_run.specs.Reports.{AreReported, IsReported}
 use Rattle.set_run.specs.declared.report.LaneReport.{LaneReport}
 use Rattle.run_texts.specs.Endings.{summary_status}
 use Rattle.run_texts.specs.ReportText.{is_unread, is_wanting, lanes_text, run_text, summary_of_run}
 use Rattle.run_texts.specs.RunText.{head_text, is_refused, lane_text, why_of}
 use Rattle.run_texts.specs.Streaming.{HaveLines, IsStreamed, SourceLine, merged_text}
-use Rattle.run_texts.specs.Setting.{AreOwnReportsWith, AreReportedWith, IsWritten}
+use Rattle.run_texts.specs.Setting.{AreOwnReports, IsWritten}
 use Rattle.run_texts.specs.declared.summary.Summary.{Summary}
-use Rattle.set_line.specs.declared.policy.Policy.{Policy}
-use Rattle.tfm_tables.specs.Font.{FontValue, IsFontOf}
-use Rattle.tfm_tool.specs.Kept.{HaveSameFont}
-use Rattle.tfm_tool.specs.Named.{OfKnown}
-use Rattle.tfm_tool.specs.Requests.{IsSetWith, IsStreamedWith}
+use Rattle.run_texts.specs.declared.fault.ToolFault.{ToolFault}
+use Rattle.tfm_tool.specs.Jobs.{told_with_terms}
 use Rattle.tfm_tool.specs.Status.{AfterText}
-use Rattle.tfm_tool.specs.declared.exit.Failure.{Failure}
+use Rattle.tfm_tool.specs.declared.delivery.Delivery.{Delivery}
+use Rattle.tfm_tool.specs.declared.delivery.Delivery.TheVariants.{AtTheEnd, AsTheyCome}
+use Rattle.tfm_tool.specs.declared.failure.Failure.{Failure}
 use Rattle.tfm_tool.proofs.CheckingLemmas.{kept_text}
-use Rattle.tfm_tool.proofs.KnownLemmas.{after_map, of_font}
-use Rattle.tfm_tool.specs.Runs.{IsPrinted, IsPrintedAsItComes}
-use Rattle.tfm_tool.specs.Told.{AreSourcesOf, Told, all_told_by, told_by}
+use Rattle.tfm_tool.proofs.KnownLemmas.{after_map}
+use Rattle.tfm_tool.specs.Runs.{IsDelivered, IsPrinted}
+use Rattle.tfm_tool.specs.Told.{Told, told_by}
 
 module _ {S : Type 0} (to_come : S → Option (List (List ℕ))) (failed : S → Option SourceFault) where
   -- the report of a source as one of what the source tells
@@ -54,25 +56,7 @@ module _ {S : Type 0} (to_come : S → Option (List (List ℕ))) (failed : S →
   pub same_status : (reports : List (LaneReport S)) → summary_status (summary_of_run (map told_report reports)) ≡ summary_status (summary_of_run reports)
   same_status reports = rw (same_refused 0 reports, same_unread reports, same_wanting reports) refl
 
-  -- ---- the reports are those of what is told
-
-  reported_as_told : (terms : TermsValue) (sources : List S) (reports : List (LaneReport S)) → AreReportedWith to_come failed terms sources reports
-      → AreReportedWith (λ told. told.lines) (λ told. told.fault) terms (all_told_by to_come failed sources) (map told_report reports)
-  reported_as_told terms [] [] are = tt
-  reported_as_told terms [] (r ∷ reports) are = elim are [ ]
-  reported_as_told terms (s ∷ sources) [] are = elim are [ ]
-  reported_as_told terms (s ∷ sources) (r ∷ reports) are = (are.0, reported_as_told terms sources reports are.1)
-
-  pub printed_as_told : (terms : TermsValue) (version : Version) (sources : List S) (before after : Option (List ℕ)) (status : ℕ) → IsPrinted to_come failed terms version sources before after status
-      → IsPrinted (λ told. told.lines) (λ told. told.fault) terms version (all_told_by to_come failed sources) before after status
-  printed_as_told terms version sources before after status is = (
-    map told_report is.0,
-    reported_as_told terms sources is.0 is.1,
-    subst (λ text. Appends before after text) (sym (same_text version is.0)) is.2,
-    is.3 ∙ sym (same_status is.0),
-  )
-
-  -- ---- the same of lines as they came
+  -- ---- and so are lines as they came
 
   have_as_told : (number : ℕ) (version : Version) (reports : List (LaneReport S)) (lines : List SourceLine) → HaveLines number version reports lines → HaveLines number version (map told_report reports) lines
   have_as_told number version [] lines have = tt
@@ -86,62 +70,49 @@ module _ {S : Type 0} (to_come : S → Option (List (List ℕ))) (failed : S →
   streamed_as_told version reports before after is =
       (is.0, (have_as_told 1 version reports is.0 is.1.0, rw (as_many reports) is.1.1), is.2)
 
-  pub streamed_told : (terms : TermsValue) (version : Version) (sources : List S) (before after : Option (List ℕ)) (status : ℕ) → IsPrintedAsItComes to_come failed terms version sources before after status
-      → IsPrintedAsItComes (λ told. told.lines) (λ told. told.fault) terms version (all_told_by to_come failed sources) before after status
-  streamed_told terms version sources before after status is = (
-    map told_report is.0,
-    reported_as_told terms sources is.0 is.1,
-    streamed_as_told version is.0 before after is.2,
-    is.3 ∙ sym (same_status is.0),
-  )
+  delivered_as_told : (delivery : Delivery) (version : Version) (reports : List (LaneReport S)) (before after : Option (List ℕ))
+      → IsDelivered delivery version reports before after → IsDelivered delivery version (map told_report reports) before after
+  delivered_as_told AtTheEnd version reports before after is = subst (λ text. Appends before after text) (sym (same_text version reports)) is
+  delivered_as_told AsTheyCome version reports before after is = streamed_as_told version reports before after is
 
--- ---- a run, and then its end
+  -- ---- a batch, and then its end
 
-module _ {S : Type 0} (to_come : S → Option (List (List ℕ))) (failed : S → Option SourceFault) (r : Result ℕ Failure) (bytes : List ℕ) (size : Option ℕ) (version : Version) (sources : List S) where
-  pub set_then_finished : {O : Type 0} (origin : S → O) (limit : ℕ) (policy : Policy) (w w' w'' : Option (List ℕ)) (summary : Summary)
-      → ((font : FontValue) × (reports : List (LaneReport S)) × IsFontOf bytes size font
-      × AreOwnReportsWith to_come failed origin (record { font = font; limit = limit; policy = policy }) sources reports × IsWritten version reports w w' summary)
+  reported_as_told : (sources : List (S × Arc TermsValue Global)) (reports : List (LaneReport S)) → AreReported to_come failed sources reports
+      → AllZip (λ source report. IsReported (λ told. told.lines) (λ told. told.fault) source.1 source.0 report)
+      (map (told_with_terms (told_by to_come failed)) sources) (map told_report reports)
+  reported_as_told [] [] are = tt
+  reported_as_told [] (r ∷ reports) are = elim are [ ]
+  reported_as_told (s ∷ sources) [] are = elim are [ ]
+  reported_as_told (s ∷ sources) (r ∷ reports) are = (are.0, reported_as_told sources reports are.1)
+
+  still_delivered : (delivery : Delivery) (version : Version) (reports : List (LaneReport S)) (w w' w'' : Option (List ℕ))
+      → IsDelivered delivery version reports w w' → Keeps w' w'' → IsDelivered delivery version reports w w''
+  still_delivered AtTheEnd version reports w w' w'' is kept = kept_text w w' w'' (run_text version reports) is kept
+  still_delivered AsTheyCome version reports w w' w'' is kept =
+      (is.0, is.1, kept_text w w' w'' (head_text version ++ merged_text is.0) is.2 kept)
+
+  pub delivered_then_finished : {O : Type 0} (origin : S → O) (r : Result ℕ Failure) (delivery : Delivery) (version : Version)
+      (sources : List (S × Arc TermsValue Global)) (w w' w'' : Option (List ℕ)) (summary : Summary)
+      → ((reports : List (LaneReport S)) × AreOwnReports to_come failed origin sources reports
+      × IsDelivered delivery version reports w w' × (summary ≡ summary_of_run reports))
       → Keeps w' w'' → AfterText r (λ status. status ≡ summary_status summary)
-      → AfterText r (λ status. (font : FontValue) × IsFontOf bytes size font
-      × IsPrinted to_come failed (record { font = font; limit = limit; policy = policy }) version sources w w'' status)
-  set_then_finished origin limit policy w w' w'' summary text kept worst =
+      → AfterText r (IsPrinted delivery (map (told_with_terms (told_by to_come failed)) sources) version w w'')
+  delivered_then_finished origin r delivery version sources w w' w'' summary text kept worst =
       after_map r (λ status. status ≡ summary_status summary)
-      (λ status. (font : FontValue) × IsFontOf bytes size font × IsPrinted to_come failed (record { font = font; limit = limit; policy = policy }) version sources w w'' status)
-      (λ status is. (text.0, text.2, (text.1, text.3.0, kept_text w w' w'' (run_text version text.1) text.4.0 kept, is ∙ ap summary_status text.4.1))) worst
-
-  pub streamed_then_finished : {O : Type 0} (origin : S → O) (limit : ℕ) (policy : Policy) (w w' w'' : Option (List ℕ)) (summary : Summary)
-      → ((font : FontValue) × (reports : List (LaneReport S)) × IsFontOf bytes size font
-      × AreOwnReportsWith to_come failed origin (record { font = font; limit = limit; policy = policy }) sources reports × IsStreamed version reports w w' × (summary ≡ summary_of_run reports))
-      → Keeps w' w'' → AfterText r (λ status. status ≡ summary_status summary)
-      → AfterText r (λ status. (font : FontValue) × IsFontOf bytes size font
-      × IsPrintedAsItComes to_come failed (record { font = font; limit = limit; policy = policy }) version sources w w'' status)
-  streamed_then_finished origin limit policy w w' w'' summary text kept worst =
-      after_map r (λ status. status ≡ summary_status summary)
-      (λ status. (font : FontValue) × IsFontOf bytes size font × IsPrintedAsItComes to_come failed (record { font = font; limit = limit; policy = policy }) version sources w w'' status)
+      (IsPrinted delivery (map (told_with_terms (told_by to_come failed)) sources) version w w'')
       (λ status is. (
-        text.0,
-        text.2,
-        (text.1, text.3.0, (text.4.0, text.4.1, kept_text w w' w'' (head_text version ++ merged_text text.4.0) text.4.2 kept), is ∙ ap summary_status text.5),
+        map told_report text.0,
+        reported_as_told sources text.0 text.1.0,
+        delivered_as_told delivery version text.0 w w'' (still_delivered delivery version text.0 w w' w'' text.2 kept),
+        is ∙ (ap summary_status text.3 ∙ sym (same_status text.0)),
       )) worst
 
-  -- ---- the same with the font of a name, and with what its sources tell
-
-  pub named_set : (named : Option (List ℕ)) (files : List (Option (List ℕ))) (terms : FontValue → TermsValue) (w w' : Option (List ℕ))
-      → IfSome named (λ all. HaveSameFont bytes all) → AreSourcesOf files (all_told_by to_come failed sources)
-      → AfterText r (λ status. (font : FontValue) × IsFontOf bytes size font × IsPrinted to_come failed (terms font) version sources w w' status)
-      → AfterText r (λ status. OfKnown named (λ all. (font : FontValue) × IsFontOf all size font × IsSetWith files (terms font) version w w' status))
-  named_set named files terms w w' same are text =
-      after_map r (λ status. (font : FontValue) × IsFontOf bytes size font × IsPrinted to_come failed (terms font) version sources w w' status)
-      (λ status. OfKnown named (λ all. (font : FontValue) × IsFontOf all size font × IsSetWith files (terms font) version w w' status))
-      (λ status is. of_font named bytes size (λ font. IsSetWith files (terms font) version w w' status) same
-      (is.0, is.1, (all_told_by to_come failed sources, are, printed_as_told to_come failed (terms is.0) version sources w w' status is.2))) text
-
-  pub named_streamed : (named : Option (List ℕ)) (files : List (Option (List ℕ))) (terms : FontValue → TermsValue) (w w' : Option (List ℕ))
-      → IfSome named (λ all. HaveSameFont bytes all) → AreSourcesOf files (all_told_by to_come failed sources)
-      → AfterText r (λ status. (font : FontValue) × IsFontOf bytes size font × IsPrintedAsItComes to_come failed (terms font) version sources w w' status)
-      → AfterText r (λ status. OfKnown named (λ all. (font : FontValue) × IsFontOf all size font × IsStreamedWith files (terms font) version w w' status))
-  named_streamed named files terms w w' same are text =
-      after_map r (λ status. (font : FontValue) × IsFontOf bytes size font × IsPrintedAsItComes to_come failed (terms font) version sources w w' status)
-      (λ status. OfKnown named (λ all. (font : FontValue) × IsFontOf all size font × IsStreamedWith files (terms font) version w w' status))
-      (λ status is. of_font named bytes size (λ font. IsStreamedWith files (terms font) version w w' status) same
-      (is.0, is.1, (all_told_by to_come failed sources, are, streamed_told to_come failed (terms is.0) version sources w w' status is.2))) text
+  -- output that was kept until the batch was done is delivered at its end
+  pub kept_delivered : {O : Type 0} (origin : S → O) (delivery : Delivery) (version : Version) (sources : List (S × Arc TermsValue Global))
+      (w w' : Option (List ℕ)) (r : Result Summary ToolFault) → delivery ≡ AtTheEnd
+      → IfOk r (λ summary. (reports : List (LaneReport S)) × AreOwnReports to_come failed origin sources reports × IsWritten version reports w w' summary)
+      → IfOk r (λ summary. (reports : List (LaneReport S)) × AreOwnReports to_come failed origin sources reports
+      × IsDelivered delivery version reports w w' × (summary ≡ summary_of_run reports))
+  kept_delivered origin delivery version sources w w' (Ok summary) is text =
+      (text.0, text.1, subst (λ d. IsDelivered d version text.0 w w') (sym is) text.2.0, text.2.1)
+  kept_delivered origin delivery version sources w w' (Err fault) is text = text

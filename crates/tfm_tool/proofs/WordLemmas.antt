@@ -12,8 +12,8 @@ use Rattle.std.specs.List.{list_all}
 use Rattle.std.specs.Str.Parse.{AllDigits, IsNumeral, ParsesUnsigned, digits_value}
 use Rattle.std.specs.declared.num.ParseIntError.{ParseIntError}
 use Rattle.command_line.specs.Asked.{Finds}
-use Rattle.tfm_tool.specs.declared.exit.Failure.{Failure}
-use Rattle.tfm_tool.specs.declared.exit.Failure.TheVariants.{LimitRange, NotInThrees, TooManyFiles}
+use Rattle.tfm_tool.specs.declared.failure.Failure.{Failure}
+use Rattle.tfm_tool.specs.declared.failure.Failure.TheVariants.{LimitRange, NotInThrees, TooManyFiles}
 use Rattle.tfm_tool.specs.Jobs.{AreWordsOfJobs, IsFaultOfWords, IsFirstWithoutLimit, IsLimitOf, WritesLimit, limit_words}
 use Rattle.tfm_tool.proofs.EachLemmas.{has_no_plus, three_of}
 

@@ -13,7 +13,7 @@ use Rattle.tfm_tool.specs.Checking.{dashes_in}
 use Rattle.tfm_tool.specs.Faults.{IsFaultOf, IsFontFaultOf}
 use Rattle.tfm_tool.specs.FontFaults.{IsFirstRefused}
 use Rattle.tfm_tool.specs.Jobs.{IsFaultOfWords, IsLimitOf, WritesLimit, jobs_in}
-use Rattle.tfm_tool.specs.declared.exit.Failure.TheVariants.{NotInThrees, TooManyFiles, LimitRange, TwoFonts, FontRefused, Tool}
+use Rattle.tfm_tool.specs.declared.failure.Failure.TheVariants.{NotInThrees, TooManyFiles, LimitRange, TwoFonts, FontRefused, Tool}
 use Rattle.tfm_tool.proofs.WordLemmas.{limit_of_one}
 
 -- the word of a text

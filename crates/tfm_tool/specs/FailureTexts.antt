@@ -1,12 +1,12 @@
--- What the program says on standard error of each failure: one line, after its name.
--- This project's own. What `clap` says of words that it refuses is its own, and nothing is known of it.
+-- The text of each failure on standard error: one line, which begins with the name of the program.
+-- This project's own. If the arguments are invalid, the text is that of `clap`, and isn't known to contracts.
 use Rattle.std.specs.Prelude.{ℕ, List, ◌++◌, codes, decimal, Option, Some, None}
 use Rattle.font_texts.specs.FaultWords.{fault_words}
 use Rattle.run_texts.specs.FaultTexts.{tool_fault_text}
-use Rattle.tfm_tool.specs.declared.exit.Failure.{Failure}
-use Rattle.tfm_tool.specs.declared.exit.Failure.TheVariants.{Usage, NotInThrees, TooManyFiles, LimitRange, FontAndText, TwoFonts, NotRead, FontNotRead, SomeFontNotRead, FontRefused, FileNotOpened, FileNotEnded, Tool}
+use Rattle.tfm_tool.specs.declared.failure.Failure.{Failure}
+use Rattle.tfm_tool.specs.declared.failure.Failure.TheVariants.{Usage, NotInThrees, TooManyFiles, LimitRange, FontAndText, TwoFonts, NotRead, FontNotRead, SomeFontNotRead, FontRefused, FileNotOpened, FileNotEnded, Tool}
 
--- all that is said of a failure; fonts, files and limits count from 1
+-- the whole text of a failure, if it is known; fonts, files and limits are numbered from 1
 unfoldable pub failure_text : Failure → Option (List ℕ)
 failure_text (Usage _) = None
 failure_text NotInThrees = Some (codes "tfmset: words not in threes\n")

@@ -1,4 +1,5 @@
--- Why a request ends with status 2 or 3: something is wrong with it whatever its files hold, or with a font that it names.
+-- The reasons why a request ends with exit status 2 or 3: a usage error, whatever the contents of the files
+-- are, or a font error.
 -- This project's own.
 use Rattle.std.specs.Prelude.{◌≡◌, ◌≢◌, ◌⊎◌, ℕ, ◌<◌, List, [], codes, length, Option, Result, MatchResult}
 use Rattle.run_texts.specs.declared.fault.ToolFault.TheVariants.{OutOfMemory}
@@ -10,25 +11,25 @@ use Rattle.tfm_tool.specs.Checking.{dashes_in}
 use Rattle.tfm_tool.specs.FontFaults.{IsFirstRefused, IsRefusedFont, IsRefusedHead}
 use Rattle.tfm_tool.specs.Jobs.{IsFaultOfWords, jobs_in}
 use Rattle.tfm_tool.specs.Named.{font_bytes_of}
-use Rattle.tfm_tool.specs.declared.exit.Failure.{Failure}
-use Rattle.tfm_tool.specs.declared.exit.Failure.TheVariants.{TooManyFiles, FontAndText, TwoFonts, Tool}
+use Rattle.tfm_tool.specs.declared.failure.Failure.{Failure}
+use Rattle.tfm_tool.specs.declared.failure.Failure.TheVariants.{TooManyFiles, FontAndText, TwoFonts, Tool}
 
--- fonts to look at, of which more than one is standard input
+-- a usage error of `check`: more than one font is standard input
 abbrev pub IsFaultOfCheck : Checking → Failure → Type 0
 IsFaultOfCheck asked TwoFonts = 1 < dashes_in asked.fonts.items
 IsFaultOfCheck asked _ = ⊥
 
--- more files than a run takes
+-- a usage error of `set`: there are more than 64 files
 abbrev pub IsFaultOfSet : Setting → Failure → Type 0
 IsFaultOfSet setting TooManyFiles = 64 < length setting.files.items
 IsFaultOfSet setting _ = ⊥
 
--- the same, or a font and a text that are both standard input
+-- a usage error of `stream`: there are more than 64 files, or both the font and the lines are standard input
 abbrev pub IsFaultOfStream : Setting → Failure → Type 0
 IsFaultOfStream setting FontAndText = (setting.files.items ≡ []) × (setting.font.now ≡ codes "-")
 IsFaultOfStream setting failure = IsFaultOfSet setting failure
 
--- what is wrong with a request whatever its files hold; `counts` and `list` have no such fault
+-- a usage error of a request; `counts` and `list` have none
 abbrev pub IsFaultOf : Request → Failure → Type 0
 IsFaultOf (Counts _) failure = ⊥
 IsFaultOf (ListFont _ _) failure = ⊥
@@ -37,16 +38,17 @@ IsFaultOf (Set setting) failure = IsFaultOfSet setting failure
 IsFaultOf (Stream setting) failure = IsFaultOfStream setting failure
 IsFaultOf (Each jobs) failure = IsFaultOfWords jobs.words.items failure
 
--- nothing is wrong with a request in this way
+-- a request has no usage error
 abbrev pub HasNoFault : Request → Type 0
 HasNoFault request = (failure : Failure) → ¬ IsFaultOf request failure
 
--- the answer to something with a fault: one of its faults, or refused memory
+-- the result is an error: one of these usage errors, or that an allocation failed
 abbrev pub IsRefused : {A : Type 0} → (Failure → Type 0) → Result A Failure → Type 0
 IsRefused {A} IsFault result = MatchResult result (λ _. ⊥) (λ failure. (failure ≡ Tool OutOfMemory) ⊎ IsFault failure)
 
 module _ (known : List ℕ → Option (List ℕ)) (input : Option (List ℕ)) where
-  -- the fault of a font of a request, by what is known of the bytes of a file by its name, and of standard input; `check` refuses nothing for a font
+  -- the failure for a font error of a request, with these known contents of a file, by its name, and of
+  -- standard input; with `check` a refused font isn't a failure
   abbrev pub IsFontFaultOf : Request → Failure → Type 0
   IsFontFaultOf (Counts font) failure = IsRefusedHead (font_bytes_of known input font.now) failure
   IsFontFaultOf (ListFont font _) failure = IsRefusedFont (font_bytes_of known input font.now) failure
@@ -55,11 +57,11 @@ module _ (known : List ℕ → Option (List ℕ)) (input : Option (List ℕ)) wh
   IsFontFaultOf (Stream setting) failure = IsRefusedFont (font_bytes_of known input setting.font.now) failure
   IsFontFaultOf (Each jobs) failure = IsFirstRefused known jobs.layout (jobs_in jobs.words.items) failure
 
-  -- why a request ends with status 2 or 3; its own faults come before those of its fonts
+  -- the reason why a request ends with exit status 2 or 3; usage errors come before font errors
   abbrev pub IsCauseOf : Request → Failure → Type 0
   IsCauseOf request failure = IsFaultOf request failure ⊎ (HasNoFault request × IsFontFaultOf request failure)
 
--- a request has nothing to do with standard input
+-- a request doesn't use standard input
 abbrev pub IsWithoutInput : Request → Type 0
 IsWithoutInput (Counts font) = font.now ≢ codes "-"
 IsWithoutInput (ListFont font _) = font.now ≢ codes "-"

@@ -1,4 +1,4 @@
--- The jobs of `each`: what its words ask for, and the terms and the sources that they lead to.
+-- The jobs of `each`: the jobs that its arguments request, and their settings and sources.
 -- This project's own.
 use Rattle.std.specs.Prelude.{◌≡◌, ◌≢◌, ℕ, ◌+◌, ◌/◌, ◌%◌, ◌<◌, ◌≤◌, true, List, [], ◌∷◌, ◌++◌, length, All, Option}
 use Rattle.std.specs.Arc.{arc_value}
@@ -13,8 +13,8 @@ use Rattle.set_line.specs.Terms.{TermsValue}
 use Rattle.tfm_tool.specs.Named.{OfKnown}
 use Rattle.tfm_tool.specs.Told.{IsSourceOf, Told}
 use Rattle.command_line.specs.declared.request.Layout.{Layout}
-use Rattle.tfm_tool.specs.declared.exit.Failure.{Failure}
-use Rattle.tfm_tool.specs.declared.exit.Failure.TheVariants.{NotInThrees, TooManyFiles, LimitRange}
+use Rattle.tfm_tool.specs.declared.failure.Failure.{Failure}
+use Rattle.tfm_tool.specs.declared.failure.Failure.TheVariants.{NotInThrees, TooManyFiles, LimitRange}
 use Rattle.tfm_tool.specs.declared.jobs.Job.{Job}
 
 -- a job: the name of its font, its limit and the name of its file
@@ -23,17 +23,17 @@ pub record JobValue : Type 0 where
   pub limit : ℕ
   pub file : List ℕ
 
--- the jobs of words: a font, a limit in decimal digits and a file, again and again
+-- the jobs of arguments: each triple is a font, a limit in decimal digits and a file
 abbrev pub jobs_in : List (Bor (List ℕ)) → List JobValue
 jobs_in (font ∷ limit ∷ file ∷ words) = record { font = font.now; limit = digits_value 10 limit.now; file = file.now } ∷ jobs_in words
 jobs_in words = []
 
--- the limits of words, as they are written: the second word of each three
+-- the limits in arguments, as they are written: the second argument of each triple
 abbrev pub limit_words : List (Bor (List ℕ)) → List (List ℕ)
 limit_words (font ∷ limit ∷ file ∷ words) = limit.now ∷ limit_words words
 limit_words words = []
 
--- the limit that a word writes: one to eight decimal digits, whose value lies from 1 to 16,777,216
+-- the limit that an argument contains: one to eight decimal digits with a value from 1 to 16,777,216
 abbrev pub IsLimitOf : List ℕ → ℕ → Type 0
 IsLimitOf word limit =
     (list_all is_ascii_digit word ≡ true)
@@ -43,15 +43,15 @@ IsLimitOf word limit =
     × (1 ≤ limit)
     × (limit ≤ 16777216)
 
--- a word writes some limit
+-- an argument contains some limit
 abbrev pub WritesLimit : List ℕ → Type 0
 WritesLimit word = (limit : ℕ) × IsLimitOf word limit
 
--- words that come in threes, of which there are at most 64
+-- arguments that are triples, at most 64
 abbrev pub AreUpTo64Threes : List (Bor (List ℕ)) → Type 0
 AreUpTo64Threes words = (length words % 3 ≡ 0) × (length words / 3 ≤ 64)
 
--- the n-th of these words, from 1, is the first that writes no limit
+-- argument n of these, counted from 1, is the first that contains no limit
 abbrev pub IsFirstWithoutLimit : ℕ → List (List ℕ) → Type 0
 IsFirstWithoutLimit n words =
     (before : List (List ℕ)) × (word : List ℕ) × (after : List (List ℕ))
@@ -60,40 +60,46 @@ IsFirstWithoutLimit n words =
     × All WritesLimit before
     × ¬ WritesLimit word
 
--- what is wrong with the words of `each`: they aren't in threes; there are more than 64 threes; or the n-th limit is the first that is wrong
+-- a usage error of the arguments of `each`: they aren't triples; there are more than 64 triples; or limit n
+-- is the first wrong one
 abbrev pub IsFaultOfWords : List (Bor (List ℕ)) → Failure → Type 0
 IsFaultOfWords words NotInThrees = length words % 3 ≢ 0
 IsFaultOfWords words TooManyFiles = (length words % 3 ≡ 0) × (64 < length words / 3)
 IsFaultOfWords words (LimitRange n) = AreUpTo64Threes words × IsFirstWithoutLimit n (limit_words words)
 IsFaultOfWords words _ = ⊥
 
--- words that have no fault: at most 64 threes, each with a limit
+-- arguments without an error: at most 64 triples, each with a limit
 abbrev pub AreWordsOfJobs : List (Bor (List ℕ)) → Type 0
 AreWordsOfJobs words = AreUpTo64Threes words × All WritesLimit (limit_words words)
 
--- the job that a job of the program stands for
+-- the value of a `Job`
 abbrev pub job_value : Job → JobValue
 job_value job = record { font = job.font.now; limit = job.limit; file = job.file.now }
 
-module _ (known : List ℕ → Option (List ℕ)) where
-  -- the terms of a job in a layout: a font of the bytes of its font's name at the layout's size, its limit, and the layout's policy
-  abbrev pub AreTermsOf : Layout → JobValue → TermsValue → Type 0
-  AreTermsOf layout job terms =
-      OfKnown (known job.font) (λ all. IsFontOf all layout.size terms.font) × (terms.limit ≡ job.limit) × (terms.policy ≡ layout.policy)
+-- the settings of lines: the font in these bytes at the size of the layout, this limit, and the policy of the
+-- layout
+abbrev pub AreTermsFor : Option (List ℕ) → Layout → ℕ → TermsValue → Type 0
+AreTermsFor bytes layout limit terms =
+    OfKnown bytes (λ all. IsFontOf all layout.size terms.font) × (terms.limit ≡ limit) × (terms.policy ≡ layout.policy)
 
-  -- a source of the job's file, by what it tells, together with the job's terms
+module _ (known : List ℕ → Option (List ℕ)) where
+  -- the settings of a job in a layout
+  abbrev pub AreTermsOf : Layout → JobValue → TermsValue → Type 0
+  AreTermsOf layout job terms = AreTermsFor (known job.font) layout job.limit terms
+
+  -- a source of the file of a job, by its known contents, with the settings of the job
   abbrev pub IsSourceOfJob : Layout → JobValue → Told × TermsValue → Type 0
   IsSourceOfJob layout job source = IsSourceOf (known job.file) source.0 × AreTermsOf layout job source.1
 
-  -- the name of a job's file, together with the job's terms
+  -- the name of the file of a job, with the settings of the job
   abbrev pub HasTermsOf : Layout → Job → Bor (List ℕ) × Arc TermsValue Global → Type 0
   HasTermsOf layout job named = (named.0 ≡ job.file) × AreTermsOf layout (job_value job) (arc_value named.1)
 
 module _ {S : Type 0} where
-  -- what is told of a source, together with its terms
+  -- the known contents of a source, with its settings
   abbrev pub told_with_terms : (S → Told) → S × Arc TermsValue Global → Told × TermsValue
   told_with_terms tell source = (tell source.0, arc_value source.1)
 
-  -- the source of the file of this name, together with the same terms
+  -- a source of the file of this name, with the same settings
   abbrev pub IsOpenedWith : (List ℕ → Option (List ℕ)) → (S → Told) → Bor (List ℕ) × Arc TermsValue Global → S × Arc TermsValue Global → Type 0
   IsOpenedWith known tell named source = IsSourceOf (known named.0.now) (tell source.0) × (source.1 ≡ named.1)

@@ -1,15 +1,16 @@
--- The status that the program ends with, by what went wrong.
--- The table is this project's own; 2 for a command line that is refused is common use.
+-- The exit status of the program for each failure.
+-- The table is this project's own; 2 for invalid arguments is common use.
 use Rattle.std.specs.Prelude.{◌≡◌, ℕ, ◌==◌, ◌||◌, Bool, true, false, Result, IfErr, MatchResult}
-use Rattle.tfm_tool.specs.declared.exit.Failure.{Failure}
-use Rattle.tfm_tool.specs.declared.exit.Failure.TheVariants.{Usage, NotInThrees, TooManyFiles, LimitRange, FontAndText, TwoFonts, NotRead, FontNotRead, SomeFontNotRead, FontRefused, FileNotOpened, FileNotEnded, Tool}
+use Rattle.tfm_tool.specs.declared.failure.Failure.{Failure}
+use Rattle.tfm_tool.specs.declared.failure.Failure.TheVariants.{Usage, NotInThrees, TooManyFiles, LimitRange, FontAndText, TwoFonts, NotRead, FontNotRead, SomeFontNotRead, FontRefused, FileNotOpened, FileNotEnded, Tool}
 use Rattle.run_texts.specs.declared.fault.ToolFault.{ToolFault}
 use Rattle.run_texts.specs.declared.fault.ToolFault.TheVariants.{Font, Run, OutOfMemory, Write}
 use Rattle.set_run.specs.declared.run_fault.RunFault.TheVariants.{TooManySources, OutOfMemory as RunOutOfMemory, Thread}
 use Rattle.tfm_tool.specs.declared.files.ReadFault.{ReadFault}
 use Rattle.tfm_tool.specs.declared.files.ReadFault.TheVariants.{NotRead as Unread, OutOfMemory as NoRoom}
 
--- a text that was not written: the font is refused, or there are too many files, or else memory, a thread or the output
+-- the exit status for an error of `run_texts`: a font is refused, there are too many files, or an allocation,
+-- a thread start or the writer failed
 abbrev pub text_status_of : ToolFault → ℕ
 text_status_of (Font _) = 3
 text_status_of (Run TooManySources) = 2
@@ -18,7 +19,7 @@ text_status_of (Run Thread) = 5
 text_status_of OutOfMemory = 5
 text_status_of Write = 5
 
--- the status of a failure
+-- the exit status for a failure
 abbrev pub status_of : Failure → ℕ
 status_of (Usage _) = 2
 status_of NotInThrees = 2
@@ -34,37 +35,38 @@ status_of (FileNotOpened _) = 4
 status_of FileNotEnded = 4
 status_of (Tool fault) = text_status_of fault
 
--- what it means for the program that a font was not read
+-- the failure of the program if a font wasn't read
 abbrev pub failure_of : ReadFault → Failure
 failure_of Unread = NotRead
 failure_of NoRoom = Tool OutOfMemory
 
--- whether a failure is a refusal, with status 2 or 3: of the words or of a font
+-- whether a failure has exit status 2 or 3: a usage error or a font error
 abbrev pub is_refusal : Failure → Bool
 is_refusal failure = (status_of failure == 2) || (status_of failure == 3)
 
--- whether a font of a request or of a job was not read, or a file not opened, so that nothing was done; a font of `check`
--- that was not read has its own line in place of this
+-- whether a failure is that a font of a request or of a job wasn't read, or a file wasn't opened, and nothing
+-- was written; this excludes a font of `check`, for which a line is written
 abbrev pub is_unread : Failure → Bool
 is_unread NotRead = true
 is_unread (FontNotRead _) = true
 is_unread (FileNotOpened _) = true
 is_unread _ = false
 
--- whether a failure comes with nothing written before it
+-- whether this failure comes before any output: its exit status is 2 or 3, or a font wasn't read, or a file
+-- wasn't opened
 abbrev pub is_without_text : Failure → Bool
 is_without_text failure = is_refusal failure || is_unread failure
 
--- whether a failure comes after the whole text was written: some file or font was not read
+-- whether this failure comes after the whole output was written: some file or font wasn't read
 abbrev pub is_after_text : Failure → Bool
 is_after_text FileNotEnded = true
 is_after_text SomeFontNotRead = true
 is_after_text _ = false
 
--- what holds of the status that a request ends with, if its whole text was written
+-- a property of the exit status of a request, if its whole output was written
 abbrev pub AfterText : Result ℕ Failure → (ℕ → Type 0) → Type 0
 AfterText result P = MatchResult result P (λ failure. is_after_text failure ≡ true → P (status_of failure))
 
--- what holds of a failure that is a refusal
+-- a property of a failure, if its exit status is 2 or 3
 abbrev pub BeforeText : {A : Type 0} → Result A Failure → (Failure → Type 0) → Type 0
 BeforeText result P = IfErr result (λ failure. is_refusal failure ≡ true → P failure)

@@ -1,4 +1,4 @@
-//! The subcommand `check`: a line for each font, and the status that they lead to.
+//! The subcommand `check`: writes a line for each font, and returns the exit status.
 ghost use Rattle.std.specs.Prelude.{◌≡◌, ◌≢◌, ◌<◌, ◌≤◌, ◌⊎◌, true, false, [], ◌∷◌, codes, max, Contains, Err, IfErr, IfOk, IfSome};
 ghost use Rattle.std.specs.Io.KnownBytes.{Appends};
 ghost use Rattle.font_texts.specs.Findings.{finding_line};
@@ -6,9 +6,9 @@ ghost use Rattle.tfm_tool.specs.Checking.{AreChecked, IsFound, dashes_in, findin
 ghost use Rattle.tfm_tool.specs.Faults.{IsFaultOfCheck};
 ghost use Rattle.tfm_tool.specs.Named.{font_bytes_of};
 ghost use Rattle.tfm_tool.specs.Status.{AfterText, BeforeText, is_after_text, is_without_text, status_of};
-ghost use Rattle.tfm_tool.specs.declared.exit.Failure.TheVariants.{SomeFontNotRead, TwoFonts};
+ghost use Rattle.tfm_tool.specs.declared.failure.Failure.TheVariants.{SomeFontNotRead, TwoFonts};
 
-use crate::exit::Failure;
+use crate::failure::Failure;
 use crate::files::{ReadFault, font_bytes};
 use crate::{Opens, check_text, finding_text};
 use command_line::Checking;
@@ -18,8 +18,10 @@ use std::alloc::Global;
 use std::io::{Read, Write};
 use tfm_words::Size;
 
-/// A line for each of the fonts that are asked for, in order: the status that they lead to. The fonts are
-/// read one after the other.
+/// Does what `check` requests: reads each font in order, and writes the line of its finding. Returns the exit
+/// status: 1 if a font was refused, otherwise 0. The error is `TwoFonts` exactly if more than one name is
+/// `-`: `input` and `out` are unchanged. `SomeFontNotRead` means that the bytes of a font weren't read, and
+/// that the lines of all fonts were written. Any other error means that an allocation or the writer failed.
 pub(crate) fn check<F, I, O>(
     alloc: Global,
     files: &F,
@@ -58,15 +60,16 @@ where
     }
 }
 
-/// How many of these names are `-`.
+/// Returns the number of these names that are `-`.
 fn dashes(names: &[&str]) -> usize
     ensures { result ≡ dashes_in names.now }
 {
     names.iter().filter(|name| **name == "-").count()
 }
 
-/// A line for each of the fonts that are asked for, in order: the highest of their statuses. At most one
-/// of them is `-`, so that it has all bytes of `input`.
+/// Reads each font in order, and writes the line of its finding. Returns the highest of the statuses of the
+/// findings. The caller has checked that at most one name is `-`: the font of this name has all bytes of
+/// `input`. The error is that an allocation or the writer failed.
 fn check_all<F, I, O>(
     alloc: Global,
     files: &F,
@@ -87,13 +90,17 @@ where
 {
     let mut highest = 0;
     for name in &asked.fonts {
-        let finding = check_one(alloc, files, name, asked.size, input, out)?;
+        let font = Checked {
+            name,
+            size: asked.size,
+        };
+        let finding = check_one(alloc, files, &font, input, out)?;
         highest = higher(highest, finding);
     }
     Ok(highest)
 }
 
-/// The higher one of a status and that of a finding.
+/// Returns the higher of a status and the status of a finding.
 fn higher(status: u8, finding: Finding) -> u8
     ensures { result ≡ max status (finding_status finding) }
 {
@@ -105,12 +112,21 @@ fn higher(status: u8, finding: Finding) -> u8
     status.max(own)
 }
 
-/// The line of the font of this name: what was found.
+/// A font to be checked.
+#[derive(Clone, Copy)]
+struct Checked<'a> {
+    /// The name of the font; `-` is standard input.
+    name: &'a str,
+    /// The size at which the font is read; `None` means its design size.
+    size: Option<Size>,
+}
+
+/// Checks a font, writes the line of the finding, and returns the finding. The error is that an allocation or
+/// the writer failed.
 fn check_one<F, I, O>(
     alloc: Global,
     files: &F,
-    name: &str,
-    size: Option<Size>,
+    font: &Checked<'_>,
     input: &mut I,
     out: &mut O,
 ) -> Result<Finding, Failure>
@@ -119,21 +135,21 @@ where
     I: Read,
     O: Write,
     ensures text { IfOk result (λ finding.
-        Appends (O.contents out.old) (O.contents out.new) (finding_line (name.now, finding))) }
+        Appends (O.contents out.old) (O.contents out.new) (finding_line (font.now.name.now, finding))) }
     ensures found { IfOk result (λ finding. IfSome
-        (font_bytes_of (F.known files.now) (I.remaining input.old) name.now)
+        (font_bytes_of (F.known files.now) (I.remaining input.old) font.now.name.now)
         (λ all. IsFound all finding)) }
-    ensures other { name.now ≢ codes "-" → input.new ≡ input.old }
+    ensures other { font.now.name.now ≢ codes "-" → input.new ≡ input.old }
     ensures told { IfErr result (λ failure. status_of failure ≡ 5) }
     ensures fault { IfErr result (λ failure. is_after_text failure ≡ false) }
 {
-    match font_bytes(alloc, files, name, input) {
+    match font_bytes(alloc, files, font.name, input) {
         Ok(bytes) => {
-            let finding = check_text(alloc, name, bytes.as_slice(), size, out)?;
+            let finding = check_text(alloc, font.name, bytes.as_slice(), font.size, out)?;
             Ok(finding)
         }
         Err(ReadFault::NotRead) => {
-            finding_text(alloc, name, Finding::NotRead, out)?;
+            finding_text(alloc, font.name, Finding::NotRead, out)?;
             Ok(Finding::NotRead)
         }
         Err(ReadFault::OutOfMemory) => Err(Failure::Tool(ToolFault::OutOfMemory)),

@@ -1,4 +1,4 @@
-//! The subcommand `each`: the sources of its jobs, their run, and the status.
+//! The subcommand `each`: sets the lines of the files of its jobs in one batch, and returns the exit status.
 ghost use Rattle.std.specs.Prelude.{◌≡◌, ◌⊎◌, ◌≤◌, true, false, [], ◌∷◌, length, map, Contains, IfErr, IfOk};
 ghost use Rattle.std.specs.List.{AllZip};
 ghost use Rattle.tfm_tool.specs.Faults.{IsRefused};
@@ -9,21 +9,20 @@ ghost use Rattle.tfm_tool.specs.Status.{AfterText, BeforeText, is_after_text, is
 ghost use Rattle.tfm_tool.specs.Told.{told_by};
 
 use crate::Opens;
-use crate::exit::Failure;
+use crate::delivery::{Delivery, set_sources};
+use crate::failure::Failure;
 use crate::files::open_each;
 use crate::jobs::{all_terms, jobs};
-use crate::runs::finish;
 use command_line::Jobs;
-use run_texts::set_each;
 use set_line::Terms;
-use set_run::{LineSource, NoGate, ReaderSource};
+use set_run::{LineSource, ReaderSource};
 use std::alloc::Global;
 use std::io::Write;
 use std::sync::{Arc, Wait};
 use std::thread::Threads;
-use std::time::Clock;
 
-/// The sources of the jobs, each with its terms. All fonts are read before any file is opened.
+/// Checks the arguments, reads the fonts of all jobs, and then opens their files. Returns the files as
+/// sources, each with the settings of its job.
 fn job_sources<F: Opens>(
     alloc: Global,
     files: &F,
@@ -45,8 +44,9 @@ fn job_sources<F: Opens>(
     open_each(alloc, files, with_terms)
 }
 
-/// The lines of files, each set with a font and a limit of its own: the status that the records lead
-/// to.
+/// Does what `each` requests: reads the fonts, opens the files, sets the lines of each file with the font and
+/// the limit of its job, and writes the output. Returns the exit status: 1 if a line was refused, otherwise
+/// 0.
 pub(crate) fn set_jobs<R, F, O>(
     rt: &R,
     files: &F,
@@ -54,7 +54,7 @@ pub(crate) fn set_jobs<R, F, O>(
     out: &mut O,
 ) -> Result<u8, Failure>
 where
-    R: AllocGlobal + Threads + Wait + Clock + Sync,
+    R: AllocGlobal + Threads + Wait + Sync,
     F: Opens,
     O: Write,
     ensures text { AfterText result (IsEachSet (F.known files.now)
@@ -67,15 +67,5 @@ where
         → IsRefused (IsFaultOfWords asked.now.words.items) result × (out.new ≡ out.old) }
 {
     let sources = job_sources(rt.alloc(), files, asked)?;
-    let layout = asked.layout;
-    let summary = set_each(
-        rt,
-        rt.alloc(),
-        sources,
-        layout.plan,
-        layout.version,
-        &NoGate,
-        out,
-    )?;
-    finish(&summary, out)
+    set_sources(rt, sources, &asked.layout, Delivery::AtTheEnd, out)
 }

@@ -1,14 +1,14 @@
-//! The files that a run asks for: fonts, which are read to their end, and files with lines, which are opened.
+//! Reads the fonts of a request to their end, and opens its files with lines.
 ghost use Rattle.std.specs.Prelude.{◌≡◌, ◌≢◌, ℕ, ◌++◌, List, Some, false, codes, IfErr, IfOk, IfSome, OnOk};
 ghost use Rattle.std.specs.Io.KnownBytes.{IsAtEnd};
 ghost use Rattle.std.specs.List.{AllZip};
 ghost use Rattle.tfm_tool.specs.Jobs.{IsOpenedWith};
 ghost use Rattle.tfm_tool.specs.Kept.{HaveSameFont, kept_of};
-ghost use Rattle.tfm_tool.specs.Named.{file_bytes_of, font_bytes_of};
+ghost use Rattle.tfm_tool.specs.Named.{font_bytes_of};
 ghost use Rattle.tfm_tool.specs.Status.{is_after_text, is_refusal};
-ghost use Rattle.tfm_tool.specs.Told.{AreSourcesOf, IsSourceOf, all_told_by, told_by};
+ghost use Rattle.tfm_tool.specs.Told.{IsSourceOf, told_by};
 
-use crate::exit::Failure;
+use crate::failure::Failure;
 use crate::{Opens, ToolFault};
 use set_line::Terms;
 use set_run::{LineSource, ReaderSource};
@@ -16,27 +16,27 @@ use std::alloc::{AllocError, Global};
 use std::io::{ErrorKind, Read};
 use std::sync::Arc;
 
-/// A font file is read to its end by at most this many reads.
+/// The largest number of reads for a font.
 const MAX_READS: u32 = 1_048_576;
 
-/// As many bytes of a file are kept as a font can have: `4 * lf`, with `lf` below 2^15. What
-/// follows is read for the file's end alone.
+/// The largest number of bytes that are kept of a font: `4 * lf`, with `lf` below 2^15. Bytes after these
+/// are read only to find the end of the file.
 const MOST_KEPT: usize = 131_068;
 
-/// Each read asks for this many bytes.
+/// The number of bytes that each read requests.
 const READ_SIZE: usize = 4096;
 
-/// Why a file was not read or opened.
+/// The reason why a file wasn't opened or read.
 #[derive(Clone, Copy, Debug, PartialEq, Eq, Hash)]
 pub(crate) enum ReadFault {
-    /// It was not opened, a read failed, or there were too many.
+    /// The file wasn't opened, a read failed, or the file needed too many reads.
     NotRead,
-    /// A request for memory was refused.
+    /// An allocation failed.
     OutOfMemory,
 }
 
-/// The bytes of the font that a word names, as many as a font can have: `-` is `input`, any other
-/// word is a file.
+/// Reads the font of this name to its end: the file of this name, or `input` if the name is `-`. Returns its
+/// bytes, up to the number that a font can have.
 pub(crate) fn font_bytes<F, I>(
     alloc: Global,
     files: &F,
@@ -58,7 +58,7 @@ where
     font_file(alloc, files, font)
 }
 
-/// The bytes that a reader has left, to its end, as many as a font can have.
+/// Reads to the end of `input`. Returns its bytes, up to the number that a font can have.
 fn kept_bytes<I: Read>(alloc: Global, input: &mut I) -> Result<Vec<u8>, ReadFault>
     ensures bytes { IfOk result (λ bytes.
         IfSome (I.remaining input.old) (λ all. bytes.items ≡ kept_of all)) }
@@ -76,7 +76,7 @@ fn kept_bytes<I: Read>(alloc: Global, input: &mut I) -> Result<Vec<u8>, ReadFaul
     Err(ReadFault::NotRead)
 }
 
-/// Keeps the next bytes of a file, if a font can have as many.
+/// Appends the next bytes of a file, up to the number that a font can have. Fails if an allocation fails.
 fn keep(bytes: &mut Vec<u8>, next: &[u8]) -> Result<(), AllocError>
     ensures { OnOk result ((read : List ℕ) → bytes.old.items ≡ kept_of read
         → bytes.new.items ≡ kept_of (read ++ next.now)) }
@@ -86,7 +86,8 @@ fn keep(bytes: &mut Vec<u8>, next: &[u8]) -> Result<(), AllocError>
     Ok(())
 }
 
-/// The bytes of the font file of this name, as many as a font can have.
+/// Opens the file of this name and reads it to its end. Returns its bytes, up to the number that a font can
+/// have.
 pub(crate) fn font_file<F: Opens>(
     alloc: Global,
     files: &F,
@@ -99,7 +100,8 @@ pub(crate) fn font_file<F: Opens>(
     kept_bytes(alloc, &mut file)
 }
 
-/// The file of this name, opened.
+/// Opens the file of this name. The error is `OutOfMemory` if the error of the file system has this kind,
+/// otherwise `NotRead`.
 fn opened<F: Opens>(files: &F, name: &str) -> Result<F::File, ReadFault>
     ensures { IfOk result (λ file. IfSome (F.known files.now name.now)
         (λ all. F.File.remaining file ≡ Some all)) }
@@ -110,7 +112,7 @@ fn opened<F: Opens>(files: &F, name: &str) -> Result<F::File, ReadFault>
     })
 }
 
-/// The file of this name and number, opened as a source of lines.
+/// Opens the file of this name as a source of lines. `number` is the number of the file in the error.
 fn open_file<F: Opens>(
     alloc: Global,
     files: &F,
@@ -130,29 +132,8 @@ fn open_file<F: Opens>(
     }
 }
 
-/// The files of these names, opened in order.
-pub(crate) fn open_files<F: Opens>(
-    alloc: Global,
-    files: &F,
-    names: &[&str],
-) -> Result<Vec<ReaderSource<F::File>>, Failure>
-    ensures sources { IfOk result (λ sources. AreSourcesOf (file_bytes_of (F.known files.now) names.now)
-        (all_told_by ⟦<ReaderSource<F::File> as LineSource>⟧.to_come
-        ⟦<ReaderSource<F::File> as LineSource>⟧.failed sources.items)) }
-    ensures fault { IfErr result (λ failure. is_after_text failure ≡ false) }
-    ensures later { IfErr result (λ failure. is_refusal failure ≡ false) }
-{
-    let mut sources = Vec::new(alloc);
-    for name in names {
-        let source = open_file(alloc, files, sources.len() + 1, name)?;
-        sources
-            .push(source)
-            .map_err(|_| Failure::Tool(ToolFault::OutOfMemory))?;
-    }
-    Ok(sources)
-}
-
-/// The files of these names, opened in order, each with its terms.
+/// Opens the files of these names in order, and returns them as sources of lines, each with the settings of
+/// its name. The error is that of the first file that isn't opened, or that an allocation failed.
 pub(crate) fn open_each<F: Opens>(
     alloc: Global,
     files: &F,

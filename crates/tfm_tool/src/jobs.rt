@@ -1,4 +1,4 @@
-//! The jobs of `each`: a font, a limit and a file, again and again.
+//! The jobs of `each`: triples of a font, a limit and a file.
 
 ghost use Rattle.std.specs.Prelude.{◌≡◌, ◌⊎◌, false, map, IfErr, IfOk};
 ghost use Rattle.std.specs.Arc.{arc_value};
@@ -9,19 +9,20 @@ ghost use Rattle.run_texts.specs.declared.fault.ToolFault.TheVariants.{OutOfMemo
 ghost use Rattle.tfm_tool.specs.FontFaults.{IsFirstRefused, IsRefusedJob};
 ghost use Rattle.tfm_tool.specs.Jobs.{AreTermsOf, AreWordsOfJobs, HasTermsOf, IsFaultOfWords, IsLimitOf, job_value, jobs_in};
 ghost use Rattle.tfm_tool.specs.Status.{BeforeText, is_after_text};
-ghost use Rattle.tfm_tool.specs.declared.exit.Failure.TheVariants.{Tool};
+ghost use Rattle.tfm_tool.specs.declared.failure.Failure.TheVariants.{Tool};
 
 use crate::Opens;
-use crate::exit::Failure;
+use crate::failure::Failure;
 use crate::files::{ReadFault, font_file};
 use command_line::Layout;
-use run_texts::{ToolFault, accepted};
+use run_texts::{FontSetting, ToolFault, terms_of};
 use set_line::{Limit, Terms};
 use set_run::MOST_SOURCES;
 use std::alloc::Global;
 use std::sync::Arc;
 
-/// A font, a limit, and a file with lines.
+/// A job: the name of its font, the largest number of steps for a line, and the name of its file with lines.
+/// Both names are those of files, also the name `-`.
 #[derive(Clone, Copy)]
 pub(crate) struct Job<'a> {
     pub font: &'a str,
@@ -29,14 +30,15 @@ pub(crate) struct Job<'a> {
     pub file: &'a str,
 }
 
-/// Whether each byte is a decimal digit.
+/// Returns whether each byte is a decimal digit.
 fn is_in_digits(word: &str) -> bool
     ensures { result ≡ list_all is_ascii_digit word.now }
 {
     word.bytes().all(|byte| byte.is_ascii_digit())
 }
 
-/// A limit: one to eight decimal digits, within its range.
+/// Returns the limit that an argument contains: one to eight decimal digits, with a value from 1 to
+/// 16,777,216. Returns `None` for any other argument.
 #[tactic(auto, using(crate::proofs::EachLemmas::has_no_plus))]
 fn limit_of(word: &str) -> Option<Limit>
     ensures { Finds (IsLimitOf word.now) result }
@@ -47,7 +49,9 @@ fn limit_of(word: &str) -> Option<Limit>
     Limit::new(word.parse().ok()?)
 }
 
-/// The jobs that these words ask for, whose limits are all looked at.
+/// Returns the jobs that these arguments request. No font is read. Errors, in the order in which they are
+/// checked: `NotInThrees`; `TooManyFiles`; then, whichever comes first, `LimitRange` with the number of the
+/// first wrong limit, or a failed allocation.
 pub(crate) fn jobs<'a>(alloc: Global, words: &[&'a str]) -> Result<Vec<Job<'a>>, Failure>
     ensures jobs { IfOk result (λ jobs. map job_value jobs.items ≡ jobs_in words.now) }
     ensures lawful { IfOk result (λ _. AreWordsOfJobs words.now) }
@@ -75,8 +79,8 @@ pub(crate) fn jobs<'a>(alloc: Global, words: &[&'a str]) -> Result<Vec<Job<'a>>,
     Ok(jobs)
 }
 
-/// The terms that a job asks for.
-fn terms_of<F: Opens>(
+/// Reads the font of the job with this number, and returns the settings of its lines.
+fn job_terms<F: Opens>(
     alloc: Global,
     files: &F,
     number: usize,
@@ -94,16 +98,21 @@ fn terms_of<F: Opens>(
         Err(ReadFault::NotRead) => return Err(Failure::FontNotRead(number)),
         Err(ReadFault::OutOfMemory) => return Err(Failure::Tool(ToolFault::OutOfMemory)),
     };
-    match accepted(alloc, bytes.as_slice(), layout.size) {
-        Ok(font) => Arc::new(alloc, Terms::new(font, job.limit, layout.policy)).map_err(
-            |_| Failure::Tool(ToolFault::OutOfMemory),
-        ),
+    let font = FontSetting {
+        bytes: bytes.as_slice(),
+        size: layout.size,
+        limit: job.limit,
+        policy: layout.policy,
+    };
+    match terms_of(alloc, &font) {
+        Ok(terms) => Ok(terms),
         Err(ToolFault::Font(fault)) => Err(Failure::FontRefused { number, fault }),
         Err(fault) => Err(Failure::Tool(fault)),
     }
 }
 
-/// The names of the jobs' files, each with the job's terms: each font is read before any file is opened.
+/// Reads the font of each job in order. Returns the names of the files, each with the settings of its job.
+/// The error is that of the first job whose font isn't read or is refused, or that an allocation failed.
 pub(crate) fn all_terms<'a, F: Opens>(
     alloc: Global,
     files: &F,
@@ -118,7 +127,7 @@ pub(crate) fn all_terms<'a, F: Opens>(
 {
     let mut all = Vec::new(alloc);
     for job in jobs {
-        let terms = terms_of(alloc, files, all.len() + 1, job, layout)?;
+        let terms = job_terms(alloc, files, all.len() + 1, job, layout)?;
         all.push((job.file, terms))
             .map_err(|_| Failure::Tool(ToolFault::OutOfMemory))?;
     }

@@ -1,20 +1,25 @@
-//! The texts that `tfmset` writes, and the whole program over its arguments, a reader and two writers.
+//! The whole program `tfmset` as a function of its arguments, a reader and two writers, and the functions
+//! that write its output.
 #![tactic(auto)]
 
 pub use command_line::{Checking, Jobs, Layout, Request, Setting, requested};
-pub use exit::Failure;
+pub use failure::Failure;
+pub use font_output::{check_text, counts_text, finding_text, list_all_text, list_text};
 pub use font_texts::Finding;
 pub use opening::{Disk, InMemory, Opens};
 pub use program::{perform, tool, words_refused};
-pub use run_texts::{Summary, ToolFault, set_each, set_text, status, stream_each, stream_text};
-pub use texts_of_fonts::{check_text, counts_text, finding_text, list_all_text, list_text};
+pub use run_texts::{
+    FontSetting, OutputOptions, Summary, ToolFault, set_each, set_text, status, stream_each,
+    stream_text, terms_of,
+};
 
 mod checking;
+mod delivery;
 mod each;
-mod exit;
+mod failure;
 mod files;
+mod font_output;
 mod jobs;
 mod opening;
 mod program;
 mod runs;
-mod texts_of_fonts;

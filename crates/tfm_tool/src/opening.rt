@@ -1,4 +1,4 @@
-//! Files by their names: those of the file system, and files in memory.
+//! Opens files by their names, in the file system or in memory.
 ghost use Rattle.std.specs.Prelude.{◌≡◌, ℕ, List, Option, Some, IfOk, IfSome, is_ok, is_some};
 ghost use Rattle.tfm_tool.specs.Named.{bytes_in};
 
@@ -6,28 +6,28 @@ use std::io::{ErrorKind, Read};
 use std::rt::Files;
 use std::{fs, io};
 
-/// Files that can be opened by their names, to be read.
+/// Opens files by their names for reading.
 pub trait Opens {
-    /// A file that was opened.
+    /// An open file.
     type File: Read + Send + Drop;
 
-    /// The bytes of the file of a name, if they are known.
+    /// The contents of the file of a name, if they are known to contracts.
     ghost known: { Self → List ℕ → Option (List ℕ) };
 
-    /// Opens the file of this name, to be read from its start.
+    /// Opens the file of this name, for reading from its start. Fails if the file can't be opened.
     fn open(&self, name: &str) -> io::Result<Self::File>
         ensures { IfOk result (λ file. IfSome (known self.now name.now)
             (λ all. Self.File.remaining file ≡ Some all)) };
 }
 
-/// The files of the file system. What they hold isn't known.
+/// The files of the file system. Their contents aren't known to contracts.
 #[derive(Drop)]
 pub struct Disk<'a, R> {
     rt: &'a R,
 }
 
 impl<'a, R> Disk<'a, R> {
-    /// The files that this handle opens.
+    /// Returns a value that opens files with `rt`.
     pub fn new(rt: &'a R) -> Self {
         Disk { rt }
     }
@@ -48,14 +48,14 @@ where
     }
 }
 
-/// Files in memory, each with its name; of several with one name the first is opened.
+/// Files in memory, each with its name. If several have the same name, the first one is opened.
 #[derive(Clone, Copy)]
 pub struct InMemory<'a> {
     files: &'a [(&'a str, &'a [u8])],
 }
 
 impl<'a> InMemory<'a> {
-    /// These names and bytes.
+    /// Returns files with these names and contents.
     pub fn new(files: &'a [(&'a str, &'a [u8])]) -> Self
         ensures { (name : List ℕ) → ⟦<InMemory<'a> as Opens>⟧.known result name ≡ bytes_in files.now name }
     {

@@ -12,15 +12,15 @@ ghost use Rattle.tfm_tool.specs.FontFaults.{IsRefusedFont, IsRefusedHead};
 ghost use Rattle.tfm_tool.specs.Named.{font_bytes_of};
 ghost use Rattle.tfm_tool.specs.Requests.{CountsAreTold, IsDone, IsListed, list_text_of};
 ghost use Rattle.tfm_tool.specs.Served.{IsServed, IsTurnedDown, IsTurnedDownBy, is_answer, is_usage};
-ghost use Rattle.tfm_tool.specs.declared.exit.Failure.TheVariants.{Usage};
+ghost use Rattle.tfm_tool.specs.declared.failure.Failure.TheVariants.{Usage};
 ghost use Rattle.tfm_tool.specs.Status.{AfterText, BeforeText, is_refusal, is_without_text, status_of};
 
 use crate::checking::check;
 use crate::each::set_jobs;
-use crate::exit::Failure;
+use crate::failure::Failure;
 use crate::files::font_bytes;
+use crate::font_output::list_file_text;
 use crate::runs::{set_files, stream};
-use crate::texts_of_fonts::list_file_text;
 use crate::{Disk, Opens, counts_text, list_all_text};
 use clap::error::ErrorKind as WordsKind;
 use command_line::{Request, requested};
@@ -32,18 +32,18 @@ use std::io::{ErrorKind, Read, Write};
 use std::rt::Files;
 use std::sync::Wait;
 use std::thread::Threads;
-use std::time::Clock;
 
-/// The whole program: does what the words after its name ask for, and returns the status that it
-/// ends with. The font `-` is read from `input`, as are the lines of `stream` if it names no file; any
-/// other word is the name of a file.
+/// Runs the whole program: does what the arguments after its name request, and returns the exit status.
+/// `input` is read for the font `-`, except with `each`, and for the lines of `stream` if it names no file.
+/// All files, and all other fonts, are opened by their names.
 ///
-/// What went wrong goes to `err`: one line, or the text of `clap` if the words are refused. The
-/// status is 0 after the whole text, help or the version, 1 if some line was refused, or a font of
-/// `check`, and 2 to 5 by what went wrong.
+/// The exit status is 0 or 1 after the whole output: 1 if a line was refused or `check` refused a font;
+/// otherwise, and after help or the version, 0. It is 2 to 5 after a failure, as the failure determines; the
+/// text of the failure is written to `err`: one line, or the text of `clap` if the arguments are invalid. If
+/// `err` fails, its error is ignored.
 pub fn tool<R, S, I, O, E>(rt: &R, words: &[S], input: &mut I, out: &mut O, err: &mut E) -> u8
 where
-    R: Files + AllocGlobal + Threads + Wait + Clock + Sync,
+    R: Files + AllocGlobal + Threads + Wait + Sync,
     R::File: Send,
     S: AsStr,
     I: Read + Send,
@@ -67,7 +67,9 @@ where
     }
 }
 
-/// What the program ends with if its words could not be read: one is no text, or memory was refused.
+/// Writes to `err` the reason why the arguments couldn't be read, and returns the exit status: 5 if the kind
+/// of the error is `OutOfMemory`, and 2 for any other error, which is reported as an argument that isn't
+/// UTF-8. If `err` fails, its error is ignored.
 pub fn words_refused<E: Write>(error: &io::Error, err: &mut E) -> u8
     ensures memory { (error_kind error.now ≡ ErrorKind.OutOfMemory) → result ≡ 5 }
     ensures words { (error_kind error.now ≢ ErrorKind.OutOfMemory) → result ≡ 2 }
@@ -79,10 +81,11 @@ pub fn words_refused<E: Write>(error: &io::Error, err: &mut E) -> u8
     2
 }
 
-/// Does what the words ask for: the status if nothing went wrong.
+/// Does what the arguments request, with the files of the file system, or writes help or the version. Returns
+/// the exit status, 0 or 1.
 fn answer<R, S, I, O>(rt: &R, words: &[S], input: &mut I, out: &mut O) -> Result<u8, Failure>
 where
-    R: Files + AllocGlobal + Threads + Wait + Clock + Sync,
+    R: Files + AllocGlobal + Threads + Wait + Sync,
     R::File: Send,
     S: AsStr,
     I: Read + Send,
@@ -102,8 +105,12 @@ where
     }
 }
 
-/// Does what a request asks for, with the files that `files` opens: the status if nothing went wrong.
-/// The font `-` is read from `input`, as are the lines of `stream` if it names no file.
+/// Carries out a request with the files that `files` opens. Returns the exit status: 1 if a line was refused
+/// or `check` refused a font, otherwise 0. `input` is read for the font `-`, except with `each`, and for the
+/// lines of `stream` if it names no file.
+///
+/// `out` is unchanged after an error with exit status 2 or 3, and if a font of the request wasn't read or a
+/// file wasn't opened (except with `check`, which writes a line for a font that wasn't read).
 pub fn perform<R, F, I, O>(
     rt: &R,
     files: &F,
@@ -112,7 +119,7 @@ pub fn perform<R, F, I, O>(
     out: &mut O,
 ) -> Result<u8, Failure>
 where
-    R: AllocGlobal + Threads + Wait + Clock + Sync,
+    R: AllocGlobal + Threads + Wait + Sync,
     F: Opens,
     I: Read + Send,
     O: Write,
@@ -128,7 +135,10 @@ where
 {
     match request {
         Request::Counts { font } => counts(rt.alloc(), files, font, input, out),
-        Request::List { font, all } => list(rt.alloc(), files, font, *all, input, out),
+        Request::List { font, all } => {
+            let listed = Listed { font, all: *all };
+            list(rt.alloc(), files, &listed, input, out)
+        }
         Request::Check(asked) => check(rt.alloc(), files, asked, input, out),
         Request::Set(setting) => set_files(rt, files, setting, input, out),
         Request::Stream(setting) => stream(rt, files, setting, input, out),
@@ -136,7 +146,7 @@ where
     }
 }
 
-/// The counts of the font of this name.
+/// Does what `counts` requests: writes the counts and the design size of the font of this name.
 #[tactic(auto, using(crate::proofs::KnownLemmas::unread_before))]
 fn counts<F, I, O>(
     alloc: Global,
@@ -162,13 +172,21 @@ where
     Ok(0)
 }
 
-/// What the font of this name holds at its design size, or with all that its file says.
+/// A font to be listed.
+#[derive(Clone, Copy)]
+struct Listed<'a> {
+    /// The name of the font; `-` is standard input.
+    font: &'a str,
+    /// Whether the full listing is requested.
+    all: bool,
+}
+
+/// Does what `list` requests: writes a listing of the font at its design size.
 #[tactic(auto, using(crate::proofs::KnownLemmas::unread_before))]
 fn list<F, I, O>(
     alloc: Global,
     files: &F,
-    font: &str,
-    all: bool,
+    listed: &Listed<'_>,
     input: &mut I,
     out: &mut O,
 ) -> Result<u8, Failure>
@@ -177,19 +195,19 @@ where
     I: Read,
     O: Write,
     ensures text { AfterText result (IsListed (F.known files.now) (I.remaining input.old)
-        (O.contents out.old) (O.contents out.new) font.now all) }
+        (O.contents out.old) (O.contents out.new) listed.now.font.now listed.now.all) }
     ensures status { IfOk result (λ status. status ≡ 0) }
     ensures untouched { IfErr result (λ failure. is_without_text failure ≡ true → out.new ≡ out.old) }
-    ensures unread { font.now ≢ codes "-" → input.new ≡ input.old }
+    ensures unread { listed.now.font.now ≢ codes "-" → input.new ≡ input.old }
     ensures cause { BeforeText result
-        (IsRefusedFont (font_bytes_of (F.known files.now) (I.remaining input.old) font.now)) }
+        (IsRefusedFont (font_bytes_of (F.known files.now) (I.remaining input.old) listed.now.font.now)) }
 {
-    let bytes = font_bytes(alloc, files, font, input)?;
-    list_bytes(alloc, bytes.as_slice(), all, out)?;
+    let bytes = font_bytes(alloc, files, listed.font, input)?;
+    list_bytes(alloc, bytes.as_slice(), listed.all, out)?;
     Ok(0)
 }
 
-/// What the font in these bytes holds at its design size, or with all that its file says.
+/// Writes the listing of the font in these bytes at its design size, or the full listing if `all` is true.
 fn list_bytes<O: Write>(
     alloc: Global,
     bytes: &[u8],
@@ -208,7 +226,7 @@ fn list_bytes<O: Write>(
     list_file_text(alloc, bytes, None, out)
 }
 
-/// Help and the version are an answer; any other error is why there is none.
+/// Writes help or the version, which `clap` returns as errors. Returns any other error as a failure.
 fn show<O: Write>(error: clap::Error, out: &mut O) -> Result<(), Failure>
     ensures answer { OnOk result (is_answer (kind_of error) ≡ true) }
     ensures untouched { IfErr result (λ failure. is_refusal failure ≡ true → out.new ≡ out.old) }
@@ -223,7 +241,7 @@ fn show<O: Write>(error: clap::Error, out: &mut O) -> Result<(), Failure>
     }
 }
 
-/// Says why on `err`, and returns the status.
+/// Writes the text of a failure to `err`, and returns the exit status. If `err` fails, its error is ignored.
 fn fail<E: Write>(failure: Failure, err: &mut E) -> u8
     ensures { result ≡ status_of failure }
 {
@@ -232,7 +250,7 @@ fn fail<E: Write>(failure: Failure, err: &mut E) -> u8
     failure.status()
 }
 
-/// Says why: the line of the failure.
+/// Writes the text of a failure.
 fn say<E: Write>(failure: &Failure, err: &mut E) -> io::Result<()>
     ensures { IfSome (failure_text failure.now)
         (λ text. OnOk result (Appends (E.contents err.old) (E.contents err.new) text)) }

@@ -1,4 +1,5 @@
 pub mod FirstFault
+pub mod AppendingLemmas
 pub mod CountLemmas
 pub mod ReachLemmas
 pub mod ScalingLemmas

@@ -4,3 +4,4 @@ pub mod Counts
 pub mod CountFaults
 pub mod DesignSize
 pub mod FaultTexts
+pub mod Appending

@@ -2,13 +2,13 @@ ghost use Rattle.std.specs.Prelude.{Some};
 ghost use Rattle.tfm_words.specs.FaultTexts.{count_fault_text};
 
 use crate::{Count, Table};
-use std::error::Error;
 use std::fmt;
+use thiserror::Error;
 
 /// The first error in the counts of a TFM file, in the order of these variants. `Truncated` is checked
 /// twice: before all others for the 24 bytes of the counts, and after all others for the whole file
 /// (tftopl.web, sections 20 and 21; the order is this project's own).
-#[derive(Clone, Copy, Debug, PartialEq, Eq, Hash)]
+#[derive(Clone, Copy, Debug, PartialEq, Eq, Hash, Error)]
 pub enum CountFault {
     /// The file has fewer than `need` bytes: 24, or `4 * lf`.
     Truncated { need: usize },
@@ -43,5 +43,3 @@ impl fmt::Display for CountFault {
         }
     }
 }
-
-impl Error for CountFault {}

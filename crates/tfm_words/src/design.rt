@@ -4,14 +4,14 @@ ghost use Rattle.tfm_words.specs.DesignSize.{design_size_of};
 ghost use Rattle.tfm_words.specs.FaultTexts.{design_fault_text};
 
 use crate::{Counts, FixWord, Size, word_at};
-use std::error::Error;
 use std::fmt;
+use thiserror::Error;
 
 /// 1.0 as a fix_word: as a design size, 1 pt.
 const ONE_POINT: i32 = 0x10_0000;
 
 /// The error in the design size of a TFM file.
-#[derive(Clone, Copy, Debug, PartialEq, Eq, Hash)]
+#[derive(Clone, Copy, Debug, PartialEq, Eq, Hash, Error)]
 pub enum DesignFault {
     /// The design size is below 1 pt, or negative.
     DesignSize,
@@ -27,8 +27,6 @@ impl fmt::Display for DesignFault {
         }
     }
 }
-
-impl Error for DesignFault {}
 
 /// Returns the design size of a TFM file, which is the size that the font was drawn for. It is the
 /// second word of the header, a number of points in units of 2^-20, rounded down to whole sp. The

@@ -1,4 +1,4 @@
-//! `tfmset`, which reads TeX font metric files: `tfmset --help` says what it does.
+//! `tfmset`, which reads TeX font metric files. `tfmset --help` prints its subcommands.
 #![tactic(auto)]
 
 use std::env::Env;
@@ -6,7 +6,7 @@ use std::process::ExitCode;
 use std::{env, io};
 use tfm_tool::{tool, words_refused};
 
-/// The words after the program's name.
+/// Returns the arguments after the name of the program.
 fn words_of<R: Env + AllocGlobal>(rt: &R) -> io::Result<Vec<String>> {
     Ok(env::args(rt)?.skip(1).collect(rt.alloc())?)
 }

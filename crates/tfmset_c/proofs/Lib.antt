@@ -1,3 +1,3 @@
-pub mod OpeningLemmas
-pub mod FillingLemmas
+pub mod ReadingLemmas
+pub mod ArrayLemmas
 pub mod TextLemmas

@@ -7,12 +7,12 @@ use Rattle.set_line.specs.Answer.{outcome_of}
 use Rattle.set_line.specs.Lines.{lines_of}
 use Rattle.set_line.specs.Record.{record_text}
 use Rattle.set_line.specs.Terms.{TermsValue}
-use Rattle.tfmset_c.specs.Filling.{AreLinesTold, ArePut, AreTold, HasRoom, IsFilled, IsPartly, IsUnderWay}
+use Rattle.tfmset_c.specs.Arrays.{AreLinesTold, ArePut, AreTold, HasRoom, IsFilled, IsPartly, IsUnderWay}
 use Rattle.tfmset_c.specs.Texts.{counts_told, held, item_told, items_in, items_told, line_told, lines_told, outcomes_of, records_told}
-use Rattle.tfmset_c.specs.declared.told.TfmsetCounts.{TfmsetCounts}
-use Rattle.tfmset_c.specs.declared.told.TfmsetItem.{TfmsetItem}
-use Rattle.tfmset_c.specs.declared.told.TfmsetLine.{TfmsetLine}
-use Rattle.tfmset_c.proofs.FillingLemmas.{nothing_put, place_at_last}
+use Rattle.tfmset_c.specs.declared.lines.TfmsetCounts.{TfmsetCounts}
+use Rattle.tfmset_c.specs.declared.lines.TfmsetItem.{TfmsetItem}
+use Rattle.tfmset_c.specs.declared.lines.TfmsetLine.{TfmsetLine}
+use Rattle.tfmset_c.proofs.ArrayLemmas.{nothing_put, place_at_last}
 
 -- a text's first line, and the others
 pub outcomes_first : (terms : TermsValue) (text line more : List ℕ) → lines_of text ≡ line ∷ lines_of more
@@ -20,11 +20,10 @@ pub outcomes_first : (terms : TermsValue) (text line more : List ℕ) → lines_
 unfolding outcomes_of
 outcomes_first terms text line more cut = ap (map (outcome_of terms)) cut
 
--- a text without bytes
-pub no_outcomes : (terms : TermsValue) (text : List ℕ) → length text ≡ 0 → outcomes_of terms text ≡ []
-unfolding outcomes_of lines_of
-no_outcomes terms [] none = refl
-no_outcomes terms (byte ∷ text) none = absurd (omega (arith, none))
+-- a text without lines
+pub no_outcomes : (terms : TermsValue) (text : List ℕ) → lines_of text ≡ [] → outcomes_of terms text ≡ []
+unfolding outcomes_of
+no_outcomes terms text none = ap (map (outcome_of terms)) none
 
 -- at first all lines are to come
 pub at_first : (all : List Outcome) (lines : List TfmsetLine) (items : List TfmsetItem)

@@ -1,5 +1,6 @@
--- A font's fault as C gets it: its number, what is named, and a place.
--- This project's own; the faults are those of `tfm_tables`, Acceptance.
+-- A font error as C gets it: its number, the count, table or part that it names, and a number that locates
+-- it.
+-- This project's own; the font errors are defined in Acceptance of `tfm_tables`.
 use Rattle.std.specs.Prelude.{ℕ, ◌==◌, if◌then◌else◌}
 use Rattle.tfm_words.specs.declared.count.Count.{Count}
 use Rattle.tfm_words.specs.declared.count.Count.TheVariants.{Lf, Lh, Bc, Ec, Nw, Nh, Nd, Ni, Nl, Nk, Ne, Np}
@@ -11,9 +12,9 @@ use Rattle.tfm_tables.specs.declared.fault.FontFault.{FontFault}
 use Rattle.tfm_tables.specs.declared.fault.FontFault.TheVariants.{Counts, Design, CharIndex, LigStart, FirstNotZero, FixWordRange, Step, OutOfMemory}
 use Rattle.tfm_tables.specs.declared.fault.Part.{Part}
 use Rattle.tfm_tables.specs.declared.fault.Part.TheVariants.{Restart, Next, Ligature, Kern, Skip}
-use Rattle.tfmset_c.specs.declared.fault.TfmsetFault.{TfmsetFault}
+use Rattle.tfmset_c.specs.declared.check.TfmsetFault.{TfmsetFault}
 
--- the twelve counts in the file's order
+-- the number of a count, in the order of the file
 abbrev pub count_number : Count → ℕ
 count_number Lf = 0
 count_number Lh = 1
@@ -28,7 +29,7 @@ count_number Nk = 9
 count_number Ne = 10
 count_number Np = 11
 
--- the ten tables in the file's order
+-- the number of a table, in the order of the file
 abbrev pub table_number : Table → ℕ
 table_number Header = 0
 table_number CharInfo = 1
@@ -41,7 +42,7 @@ table_number KernTable = 7
 table_number Exten = 8
 table_number Param = 9
 
--- the parts of an instruction, in the order that they are looked at
+-- the number of a part of an instruction, in the order of the checks
 abbrev pub part_number : Part → ℕ
 part_number Restart = 0
 part_number Next = 1
@@ -49,11 +50,12 @@ part_number Ligature = 2
 part_number Kern = 3
 part_number Skip = 4
 
--- a fault with its number, what it names and its place
+-- an error with this number, and these values of `named` and `place`
 abbrev pub told : ℕ → ℕ → ℕ → TfmsetFault
 told number named place = record { number = number; named = named; place = place }
 
--- a fault of the counts; a file that ends within them has number 1, and one that ends after them number 8
+-- an error of the counts; a file that ends within the counts has number 1, and a file that ends after them
+-- has number 8
 unfoldable pub count_fault_told : CountFault → TfmsetFault
 count_fault_told (Truncated need) = told (if need == 24 then 1 else 8) 0 need
 count_fault_told (CountRange count) = told 2 (count_number count) 0
@@ -63,7 +65,7 @@ count_fault_told (EmptyTable table) = told 5 (table_number table) 0
 count_fault_told TooManyRecipes = told 6 0 0
 count_fault_told LengthEquation = told 7 0 0
 
--- any fault of a font; refused memory is none
+-- a font error; a failed allocation isn't a font error, and gets number 0
 unfoldable pub fault_told : FontFault → TfmsetFault
 fault_told (Counts fault) = count_fault_told fault
 fault_told (Design _) = told 9 0 0

@@ -1,5 +1,5 @@
--- What a font says of itself, as C gets it.
--- This project's own; each value is that of `tfm_tables`.
+-- The sizes, boundaries and parameters of a font, as C gets them.
+-- This project's own; the values are defined in `tfm_tables` and `tfm_words`.
 use Rattle.std.specs.Prelude.{ℕ, List, is_some, Bool, true, false}
 use Rattle.std.specs.Option.{option_map_or}
 use Rattle.tfm_words.specs.DesignSize.{design_size_of}
@@ -10,7 +10,7 @@ use Rattle.tfm_tables.specs.Header.{check_sum_of}
 use Rattle.tfm_tables.specs.Measure.{parameter_of}
 use Rattle.tfm_tables.specs.Program.{program_of, right_code_of, start_of}
 use Rattle.tfm_tables.specs.Table.{entries_of}
-use Rattle.tfmset_c.specs.Opening.{size_or_zero}
+use Rattle.tfmset_c.specs.Reading.{size_or_zero}
 use Rattle.tfmset_c.specs.declared.font.TfmsetFont.{TfmsetFont}
 
 -- the code of the right boundary character, or 256 if the font has none
@@ -22,7 +22,7 @@ abbrev pub flag : Bool → ℕ
 flag true = 1
 flag false = 0
 
--- what a font says of itself
+-- the sizes, boundaries and parameters of a font
 unfoldable pub font_told : FontValue → TfmsetFont
 font_told font = record {
   parameters = entries_of font.words Param;

@@ -1,8 +1,8 @@
 pub mod Version
-pub mod Opening
+pub mod Reading
 pub mod Faults
 pub mod Fonts
 pub mod Characters
 pub mod Pairs
 pub mod Texts
-pub mod Filling
+pub mod Arrays

@@ -1,5 +1,5 @@
--- What a font's program does between two neighbours, as C gets it.
--- This project's own; the action is that of `lig_kern`, Matching.
+-- The action of a font's lig/kern program between two neighbours, as C gets it.
+-- This project's own; the action is defined in Matching of `lig_kern`.
 use Rattle.std.specs.Prelude.{ℕ, pos, ◌==◌, Option, Some, None, if◌then◌else◌}
 use Rattle.lig_kern.specs.declared.symbol.Symbol.{Symbol}
 use Rattle.lig_kern.specs.declared.symbol.Symbol.TheVariants.{Left, Char, Right}
@@ -10,10 +10,11 @@ use Rattle.tfm_tables.specs.Font.{FontValue}
 use Rattle.tfmset_c.specs.Fonts.{flag}
 use Rattle.tfmset_c.specs.declared.pair.TfmsetPair.{TfmsetPair}
 
--- 256 is a boundary: the left one on the left, and the right one on the right
+-- the left neighbour that C names by a number: 256 is the left boundary, any other number is a code
 unfoldable pub left_symbol : ℕ → Symbol
 left_symbol n = if n == 256 then Left else Char n
 
+-- the right neighbour that C names by a number: 256 is the right boundary, any other number is a code
 unfoldable pub right_symbol : ℕ → Symbol
 right_symbol n = if n == 256 then Right else Char n
 
@@ -24,6 +25,6 @@ action_told (Some (Kern amount)) = record { action = 1; kern = amount; code = 0;
 action_told (Some (Lig code keep_left keep_right pass)) =
     record { action = 2; kern = pos 0; code = code; keep_left = flag keep_left; keep_right = flag keep_right; pass = pass }
 
--- what is done between two neighbours
+-- the action between two neighbours
 abbrev pub pair_told : FontValue → ℕ → ℕ → TfmsetPair
 pair_told font left right = action_told (action_between font (left_symbol left) (right_symbol right))

@@ -1,5 +1,5 @@
--- The lines of a text that were set, as C gets them.
--- This project's own; each outcome is that of `set_line`, Answer, and each record that of its Record.
+-- The results of the lines of a text, as C gets them.
+-- This project's own; the results are defined in Answer of `set_line`, and their records in Record.
 use Rattle.std.specs.Prelude.{◌≡◌, ℕ, None, pos, ◌+◌, ◌-◌, ◌^◌, ◌<◌, ◌==◌, ◌⊎◌, List, [], ◌∷◌, ◌++◌, length, map, flat_map, min, if◌then◌else◌}
 use Rattle.lig_kern.specs.declared.item.Item.{Item}
 use Rattle.lig_kern.specs.declared.item.Item.TheVariants.{Char, Kern, Space, Skipped}
@@ -15,60 +15,61 @@ use Rattle.set_line.specs.Lines.{lines_of}
 use Rattle.set_line.specs.Record.{record_text}
 use Rattle.set_line.specs.Terms.{TermsValue}
 use Rattle.tfm_tables.specs.Acceptance.{font_fault_of}
-use Rattle.tfmset_c.specs.Opening.{IsNoSize, font_at}
-use Rattle.tfmset_c.specs.declared.told.TfmsetCounts.{TfmsetCounts}
-use Rattle.tfmset_c.specs.declared.told.TfmsetItem.{TfmsetItem}
-use Rattle.tfmset_c.specs.declared.told.TfmsetLine.{TfmsetLine}
+use Rattle.tfmset_c.specs.Reading.{IsNoSize, font_at}
+use Rattle.tfmset_c.specs.declared.lines.TfmsetCounts.{TfmsetCounts}
+use Rattle.tfmset_c.specs.declared.lines.TfmsetItem.{TfmsetItem}
+use Rattle.tfmset_c.specs.declared.lines.TfmsetLine.{TfmsetLine}
 
--- a limit on steps that isn't from 1 to 16,777,216
+-- a number outside 1 to 16,777,216, which is no limit
 abbrev pub IsNoLimit : ℕ → Type 0
 IsNoLimit limit = (limit < 1) ⊎ (16777216 < limit)
 
--- a number that is out of range
+-- the size, the limit or the policy is out of range
 abbrev pub IsOutOfRange : ℕ → ℕ → ℕ → Type 0
 IsOutOfRange size limit policy = IsNoSize size ⊎ (IsNoLimit limit ⊎ (1 < policy))
 
--- 0 refuses a line with a missing character, and 1 skips the character
+-- the missing-character policy with this number: 0 refuses the line, and any other number skips the byte
 unfoldable pub policy_of : ℕ → Policy
 policy_of n = if n == 0 then Refuse else Skip
 
--- the versions of records: 1, 2, and 3 for JSON
+-- a number outside 1 to 3, which is no record format
 abbrev pub IsNoVersion : ℕ → Type 0
 IsNoVersion version = (version < 1) ⊎ (3 < version)
 
+-- the record format that C names by a number: 1 is format 1, 2 is format 2, and any other number is JSON
 unfoldable pub version_of : ℕ → Version
 version_of n = if n == 1 then One else (if n == 2 then Two else Json)
 
--- what a text is set with
+-- the settings with the font in these bytes, this size, this limit and this policy
 unfoldable pub terms_at : List ℕ → ℕ → ℕ → ℕ → TermsValue
 terms_at bytes size limit policy = record { font = font_at bytes size; limit = limit; policy = policy_of policy }
 
--- the font in these bytes is accepted, and this is what a text is set with
+-- the font in these bytes is accepted, and these are the settings with it
 pub record IsSetWith (bytes : List ℕ) (size limit policy : ℕ) (terms : TermsValue) : Type 0 where
   pub accepted : font_fault_of bytes ≡ None
   pub value : terms ≡ terms_at bytes size limit policy
 
--- what becomes of a text's lines, in order
+-- the results of the lines of a text, in order
 unfoldable pub outcomes_of : TermsValue → List ℕ → List Outcome
 outcomes_of terms text = map (outcome_of terms) (lines_of text)
 
--- a number as C holds it: the largest, 2^64 - 1, also stands for what is above it
+-- a number as C gets it; 2^64 - 1 also means any larger number
 abbrev pub held : ℕ → ℕ
 held n = min n (2 ^ 64 - 1)
 
--- an item: its kind, a code if it has one, and its amount
+-- an item: its kind, its code, or 0 if it has none, and its width
 unfoldable pub item_told : Item → TfmsetItem
 item_told (Char code width) = record { kind = 0; code = code; width = width }
 item_told (Kern amount) = record { kind = 1; code = 0; width = amount }
 item_told (Space amount) = record { kind = 2; code = 0; width = amount }
 item_told (Skipped code) = record { kind = 3; code = code; width = pos 0 }
 
--- the items of a line: a refused one has none
+-- the items of a line; a refused line has none
 unfoldable pub items_in : Outcome → List Item
 items_in (Set items width steps) = items
 items_in (Refused refusal) = []
 
--- a line, before whose items this many others stand
+-- the result of a line; this many items precede the items of the line
 unfoldable pub line_told : ℕ → Outcome → TfmsetLine
 line_told before (Set items width steps) =
     record { width = width; first = held before; count = length items; place = 0; steps = steps; refusal = 0; code = 0 }
@@ -79,7 +80,7 @@ line_told before (Refused (TooLong bytes)) =
 line_told before (Refused (Steps limit)) =
     record { width = pos 0; first = held before; count = 0; place = 0; steps = limit; refusal = 3; code = 0 }
 
--- lines, before whose items this many others stand
+-- the results of lines; this many items precede the items of the first line
 unfoldable pub lines_told : ℕ → List Outcome → List TfmsetLine
 lines_told before [] = []
 lines_told before (outcome ∷ outcomes) = line_told before outcome ∷ lines_told (before + length (items_in outcome)) outcomes
@@ -88,11 +89,11 @@ lines_told before (outcome ∷ outcomes) = line_told before outcome ∷ lines_to
 unfoldable pub items_told : List Outcome → List TfmsetItem
 items_told outcomes = map item_told (flat_map items_in outcomes)
 
--- how many lines and items there are
+-- the numbers of lines and items
 unfoldable pub counts_told : List Outcome → TfmsetCounts
 counts_told outcomes = record { lines = held (length outcomes); items = held (length (items_told outcomes)) }
 
--- the records of lines, of which the first has this place in its source
+-- the records of lines; the first one has this line number
 unfoldable pub records_told : ℕ → ℕ → Version → List Outcome → List ℕ
 records_told source place version [] = []
 records_told source place version (outcome ∷ outcomes) =

@@ -1,38 +1,40 @@
+//! `tfmset_font`: the sizes, boundaries and parameters of a font.
 ghost use Rattle.std.specs.Prelude.{◌≡◌, ◌≢◌, ◌≤◌, ◌<◌, ◌↔◌, Some, None, Ok, IsSome, is_some};
 ghost use Rattle.tfm_words.specs.DesignSize.{design_size_of};
 ghost use Rattle.tfm_tables.specs.Acceptance.{font_fault_of};
 ghost use Rattle.tfm_tables.specs.Program.{start_of};
 ghost use Rattle.tfm_tables.specs.declared.left_side.LeftSide.TheVariants.{Boundary};
 ghost use Rattle.tfmset_c.specs.Fonts.{flag, font_told, right_or_none};
-ghost use Rattle.tfmset_c.specs.Opening.{IsNoSize, font_at};
+ghost use Rattle.tfmset_c.specs.Reading.{IsNoSize, font_at};
 
-use crate::opening::{DONE, MOST_SIZE, RANGE, open};
+use crate::reading::{DONE, MOST_SIZE, RANGE, read_metrics};
 use std::alloc::Global;
 use tfm_tables::{FontMetrics, LeftSide};
 
-/// What a font says of itself; lengths are in scaled points.
+/// The sizes, boundaries and parameters of a font. A parameter that the font doesn't have is 0. Sizes and
+/// parameters are in sp, except the slant.
 #[repr(C)]
 #[derive(Clone, Copy, Debug, PartialEq, Eq)]
 pub struct TfmsetFont {
-    /// How many parameters there are.
+    /// The number of parameters.
     pub parameters: usize,
-    /// How many kerns.
+    /// The number of kerns.
     pub kerns: usize,
-    /// How many instructions its lig/kern program has.
+    /// The number of instructions in the lig/kern program.
     pub instructions: usize,
     /// The design size.
     pub design_size: u32,
-    /// The size that it is read at.
+    /// The size at which the font is read.
     pub size: u32,
-    /// The check sum, as it stands in the file.
+    /// The check sum, as it is in the file.
     pub check_sum: u32,
-    /// The code of the right boundary character, or 256.
+    /// The code of the right boundary character, or 256 if the font has none.
     pub right_boundary: u32,
-    /// 1 if the left boundary has a program, else 0.
+    /// 1 if the left boundary has a starting address in the lig/kern program. Otherwise 0.
     pub left_boundary: u32,
-    /// Parameter 1, in units of 2^-20; a parameter that isn't there is 0.
+    /// Parameter 1: a ratio in units of 2^-20, which isn't scaled.
     pub slant: i32,
-    /// Parameter 2: the width of a space.
+    /// Parameter 2: the width of a space in a line.
     pub space: i32,
     /// Parameter 3.
     pub stretch: i32,
@@ -46,6 +48,7 @@ pub struct TfmsetFont {
     pub extra_space: i32,
 }
 
+/// Returns the code of the right boundary character, or 256.
 #[tactic(auto, unfolding(crate::specs::Fonts::right_or_none))]
 fn right_boundary(font: &FontMetrics) -> u32
     ensures { result ≡ right_or_none font.now.words }
@@ -56,6 +59,7 @@ fn right_boundary(font: &FontMetrics) -> u32
     }
 }
 
+/// Returns 1 if the left boundary has a starting address, otherwise 0.
 fn left_boundary(font: &FontMetrics) -> u32
     ensures { result ≡ flag (is_some (start_of font.now.words Boundary)) }
 {
@@ -65,8 +69,9 @@ fn left_boundary(font: &FontMetrics) -> u32
     }
 }
 
+/// Returns the data of a font as C gets them.
 #[tactic(auto, unfolding(crate::specs::Fonts::font_told))]
-fn tell(font: &FontMetrics) -> TfmsetFont
+fn font_for_c(font: &FontMetrics) -> TfmsetFont
     ensures { result ≡ font_told font.now }
 {
     TfmsetFont {
@@ -88,7 +93,9 @@ fn tell(font: &FontMetrics) -> TfmsetFont
     }
 }
 
-/// What a font says of itself, at a size in scaled points, or with 0 at its design size.
+/// Reports the sizes, boundaries and parameters of a font in `about`. `size` is in sp, and 0 is the design
+/// size. Returns: 0 after success; 1 if the font is refused; 2 if an allocation fails; 4 if `size` is above
+/// 134,217,727. After every code except 0 `about` is unchanged.
 #[unsafe(no_mangle)]
 pub extern "C" fn tfmset_font(alloc: Global, font: &[u8], size: u32, about: &mut TfmsetFont) -> u32
     ensures answers { (result ≤ 4) × (result ≢ 3) }
@@ -102,11 +109,11 @@ pub extern "C" fn tfmset_font(alloc: Global, font: &[u8], size: u32, about: &mut
     if size > MOST_SIZE {
         return RANGE;
     }
-    match open(alloc, font, size) {
+    match read_metrics(alloc, font, size) {
         Ok(font) => {
-            *about = tell(&font);
+            *about = font_for_c(&font);
             DONE
         }
-        Err(denial) => denial.answer(),
+        Err(denial) => denial.code(),
     }
 }

@@ -1,24 +1,24 @@
-//! The setter for C: functions without state, over the bytes of a font and of lines.
+//! The library for C: functions without state that are passed the bytes of a font and of a text.
+//! `include/tfmset.h` describes them to their callers.
 #![tactic(auto)]
 
-pub use fault::{TfmsetFault, tfmset_check};
+pub use check::{TfmsetFault, tfmset_check};
 pub use font::{TfmsetFont, tfmset_font};
+pub use lines::{TfmsetCounts, TfmsetItem, TfmsetLine};
 pub use metrics::{TfmsetMetrics, tfmset_metrics};
 pub use pair::{TfmsetPair, tfmset_pair};
 pub use records::tfmset_records;
 pub use set::{tfmset_set, tfmset_widths};
-pub use told::{TfmsetCounts, TfmsetItem, TfmsetLine};
 pub use version::tfmset_version;
 
-mod asked;
-mod fault;
-mod filling;
-mod first_line;
+mod arrays;
+mod check;
 mod font;
+mod lines;
 mod metrics;
-mod opening;
 mod pair;
+mod reading;
 mod records;
 mod set;
-mod told;
+mod settings;
 mod version;

@@ -1,32 +1,36 @@
+//! `tfmset_metrics`: the dimensions and the tag of a character.
 ghost use Rattle.std.specs.Prelude.{◌≡◌, ◌≢◌, ◌≤◌, ◌<◌, ◌↔◌, Some, None, IsSome, ◌⊎◌};
 ghost use Rattle.tfm_tables.specs.Acceptance.{font_fault_of};
 ghost use Rattle.tfmset_c.specs.Characters.{metrics_told, tag_number, tag_rest};
-ghost use Rattle.tfmset_c.specs.Opening.{IsNoSize, font_at};
+ghost use Rattle.tfmset_c.specs.Reading.{IsNoSize, font_at};
 
-use crate::opening::{DONE, MOST_SIZE, RANGE, open};
+use crate::reading::{DONE, MOST_SIZE, RANGE, read_metrics};
 use std::alloc::Global;
 use tfm_tables::{FontMetrics, Tag};
 
-/// A character's measures, in scaled points, and its tag.
+/// The dimensions of a character, in sp, and its tag.
 #[repr(C)]
 #[derive(Clone, Copy, Debug, PartialEq, Eq)]
 pub struct TfmsetMetrics {
-    /// 1 if the character exists; else 0, and all else is 0.
+    /// 1 if the font has the character. Otherwise 0, and all other fields are 0.
     pub exists: u32,
-    /// Its width.
+    /// The width.
     pub width: i32,
-    /// Its height.
+    /// The height.
     pub height: i32,
-    /// Its depth.
+    /// The depth.
     pub depth: i32,
-    /// Its italic correction.
+    /// The italic correction.
     pub italic: i32,
-    /// 0 for nothing, 1 for a program, 2 for a list of larger characters, 3 for a recipe.
+    /// 0: no tag. 1: the character has instructions in the lig/kern program. 2: it has a next larger
+    /// character. 3: it has an extensible recipe.
     pub tag: u32,
-    /// Where the program begins, the next larger character, or which recipe.
+    /// Tag 1: the address of an instruction, as it is in the file. 2: the code of the next larger character.
+    /// 3: the number of the recipe, starting at 0. Otherwise 0.
     pub remainder: u32,
 }
 
+/// Returns the number of a tag.
 fn tag_named(tag: Tag) -> u32
     ensures { result ≡ tag_number tag }
 {
@@ -38,7 +42,8 @@ fn tag_named(tag: Tag) -> u32
     }
 }
 
-fn behind(tag: Tag) -> u32
+/// Returns the remainder of a tag, or 0 if it has none.
+fn remainder(tag: Tag) -> u32
     ensures { result ≡ tag_rest tag }
 {
     match tag {
@@ -47,8 +52,9 @@ fn behind(tag: Tag) -> u32
     }
 }
 
+/// Returns the data of a character as C gets them.
 #[tactic(auto, unfolding(crate::specs::Characters::character_told))]
-fn tell(font: &FontMetrics, code: u8) -> TfmsetMetrics
+fn metrics_for_c(font: &FontMetrics, code: u8) -> TfmsetMetrics
     ensures { result ≡ metrics_told font.now code }
 {
     let nothing = TfmsetMetrics {
@@ -73,11 +79,14 @@ fn tell(font: &FontMetrics, code: u8) -> TfmsetMetrics
         depth: metrics.depth,
         italic: metrics.italic,
         tag: tag_named(tag),
-        remainder: behind(tag),
+        remainder: remainder(tag),
     }
 }
 
-/// The measures of the character with a code from 0 to 255.
+/// Reports the dimensions and the tag of the character `code`, 0 to 255, in `metrics`, or that the font
+/// doesn't have the character. `size` is in sp, and 0 is the design size. Returns: 0 after success, also for
+/// a character that the font doesn't have; 1 if the font is refused; 2 if an allocation fails; 4 if `size` is
+/// above 134,217,727 or `code` above 255. After every code except 0 `metrics` is unchanged.
 #[unsafe(no_mangle)]
 pub extern "C" fn tfmset_metrics(
     alloc: Global,
@@ -97,11 +106,11 @@ pub extern "C" fn tfmset_metrics(
     if size > MOST_SIZE || code > 255 {
         return RANGE;
     }
-    match open(alloc, font, size) {
+    match read_metrics(alloc, font, size) {
         Ok(font) => {
-            *metrics = tell(&font, code as u8);
+            *metrics = metrics_for_c(&font, code as u8);
             DONE
         }
-        Err(denial) => denial.answer(),
+        Err(denial) => denial.code(),
     }
 }

@@ -1,30 +1,32 @@
+//! `tfmset_pair`: the kern or the ligature operation between two neighbours.
 ghost use Rattle.std.specs.Prelude.{◌≡◌, ◌≢◌, ◌≤◌, ◌<◌, ◌↔◌, Some, None, IsSome, ◌⊎◌};
 ghost use Rattle.tfm_tables.specs.Acceptance.{font_fault_of};
-ghost use Rattle.tfmset_c.specs.Opening.{IsNoSize, font_at};
+ghost use Rattle.tfmset_c.specs.Reading.{IsNoSize, font_at};
 ghost use Rattle.tfmset_c.specs.Pairs.{action_told, left_symbol, pair_told, right_symbol};
 
-use crate::opening::{DONE, MOST_SIZE, RANGE, open_to_set};
+use crate::reading::{DONE, MOST_SIZE, RANGE, read_font};
 use lig_kern::{Action, Symbol, first_match};
 use std::alloc::Global;
 
-/// What a font's program does between two neighbours.
+/// The action of the lig/kern program of a font between two neighbours.
 #[repr(C)]
 #[derive(Clone, Copy, Debug, PartialEq, Eq)]
 pub struct TfmsetPair {
-    /// 0 for nothing, 1 for a kern, 2 for a ligature.
+    /// 0: none. 1: a kern. 2: a ligature operation.
     pub action: u32,
-    /// The kern, in scaled points.
+    /// Action 1: the kern, in sp. Otherwise 0.
     pub kern: i32,
-    /// The character that a ligature puts in.
+    /// Action 2: the code of the character that is inserted. Otherwise 0.
     pub code: u32,
-    /// 1 if a ligature keeps the left one.
+    /// Action 2: 1 if the left neighbour stays. Otherwise 0.
     pub keep_left: u32,
-    /// 1 if a ligature keeps the right one.
+    /// Action 2: 1 if the right neighbour stays. Otherwise 0.
     pub keep_right: u32,
-    /// How many elements a ligature passes over.
+    /// Action 2: the number of elements, 0 to 2, that are passed over after the operation. Otherwise 0.
     pub pass: u32,
 }
 
+/// Returns the left neighbour with this number: a code, or 256 for the left boundary.
 #[tactic(auto, unfolding(crate::specs::Pairs::left_symbol))]
 fn on_the_left(number: u32) -> Symbol
     requires { number ≤ 256 }
@@ -36,6 +38,7 @@ fn on_the_left(number: u32) -> Symbol
     Symbol::Char(number as u8)
 }
 
+/// Returns the right neighbour with this number: a code, or 256 for the right boundary.
 #[tactic(auto, unfolding(crate::specs::Pairs::right_symbol))]
 fn on_the_right(number: u32) -> Symbol
     requires { number ≤ 256 }
@@ -47,8 +50,9 @@ fn on_the_right(number: u32) -> Symbol
     Symbol::Char(number as u8)
 }
 
+/// Returns an action as C gets it.
 #[tactic(auto, unfolding(crate::specs::Pairs::action_told))]
-fn tell(action: Option<Action>) -> TfmsetPair
+fn action_for_c(action: Option<Action>) -> TfmsetPair
     ensures { result ≡ action_told action }
 {
     let nothing = TfmsetPair {
@@ -84,8 +88,11 @@ fn tell(action: Option<Action>) -> TfmsetPair
     }
 }
 
-/// What a font's program does between two codes from 0 to 255. As the left one 256 is the left
-/// boundary, as the right one the right boundary.
+/// Reports in `pair` the action of the lig/kern program of a font between two neighbours. `left` and `right`
+/// are codes from 0 to 255, or 256, which as `left` is the left boundary and as `right` the right boundary.
+/// `size` is in sp, and 0 is the design size. Returns: 0 after success, also if there is no action; 1 if the
+/// font is refused; 2 if an allocation fails; 4 if `size` is above 134,217,727, or `left` or `right` above
+/// 256. After every code except 0 `pair` is unchanged.
 #[unsafe(no_mangle)]
 pub extern "C" fn tfmset_pair(
     alloc: Global,
@@ -106,12 +113,12 @@ pub extern "C" fn tfmset_pair(
     if size > MOST_SIZE || left > 256 || right > 256 {
         return RANGE;
     }
-    match open_to_set(alloc, font, size) {
+    match read_font(alloc, font, size) {
         Ok(font) => {
             let action = first_match(&font, on_the_left(left), on_the_right(right));
-            *pair = tell(action);
+            *pair = action_for_c(action);
             DONE
         }
-        Err(denial) => denial.answer(),
+        Err(denial) => denial.code(),
     }
 }

@@ -1,25 +1,55 @@
-//! The records of a text's lines, as bytes.
-ghost use Rattle.std.specs.Prelude.{◌≡◌, ◌≢◌, ◌≤◌, ◌<◌, ◌+◌, ◌^◌, ◌↔◌, ◌⊎◌, None, IsSome, length, MatchOption};
+//! `tfmset_records`: writes the records of the lines of a text into an array of the caller.
+ghost use Rattle.std.specs.Prelude.{
+  ◌≡◌,
+  ◌≢◌,
+  ◌≤◌,
+  ◌<◌,
+  ◌+◌,
+  ◌^◌,
+  ◌↔◌,
+  ◌⊎◌,
+  None,
+  IsSome,
+  IfOk,
+  OnOk,
+  length,
+  MatchOption,
+};
+ghost use Rattle.set_line.specs.Record.{record_text};
 ghost use Rattle.tfm_tables.specs.Acceptance.{font_fault_of};
-ghost use Rattle.tfmset_c.specs.Filling.{AreRecordsTold};
+ghost use Rattle.tfmset_c.specs.Arrays.{AreRecordsTold, IsFilled};
 ghost use Rattle.tfmset_c.specs.Texts.{
   IsNoVersion,
   IsOutOfRange,
+  held,
   outcomes_of,
   records_told,
   terms_at,
   version_of,
 };
 
-use crate::asked::{in_range, terms_asked};
-use crate::filling::fill_records;
-use crate::opening::{DONE, MEMORY, NO_ROOM, RANGE};
-use crate::set::has_room;
-use set_line::{Terms, Version};
+use crate::arrays::{has_room, put_bytes};
+use crate::reading::{DONE, MEMORY, NO_ROOM, RANGE};
+use crate::settings::{Text, in_range, terms_of};
+use set_line::{
+    OutOfMemory, Outcome, RecordNumber, RecordTexts, Version, first_line, record_outcome, set_bytes,
+};
 use std::alloc::Global;
 
+/// The largest number of bytes in a text for which no item texts are made beforehand. Making them takes about
+/// as long as making the texts of this many items one by one.
+const FEW_BYTES: usize = 2_048;
+
+/// The format of the records of a text, and the number of the first one.
+#[derive(Clone, Copy)]
+struct Format {
+    version: Version,
+    first: RecordNumber,
+}
+
+/// Returns the record format with this number: 1, 2, or 3 for JSON. Returns `None` for any other number.
 #[tactic(auto, unfolding(crate::specs::Texts::version_of))]
-fn version_asked(version: u32) -> Option<Version>
+fn version_numbered(version: u32) -> Option<Version>
     ensures { MatchOption result (IsNoVersion version)
         (λ v. (v ≡ version_of version) × (IsNoVersion version → ⊥)) }
 {
@@ -31,22 +61,78 @@ fn version_asked(version: u32) -> Option<Version>
     }
 }
 
-fn record_text(
-    alloc: Global,
-    terms: &Terms,
-    text: &[u8],
-    numbers: (u64, u64),
+/// Returns item texts that are made beforehand, if the text is long enough. Records in JSON don't use them.
+fn texts_for(text: Text, version: Version) -> Option<RecordTexts> {
+    if version == Version::Json || text.bytes.len() <= FEW_BYTES {
+        return None;
+    }
+    Some(RecordTexts::new(text.terms.font()))
+}
+
+/// Replaces the contents of `made` with the record of an outcome.
+fn make_record(
+    made: &mut Vec<u8>,
+    number: RecordNumber,
+    outcome: &Outcome,
     version: Version,
+    texts: Option<&RecordTexts>,
+) -> Result<(), OutOfMemory>
+    ensures { OnOk result (made.new.items
+        ≡ record_text number.source number.line outcome.now version) }
+{
+    made.clear();
+    record_outcome(made, number, outcome, version, texts)
+}
+
+/// Sets the lines of a text, and writes their records into the array while there is room. Returns the number
+/// of bytes of all records, or 2^64 - 1 if it is larger. If an allocation fails, the contents of the array
+/// are unspecified.
+fn fill_records(
+    alloc: Global,
+    text: Text,
+    format: Format,
+    records: &mut [u8],
+) -> Result<usize, OutOfMemory>
+    requires { format.first.line + length text.bytes.now < 2 ^ 64 }
+    ensures length { IfOk result (λ count. count ≡ held (length (records_told format.first.source
+        format.first.line format.version (outcomes_of text.entry.terms.now text.entry.bytes.now)))) }
+    ensures records { IfOk result (λ count. IsFilled (records_told format.first.source
+        format.first.line format.version (outcomes_of text.entry.terms.now text.entry.bytes.now))
+        records.old records.new) }
+{
+    let texts = texts_for(text, format.version);
+    let mut list = Vec::new(alloc);
+    let mut made = Vec::new(alloc);
+    let mut number = format.first;
+    let mut at = 0;
+    let mut rest = text.bytes;
+    while let Some((line, more)) = first_line(rest) {
+        let outcome = set_bytes(text.terms, line, &mut list)?;
+        make_record(&mut made, number, &outcome, format.version, texts.as_ref())?;
+        at = put_bytes(records, at, &made);
+        outcome.give_back(&mut list);
+        number.line += 1;
+        rest = more;
+    }
+    Ok(at)
+}
+
+/// Writes the records of a text into the array. Returns: 0 after success; 2 if an allocation fails, with
+/// `count` unchanged; 3 if the array is too short.
+fn write_records(
+    alloc: Global,
+    text: Text,
+    format: Format,
     records: &mut [u8],
     count: &mut usize,
 ) -> u32
-    requires { numbers.1 + length text.now < 2 ^ 64 }
+    requires { format.first.line + length text.bytes.now < 2 ^ 64 }
     ensures answers { (result ≡ 0) ⊎ ((result ≡ 2) ⊎ (result ≡ 3)) }
-    ensures told { AreRecordsTold (records_told numbers.0 numbers.1 version
-        (outcomes_of terms.now text.now)) result count.old count.new
+    ensures told { AreRecordsTold (records_told format.first.source format.first.line format.version
+        (outcomes_of text.entry.terms.now text.entry.bytes.now)) result count.old count.new
         records.old records.new }
 {
-    let Ok(told) = fill_records(alloc, terms, text, numbers, version, records) else {
+    let Ok(told) = fill_records(alloc, text, format, records) else {
         return MEMORY;
     };
     *count = told;
@@ -56,8 +142,16 @@ fn record_text(
     NO_ROOM
 }
 
-/// The records of the lines of a text, as `tfmset_set` sets it: `source` is the number of their
-/// source, and `first` the place of the first line there. `version` is 1, 2, or 3 for JSON.
+/// Sets the lines of a text as [`tfmset_set`](crate::tfmset_set) does, and writes their records into
+/// `records`. `version` is the record format: 1, 2, or 3 for JSON. `source` is the number of the source in
+/// each record, and `first` is the number of the first line.
+///
+/// Returns: 0 after success, where `count` is the number of bytes that were written, and the other bytes of
+/// `records` are unchanged; 1 if the font is refused; 2 if an allocation fails; 3 if `records` is too short,
+/// where `count` is the number of bytes needed, or 2^64 - 1 if it is larger; 4 if `size`, `limit`, `policy`
+/// or `version` is out of range, or if the sum of `first` and the length of the text is 2^64 or more. After 1
+/// and 4 nothing is changed. After 2 `count` is unchanged. After 2 and 3 the contents of `records` are
+/// unspecified.
 #[unsafe(no_mangle)]
 pub extern "C" fn tfmset_records(
     alloc: Global,
@@ -82,25 +176,28 @@ pub extern "C" fn tfmset_records(
         (outcomes_of (terms_at font.now size limit policy) text.now)) result count.old count.new
         records.old records.new }
 {
-    let Some(asked) = in_range(size, limit, policy) else {
+    let Some(settings) = in_range(size, limit, policy) else {
         return RANGE;
     };
-    let Some(version) = version_asked(version) else {
+    let Some(version) = version_numbered(version) else {
         return RANGE;
     };
     if first > u64::MAX - text.len() as u64 {
         return RANGE;
     }
-    match terms_asked(alloc, font, asked) {
-        Ok(terms) => record_text(
-            alloc,
-            &terms,
-            text,
-            (source, first),
-            version,
-            records,
-            count,
-        ),
-        Err(denial) => denial.answer(),
+    match terms_of(alloc, font, settings) {
+        Ok(terms) => {
+            let text = Text {
+                terms: &terms,
+                bytes: text,
+            };
+            let first = RecordNumber {
+                source,
+                line: first,
+            };
+            let format = Format { version, first };
+            write_records(alloc, text, format, records, count)
+        }
+        Err(denial) => denial.code(),
     }
 }

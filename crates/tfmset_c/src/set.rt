@@ -1,38 +1,112 @@
-//! The lines of a text are set into arrays of the caller's.
-ghost use Rattle.std.specs.Prelude.{◌≡◌, ◌≢◌, ◌≤◌, ◌↔◌, ◌⊎◌, ℕ, None, IsSome, true, false};
+//! `tfmset_set` and `tfmset_widths`: set the lines of a text into arrays of the caller.
+ghost use Rattle.std.specs.Prelude.{◌≡◌, ◌≢◌, ◌≤◌, ◌↔◌, ◌⊎◌, ℕ, ◌∷◌, [], map, None, IsSome, IfOk};
 ghost use Rattle.tfm_tables.specs.Acceptance.{font_fault_of};
-ghost use Rattle.tfmset_c.specs.Filling.{AreLinesTold, AreTold, HasRoom};
-ghost use Rattle.tfmset_c.specs.Texts.{IsOutOfRange, held, outcomes_of, terms_at};
+ghost use Rattle.tfmset_c.specs.Arrays.{AreLinesTold, ArePut, AreTold, IsFilled};
+ghost use Rattle.tfmset_c.specs.Texts.{
+  IsOutOfRange,
+  counts_told,
+  held,
+  item_told,
+  items_in,
+  items_told,
+  line_told,
+  lines_told,
+  outcomes_of,
+  terms_at,
+};
 
-use crate::asked::{in_range, terms_asked};
-use crate::filling::fill;
-use crate::opening::{DONE, MEMORY, NO_ROOM, RANGE};
-use crate::told::{TfmsetCounts, TfmsetItem, TfmsetLine};
-use set_line::Terms;
+use crate::arrays::{has_room, put_item, put_line};
+use crate::lines::{TfmsetCounts, TfmsetItem, TfmsetLine, item_for_c, line_for_c};
+use crate::reading::{DONE, MEMORY, NO_ROOM, RANGE};
+use crate::settings::{Text, in_range, terms_of};
+use lig_kern::Item;
+use set_line::{OutOfMemory, Outcome, first_line, set_bytes};
 use std::alloc::Global;
 
-/// Whether there is room for so many things, and C can hold their number.
-#[tactic(auto, unfolding(crate::specs::Filling::HasRoom))]
-pub fn has_room(count: usize, room: usize) -> bool
-    ensures fits { (n : ℕ) → count ≡ held n → result ≡ true → HasRoom n room }
-    ensures lacks { (n : ℕ) → count ≡ held n → result ≡ false → HasRoom n room → ⊥ }
+/// Writes items, starting at index `first`, while there is room, and returns the index after all of them.
+fn put_items(items: &mut [TfmsetItem], first: usize, made: &[Item]) -> usize
+    ensures { ArePut (map item_told made.now) first result items.old items.new }
 {
-    count <= room && count < usize::MAX
+    let mut at = first;
+    for item in made {
+        at = put_item(items, at, item_for_c(*item));
+    }
+    at
 }
 
-fn set_text(
+/// Writes the items of a line, starting at index `first`, while there is room, and returns the index after
+/// all of them.
+#[tactic(auto, unfolding(crate::specs::Texts::items_in))]
+fn put_items_in(items: &mut [TfmsetItem], first: usize, outcome: &Outcome) -> usize
+    ensures { ArePut (map item_told (items_in outcome.now)) first result items.old items.new }
+{
+    match outcome {
+        Outcome::Set { items: made, .. } => put_items(items, first, made.as_slice()),
+        Outcome::Refused(_) => first,
+    }
+}
+
+/// Writes a line and its items, starting at the indices `at`, while there is room, and returns the indices
+/// after them.
+fn put_outcome(
+    lines: &mut [TfmsetLine],
+    items: &mut [TfmsetItem],
+    at: TfmsetCounts,
+    outcome: &Outcome,
+) -> TfmsetCounts
+    ensures line { (before : ℕ) → at.items ≡ held before
+        → ArePut (line_told before outcome.now ∷ []) at.lines result.lines lines.old lines.new }
+    ensures items { ArePut (map item_told (items_in outcome.now)) at.items result.items
+        items.old items.new }
+{
+    TfmsetCounts {
+        lines: put_line(lines, at.lines, line_for_c(outcome, at.items)),
+        items: put_items_in(items, at.items, outcome),
+    }
+}
+
+/// Sets the lines of a text, and writes the lines and their items into the arrays while there is room.
+/// Returns the numbers of lines and items. If an allocation fails, the contents of the arrays are
+/// unspecified.
+fn fill(
     alloc: Global,
-    terms: &Terms,
-    text: &[u8],
+    text: Text,
+    lines: &mut [TfmsetLine],
+    items: &mut [TfmsetItem],
+) -> Result<TfmsetCounts, OutOfMemory>
+    ensures counts { IfOk result (λ counts.
+        counts ≡ counts_told (outcomes_of text.entry.terms.now text.entry.bytes.now)) }
+    ensures lines { IfOk result (λ counts.
+        IsFilled (lines_told 0 (outcomes_of text.entry.terms.now text.entry.bytes.now)) lines.old lines.new) }
+    ensures items { IfOk result (λ counts.
+        IsFilled (items_told (outcomes_of text.entry.terms.now text.entry.bytes.now)) items.old items.new) }
+{
+    let mut list = Vec::new(alloc);
+    let mut counts = TfmsetCounts { lines: 0, items: 0 };
+    let mut rest = text.bytes;
+    while let Some((line, more)) = first_line(rest) {
+        let outcome = set_bytes(text.terms, line, &mut list)?;
+        counts = put_outcome(lines, items, counts, &outcome);
+        outcome.give_back(&mut list);
+        rest = more;
+    }
+    Ok(counts)
+}
+
+/// Sets the lines of a text into both arrays. Returns: 0 after success; 2 if an allocation fails, with
+/// `counts` unchanged; 3 if an array is too short.
+fn set_into(
+    alloc: Global,
+    text: Text,
     lines: &mut [TfmsetLine],
     items: &mut [TfmsetItem],
     counts: &mut TfmsetCounts,
 ) -> u32
     ensures answers { (result ≡ 0) ⊎ ((result ≡ 2) ⊎ (result ≡ 3)) }
-    ensures told { AreTold (outcomes_of terms.now text.now) result counts.old counts.new
-        lines.old lines.new items.old items.new }
+    ensures told { AreTold (outcomes_of text.entry.terms.now text.entry.bytes.now) result
+        counts.old counts.new lines.old lines.new items.old items.new }
 {
-    let Ok(told) = fill(alloc, terms, text, lines, items) else {
+    let Ok(told) = fill(alloc, text, lines, items) else {
         return MEMORY;
     };
     *counts = told;
@@ -42,19 +116,15 @@ fn set_text(
     NO_ROOM
 }
 
-fn set_lines(
-    alloc: Global,
-    terms: &Terms,
-    text: &[u8],
-    lines: &mut [TfmsetLine],
-    counts: &mut TfmsetCounts,
-) -> u32
+/// Sets the lines of a text into the array `lines`. Returns: 0 after success; 2 if an allocation fails, with
+/// `counts` unchanged; 3 if the array is too short.
+fn set_widths(alloc: Global, text: Text, lines: &mut [TfmsetLine], counts: &mut TfmsetCounts) -> u32
     ensures answers { (result ≡ 0) ⊎ ((result ≡ 2) ⊎ (result ≡ 3)) }
-    ensures told { AreLinesTold (outcomes_of terms.now text.now) result counts.old
+    ensures told { AreLinesTold (outcomes_of text.entry.terms.now text.entry.bytes.now) result counts.old
         counts.new lines.old lines.new }
 {
     let mut none: [TfmsetItem; 0] = [];
-    let Ok(told) = fill(alloc, terms, text, lines, &mut none) else {
+    let Ok(told) = fill(alloc, text, lines, &mut none) else {
         return MEMORY;
     };
     *counts = told;
@@ -64,9 +134,14 @@ fn set_lines(
     NO_ROOM
 }
 
-/// Sets the lines of a text, at a size in scaled points, or with 0 at the font's design size, with
-/// a limit on the steps of each line, and a policy for missing characters: 0 refuses the line, 1
-/// skips the character.
+/// Sets the lines of a text. `size` is in sp, and 0 is the design size. `limit` is the largest number of
+/// steps for a line. `policy` is 0 to refuse a line with a missing character, or 1 to skip the byte.
+///
+/// Returns: 0 after success, where `lines` and `items` have the results, `counts` has their numbers, and the
+/// other elements are unchanged; 1 if the font is refused; 2 if an allocation fails; 3 if an array is too
+/// short, where `counts` has the lengths needed; 4 if `size`, `limit` or `policy` is out of range. After 1
+/// and 4 nothing is changed. After 2 `counts` is unchanged. After 2 and 3 the contents of the arrays are
+/// unspecified.
 #[unsafe(no_mangle)]
 pub extern "C" fn tfmset_set(
     alloc: Global,
@@ -87,16 +162,23 @@ pub extern "C" fn tfmset_set(
     ensures told { AreTold (outcomes_of (terms_at font.now size limit policy) text.now) result
         counts.old counts.new lines.old lines.new items.old items.new }
 {
-    let Some(asked) = in_range(size, limit, policy) else {
+    let Some(settings) = in_range(size, limit, policy) else {
         return RANGE;
     };
-    match terms_asked(alloc, font, asked) {
-        Ok(terms) => set_text(alloc, &terms, text, lines, items, counts),
-        Err(denial) => denial.answer(),
+    match terms_of(alloc, font, settings) {
+        Ok(terms) => {
+            let text = Text {
+                terms: &terms,
+                bytes: text,
+            };
+            set_into(alloc, text, lines, items, counts)
+        }
+        Err(denial) => denial.code(),
     }
 }
 
-/// The same without the items.
+/// Sets the lines of a text as [`tfmset_set`] does, without returning the items: only `lines` has to be long
+/// enough. The numbers in `lines` and `counts`, and the codes, are those of `tfmset_set`.
 #[unsafe(no_mangle)]
 pub extern "C" fn tfmset_widths(
     alloc: Global,
@@ -116,11 +198,17 @@ pub extern "C" fn tfmset_widths(
     ensures told { AreLinesTold (outcomes_of (terms_at font.now size limit policy) text.now) result
         counts.old counts.new lines.old lines.new }
 {
-    let Some(asked) = in_range(size, limit, policy) else {
+    let Some(settings) = in_range(size, limit, policy) else {
         return RANGE;
     };
-    match terms_asked(alloc, font, asked) {
-        Ok(terms) => set_lines(alloc, &terms, text, lines, counts),
-        Err(denial) => denial.answer(),
+    match terms_of(alloc, font, settings) {
+        Ok(terms) => {
+            let text = Text {
+                terms: &terms,
+                bytes: text,
+            };
+            set_widths(alloc, text, lines, counts)
+        }
+        Err(denial) => denial.code(),
     }
 }

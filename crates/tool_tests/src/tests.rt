@@ -1,22 +1,22 @@
-use sample_fonts::files::{NO_CHARACTERS, PLAIN};
 use std::alloc::{AllocError, Global};
 use std::env::Env;
 use std::process::Abort;
 use std::rt::Files;
 use std::sync::Wait;
 use std::thread::Threads;
-use std::time::Clock;
+use test_support::fonts::files::{NO_CHARACTERS, PLAIN};
 use tfm_tool::tool;
 
-mod asked;
 mod checks;
+mod failing_streams;
+mod font_output;
 mod gates;
-mod kept_texts;
+mod prompt_records;
+mod reads_and_writes;
+mod set_each_calls;
+mod set_text_calls;
 mod settings;
-mod streamed;
-mod streaming;
-mod streams;
-mod texts;
+mod stream_text_calls;
 mod words_given;
 
 const TEXT: &str =
@@ -38,7 +38,7 @@ impl Outcome {
 }
 
 /// A run on words, with the bytes of a font as standard input.
-fn run<R: Abort + Files + Env + Threads + Wait + Clock + Sync + AllocGlobal>(
+fn run<R: Abort + Files + Env + Threads + Wait + Sync + AllocGlobal>(
     rt: &R,
     words: &[&str],
     font: &[u8],

@@ -1,4 +1,4 @@
--- What a run over readers says of their lines.
+-- The clauses of a batch over readers, for the lines of the readers.
 use Rattle.std.proofs.Common.{arith, ◌≡◌, ℕ, zero, suc, ◌<◌, Bool, true, false, List, [], ◌∷◌, ◌++◌, ◌∙◌, length, map, take, Option, Some, None, refl, ap, sym, subst}
 use Rattle.std.proofs.lemmas.List.{append-nil, length-append, length-map, map-append}
 use Rattle.std.specs.Prelude.{◌==◌, ℤ, IfOk, IfSome, Result, Ok, Err, if◌then◌else◌}
@@ -25,7 +25,7 @@ use Rattle.uses.specs.Told.{told_of}
 
 -- ---- reports
 
--- all answers are those of all lines
+-- if all lines have results, these are the results that are defined
 all_lines : (terms : TermsValue) (answers : List AnswerValue) (bytes : Option (List ℕ)) (before after : Option (List (List ℕ)))
     → before ≡ option_map lines_of bytes → AreAllAnswers terms answers before after → IfSome bytes (λ known. answers ≡ answers_of terms (lines_of known))
 all_lines terms answers None before after is all = tt
@@ -40,7 +40,7 @@ module _ {S : Type 0} where
     λ complete. all_lines terms report.answers bytes (to_come source) (to_come report.source) is (true_to.1 (ap Some complete)).1,
   )
 
-  -- the reports of two of them with the same terms
+  -- the reports of two such sources with the same settings
   pub two_reports : (to_come : S → Option (List (List ℕ))) (failed : S → Option SourceFault) (terms : TermsValue) (bytes others : Option (List ℕ))
       (a b : S) (own shared : Arc TermsValue Global) (reports : List (LaneReport S))
       → to_come a ≡ option_map lines_of bytes → to_come b ≡ option_map lines_of others → arc_value own ≡ terms → arc_value shared ≡ terms
@@ -53,7 +53,7 @@ module _ {S : Type 0} where
   )
   two_reports to_come failed terms bytes others a b own shared (r ∷ s ∷ t ∷ reports) is was first second are = elim are.1.1 [ ]
 
-  -- so it is of a run over them
+  -- the report of a batch over two readers
   pub two_readers : (to_come : S → Option (List (List ℕ))) (failed : S → Option SourceFault) (terms : TermsValue) (bytes others : Option (List ℕ))
       (a b : S) (own shared : Arc TermsValue Global) (sources : List (S × Arc TermsValue Global)) (result : Result (List (LaneReport S)) RunFault)
       → IfOk result (λ report. AreReported to_come failed sources report) → sources ≡ (a, own) ∷ (b, shared) ∷ []
@@ -64,21 +64,21 @@ module _ {S : Type 0} where
       (subst (λ list. AreReported to_come failed list report) these all)
   two_readers to_come failed terms bytes others a b own shared sources (Err fault) all these is was first second = tt
 
--- ---- what a collector was told
+-- ---- the list of a collector
 
--- an element that stands before both lists or before neither
+-- an element put before both lists or before neither
 perhaps_first : (b : Bool) (x : LaneEvent) (ys xs tail : List LaneEvent) → ys ≡ xs ++ tail
     → (if b then x ∷ ys else ys) ≡ (if b then x ∷ xs else xs) ++ tail
 perhaps_first true x ys xs tail e = ap (λ l. x ∷ l) e
 perhaps_first false x ys xs tail e = e
 
--- what came of the first lane, with one event more
+-- the events of the first lane, with one more event
 of_more : (events : List Event) (event : Event) → of_lane 0 (events ++ event ∷ []) ≡ of_lane 0 events ++ of_lane 0 (event ∷ [])
 of_more [] event = refl
 of_more (e ∷ events) event =
     perhaps_first (e.0 == 0) e.1 (of_lane 0 (events ++ event ∷ [])) (of_lane 0 events) (of_lane 0 (event ∷ [])) (of_more events event)
 
--- the answers of lists of events, one after the other
+-- the results in two lists of events, one list after the other
 answers_append : (xs ys : List LaneEvent) → answers_among (xs ++ ys) ≡ answers_among xs ++ answers_among ys
 answers_append [] ys = refl
 answers_append (Answered a ∷ xs) ys = ap (λ l. a ∷ l) (answers_append xs ys)
@@ -90,29 +90,29 @@ told_more events event =
     ∙ ap (λ l. map (λ answer. told_of answer.outcome) l) (answers_append (of_lane 0 events) (of_lane 0 (event ∷ [])))
     ∙ map-append (λ answer. told_of answer.outcome) (answers_in 0 events) (answers_in 0 (event ∷ []))
 
--- one answer more of the only lane
+-- the list with one more result of the only lane
 pub told_answer : (events : List Event) (lane : ℕ) (answer : AnswerValue) → lane < 1
     → told_in (events ++ (lane, Answered answer) ∷ []) ≡ told_in events ++ told_of answer.outcome ∷ []
 told_answer events zero answer below = told_more events (0, Answered answer)
 told_answer events (suc lane) answer below = absurd (omega arith)
 
--- which a list has that what is told of it was pushed to
+-- a collector's list after the width or refusal of that result was pushed
 pub told_pushed : (old new : List (Result ℤ LineRefusal)) (events : List Event) (lane : ℕ) (answer : AnswerValue) (told : Result ℤ LineRefusal)
     → lane < 1 → old ≡ told_in events → told ≡ told_of answer.outcome → new ≡ old ++ told ∷ [] → new ≡ told_in (events ++ (lane, Answered answer) ∷ [])
 told_pushed old new events lane answer told below has is pushed =
     pushed ∙ ap (λ l. l ++ told ∷ []) has ∙ ap (λ t. told_in events ++ t ∷ []) is ∙ sym (told_answer events lane answer below)
 
--- its end
+-- the list after the end of the only lane: unchanged
 pub told_end : (events : List Event) (lane : ℕ) (end : LaneEnd) → lane < 1 → told_in (events ++ (lane, Ended end) ∷ []) ≡ told_in events
 told_end events zero end below = told_more events (0, Ended end) ∙ append-nil (told_in events)
 told_end events (suc lane) end below = absurd (omega arith)
 
--- what is told of answers is told of their lines
+-- the widths and refusals of results are those of their lines
 told_of_answers : (terms : TermsValue) (lines : List (List ℕ)) → map (λ answer. told_of answer.outcome) (answers_of terms lines) ≡ lines_told terms lines
 told_of_answers terms [] = refl
 told_of_answers terms (line ∷ lines) = ap (λ l. told_of (answer_of terms line).outcome ∷ l) (told_of_answers terms lines)
 
--- so what is told of a lane is told of the lines of its reader
+-- the list of a collector has the widths and refusals of the lines of the reader
 module _ {S : Type 0} where
   pub told_lane : (to_come : S → Option (List (List ℕ))) (failed : S → Option SourceFault) (terms : TermsValue) (bytes : Option (List ℕ)) (source : S)
       (shared : Arc TermsValue Global) (lane : ClosedLane S) (end : LaneEnd) (events : List Event) (told : List (Result ℤ LineRefusal))
@@ -136,7 +136,7 @@ module _ {S : Type 0} where
             ∙ told_of_answers terms (lines_of known),
       )
 
-  -- of one source there is one lane
+  -- one source has one lane
   one_lane : (to_come : S → Option (List (List ℕ))) (failed : S → Option SourceFault) (events : List Event) (source : S × Arc TermsValue Global)
       (lanes rest : List (ClosedLane S)) (lane : ClosedLane S) → AreClosed to_come failed events 0 (source ∷ []) lanes → lanes ≡ rest ++ lane ∷ []
       → AreClosed to_come failed events 0 (source ∷ []) (lane ∷ [])
@@ -145,7 +145,7 @@ module _ {S : Type 0} where
   one_lane to_come failed events source (l ∷ []) (r ∷ rest) lane are is = absurd (omega (arith, ap length is, length-append rest (lane ∷ [])))
   one_lane to_come failed events source (l ∷ k ∷ lanes) rest lane are is = elim are.2 [ ]
 
-  -- what a collector that was told nothing holds after a run over one reader
+  -- the list of a collector that began empty, after a batch over one reader
   pub told_run : (to_come : S → Option (List (List ℕ))) (failed : S → Option SourceFault) (terms : TermsValue) (bytes : Option (List ℕ)) (source : S)
       (shared : Arc TermsValue Global) (sources : List (S × Arc TermsValue Global)) (result : Result (RunEnd S) RunFault) (run : RunEnd S)
       (before after : List (Result ℤ LineRefusal)) (rest : List (ClosedLane S)) (lane : ClosedLane S) (end : LaneEnd)

@@ -1,4 +1,4 @@
--- What is kept of the lines of a reader that are set in a run.
+-- The results of a batch that are kept for the lines of a reader.
 -- This project's own.
 use Rattle.std.specs.Prelude.{◌≡◌, ℕ, ℤ, List, length, map, take, Option, IfSome, Result}
 use Rattle.std.specs.Option.{option_map}
@@ -15,21 +15,23 @@ use Rattle.set_run.specs.declared.report.LaneReport.{LaneReport}
 use Rattle.uses.specs.Told.{told_of}
 
 module _ {S : Type 0} where
-  -- a lane has the answers of the first lines of a reader with these bytes; of all lines, if it is complete
+  -- a lane has the results of the first lines of a reader with these bytes; of all lines, if the lane is
+  -- complete
   abbrev pub IsReportOf : TermsValue → Option (List ℕ) → LaneReport S → Type 0
   IsReportOf terms bytes report =
       AreFirstAnswers terms report.answers (option_map lines_of bytes)
       × (report.end ≡ Complete → IfSome bytes (λ known. report.answers ≡ answers_of terms (lines_of known)))
 
--- what is told of the answers of the first lane, in order
+-- the width or the refusal of each result of the first lane, in order
 abbrev pub told_in : List Event → List (Result ℤ LineRefusal)
 told_in events = map (λ answer. told_of answer.outcome) (answers_in 0 events)
 
--- what is told of each of these lines
+-- the width or the refusal of each of these lines, in order
 abbrev pub lines_told : TermsValue → List (List ℕ) → List (Result ℤ LineRefusal)
 lines_told terms lines = map (λ line. told_of (outcome_of terms line)) lines
 
--- this is told of the first lines of a reader with these bytes; of all lines, if its lane is complete
+-- the list has the width or the refusal of the first lines of a reader with these bytes; of all lines, if the
+-- lane is complete
 abbrev pub IsToldOf : TermsValue → Option (List ℕ) → List (Result ℤ LineRefusal) → LaneEnd → Type 0
 IsToldOf terms bytes told end = IfSome bytes (λ known.
     (told ≡ lines_told terms (take (length told) (lines_of known)))

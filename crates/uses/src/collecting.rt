@@ -1,4 +1,4 @@
-//! A collector that keeps what is told of each line, and not the whole answers.
+//! A collector that keeps the width of each line, or the reason why the line is refused, but no items.
 ghost use Rattle.std.specs.Prelude.{◌≡◌, ◌⊎◌, IfErr, IfOk};
 ghost use Rattle.std.specs.Arc.{arc_value};
 ghost use Rattle.set_run.specs.declared.run_fault.RunFault.TheVariants.{OutOfMemory as NoMemory, Thread};
@@ -8,13 +8,15 @@ use crate::measuring::told;
 use crate::readers::plan;
 use line_lane::LaneEnd;
 use set_line::{Answer, LineRefusal, Terms};
-use set_run::{ClosedLane, Collector, NoGate, ReaderSource, Refusal, RunFault, run_into};
+use set_run::{
+    BatchOptions, ClosedLane, Collector, NoGate, ReaderSource, Refusal, RunFault, run_into,
+};
 use std::alloc::Global;
 use std::io::Read;
 use std::sync::{Arc, Wait};
 use std::thread::Threads;
 
-/// What is told of the lines of one source, in order: widths and refusals.
+/// The widths and refusals of the lines of one source, in order.
 #[derive(Drop)]
 struct ToldLines {
     told: Vec<Result<i64, LineRefusal>>,
@@ -48,8 +50,10 @@ impl Collector for ToldLines {
     }
 }
 
-/// Sets the lines of a reader, and keeps of each its width, or why it wasn't set; beside these stands how
-/// the reader's lane ended: if it is complete, they are those of all lines.
+/// Sets the lines of a reader, and returns for each line its width, in sp, or the reason why the line is
+/// refused, and after the list the end of the lane. The list is in order and begins with the first line; if
+/// the lane is complete, it has all lines. The error is `OutOfMemory` if allocation fails, or `Thread` if a
+/// thread can't be started.
 pub fn tell_lines<R: Threads + Wait + Sync, T: Read + Send + Drop>(
     rt: &R,
     alloc: Global,
@@ -67,9 +71,13 @@ pub fn tell_lines<R: Threads + Wait + Sync, T: Read + Send + Drop>(
     let nothing = ToldLines {
         told: Vec::new(alloc),
     };
-    let (lines, ended) = run_into(rt, alloc, sources, plan(), &NoGate, nothing);
+    let options = BatchOptions {
+        plan: plan(),
+        gate: &NoGate,
+    };
+    let (lines, ended) = run_into(rt, alloc, sources, options, nothing);
     let mut lanes = ended?.lanes;
-    // A lane has no end only if something was refused, and the collector refuses nothing but memory.
+    // A lane has no end only if the collector refused, which it does only if allocation fails.
     let Some(ClosedLane { end: Some(end), .. }) = lanes.pop() else {
         return Err(RunFault::OutOfMemory);
     };

@@ -1,4 +1,4 @@
-//! One line goes through a lane.
+//! Sets one line in a lane.
 ghost use Rattle.std.specs.Prelude.{◌≡◌, ◌++◌, ◌∷◌, [], IfSome};
 ghost use Rattle.std.specs.Arc.{arc_value};
 ghost use Rattle.set_line.specs.Answer.{answer_of};
@@ -9,7 +9,8 @@ use set_line::{Answer, Line, OutOfMemory, Terms};
 use std::alloc::Global;
 use std::sync::Arc;
 
-/// Three turns, for a message of one line: it is received, the line is set, and the answer is sent.
+/// Takes the three turns that a message of one line needs: one receives the message, one sets the line, and
+/// one sends the result. Returns `OutOfMemory` if allocation fails.
 fn take_turns(setter: &mut Setter) -> Result<(), OutOfMemory>
     ensures lane { SameSetter setter.old setter.new }
     ensures terms { (state_of setter.new).terms ≡ (state_of setter.old).terms }
@@ -20,7 +21,7 @@ fn take_turns(setter: &mut Setter) -> Result<(), OutOfMemory>
     Ok(())
 }
 
-/// Takes an answer, if one is there.
+/// Takes a result, or returns `None` if none is available.
 fn take_answer(taker: &mut Taker) -> Option<Answer>
     ensures lane { SameTaker taker.old taker.new }
     ensures taken { IfSome result (λ answer. taken taker.new ≡ taken taker.old ++ answer ∷ []) }
@@ -31,8 +32,8 @@ fn take_answer(taker: &mut Taker) -> Option<Answer>
     }
 }
 
-/// Feeds a line to a lane that nothing was fed to, has it set, and takes its answer. `settle` says that
-/// what was taken answers what was fed. `None` if memory was refused.
+/// Offers a line to an unused lane, sets it, and takes its result. Returns `None` if allocation fails.
+/// `settle` is called for its clause, which states that the results taken are those of the lines fed.
 fn set_first(feeder: Feeder, setter: Setter, taker: Taker, line: Line) -> Option<Answer>
     requires lane { IsLane feeder setter taker }
     requires fed { fed feeder ≡ [] }
@@ -53,8 +54,8 @@ fn set_first(feeder: Feeder, setter: Setter, taker: Taker, line: Line) -> Option
     Some(answer)
 }
 
-/// Sets a line on its way through a lane of its own: the answer that is defined for it with these terms.
-/// `None` if memory was refused.
+/// Opens a lane, sets one line in it, and returns the result that is defined for the line with these
+/// settings. Returns `None` if allocation fails.
 pub fn set_in_lane(alloc: Global, terms: Arc<Terms>, line: Line) -> Option<Answer>
     ensures { IfSome result (λ answer. answer ≡ answer_of (arc_value terms) line) }
 {

@@ -1,4 +1,4 @@
-//! How the libraries are called: short functions, each with a clause that says what it gives.
+//! Short functions that show how to call the libraries. Each has a clause that states its result.
 #![tactic(auto)]
 
 pub use collecting::tell_lines;

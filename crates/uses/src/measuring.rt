@@ -1,4 +1,4 @@
-//! Words and lines are measured.
+//! Returns the width of a line, or the reason why the line is refused.
 ghost use Rattle.std.specs.Prelude.{◌≡◌, IfOk, IfErr};
 ghost use Rattle.tfm_tables.specs.Font.{FontValue, IsFontOf, IsRefusalOf};
 ghost use Rattle.set_line.specs.declared.policy.Policy.TheVariants.{Refuse, Skip};
@@ -10,7 +10,7 @@ use std::sync::Arc;
 use tfm_tables::{Font, FontFault};
 use tfm_words::Size;
 
-/// The width of the line that this answer is for, in scaled points, or why it wasn't set.
+/// Returns the width of the answer's line, in sp, or the reason why the line is refused.
 pub(crate) fn told(answer: &Answer) -> Result<i64, LineRefusal>
     ensures { result ≡ told_of answer.now.outcome }
 {
@@ -20,9 +20,9 @@ pub(crate) fn told(answer: &Answer) -> Result<i64, LineRefusal>
     }
 }
 
-/// The width of a line with this font, in scaled points: kerns and ligatures are made within the limit,
-/// and bytes that are no characters are skipped. Else why the line wasn't set: it is too long, or takes
-/// too many steps.
+/// Sets a line with this font and returns its width, in sp. Missing characters are skipped. The inner error
+/// is the reason why the line is refused: it is longer than 65,535 bytes, or it needs more steps than the
+/// limit. The outer error is `OutOfMemory`, if allocation fails.
 pub fn width_without_missing(
     alloc: Global,
     font: Font,
@@ -40,9 +40,10 @@ pub fn width_without_missing(
     }
 }
 
-/// Reads the font in these bytes at a size, else at its design size, and measures a word: its width in
-/// scaled points, or why it isn't set within the limit. The error is the font's first fault; that memory
-/// was refused is answered in place of none.
+/// Reads the font in these bytes, sets a word with it, and returns the width of the word, in sp. The font is
+/// read at `size`, or without one at its design size. The inner error is the reason why the word is refused:
+/// it has a missing character, is longer than 65,535 bytes, or needs more steps than the limit. The outer
+/// error is the first error of the font, or `FontFault::OutOfMemory` if allocation fails.
 pub fn measure_word(
     alloc: Global,
     bytes: &[u8],

@@ -1,4 +1,4 @@
-//! Two readers are set in one run, which keeps all answers.
+//! Sets the lines of two readers in one batch, and keeps all results.
 ghost use Rattle.std.specs.Prelude.{◌≡◌, ◌⊎◌, [], ◌∷◌, IfErr, IfOk};
 ghost use Rattle.std.specs.Arc.{arc_value};
 ghost use Rattle.std.specs.List.{AllZip};
@@ -13,7 +13,7 @@ use std::io::Read;
 use std::sync::{Arc, Wait};
 use std::thread::Threads;
 
-/// Rings with places for 64 messages of eight lines, and two threads that set lines, at most.
+/// Returns a plan with 64 slots in each ring, blocks of eight lines, and at most two threads that set lines.
 pub(crate) fn plan() -> Plan {
     let (Some(capacity), Some(block), Some(workers)) = (
         Capacity::new(64),
@@ -29,9 +29,9 @@ pub(crate) fn plan() -> Plan {
     }
 }
 
-/// Sets the lines of two readers with the same terms, at the same time. The report has a lane for each,
-/// with the answers of the first of its lines: of all, if the lane is complete. Else why there is no
-/// report: memory was refused, or a thread.
+/// Sets the lines of two readers concurrently, with the same settings. The report has a lane for each reader,
+/// in this order, with the results of its first lines; of all its lines, if the lane is complete. The error
+/// is `OutOfMemory` if allocation fails, or `Thread` if a thread can't be started.
 pub fn set_two_readers<R: Threads + Wait + Sync, T: Read + Send + Drop>(
     rt: &R,
     alloc: Global,

@@ -1,6 +1,6 @@
 //! The files that stand as bytes are those that the parts make.
-use sample_fonts::{NO_CHARACTERS, PLAIN, examples, files};
 use std::test::Fail;
+use test_support::fonts::{NO_CHARACTERS, PLAIN, examples, files};
 
 #[test]
 fn the_files_are_those_of_the_parts(rt: HostRuntime) -> Result<(), Fail> {

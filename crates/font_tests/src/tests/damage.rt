@@ -1,8 +1,10 @@
 use super::slow::slow_fault;
-use sample_fonts::{LEFT_BOUNDARY, LIGATURE, PLAIN, RIGHT_BOUNDARY, Sample, header, header_texts};
 use std::io::Print;
 use std::process::Abort;
 use std::test::Fail;
+use test_support::fonts::{
+    LEFT_BOUNDARY, LIGATURE, PLAIN, RIGHT_BOUNDARY, Sample, header, header_texts,
+};
 use tfm_tables::Font;
 use tfm_words::Size;
 

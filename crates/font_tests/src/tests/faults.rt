@@ -1,10 +1,10 @@
 use super::faulty::{CHARACTERS_AND_FIRST_ENTRIES, FORMS_OF_B, MEASURES, TOO_WIDE};
 use super::faulty_programs::{ACCEPTED, FIRST_INSTRUCTIONS, PROGRAMS};
-use sample_fonts::{
-    A, C, KERN_BEFORE_B, KERN_BEFORE_C, LIGATURE, PLAIN, Sample, with_characters, with_program,
-};
 use std::process::Abort;
 use std::test::Fail;
+use test_support::fonts::{
+    A, C, KERN_BEFORE_B, KERN_BEFORE_C, LIGATURE, PLAIN, Sample, with_characters, with_program,
+};
 use tfm_tables::{Font, FontFault, Part, Step};
 use tfm_words::Table::Height;
 use tfm_words::{CountFault, DesignFault, Size};

@@ -1,5 +1,5 @@
 //! Fonts with faults, and the fault that is named of each.
-use sample_fonts::{
+use test_support::fonts::{
     A_FROM_0, B, BACK, C, HALF, Info, KERN_BEFORE_B, KERN_BEFORE_C, LIGATURE, LIGATURE_C, NOTHING,
     PLAIN, Sample,
 };

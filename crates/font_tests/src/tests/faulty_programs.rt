@@ -1,5 +1,5 @@
 //! Programs with faults, and the fault that is named of each.
-use sample_fonts::{
+use test_support::fonts::{
     KERN_BEFORE_B, KERN_BEFORE_C, LEFT_BOUNDARY, LIGATURE, LIGATURE_C, NO_CHARACTERS, PLAIN,
     RIGHT_BOUNDARY, Sample,
 };

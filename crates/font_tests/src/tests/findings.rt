@@ -1,12 +1,12 @@
-use super::listings::Failing;
-use font_texts::{Finding, FontTextFault, check_text, finding_text};
-use sample_fonts::files::NO_CHARACTERS;
+use font_texts::{Finding, check_text, finding_text};
 use std::process::Abort;
 use std::test::Fail;
+use test_support::FailingWriter;
+use test_support::fonts::files::NO_CHARACTERS;
 use tfm_tables::{FontFault, Part};
 use tfm_words::{Count, CountFault, DesignFault, Size, Table};
 
-/// A look at these bytes under this name finds this, and its line stands after what was there.
+/// Checks that these bytes have this finding, and that its line under this name is this one.
 fn checks<R: Abort + AllocGlobal>(
     rt: &R,
     name: &str,
@@ -15,16 +15,9 @@ fn checks<R: Abort + AllocGlobal>(
     line: &str,
 ) -> Result<(), Fail> {
     for size in [None, Size::new(1), Size::new(134_217_727)] {
-        let mut out = Vec::from_slice(rt.alloc(), b"before\n")?;
-        let found = check_text(rt.alloc(), name, bytes, size, &mut out);
-        assert!(rt;
-            matches!(&found, Ok(finding) if *finding == wanted),
-            "{line}"
-        );
-        assert!(rt;
-            out.strip_prefix(b"before\n") == Some(line.as_bytes()),
-            "{line}"
-        );
+        let (finding, text) = check_text(rt.alloc(), name, bytes, size)?;
+        assert!(rt; finding == wanted, "{line}");
+        assert!(rt; text.as_slice() == line.as_bytes(), "{line}");
     }
     Ok(())
 }
@@ -155,10 +148,8 @@ static TABLES: [Told; 11] = [
 ];
 
 /// The line of a finding under the name `x`.
-fn line<R: Abort + AllocGlobal>(rt: &R, finding: Finding) -> Result<String, Fail> {
-    let mut out = Vec::new(rt.alloc());
-    assert!(rt; finding_text(rt.alloc(), "x", finding, &mut out).is_ok());
-    Ok(String::from_utf8(out)?)
+fn line<R: AllocGlobal>(rt: &R, finding: Finding) -> Result<String, Fail> {
+    Ok(String::from_utf8(finding_text(rt.alloc(), "x", finding)?)?)
 }
 
 #[test]
@@ -171,25 +162,6 @@ fn each_finding_has_its_words(rt: HostRuntime) -> Result<(), Fail> {
             let wanted = format!(in rt.alloc(); "x: refused: {words}\n")?;
             assert!(rt; told.as_str() == wanted.as_str(), "{words}");
         }
-    }
-    Ok(())
-}
-
-#[test]
-fn a_finding_whose_write_fails_is_told(rt: HostRuntime) -> Result<(), Fail> {
-    for room in [0, 1, 11] {
-        let mut out = Failing { room };
-        let told = check_text(rt.alloc(), "x", &NO_CHARACTERS, None, &mut out);
-        assert!(rt;
-            matches!(told, Err(FontTextFault::Write)),
-            "after {room} bytes"
-        );
-        let mut out = Failing { room };
-        let told = finding_text(rt.alloc(), "x", Finding::NotRead, &mut out);
-        assert!(rt;
-            matches!(told, Err(FontTextFault::Write)),
-            "after {room} bytes"
-        );
     }
     Ok(())
 }

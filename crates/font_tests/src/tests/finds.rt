@@ -1,11 +1,11 @@
-use sample_fonts::{
-    A_FROM_0, BACK, BOUNDARY_EXISTS, ENDLESS, INDIRECT, Info, KERN_BEFORE_B, KERN_BEFORE_C,
-    LEFT_BOUNDARY, LIGATURE, NO_CHARACTERS, NO_PROGRAM, NOTHING, PLAIN, RIGHT_BOUNDARY, Sample,
-    largest, largest_program,
-};
 use std::alloc::{AllocError, Global};
 use std::process::Abort;
 use std::test::Fail;
+use test_support::fonts::{
+    A_FROM_0, A_FROM_1, BACK, BOUNDARY_EXISTS, ENDLESS, INDIRECT, Info, LEFT_BOUNDARY, LIGATURE,
+    NO_CHARACTERS, NO_PROGRAM, NOTHING, PLAIN, RIGHT_BOUNDARY, SKIPPING, Sample, TWO_KERNS,
+    kern_before, largest, largest_program,
+};
 use tfm_tables::{Font, LeftSide, Step};
 
 const BOUNDARY: LeftSide = LeftSide::Boundary;
@@ -102,38 +102,8 @@ fn the_table_of_pairs(rt: HostRuntime) -> Result<(), Fail> {
 
 /// Instructions that are not met: later ones for the same code, and skipped ones.
 static NOT_MET: [(&str, Sample<'static>, &[Pair]); 2] = [
-    (
-        "b twice",
-        Sample {
-            program: &[
-                Step {
-                    skip: 0,
-                    next: 98,
-                    op: 128,
-                    remainder: 0,
-                },
-                KERN_BEFORE_B,
-                KERN_BEFORE_B,
-            ],
-            ..LIGATURE
-        },
-        &[(A, 98, Some(0)), (A, 99, None)],
-    ),
-    (
-        "a skip",
-        Sample {
-            program: &[
-                Step {
-                    skip: 1,
-                    ..KERN_BEFORE_C
-                },
-                KERN_BEFORE_C,
-                KERN_BEFORE_B,
-            ],
-            ..LIGATURE
-        },
-        &[(A, 99, Some(0)), (A, 98, Some(2))],
-    ),
+    ("b twice", TWO_KERNS, &[(A, 98, Some(0)), (A, 99, None)]),
+    ("a skip", SKIPPING, &[(A, 99, Some(0)), (A, 98, Some(2))]),
 ];
 
 #[test]
@@ -165,10 +135,7 @@ fn first_address(program: &[Step], start: Option<usize>, code: u8) -> Option<usi
 fn three_codes(program: &[Step]) -> Sample<'_> {
     const STARTS: [Info; 3] = [
         A_FROM_0,
-        Info {
-            remainder: 1,
-            ..A_FROM_0
-        },
+        A_FROM_1,
         Info {
             remainder: 2,
             ..A_FROM_0
@@ -260,9 +227,7 @@ fn long_program(alloc: Global) -> Result<Vec<Step>, AllocError> {
         let skip = if i == 31_999 { 128 } else { 0 };
         program.push(Step {
             skip,
-            next,
-            op: 128,
-            remainder: 0,
+            ..kern_before(next, 0)
         })?;
     }
     Ok(program)

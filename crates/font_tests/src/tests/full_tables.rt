@@ -1,10 +1,10 @@
 //! A font whose tables are as long as characters can name: 256 widths, 16 heights, 16 depths and 64 italic
 //! corrections.
 use font_texts::list_text;
-use sample_fonts::{Info, NOTHING, PLAIN, Sample};
 use std::alloc::{AllocError, Global};
 use std::process::Abort;
 use std::test::Fail;
+use test_support::fonts::{Info, NOTHING, PLAIN, Sample};
 use tfm_tables::{Font, Metrics};
 
 /// A table of this many entries: entry `i` is 256 times `i`, at 10 points 160 times `i` scaled points.
@@ -109,8 +109,7 @@ fn each_entry_of_full_tables_is_read_and_listed(rt: HostRuntime) -> Result<(), F
     assert_eq!(rt; file.len(), 4 * 618);
     let font = Font::read(rt.alloc(), &file, None)?;
     has_characters(&rt, &font);
-    let mut out = Vec::new(rt.alloc());
-    assert!(rt; list_text(rt.alloc(), &font, &mut out).is_ok());
-    assert!(rt; out.as_slice() == full_listing(rt.alloc())?.as_bytes());
+    let text = list_text(rt.alloc(), &font)?;
+    assert!(rt; text.as_slice() == full_listing(rt.alloc())?.as_bytes());
     Ok(())
 }

@@ -1,7 +1,7 @@
 use super::readers::read;
-use sample_fonts::{PLAIN, Sample, header, header_texts};
 use std::process::Abort;
 use std::test::Fail;
+use test_support::fonts::{PLAIN, Sample, header, header_texts};
 use tfm_tables::Font;
 
 /// The text is there, and this.

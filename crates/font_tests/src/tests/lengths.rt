@@ -1,7 +1,7 @@
 //! Fonts of which a part is long are read, and tell all that they hold.
-use sample_fonts::lengths::{LONG, Lengths, amount_of};
 use std::process::Abort;
 use std::test::Fail;
+use test_support::fonts::lengths::{LONG, Lengths, amount_of};
 use tfm_tables::{Font, LeftSide, Tag};
 
 /// The font has this kern.

@@ -1,19 +1,12 @@
-use font_texts::{FontTextFault, list_all_text, list_text};
-use sample_fonts::{
-    A, AHEAD, B, HALF, Info, NOTHING, PLAIN, Sample, header, ligature_program, with_program,
-};
+use font_texts::{list_all_text, list_text};
 use std::alloc::{AllocError, Global};
-use std::io;
-use std::io::Write;
 use std::process::Abort;
 use std::test::Fail;
+use test_support::FailingWriter;
+use test_support::fonts::examples::ligature;
+use test_support::fonts::{A, AHEAD, B, HALF, Info, NOTHING, PLAIN, Sample, header};
 use tfm_tables::{Font, FontFault, Step};
 use tfm_words::CountFault;
-
-/// The file of the font in which a and b are replaced by this operation.
-fn ligature(alloc: Global, op: u8) -> Result<Vec<u8>, AllocError> {
-    with_program(&ligature_program(op, 99)).file(alloc)
-}
 
 /// No characters, at 5 points, with a coding scheme, a family and the last word of a header of 18.
 fn header_file(
@@ -35,11 +28,7 @@ fn listing(alloc: Global, bytes: &[u8]) -> Result<Vec<u8>, Fail> {
     let font = Font::read(alloc, bytes, None)
         .ok()
         .ok_or("the font is refused")?;
-    let mut out = Vec::new(alloc);
-    match list_text(alloc, &font, &mut out) {
-        Ok(()) => Ok(out),
-        Err(_) => Err("the listing failed")?,
-    }
+    Ok(list_text(alloc, &font)?)
 }
 
 /// The listing of a font is this one.
@@ -220,21 +209,11 @@ static ALL: &[u8] = b"lf 17\n\
 fn all_of_a_font_is_listed(rt: HostRuntime) -> Result<(), Fail> {
     let mut bytes = RECIPES.file(rt.alloc())?;
     bytes.extend_from_slice(&[1, 2, 3, 4])?; // after the font
-    let mut out = Vec::new(rt.alloc());
-    assert!(rt; list_all_text(rt.alloc(), &bytes, None, &mut out).is_ok());
-    assert_eq!(rt; out.as_slice(), ALL);
+    let text = list_all_text(rt.alloc(), &bytes, None)?;
+    assert_eq!(rt; text.as_slice(), ALL);
     let cut = FontFault::Counts(CountFault::Truncated { need: 68 });
-    let told = list_all_text(rt.alloc(), &bytes[..bytes.len().min(67)], None, &mut out);
-    assert!(rt; matches!(&told, Err(FontTextFault::Font(fault)) if *fault == cut));
-    assert_eq!(rt; out.as_slice(), ALL);
-    for room in [0, 1, 300] {
-        let mut out = Failing { room };
-        let told = list_all_text(rt.alloc(), &bytes, None, &mut out);
-        assert!(rt;
-            matches!(told, Err(FontTextFault::Write)),
-            "after {room} bytes"
-        );
-    }
+    let told = list_all_text(rt.alloc(), &bytes[..bytes.len().min(67)], None);
+    assert!(rt; matches!(&told, Err(fault) if *fault == cut));
     Ok(())
 }
 
@@ -267,44 +246,6 @@ fn each_operation_has_its_name(rt: HostRuntime) -> Result<(), Fail> {
     for (op, line) in &OPERATIONS {
         let text = text_with(rt.alloc(), *op)?;
         assert!(rt; text.contains(*line), "operation {op}");
-    }
-    Ok(())
-}
-
-/// A writer that takes some bytes, and then fails.
-#[derive(Drop)]
-pub struct Failing {
-    pub room: usize,
-}
-
-impl Write for Failing {
-    fn write(&mut self, buf: &[u8]) -> io::Result<usize> {
-        if self.room == 0 {
-            return Err(io::Error::from(io::ErrorKind::StorageFull));
-        }
-        let taken = buf.len().min(self.room);
-        self.room -= taken;
-        Ok(taken)
-    }
-
-    fn flush(&mut self) -> io::Result<()> {
-        Ok(())
-    }
-}
-
-#[test]
-fn a_listing_whose_write_fails_is_told(rt: HostRuntime) -> Result<(), Fail> {
-    let bytes = ligature(rt.alloc(), 0)?;
-    let font = Font::read(rt.alloc(), &bytes, None)
-        .ok()
-        .ok_or("the font is refused")?;
-    for room in [0, 1, 11, 300] {
-        let mut out = Failing { room };
-        let result = list_text(rt.alloc(), &font, &mut out);
-        assert!(rt;
-            matches!(result, Err(FontTextFault::Write)),
-            "after {room} bytes"
-        );
     }
     Ok(())
 }

@@ -1,9 +1,9 @@
 //! The listings of fonts of which a part is long, put together line by line as the format says.
 use font_texts::{Finding, check_text, list_all_text, list_text};
-use sample_fonts::lengths::{LONG, Lengths, amount_of};
 use std::alloc::Global;
 use std::process::Abort;
 use std::test::Fail;
+use test_support::fonts::lengths::{LONG, Lengths, amount_of};
 use tfm_tables::Font;
 
 /// The twelve counts.
@@ -118,9 +118,8 @@ fn lists<R: Abort + AllocGlobal>(
     listing: &str,
 ) -> Result<(), Fail> {
     let font = Font::read(rt.alloc(), file, None)?;
-    let mut out = Vec::new(rt.alloc());
-    assert!(rt; list_text(rt.alloc(), &font, &mut out).is_ok(), "{case}");
-    assert!(rt; out.as_slice() == listing.as_bytes(), "{case}");
+    let text = list_text(rt.alloc(), &font)?;
+    assert!(rt; text.as_slice() == listing.as_bytes(), "{case}");
     Ok(())
 }
 
@@ -137,24 +136,20 @@ fn lists_all<R: Abort + AllocGlobal>(
     wanted.push_str(listing)?;
     add_recipes(&mut wanted, lengths.recipes)?;
     add_words(&mut wanted, file, words)?;
-    let mut out = Vec::new(rt.alloc());
-    assert!(rt;
-        list_all_text(rt.alloc(), file, None, &mut out).is_ok(),
-        "{case}"
-    );
-    assert!(rt; out.as_slice() == wanted.as_bytes(), "{case}");
+    let text = list_all_text(rt.alloc(), file, None)?;
+    assert!(rt; text.as_slice() == wanted.as_bytes(), "{case}");
     Ok(())
 }
 
 /// The font is found to be accepted.
-fn is_accepted<R: Abort + AllocGlobal>(rt: &R, case: &str, file: &[u8]) {
-    let mut out = Vec::new(rt.alloc());
-    let found = check_text(rt.alloc(), "long.tfm", file, None, &mut out);
-    assert!(rt; matches!(found, Ok(Finding::Accepted)), "{case}");
+fn is_accepted<R: Abort + AllocGlobal>(rt: &R, case: &str, file: &[u8]) -> Result<(), Fail> {
+    let (finding, text) = check_text(rt.alloc(), "long.tfm", file, None)?;
+    assert!(rt; finding == Finding::Accepted, "{case}");
     assert!(rt;
-        out.as_slice() == b"long.tfm: accepted\n".as_slice(),
+        text.as_slice() == b"long.tfm: accepted\n".as_slice(),
         "{case}"
     );
+    Ok(())
 }
 
 #[test]
@@ -164,7 +159,7 @@ fn a_font_with_a_long_part_is_listed_whole(rt: HostRuntime) -> Result<(), Fail> 
         let listing = listing_of(rt.alloc(), lengths)?;
         lists(&rt, case, &file, &listing)?;
         lists_all(&rt, case, (lengths, *words), &file, &listing)?;
-        is_accepted(&rt, case, &file);
+        is_accepted(&rt, case, &file)?;
     }
     Ok(())
 }

@@ -1,11 +1,11 @@
 use super::readers::read;
-use sample_fonts::{
+use std::process::Abort;
+use std::test::Fail;
+use test_support::fonts::{
     A_FROM_0, A_FROM_1, BACK, BOUNDARY_EXISTS, C, ENDLESS, INDIRECT, KERN_BEFORE_C, LEFT_BOUNDARY,
     LIGATURE, NO_CHARACTERS, NO_PROGRAM, PLAIN, RIGHT_BOUNDARY, Sample, ligature_program,
     with_program,
 };
-use std::process::Abort;
-use std::test::Fail;
 use tfm_tables::{Font, LeftSide, Step};
 
 /// Where the programs of the boundary, a, b, c and d begin.

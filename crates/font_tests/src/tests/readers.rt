@@ -1,10 +1,10 @@
-use sample_fonts::{
-    A, A_FROM_0, AHEAD, BACK, C, HALF, Info, KERN_BEFORE_C, LIGATURE, NO_CHARACTERS, NOTHING,
-    PLAIN, QUARTER, Sample, THREE_QUARTERS,
-};
 use std::alloc::Global;
 use std::process::Abort;
 use std::test::Fail;
+use test_support::fonts::{
+    A, A_FROM_0, AHEAD, BACK, C, HALF, Info, KERN_BEFORE_C, LIGATURE, NO_CHARACTERS, NOTHING,
+    PLAIN, QUARTER, Sample, THREE_QUARTERS,
+};
 use tfm_tables::{Font, LeftSide, Metrics, Tag};
 use tfm_words::Size;
 

@@ -1,7 +1,7 @@
 use super::faults::is_truncated;
-use sample_fonts::{RIGHT_BOUNDARY, largest, largest_program};
 use std::process::Abort;
 use std::test::Fail;
+use test_support::fonts::{RIGHT_BOUNDARY, largest, largest_program};
 use tfm_tables::{Font, FontFault, LeftSide, Step};
 
 /// The font has this instruction at an address.

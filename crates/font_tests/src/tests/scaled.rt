@@ -1,7 +1,7 @@
 use super::readers::read;
-use sample_fonts::{BACK, HALF, PLAIN, PLAIN_PARAMETERS, Sample};
 use std::process::Abort;
 use std::test::Fail;
+use test_support::fonts::{BACK, HALF, PLAIN, PLAIN_PARAMETERS, Sample};
 use tfm_tables::{Font, Metrics};
 
 /// Parameters, a size, and the answers for the numbers from 0 on.

@@ -1,7 +1,7 @@
-use sample_fonts::{LIGATURE, NO_CHARACTERS, PLAIN, Sample};
 use std::alloc::{AllocError, Global};
 use std::process::Abort;
 use std::test::Fail;
+use test_support::fonts::{LIGATURE, NO_CHARACTERS, PLAIN, Sample};
 use tfm_words::Table::{
     CharInfo, Depth, Exten, Header, Height, Italic, Kern, LigKern, Param, Width,
 };

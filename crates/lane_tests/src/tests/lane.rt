@@ -1,11 +1,11 @@
 //! A lane whose three ends stand in one place.
 ghost use Rattle.line_lane.specs.Ends.{IsLane};
 
-use super::samples::sizes;
 use line_lane::{Feeder, LaneEnd, Open, Setter, Taker, open, settle};
 use set_line::Terms;
 use std::alloc::Global;
 use std::sync::Arc;
+use test_support::sizes;
 
 /// The three ends of a lane.
 #[derive(Drop)]

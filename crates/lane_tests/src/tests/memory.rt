@@ -4,14 +4,15 @@
 //! it is made again, and a line that was in hand is set by the next turn. The text that is printed
 //! says which it was.
 use super::lane::Lane;
-use super::samples::{ligature, line};
-use lig_kern::Item;
 use line_lane::{LaneEnd, SourceEnd, Took, Turn};
 use set_line::{Answer, OutOfMemory, Outcome, Terms};
 use std::alloc::Global;
 use std::process::Abort;
 use std::sync::Arc;
 use std::test::Fail;
+use test_support::items::A_C_B;
+use test_support::line;
+use test_support::terms::ligature_terms;
 
 /// Whether a lane with these terms is opened.
 fn opens(alloc: Global, terms: Arc<Terms>) -> bool {
@@ -30,16 +31,16 @@ fn told_of_opening<R: Abort + AllocGlobal>(rt: &R, terms: Arc<Terms>) -> &'stati
 
 #[test]
 fn a_refused_request_of_an_opening(rt: HostRuntime) -> Result<(), Fail> {
-    let told = match ligature(rt.alloc()) {
+    let told = match ligature_terms(rt.alloc()) {
         Some(terms) => told_of_opening(&rt, terms),
         None => "refused before the opening",
     };
     Ok(println!(rt; "{told}")?)
 }
 
-/// Feeds a line of a and b; `None` if memory was refused, or it isn't accepted.
+/// Feeds a line of a and b; `None` if an allocation fails, or it isn't accepted.
 fn feed(alloc: Global, lane: &mut Lane) -> Option<()> {
-    lane.feeder.offer(line(alloc, "ab")?).ok()
+    lane.feeder.offer(line(alloc, b"ab")?).ok()
 }
 
 /// Feeds three such lines, and closes the feeder. Whether all went well.
@@ -55,7 +56,7 @@ fn fill(alloc: Global, lane: &mut Lane) -> bool {
 /// A closed lane with two lines in its first message, and one in the next; `None` if memory was
 /// refused.
 fn ready(alloc: Global) -> Option<Lane> {
-    let mut lane = Lane::open(alloc, ligature(alloc)?, 2, 2)?;
+    let mut lane = Lane::open(alloc, ligature_terms(alloc)?, 2, 2)?;
     if fill(alloc, &mut lane) {
         Some(lane)
     } else {
@@ -97,24 +98,6 @@ fn takes_turns<R: Abort>(rt: &R, lane: &mut Lane) -> u32 {
     refused
 }
 
-/// The items of each line, which are more than it has bytes.
-static ITEMS: [Item; 5] = [
-    Item::Char {
-        code: 97,
-        width: 327_680,
-    },
-    Item::Kern(-40_960),
-    Item::Char {
-        code: 99,
-        width: 491_520,
-    },
-    Item::Kern(20_480),
-    Item::Char {
-        code: 98,
-        width: 163_840,
-    },
-];
-
 /// Whether the line was set in four steps with its items.
 fn is_right(answer: &Answer) -> bool {
     match answer.outcome() {
@@ -122,7 +105,7 @@ fn is_right(answer: &Answer) -> bool {
             items,
             width,
             steps,
-        } => items.as_slice() == ITEMS.as_slice() && *width == 962_560 && *steps == 4,
+        } => items.as_slice() == A_C_B.as_slice() && *width == 962_560 && *steps == 4,
         Outcome::Refused(_) => false,
     }
 }

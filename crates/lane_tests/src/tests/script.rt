@@ -1,8 +1,10 @@
 //! Scripts of calls, and what plays them.
+use super::answers::is_answer;
 use super::lane::Lane;
-use super::samples::{is_answer, line, plain};
 use line_lane::{LaneEnd, OfferFault, SourceEnd, Took, Turn};
 use std::process::Abort;
+use test_support::line;
+use test_support::terms::plain_terms;
 
 /// What becomes of a line that is offered.
 #[derive(Clone, Copy)]
@@ -49,7 +51,7 @@ fn is_offered<R: Abort + AllocGlobal>(
     text: &str,
     wanted: Offered,
 ) -> bool {
-    let line = line(rt.alloc(), text).expect(rt, "memory");
+    let line = line(rt.alloc(), text.as_bytes()).expect(rt, "memory");
     match lane.feeder.offer(line) {
         Ok(()) => matches!(wanted, Offered::Accepted),
         Err(OfferFault::NoRoom(back)) => {
@@ -113,7 +115,7 @@ fn makes<R: Abort + AllocGlobal>(rt: &R, name: &str, lane: Lane, calls: &[Step])
 
 /// Plays a script.
 pub fn plays<R: Abort + AllocGlobal>(rt: &R, script: &Script) {
-    let terms = plain(rt.alloc()).expect(rt, "memory");
+    let terms = plain_terms(rt.alloc()).expect(rt, "memory");
     let lane = Lane::open(rt.alloc(), terms, script.capacity, script.block);
     let mut lane = lane.expect(rt, "memory");
     for calls in script.calls {

@@ -1,7 +1,7 @@
 //! The three ends of a lane in three threads.
 ghost use Rattle.line_lane.specs.Ends.{IsLane, SameFeeder, SameSetter, SameTaker};
 
-use super::samples::{plain, recorded, sizes};
+use super::answers::recorded;
 use line_lane::{Feeder, LaneEnd, OfferFault, Setter, SourceEnd, Taker, Took, Turn, open, settle};
 use set_line::{Answer, Line, OutOfMemory, Terms, set};
 use std::alloc::Global;
@@ -9,6 +9,8 @@ use std::process::Abort;
 use std::sync::{Arc, Wait};
 use std::thread;
 use std::thread::Threads;
+use test_support::sizes;
+use test_support::terms::plain_terms;
 
 /// How many lines go through a lane.
 const LINES: u32 = 1_000;
@@ -168,7 +170,7 @@ fn go_through<R: Threads + Wait + Abort + AllocGlobal + Sync>(
 ) {
     let alloc = rt.alloc();
     let (capacity, block) = sizes(capacity, block).expect(rt, "sizes in range");
-    let terms = plain(alloc).expect(rt, "memory");
+    let terms = plain_terms(alloc).expect(rt, "memory");
     let again = terms.clone().expect(rt, "memory");
     let (feeder, setter, taker) = open(alloc, again, capacity, block).expect(rt, "memory");
     let lines = all_lines(rt);

@@ -6,12 +6,14 @@ ghost use Rattle.std.specs.Arc.{arc_value};
 ghost use Rattle.line_lane.specs.Lane.{answers_of};
 ghost use Rattle.line_lane.specs.Ends.{IsLane, SameFeeder, SameSetter, SameTaker, fed, state_of, taken};
 
-use super::samples::{is_answer, ligature, line, plain, sizes};
+use super::answers::is_answer;
 use line_lane::{Feeder, LaneEnd, Setter, SourceEnd, Taker, Took, open, settle};
 use set_line::{Answer, Line, Terms};
 use std::alloc::Global;
 use std::process::Abort;
 use std::sync::Arc;
+use test_support::terms::{ligature_terms, plain_terms};
+use test_support::{lines_of, sizes};
 
 /// Feeds the lines, and closes the feeder.
 fn feed_all<R: Abort>(rt: &R, feeder: &mut Feeder, lines: Vec<Line>)
@@ -125,16 +127,6 @@ fn two_lanes<R: Abort>(
     (finish(rt, alloc, feeder, setter, taker), behind)
 }
 
-/// The lines of these texts.
-fn lines<R: Abort>(rt: &R, alloc: Global, texts: &[&str]) -> Vec<Line> {
-    let mut lines = Vec::new(alloc);
-    for text in texts {
-        let line = line(alloc, text).expect(rt, "memory");
-        lines.push(line).expect(rt, "memory");
-    }
-    lines
-}
-
 /// The answers are to these lines, and have these records, in order.
 fn are<R: Abort + AllocGlobal>(rt: &R, answers: &[Answer], wanted: &[(&str, &str)]) {
     let mut place = 0;
@@ -164,12 +156,12 @@ static SECOND: [(&str, &str); 2] = [
 fn two_lanes_through_lists(rt: HostRuntime) {
     let alloc = rt.alloc();
     let terms = (
-        plain(alloc).expect(&rt, "memory"),
-        ligature(alloc).expect(&rt, "memory"),
+        plain_terms(alloc).expect(&rt, "memory"),
+        ligature_terms(alloc).expect(&rt, "memory"),
     );
     let lines = (
-        lines(&rt, alloc, &["a", "ab", "ad"]),
-        lines(&rt, alloc, &["ab", "a"]),
+        lines_of(alloc, &["a", "ab", "ad"]).expect(&rt, "memory"),
+        lines_of(alloc, &["ab", "a"]).expect(&rt, "memory"),
     );
     let (ones, others) = two_lanes(&rt, alloc, terms, lines);
     are(&rt, &ones, &FIRST);

@@ -1,6 +1,5 @@
 mod matches;
 mod memory;
 mod rewriting;
-mod samples;
 mod slow;
 mod words;

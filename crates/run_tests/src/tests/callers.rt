@@ -1,10 +1,11 @@
 //! The short callers of the libraries give what they say, and not nothing.
 use super::reports::text_of;
-use super::samples::{LIMIT, line, plain};
 use line_lane::LaneEnd;
-use sample_fonts::PLAIN;
 use set_line::{Limit, LineRefusal, Outcome};
 use std::test::Fail;
+use test_support::fonts::PLAIN;
+use test_support::line;
+use test_support::terms::{LIMIT, plain_terms};
 use tfm_tables::Font;
 use uses::{
     measure_word, refusal_words, set_in_lane, set_two_readers, tell_lines, width_without_missing,
@@ -51,8 +52,8 @@ fn a_refused_font_has_its_words(rt: HostRuntime) -> Result<(), Fail> {
 #[test]
 fn a_line_comes_through_a_lane(rt: HostRuntime) -> Result<(), Fail> {
     let alloc = rt.alloc();
-    let terms = plain(alloc).ok_or("out of memory")?;
-    let line = line(alloc, "ab").ok_or("out of memory")?;
+    let terms = plain_terms(alloc).ok_or("out of memory")?;
+    let line = line(alloc, b"ab").ok_or("out of memory")?;
     let answer = set_in_lane(alloc, terms, line).ok_or("no answer")?;
     assert!(&rt; matches!(answer.outcome(), Outcome::Set { width: 491_520, .. }));
     Ok(())
@@ -70,7 +71,7 @@ const TWO_READERS: &str = "\
 #[test]
 fn two_readers_are_set_whole(rt: HostRuntime) -> Result<(), Fail> {
     let alloc = rt.alloc();
-    let terms = plain(alloc).ok_or("out of memory")?;
+    let terms = plain_terms(alloc).ok_or("out of memory")?;
     let (first, second): (&[u8], &[u8]) = (b"ab\nad\n", b"c");
     let report = set_two_readers(&rt, alloc, terms, first, second)?;
     let text = text_of(alloc, &report)?;
@@ -81,7 +82,7 @@ fn two_readers_are_set_whole(rt: HostRuntime) -> Result<(), Fail> {
 #[test]
 fn all_lines_of_a_reader_are_told(rt: HostRuntime) -> Result<(), Fail> {
     let alloc = rt.alloc();
-    let terms = plain(alloc).ok_or("out of memory")?;
+    let terms = plain_terms(alloc).ok_or("out of memory")?;
     let reader: &[u8] = b"ab\nad\nc";
     let (told, end) = tell_lines(&rt, alloc, terms, reader)?;
     let wanted = [Ok(491_520), MISSING, Ok(491_520)];

@@ -2,15 +2,14 @@
 ghost use Rattle.std.specs.Prelude.{◌<◌};
 
 use super::reports::sources_of_ab;
-use super::samples::plan;
 use line_lane::LaneEnd;
 use set_line::{Answer, Outcome};
-use set_run::{ClosedLane, Collector, ListSource, NoGate, Refusal, RunEnd, run_into};
+use set_run::{BatchOptions, ClosedLane, Collector, ListSource, NoGate, Refusal, RunEnd, run_into};
 use std::process::Abort;
 use std::sync::Wait;
 use std::test::Fail;
 use std::thread::Threads;
-use std::time::Clock;
+use test_support::plan;
 
 /// How many lines each source has.
 static LINES: [usize; 3] = [2, 0, 3];
@@ -113,7 +112,7 @@ fn agrees<R: Abort>(rt: &R, case: u32, got: &Refuses, i: usize, lane: &ClosedLan
 }
 
 /// A run whose collector refuses after this many events, or at its first wait.
-fn stops<R: Threads + Wait + Clock + Abort + AllocGlobal + Sync>(
+fn stops<R: Threads + Wait + Abort + AllocGlobal + Sync>(
     rt: &R,
     taken: u32,
     waits: bool,
@@ -128,8 +127,10 @@ fn stops<R: Threads + Wait + Clock + Abort + AllocGlobal + Sync>(
         rt,
         rt.alloc(),
         sources,
-        plan,
-        &NoGate,
+        BatchOptions {
+            plan,
+            gate: &NoGate,
+        },
         Refuses::new(taken, waits, refusal),
     );
     let Ok(

@@ -1,86 +1,33 @@
 //! Runs with sources that fail.
 use super::reports::reports;
-use super::samples::{line, plain, plan};
-use super::trickle::{Asked, Trickle};
 use line_lane::SourceFault;
-use set_line::{Line, Terms};
-use set_run::{LineSource, ReaderSource};
+use set_line::Terms;
+use set_run::ReaderSource;
 use std::alloc::Global;
 use std::process::Abort;
 use std::sync::{Arc, Wait};
 use std::test::Fail;
 use std::thread::Threads;
-use std::time::Clock;
 use std::vec;
+use test_support::terms::plain_terms;
+use test_support::{FailingSource, TricklingReader, plan, with_terms};
 
-/// More reads than any text takes here.
-const ALL: usize = 2_000_000;
+/// More reads than any text takes.
+const ALL: usize = usize::MAX;
 
-/// A source that gives its lines and then meets a fault, if it has one.
-#[derive(Drop)]
-struct Frail {
-    lines: vec::IntoIter<Line>,
-    fault: Option<SourceFault>,
-    failed: Option<SourceFault>,
-}
-
-impl Frail {
-    /// A source of these lines; `None` if memory was refused.
-    fn new(alloc: Global, texts: &[&str], fault: Option<SourceFault>) -> Option<Frail> {
-        let mut lines = Vec::new(alloc);
-        for text in texts {
-            lines.push(line(alloc, text)?).ok()?;
-        }
-        Some(Frail {
-            lines: lines.into_iter(),
-            fault,
-            failed: None,
-        })
-    }
-}
-
-impl LineSource for Frail {
-    ghost use Rattle.std.specs.Prelude.{None};
-
-    ghost to_come = { λ _. None };
-
-    ghost failed = { λ source. source.failed };
-
-    ghost Origin = { Unit {0} };
-
-    ghost origin = { λ _. tt };
-
-    fn next_line(&mut self) -> Result<Option<Line>, SourceFault> {
-        if let Some(fault) = self.failed {
-            return Err(fault);
-        }
-        if let Some(line) = self.lines.next() {
-            return Ok(Some(line));
-        }
-        match self.fault {
-            None => Ok(None),
-            Some(fault) => {
-                self.failed = Some(fault);
-                Err(fault)
-            }
-        }
-    }
-}
-
-/// Two sources of the plain font.
+/// Two sources of the plain font; `None` if an allocation fails.
 fn two<S: Drop>(alloc: Global, first: S, second: S) -> Option<Vec<(S, Arc<Terms>)>> {
-    let terms = plain(alloc)?;
     let mut sources = Vec::with_capacity(alloc, 2).ok()?;
-    sources.push((first, terms.clone().ok()?)).ok()?;
-    sources.push((second, terms)).ok()?;
-    Some(sources)
+    sources.push(first).ok()?;
+    sources.push(second).ok()?;
+    with_terms(alloc, &plain_terms(alloc)?, sources)
 }
 
-/// A source of `ab` and `c` that fails so, and one of `a`; `None` if memory was refused.
-fn frail_and_good(alloc: Global, fault: SourceFault) -> Option<Vec<(Frail, Arc<Terms>)>> {
-    let frail = Frail::new(alloc, &["ab", "c"], Some(fault))?;
-    let good = Frail::new(alloc, &["a"], None)?;
-    two(alloc, frail, good)
+/// A source of `ab` and `c` that fails so, and one of `a`; `None` if an allocation fails.
+fn failing_and_good(alloc: Global, fault: SourceFault) -> Option<Vec<(FailingSource, Arc<Terms>)>> {
+    let failing = FailingSource::new(alloc, &["ab", "c"], Some(fault))?;
+    let good = FailingSource::new(alloc, &["a"], None)?;
+    two(alloc, failing, good)
 }
 
 /// Faults, their words and what is reported of both sources.
@@ -106,14 +53,14 @@ static FAULTS: [(SourceFault, &str, &str); 3] = [
 ];
 
 /// The lines before this fault are answered in blocks of this many.
-fn answers_before<R: Threads + Wait + Clock + Abort + AllocGlobal + Sync>(
+fn answers_before<R: Threads + Wait + Abort + AllocGlobal + Sync>(
     rt: &R,
     (fault, word, wanted): (SourceFault, &str, &str),
     block: usize,
 ) -> Result<(), Fail> {
     let plan = plan(1, block, 2)?;
     let case = format!(in rt.alloc(); "{word} block {block}")?;
-    let sources = frail_and_good(rt.alloc(), fault).ok_or("out of memory")?;
+    let sources = failing_and_good(rt.alloc(), fault).ok_or("out of memory")?;
     reports(rt, &case, sources, plan, (wanted, false))
 }
 
@@ -134,50 +81,38 @@ const TWO_READERS: &str = "\
 2 end complete 1
 ";
 
-/// A reader of `ab` and `c` that fails at its second read, and one of `a`; `None` if memory was
-/// refused.
-fn two_readers(
-    alloc: Global,
-    asked: &Asked,
-) -> Option<Vec<(ReaderSource<Trickle<'_>>, Arc<Terms>)>> {
-    let first = ReaderSource::new(alloc, Trickle::new(b"ab\nc", 4, 1, asked));
-    let second = ReaderSource::new(alloc, Trickle::new(b"a", 4, ALL, asked));
+/// A source whose reader trickles.
+type Trickling<'a> = (ReaderSource<TricklingReader<'a>>, Arc<Terms>);
+
+/// A reader of `ab` and `c` that fails at its second read, and one of `a`; `None` if an allocation fails.
+fn two_readers<'a>(alloc: Global) -> Option<Vec<Trickling<'a>>> {
+    let first = ReaderSource::new(alloc, TricklingReader::new(b"ab\nc", 4, 1));
+    let second = ReaderSource::new(alloc, TricklingReader::new(b"a", 4, ALL));
     two(alloc, first, second)
 }
 
 #[test]
 fn a_line_cut_off_by_a_fault_is_not_given(rt: HostRuntime) -> Result<(), Fail> {
-    let asked = Asked::new();
     for block in [1, 8] {
         let plan = plan(1, block, 2)?;
-        let sources = two_readers(rt.alloc(), &asked).ok_or("out of memory")?;
+        let sources = two_readers(rt.alloc()).ok_or("out of memory")?;
         reports(&rt, "two readers", sources, plan, (TWO_READERS, false))?;
     }
     Ok(())
 }
 
-/// A source of this reader.
-fn alone(
-    alloc: Global,
-    reader: Trickle<'_>,
-) -> Result<Vec<(ReaderSource<Trickle<'_>>, Arc<Terms>)>, Fail> {
-    let terms = plain(alloc).ok_or("out of memory")?;
-    let mut sources = Vec::new(alloc);
-    sources.push((ReaderSource::new(alloc, reader), terms))?;
-    Ok(sources)
-}
-
 /// A run of one reader, which gives a byte at a time, has this report.
-fn reads_alone<R: Threads + Wait + Clock + Abort + AllocGlobal + Sync>(
+fn reads_alone<R: Threads + Wait + Abort + AllocGlobal + Sync>(
     rt: &R,
     case: &str,
     (bytes, good_reads): (&[u8], usize),
     wanted: (&str, bool),
 ) -> Result<(), Fail> {
     let plan = plan(1, 1, 1)?;
-    let asked = Asked::new();
-    let reader = Trickle::new(bytes, 1, good_reads, &asked);
-    let sources = alone(rt.alloc(), reader)?;
+    let reader = TricklingReader::new(bytes, 1, good_reads);
+    let mut sources = Vec::new(rt.alloc());
+    let terms = plain_terms(rt.alloc()).ok_or("out of memory")?;
+    sources.push((ReaderSource::new(rt.alloc(), reader), terms))?;
     reports(rt, case, sources, plan, wanted)
 }
 

@@ -1,8 +1,7 @@
 //! The lines of a source that isn't ready are sent: a line has its result before the next one is given.
-use super::samples::{line, plain, plan};
 use line_lane::{LaneEnd, SourceFault};
 use set_line::{Answer, Line, Terms};
-use set_run::{Collector, LineSource, NoGate, Refusal, run_into};
+use set_run::{BatchOptions, Collector, LineSource, NoGate, Refusal, run_into};
 use std::alloc::Global;
 use std::process::Abort;
 use std::sync::atomic::{AtomicBool, AtomicU32, Ordering};
@@ -11,6 +10,8 @@ use std::test::Fail;
 use std::thread::Threads;
 use std::time::{Clock, Duration};
 use std::{thread, vec};
+use test_support::terms::plain_terms;
+use test_support::{plan, repeated_line};
 
 /// How many lines the source has.
 const LINES: u32 = 20;
@@ -50,14 +51,14 @@ impl Progress {
 
 /// A source that is never ready, and gives a line only when all lines before it have their results.
 #[derive(Drop)]
-struct Cautious<'a, R> {
+struct CautiousSource<'a, R> {
     rt: &'a R,
     progress: &'a Progress,
     given: u32,
     lines: vec::IntoIter<Line>,
 }
 
-impl<R: Clock> LineSource for Cautious<'_, R> {
+impl<R: Clock> LineSource for CautiousSource<'_, R> {
     ghost use Rattle.std.specs.Prelude.{None};
 
     ghost to_come = { λ _. None };
@@ -81,11 +82,11 @@ impl<R: Clock> LineSource for Cautious<'_, R> {
 
 /// Counts the results that it is given.
 #[derive(Drop)]
-struct Counts<'a> {
+struct CountingCollector<'a> {
     progress: &'a Progress,
 }
 
-impl Collector for Counts<'_> {
+impl Collector for CountingCollector<'_> {
     ghost use Rattle.std.specs.Prelude.{⊤};
 
     ghost lanes = { λ c. 64 };
@@ -110,24 +111,21 @@ impl Collector for Counts<'_> {
     }
 }
 
-/// A cautious source of lines `ab`; `None` if memory was refused.
+/// A cautious source of lines `ab`; `None` if an allocation fails.
 fn source_of<'a, R: Clock>(
     rt: &'a R,
     alloc: Global,
     progress: &'a Progress,
-) -> Option<Vec<(Cautious<'a, R>, Arc<Terms>)>> {
-    let mut lines = Vec::new(alloc);
-    for _ in 0..LINES {
-        lines.push(line(alloc, "ab")?).ok()?;
-    }
-    let source = Cautious {
+) -> Option<Vec<(CautiousSource<'a, R>, Arc<Terms>)>> {
+    let lines = repeated_line(alloc, "ab", LINES as usize)?;
+    let source = CautiousSource {
         rt,
         progress,
         given: 0,
         lines: lines.into_iter(),
     };
     let mut sources = Vec::new(alloc);
-    sources.push((source, plain(alloc)?)).ok()?;
+    sources.push((source, plain_terms(alloc)?)).ok()?;
     Some(sources)
 }
 
@@ -144,10 +142,14 @@ fn is_prompt<R: Threads + Wait + Clock + Abort + AllocGlobal + Sync>(
     if sources.len() > 64 {
         return Err("too many sources".into());
     }
-    let counts = Counts {
+    let counts = CountingCollector {
         progress: &progress,
     };
-    let (_, ended) = run_into(rt, rt.alloc(), sources, plan, &NoGate, counts);
+    let options = BatchOptions {
+        plan,
+        gate: &NoGate,
+    };
+    let (_, ended) = run_into(rt, rt.alloc(), sources, options, counts);
     let _run = ended?;
     assert!(rt; !progress.late.load(Ordering::SeqCst), "{case}");
     assert_eq!(rt; progress.results.load(Ordering::SeqCst), LINES, "{case}");

@@ -1,14 +1,14 @@
 //! Many lines of many sources, compared with the same lines set one after the other.
-use super::samples::{LIMIT, plan, terms_of};
-use sample_fonts::LIGATURE;
-use set_line::{Answer, Line, Outcome, Terms, set};
+use set_line::{Answer, Line, Outcome, Policy, Terms, set};
 use set_run::{ListSource, NoGate, Report, run};
 use std::alloc::Global;
 use std::process::Abort;
 use std::sync::{Arc, Wait};
 use std::test::Fail;
 use std::thread::Threads;
-use std::time::Clock;
+use test_support::fonts::LIGATURE;
+use test_support::terms::{LIMIT, terms_of};
+use test_support::{line, plan};
 
 const SOURCES: usize = 64;
 
@@ -18,15 +18,14 @@ const LINES: usize = 2_000;
 /// What the lines are, in turn.
 static TEXTS: [&str; 7] = ["ab", "", "acb", "ab abc", "ad", "  ", "cbacb a"];
 
-/// The line of a source at this place; `None` if memory was refused.
+/// The line of a source at this place; `None` if an allocation fails.
 fn line_at(alloc: Global, source: usize, place: usize) -> Option<Line> {
     let kind = source.wrapping_add(place) % 7;
     let text = TEXTS.get(kind)?;
-    let bytes = Vec::from_slice(alloc, text.as_bytes()).ok()?;
-    Some(Line::new(bytes))
+    line(alloc, text.as_bytes())
 }
 
-/// All sources; `None` if memory was refused.
+/// All sources; `None` if an allocation fails.
 fn sources_of(alloc: Global, terms: &Arc<Terms>) -> Option<Vec<(ListSource, Arc<Terms>)>> {
     let mut sources = Vec::with_capacity(alloc, SOURCES).ok()?;
     for source in 0..SOURCES {
@@ -37,7 +36,7 @@ fn sources_of(alloc: Global, terms: &Arc<Terms>) -> Option<Vec<(ListSource, Arc<
     Some(sources)
 }
 
-/// The lines of a source; `None` if memory was refused.
+/// The lines of a source; `None` if an allocation fails.
 fn lines_of(alloc: Global, source: usize) -> Option<ListSource> {
     let mut lines = Vec::with_capacity(alloc, LINES).ok()?;
     for place in 0..LINES {
@@ -67,7 +66,7 @@ fn are_equal(one: &Answer, other: &Answer) -> bool {
     outcomes && one.line().bytes() == other.line().bytes()
 }
 
-/// The line of a source at this place, set alone; `None` if memory was refused.
+/// The line of a source at this place, set alone; `None` if an allocation fails.
 fn answer_at(alloc: Global, terms: &Arc<Terms>, source: usize, place: usize) -> Option<Answer> {
     let line = line_at(alloc, source, place)?;
     set(alloc, terms.clone().ok()?, line).ok()
@@ -91,13 +90,14 @@ fn are_right<R: Abort + AllocGlobal>(
 }
 
 /// All lines are set by this many threads, in blocks of this many.
-fn sets_all<R: Threads + Wait + Clock + Abort + AllocGlobal + Sync>(
+fn sets_all<R: Threads + Wait + Abort + AllocGlobal + Sync>(
     rt: &R,
     threads: usize,
     block: usize,
 ) -> Result<(), Fail> {
     let plan = plan(1, block, threads)?;
-    let terms = terms_of(rt.alloc(), &LIGATURE, LIMIT).ok_or("out of memory")?;
+    let file = LIGATURE.file(rt.alloc());
+    let terms = terms_of(rt.alloc(), file, LIMIT, Policy::Refuse).ok_or("out of memory")?;
     let sources = sources_of(rt.alloc(), &terms).ok_or("out of memory")?;
     let report = run(rt, rt.alloc(), sources, plan, &NoGate)?;
     assert!(rt; report.is_finished(), "threads {threads} block {block}");

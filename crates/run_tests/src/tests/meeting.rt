@@ -1,5 +1,4 @@
 //! A gate that holds threads until others came by, and sources that tell it when they are asked.
-use super::samples::line;
 use line_lane::SourceFault;
 use set_line::Line;
 use set_run::{Gate, LineSource, Stage};
@@ -7,6 +6,7 @@ use std::alloc::Global;
 use std::process::Abort;
 use std::sync::atomic::{AtomicBool, AtomicU64, Ordering};
 use std::{hint, thread, vec};
+use test_support::repeated_line;
 
 /// How often a thread looks for another one, before it notes a failure.
 const LOOKS: u32 = 67_108_864;
@@ -187,22 +187,18 @@ pub struct Guest<'a> {
 }
 
 impl<'a> Guest<'a> {
-    /// A source of this many lines `ab`, which is always ready, or never; `None` if memory was refused.
+    /// A source of this many lines `ab`, which is always ready, or never; `None` if an allocation fails.
     pub fn new(
         alloc: Global,
         meeting: &'a Meeting,
         number: usize,
         (count, ready): (usize, bool),
     ) -> Option<Guest<'a>> {
-        let mut lines = Vec::new(alloc);
-        for _ in 0..count {
-            lines.push(line(alloc, "ab")?).ok()?;
-        }
         Some(Guest {
             meeting,
             number,
             ready,
-            lines: lines.into_iter(),
+            lines: repeated_line(alloc, "ab", count)?.into_iter(),
         })
     }
 }

@@ -4,28 +4,14 @@
 //! lane's first answers are there, and all those of the other lanes. The text that is printed says
 //! which it was.
 use super::plans::three_sources;
-use super::samples::plan;
 use lig_kern::Item;
 use line_lane::LaneEnd;
 use set_line::{Answer, LineRefusal, Outcome};
 use set_run::{LaneReport, ListSource, NoGate, Report, RunFault, run};
 use std::process::Abort;
 use std::test::Fail;
-
-const A: Item = Item::Char {
-    code: 97,
-    width: 327_680,
-};
-
-const B: Item = Item::Char {
-    code: 98,
-    width: 163_840,
-};
-
-const C: Item = Item::Char {
-    code: 99,
-    width: 491_520,
-};
+use test_support::items::{A, B, C};
+use test_support::plan;
 
 /// Whether an answer has these items, with this width, a step each.
 fn is_set(answer: &Answer, wanted: (&[Item], i64)) -> bool {

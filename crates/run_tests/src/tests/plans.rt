@@ -1,18 +1,17 @@
 //! What a run reports doesn't hang on its plan.
-use super::entries::Entries;
 use super::reports::{reports, says_ab, sources_of_ab, text_of_ab};
-use super::samples::{LIMIT, line, plain, plan, source_of, terms_of};
-use sample_fonts::{ENDLESS, LIGATURE, PLAIN};
-use set_line::{Line, Terms};
+use set_line::{Line, Policy, Terms};
 use set_run::{ListSource, NoGate, RunFault, run};
 use std::alloc::Global;
 use std::process::Abort;
 use std::sync::{Arc, Wait};
 use std::test::Fail;
 use std::thread::Threads;
-use std::time::Clock;
+use test_support::fonts::{ENDLESS, LIGATURE, PLAIN, Sample};
+use test_support::terms::{LIMIT, plain_terms, terms_of};
+use test_support::{CountingGate, line, plan, source_of, with_terms};
 
-/// A hundred lines; `None` if memory was refused.
+/// A hundred lines; `None` if an allocation fails.
 fn hundred(alloc: Global) -> Option<ListSource> {
     let mut lines = Vec::with_capacity(alloc, 100).ok()?;
     for place in 1..101u32 {
@@ -26,27 +25,17 @@ fn line_at(alloc: Global, place: u32) -> Option<Line> {
     if place == 50 {
         Some(Line::new(Vec::from_elem(alloc, b'a', 65_536).ok()?))
     } else {
-        line(alloc, "ab")
+        line(alloc, b"ab")
     }
 }
 
-/// Appends a source with these terms; `None` if memory was refused.
-fn push(
-    sources: &mut Vec<(ListSource, Arc<Terms>)>,
-    source: ListSource,
-    terms: &Arc<Terms>,
-) -> Option<()> {
-    sources.push((source, terms.clone().ok()?)).ok()
-}
-
-/// A source without lines, one with one line, and one with a hundred; `None` if memory was refused.
+/// A source without lines, one with one line, and one with a hundred; `None` if an allocation fails.
 pub fn three_sources(alloc: Global) -> Option<Vec<(ListSource, Arc<Terms>)>> {
-    let terms = plain(alloc)?;
     let mut sources = Vec::with_capacity(alloc, 3).ok()?;
-    push(&mut sources, source_of(alloc, &[])?, &terms)?;
-    push(&mut sources, source_of(alloc, &["abc"])?, &terms)?;
-    push(&mut sources, hundred(alloc)?, &terms)?;
-    Some(sources)
+    sources.push(source_of(alloc, &[])?).ok()?;
+    sources.push(source_of(alloc, &["abc"])?).ok()?;
+    sources.push(hundred(alloc)?).ok()?;
+    with_terms(alloc, &plain_terms(alloc)?, sources)
 }
 
 /// What is reported of them.
@@ -78,7 +67,7 @@ fn three_sources_are_reported_in_order(rt: HostRuntime) -> Result<(), Fail> {
 }
 
 /// Sources of this many lines are all answered.
-fn takes<R: Threads + Wait + Clock + Abort + AllocGlobal + Sync>(
+fn takes<R: Threads + Wait + Abort + AllocGlobal + Sync>(
     rt: &R,
     counts: &[usize],
 ) -> Result<(), Fail> {
@@ -118,18 +107,18 @@ static THREADS: [(usize, u64); 4] = [(1, 0x1), (2, 0x11), (3, 0x111), (16, 0x1_1
 static FIVE: [usize; 5] = [1, 2, 3, 4, 5];
 
 /// Five sources are set by this many threads. Each thread enters the gate once.
-fn sets_five<R: Threads + Wait + Clock + Abort + AllocGlobal + Sync>(
+fn sets_five<R: Threads + Wait + Abort + AllocGlobal + Sync>(
     rt: &R,
     (threads, entered): (usize, u64),
     (capacity, block): (usize, usize),
 ) -> Result<(), Fail> {
     let plan = plan(capacity, block, threads)?;
     let sources = sources_of_ab(rt.alloc(), &FIVE)?;
-    let gate = Entries::new();
+    let gate = CountingGate::new();
     let report = run(rt, rt.alloc(), sources, plan, &gate)?;
     let case = format!(in rt.alloc(); "threads {threads} capacity {capacity} block {block}")?;
     says_ab(rt, &case, &report, &FIVE)?;
-    gate.are(rt, &case, (0x1_1111, entered, 0x1));
+    assert_eq!(rt; gate.entries(), (0x1_1111, entered, 0x1), "{case}");
     Ok(())
 }
 
@@ -143,15 +132,20 @@ fn threads_and_rings_change_no_report(rt: HostRuntime) -> Result<(), Fail> {
     Ok(())
 }
 
+/// The font, the limit and the lines of three sources.
+static OWN: [(Sample<'static>, u32, &[&str]); 3] = [
+    (LIGATURE, LIMIT, &["ab"]),
+    (PLAIN, 4, &["ab abc", "ab"]),
+    (ENDLESS, 100, &["aa", "a"]),
+];
+
 /// Three sources, each with terms of its own.
 fn with_own_terms(alloc: Global) -> Option<Vec<(ListSource, Arc<Terms>)>> {
     let mut sources = Vec::with_capacity(alloc, 3).ok()?;
-    let terms = terms_of(alloc, &LIGATURE, LIMIT)?;
-    push(&mut sources, source_of(alloc, &["ab"])?, &terms)?;
-    let terms = terms_of(alloc, &PLAIN, 4)?;
-    push(&mut sources, source_of(alloc, &["ab abc", "ab"])?, &terms)?;
-    let terms = terms_of(alloc, &ENDLESS, 100)?;
-    push(&mut sources, source_of(alloc, &["aa", "a"])?, &terms)?;
+    for (font, limit, texts) in &OWN {
+        let terms = terms_of(alloc, font.file(alloc), *limit, Policy::Refuse)?;
+        sources.push((source_of(alloc, texts)?, terms)).ok()?;
+    }
     Some(sources)
 }
 

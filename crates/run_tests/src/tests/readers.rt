@@ -1,13 +1,13 @@
 //! Lines of readers.
-use super::trickle::{Asked, Trickle};
 use line_lane::SourceFault;
 use set_line::lines;
 use set_run::{LineSource, ReaderSource};
 use std::process::Abort;
 use std::test::Fail;
+use test_support::{ReadCounts, TricklingReader};
 
-/// More reads than any text takes here.
-const ALL: usize = 2_000_000;
+/// More reads than any text takes.
+const ALL: usize = usize::MAX;
 
 /// The next line of a source is this one.
 fn gives<R: Abort, S: LineSource>(rt: &R, case: &str, source: &mut S, wanted: &[u8]) {
@@ -54,9 +54,8 @@ fn is_cut_by<R: Abort + AllocGlobal>(
     step: usize,
     wanted: &[&str],
 ) -> Result<(), Fail> {
-    let asked = Asked::new();
     let case = format!(in rt.alloc(); "{text:?} step {step}")?;
-    let reader = Trickle::new(text.as_bytes(), step, ALL, &asked);
+    let reader = TricklingReader::new(text.as_bytes(), step, ALL);
     let mut source = ReaderSource::new(rt.alloc(), reader);
     for line in wanted {
         gives(rt, &case, &mut source, line.as_bytes());
@@ -98,11 +97,10 @@ fn long_text<R: AllocGlobal>(rt: &R) -> Result<Vec<u8>, Fail> {
 
 /// A reader that gives this many bytes a read has the 300 lines of a text.
 fn has_lines<R: Abort + AllocGlobal>(rt: &R, text: &[u8], step: usize) -> Result<(), Fail> {
-    let asked = Asked::new();
     let case = format!(in rt.alloc(); "step {step}")?;
     let wanted = lines(rt.alloc(), text)?;
     assert_eq!(rt; wanted.len(), 300);
-    let reader = Trickle::new(text, step, ALL, &asked);
+    let reader = TricklingReader::new(text, step, ALL);
     let mut source = ReaderSource::new(rt.alloc(), reader);
     for line in &wanted {
         gives(rt, &case, &mut source, line.bytes());
@@ -129,22 +127,22 @@ static READS: [(usize, [u32; 4]); 4] = [
 ];
 
 /// This many reads were made, each for 4,096 bytes.
-fn was_read<R: Abort>(rt: &R, asked: &Asked, reads: u32, step: usize) {
-    assert_eq!(rt; asked.counts(), (reads, 0), "step {step}");
+fn was_read<R: Abort>(rt: &R, counts: &ReadCounts, reads: u32, step: usize) {
+    assert_eq!(rt; counts.counts(), (reads, 0), "step {step}");
 }
 
 /// This many reads are made after each line and at the end, if a read gives this many bytes.
 fn is_read_by<R: Abort + AllocGlobal>(rt: &R, step: usize, wanted: &[u32; 4]) -> Result<(), Fail> {
-    let asked = Asked::new();
-    let reader = Trickle::new(b"ab\nc\nb", step, ALL, &asked);
+    let counts = ReadCounts::new();
+    let reader = TricklingReader::counted(b"ab\nc\nb", step, &counts);
     let mut source = ReaderSource::new(rt.alloc(), reader);
-    was_read(rt, &asked, 0, step);
+    was_read(rt, &counts, 0, step);
     for reads in wanted {
         let _line = source.next_line()?;
-        was_read(rt, &asked, *reads, step);
+        was_read(rt, &counts, *reads, step);
     }
     is_at_its_end(rt, "behind the end", &mut source);
-    was_read(rt, &asked, wanted[3], step);
+    was_read(rt, &counts, wanted[3], step);
     Ok(())
 }
 
@@ -178,15 +176,16 @@ fn is_long<R: Abort + AllocGlobal>(
     if fed {
         text.push(b'\n')?;
     }
-    let asked = Asked::new();
-    let mut source = ReaderSource::new(rt.alloc(), Trickle::new(&text, 1, ALL, &asked));
+    let counts = ReadCounts::new();
+    let reader = TricklingReader::counted(&text, 1, &counts);
+    let mut source = ReaderSource::new(rt.alloc(), reader);
     if line {
         gives(rt, &case, &mut source, &wanted);
         is_at_its_end(rt, &case, &mut source);
     } else {
         fails(rt, &case, &mut source, SourceFault::ReadBound);
     }
-    assert_eq!(rt; asked.counts().1, 0, "{case}");
+    assert_eq!(rt; counts.counts().1, 0, "{case}");
     Ok(())
 }
 
@@ -211,8 +210,7 @@ fn fails_behind<R: Abort + AllocGlobal>(
     before: usize,
 ) -> Result<(), Fail> {
     let case = format!(in rt.alloc(); "{good_reads} good reads")?;
-    let asked = Asked::new();
-    let reader = Trickle::new(b"ab\nc\nb", 1, good_reads, &asked);
+    let reader = TricklingReader::new(b"ab\nc\nb", 1, good_reads);
     let mut source = ReaderSource::new(rt.alloc(), reader);
     for line in AB_C_B.iter().take(before) {
         gives(rt, &case, &mut source, line.as_bytes());

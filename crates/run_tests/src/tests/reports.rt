@@ -1,5 +1,4 @@
 //! Reports as text.
-use super::samples::{plain, source_of};
 use line_lane::{LaneEnd, SourceFault};
 use set_line::{Terms, Version, record};
 use set_run::{LaneReport, LineSource, ListSource, NoGate, Plan, Report, run};
@@ -8,7 +7,8 @@ use std::process::Abort;
 use std::sync::{Arc, Wait};
 use std::test::Fail;
 use std::thread::Threads;
-use std::time::Clock;
+use test_support::terms::plain_terms;
+use test_support::{repeated_line, with_terms};
 
 /// The word for an end.
 fn word_of(end: LaneEnd) -> &'static str {
@@ -50,7 +50,7 @@ pub fn text_of<S>(alloc: Global, report: &Report<S>) -> Result<String, Fail> {
 }
 
 /// The run of these sources has this report. It is finished if all ends are complete.
-pub fn reports<R: Threads + Wait + Clock + Abort + AllocGlobal + Sync, S: LineSource + Send + Drop>(
+pub fn reports<R: Threads + Wait + Abort + AllocGlobal + Sync, S: LineSource + Send + Drop>(
     rt: &R,
     case: &str,
     sources: Vec<(S, Arc<Terms>)>,
@@ -90,19 +90,13 @@ pub fn sources_of_ab(
     alloc: Global,
     counts: &[usize],
 ) -> Result<Vec<(ListSource, Arc<Terms>)>, Fail> {
-    let terms = plain(alloc).ok_or("out of memory")?;
+    let terms = plain_terms(alloc).ok_or("out of memory")?;
     let mut sources = Vec::new(alloc);
     for count in counts {
-        let source = source_of_ab(alloc, *count)?;
-        sources.push((source, terms.clone()?))?;
+        let lines = repeated_line(alloc, "ab", *count).ok_or("out of memory")?;
+        sources.push(ListSource::new(lines))?;
     }
-    Ok(sources)
-}
-
-/// A source of this many lines `ab`.
-fn source_of_ab(alloc: Global, count: usize) -> Result<ListSource, Fail> {
-    let texts = vec![in alloc; "ab"; count]?;
-    Ok(source_of(alloc, &texts).ok_or("out of memory")?)
+    Ok(with_terms(alloc, &terms, sources).ok_or("out of memory")?)
 }
 
 /// The report of lines `ab` in the plain font, this many of each source.

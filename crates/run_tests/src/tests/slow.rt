@@ -1,5 +1,4 @@
 //! Sources, gates and collectors that take their time, so that the other threads of a run sleep.
-use super::samples::{line, plain};
 use line_lane::{LaneEnd, SourceFault};
 use set_line::{Answer, Line, Outcome, Terms};
 use set_run::{Collector, Gate, LineSource, Refusal, Stage};
@@ -7,10 +6,12 @@ use std::alloc::Global;
 use std::sync::Arc;
 use std::thread;
 use std::time::{Clock, Duration};
+use test_support::terms::plain_terms;
+use test_support::{line, with_terms};
 
 /// A source that gives the line `ab` this many times, each after a pause.
 #[derive(Drop)]
-pub struct Slow<'a, R> {
+pub struct SlowSource<'a, R> {
     rt: &'a R,
     alloc: Global,
     left: u32,
@@ -18,7 +19,7 @@ pub struct Slow<'a, R> {
     failed: Option<SourceFault>,
 }
 
-impl<R: Clock> LineSource for Slow<'_, R> {
+impl<R: Clock> LineSource for SlowSource<'_, R> {
     ghost use Rattle.std.specs.Prelude.{None};
 
     ghost to_come = { λ _. None };
@@ -38,7 +39,7 @@ impl<R: Clock> LineSource for Slow<'_, R> {
             return Ok(None);
         }
         self.left -= 1;
-        let Some(line) = line(self.alloc, "ab") else {
+        let Some(line) = line(self.alloc, b"ab") else {
             self.failed = Some(SourceFault::OutOfMemory);
             return Err(SourceFault::OutOfMemory);
         };
@@ -57,36 +58,35 @@ fn rest<R: Clock>(rt: &R, micros: u64) {
     }
 }
 
-/// This many sources of this many lines, with a pause before each; `None` if memory was refused.
+/// This many sources of this many lines, with a pause before each; `None` if an allocation fails.
 pub fn sources<'a, R: Clock>(
     rt: &'a R,
     alloc: Global,
     count: usize,
     (lines, pause): (u32, u64),
-) -> Option<Vec<(Slow<'a, R>, Arc<Terms>)>> {
-    let terms = plain(alloc)?;
+) -> Option<Vec<(SlowSource<'a, R>, Arc<Terms>)>> {
     let mut sources = Vec::with_capacity(alloc, count).ok()?;
     for _ in 0..count {
-        let source = Slow {
+        let source = SlowSource {
             rt,
             alloc,
             left: lines,
             pause,
             failed: None,
         };
-        sources.push((source, terms.clone().ok()?)).ok()?;
+        sources.push(source).ok()?;
     }
-    Some(sources)
+    with_terms(alloc, &plain_terms(alloc)?, sources)
 }
 
 /// A gate that keeps the collecting thread waiting.
 #[derive(Drop)]
-pub struct Late<'a, R> {
+pub struct LateGate<'a, R> {
     pub rt: &'a R,
     pub pause: u64,
 }
 
-impl<R: Clock> Gate for Late<'_, R> {
+impl<R: Clock> Gate for LateGate<'_, R> {
     fn enter(&self, stage: Stage, _number: usize) {
         if stage == Stage::Collector {
             rest(self.rt, self.pause);
@@ -96,7 +96,7 @@ impl<R: Clock> Gate for Late<'_, R> {
 
 /// Takes this many answers, each after a pause, and refuses what comes then.
 #[derive(Drop)]
-pub struct Patient<'a, R> {
+pub struct SlowCollector<'a, R> {
     pub rt: &'a R,
     pub pause: u64,
     pub left: u32,
@@ -107,7 +107,7 @@ pub struct Patient<'a, R> {
     pub wrong: bool,
 }
 
-impl<R> Collector for Patient<'_, R>
+impl<R> Collector for SlowCollector<'_, R>
 where
     R: Clock,
 {

@@ -1,12 +1,12 @@
 //! A run whose collector refuses something returns, wherever its threads are then.
-use super::samples::plan;
-use super::slow::{Late, Patient, sources};
-use set_run::{Refusal, run_into};
+use super::slow::{LateGate, SlowCollector, sources};
+use set_run::{BatchOptions, Refusal, run_into};
 use std::process::Abort;
 use std::sync::Wait;
 use std::test::Fail;
 use std::thread::Threads;
 use std::time::Clock;
+use test_support::plan;
 
 /// More lines than are ever set: such a source ends only if its thread is stopped.
 const ENDLESS: u32 = u32::MAX;
@@ -103,7 +103,7 @@ fn returns<R: Threads + Wait + Clock + Abort + AllocGlobal + Sync>(
     if sources.len() > 64 {
         return Err("too many sources".into());
     }
-    let collector = Patient {
+    let collector = SlowCollector {
         rt,
         pause: 0,
         left: case.taken,
@@ -111,11 +111,12 @@ fn returns<R: Threads + Wait + Clock + Abort + AllocGlobal + Sync>(
         ends: 0,
         wrong: false,
     };
-    let late = Late {
+    let late = LateGate {
         rt,
         pause: case.late,
     };
-    let (collector, ended) = run_into(rt, rt.alloc(), sources, plan, &late, collector);
+    let options = BatchOptions { plan, gate: &late };
+    let (collector, ended) = run_into(rt, rt.alloc(), sources, options, collector);
     let run = ended?;
     let name = case.name;
     assert_eq!(rt; run.refusal, Some(Refusal::Output), "{name}");

@@ -1,7 +1,6 @@
 //! The threads of a run really run beside one another, and each line goes through its lane's rings.
 use super::meeting::{Guest, Held, Meeting};
 use super::reports::says_ab;
-use super::samples::{plain, plan};
 use set_line::Terms;
 use set_run::run;
 use std::alloc::Global;
@@ -9,7 +8,8 @@ use std::process::Abort;
 use std::sync::{Arc, Wait};
 use std::test::Fail;
 use std::thread::Threads;
-use std::time::Clock;
+use test_support::terms::plain_terms;
+use test_support::{plan, with_terms};
 
 /// Two sources of a meeting, of this many lines each, which are always ready, or never.
 fn guests<'a>(
@@ -17,18 +17,17 @@ fn guests<'a>(
     meeting: &'a Meeting,
     lines: (usize, bool),
 ) -> Option<Vec<(Guest<'a>, Arc<Terms>)>> {
-    let terms = plain(alloc)?;
     let mut sources = Vec::with_capacity(alloc, 2).ok()?;
-    let guest = Guest::new(alloc, meeting, 0, lines)?;
-    sources.push((guest, terms.clone().ok()?)).ok()?;
-    sources
-        .push((Guest::new(alloc, meeting, 1, lines)?, terms))
-        .ok()?;
-    Some(sources)
+    for number in 0..2 {
+        sources
+            .push(Guest::new(alloc, meeting, number, lines)?)
+            .ok()?;
+    }
+    with_terms(alloc, &plain_terms(alloc)?, sources)
 }
 
 /// A run of two sources, which are always ready, or never, comes to its end while these are held.
-fn meets<R: Threads + Wait + Clock + Abort + AllocGlobal + Sync>(
+fn meets<R: Threads + Wait + Abort + AllocGlobal + Sync>(
     rt: &R,
     held: Held,
     (lines, ready): (usize, bool),

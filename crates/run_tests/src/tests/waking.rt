@@ -1,12 +1,12 @@
 //! Runs over small rings, whose threads often sleep: each is woken.
-use super::samples::plan;
-use super::slow::{Late, Patient, sources};
-use set_run::run_into;
+use super::slow::{LateGate, SlowCollector, sources};
+use set_run::{BatchOptions, run_into};
 use std::process::Abort;
 use std::sync::Wait;
 use std::test::Fail;
 use std::thread::Threads;
 use std::time::Clock;
+use test_support::plan;
 
 /// How many sources there are, and of how many lines each.
 const SOURCES: u32 = 3;
@@ -39,7 +39,7 @@ fn ends<R: Threads + Wait + Clock + Abort + AllocGlobal + Sync>(
     if sources.len() > 64 {
         return Err("too many sources".into());
     }
-    let collector = Patient {
+    let collector = SlowCollector {
         rt,
         pause: before_answer,
         left: SOURCES * LINES,
@@ -47,8 +47,9 @@ fn ends<R: Threads + Wait + Clock + Abort + AllocGlobal + Sync>(
         ends: 0,
         wrong: false,
     };
-    let late = Late { rt, pause: late };
-    let (collector, ended) = run_into(rt, rt.alloc(), sources, plan, &late, collector);
+    let late = LateGate { rt, pause: late };
+    let options = BatchOptions { plan, gate: &late };
+    let (collector, ended) = run_into(rt, rt.alloc(), sources, options, collector);
     let run = ended?;
     assert_eq!(rt; run.refusal, None, "{who}");
     assert_eq!(rt; collector.answers, SOURCES * LINES, "{who}");

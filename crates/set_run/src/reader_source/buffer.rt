@@ -9,10 +9,10 @@ use std::alloc::Global;
 use std::io::Read;
 use std::marker::Model;
 
-/// Each read asks for this many bytes.
+/// The largest number of bytes of one read.
 const READ_SIZE: usize = 4096;
 
-/// The bytes of the last read that are in no line yet: a part of the buffer.
+/// The bytes of the last read that aren't in a line yet: those of `space` from `start` to before `end`.
 #[derive(Drop)]
 pub(crate) struct Buffer {
     space: Vec<u8>,
@@ -32,7 +32,7 @@ impl Model for Buffer {
 }
 
 impl Buffer {
-    /// No bytes, and no memory yet.
+    /// Returns an empty buffer. This allocates no memory.
     pub(crate) fn new(alloc: Global) -> Self
         ensures { result ≡ [] }
     {
@@ -43,7 +43,8 @@ impl Buffer {
         }
     }
 
-    /// Reads once, in place of the bytes that it had, and answers how many came: none at the end.
+    /// Replaces the bytes of the buffer by those of one read, and returns their number, which is 0 at the end
+    /// of the reader. The error is `OutOfMemory` if an allocation failed, and `Read` if the read failed.
     pub(crate) fn refill<R: Read>(
         &mut self,
         alloc: Global,
@@ -71,13 +72,14 @@ impl Buffer {
         }
     }
 
-    /// Whether there is a line feed.
+    /// Returns whether the buffer contains a line feed.
     pub(crate) fn has_feed(&self) -> bool {
         first_feed(&self.space[self.start..self.end]).is_some()
     }
 
-    /// Moves its bytes after `line`: those up to a line feed, which is dropped, else all. Answers
-    /// whether there was a line feed.
+    /// Moves bytes of the buffer to the end of `line`: those before the first line feed, which is dropped, or
+    /// all of them if there is no line feed. Returns whether there was one. The error means that an
+    /// allocation failed.
     pub(crate) fn move_line(&mut self, line: &mut Vec<u8>) -> Result<bool, SourceFault>
         ensures { IfOk result (λ ended.
             MovesLine self.old line.old.items ended line.new.items self.new) }
@@ -98,7 +100,7 @@ impl Buffer {
     }
 }
 
-/// The place of the first line feed.
+/// Returns the index of the first line feed.
 fn first_feed(bytes: &[u8]) -> Option<usize>
     ensures { result ≡ position (λ byte. byte == 10) bytes.now }
 {

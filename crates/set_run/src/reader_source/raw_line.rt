@@ -7,19 +7,21 @@ use line_lane::SourceFault;
 use std::alloc::Global;
 use std::io::Read;
 
-/// The end of a line is looked for in at most this many reads.
+/// The largest number of reads for one line.
 const MAX_READS: u32 = 1_048_576;
 
-/// The bytes up to a line feed, or to the end.
+/// The bytes before a line feed or before the end of the reader.
 #[derive(Drop)]
 pub(crate) enum RawLine {
-    /// A line feed stood after these.
+    /// These bytes were followed by a line feed.
     Ended(Vec<u8>),
-    /// The end stood after these.
+    /// These bytes were followed by the end of the reader.
     Last(Vec<u8>),
 }
 
-/// The next raw line, from the bytes in the buffer and those that are read.
+/// Returns the next raw line, from the bytes in the buffer and those that are read. The error is
+/// `OutOfMemory` if an allocation failed, `Read` if a read failed, and `ReadBound` if 1,048,576 reads contain
+/// neither a line feed nor the end.
 pub(crate) fn next_raw_line<R: Read>(
     alloc: Global,
     reader: &mut R,

@@ -1,12 +1,12 @@
 use line_lane::SourceFault;
 
-/// How far a reader was read.
+/// How far a reader has been read.
 #[derive(Clone, Copy, Debug, Drop)]
 pub(crate) enum ReaderState {
-    /// There may be more to read.
+    /// It may have more bytes.
     Open,
-    /// It gave no more bytes.
+    /// Its end was reached.
     AtEnd,
-    /// It is read no more.
+    /// An error occurred: it isn't read again.
     Failed(SourceFault),
 }

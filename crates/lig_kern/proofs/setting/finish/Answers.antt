@@ -1,6 +1,7 @@
 use Rattle.std.proofs.Common.{◌≡◌, arith, sym, ap, ◌∙◌}
 use Rattle.std.specs.Prelude.{is_some}
-use Rattle.lig_kern.proofs.UnderWay.{front_through, is_result, no_result, not_there, under_way_next}
+use Rattle.tfm_words.proofs.AppendingLemmas.{front_through}
+use Rattle.lig_kern.proofs.UnderWay.{is_result, no_result, not_there, under_way_next}
 use Rattle.lig_kern.proofs.setting.finish.Goals as goal
 
 pub loop-used-preserved : goal.loop-used-preserved

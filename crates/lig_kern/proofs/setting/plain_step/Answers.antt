@@ -9,10 +9,10 @@ returns-in_ok-push_symbol-in-None-clause-turned c = λ rest.
     turned_plain c.args.font.now c.args.current (Char c.args.next) (Char c.args.next ∷ rest) c.args.out.now.items c.push_symbol.new.out.items
     refl (grind arith) (grind arith)
 
-pub returns-in_ok-push-in-Some-Kern-clause-turned : goal.returns-in_ok-push-in-Some-Kern-clause-turned
-returns-in_ok-push-in-Some-Kern-clause-turned c = λ rest.
-    turned_kern c.args.font.now c.args.current (Char c.args.next) (Char c.args.next ∷ rest) c.in-Some-Kern.kern c.args.out.now.items c.push_symbol-in-Some-Kern.new.out.items c.push.new.self.items
-    refl (grind arith) (grind arith) (grind arith)
+pub returns-in_ok-push_with_kern-in-Some-Kern-clause-turned : goal.returns-in_ok-push_with_kern-in-Some-Kern-clause-turned
+returns-in_ok-push_with_kern-in-Some-Kern-clause-turned c = λ rest.
+    turned_kern c.args.font.now c.args.current (Char c.args.next) (Char c.args.next ∷ rest) c.in-Some-Kern.kern c.args.out.now.items c.push_with_kern.new.out.items
+    refl (grind arith) (grind arith)
 
 pub returns-in-Some-Lig-default-false-false-eq0-clause-turned : goal.returns-in-Some-Lig-default-false-false-eq0-clause-turned
 unfolding items_of

@@ -1,6 +1,7 @@
 use Rattle.std.proofs.Common.{◌≡◌, ◌+◌, ◌<◌, length, arith, refl}
 use Rattle.lig_kern.specs.declared.symbol.Symbol.TheVariants.{Left, Char}
-use Rattle.lig_kern.proofs.UnderWay.{front_through, plainly_first, plainly_at}
+use Rattle.tfm_words.proofs.AppendingLemmas.{front_through}
+use Rattle.lig_kern.proofs.UnderWay.{plainly_first, plainly_at}
 use Rattle.lig_kern.proofs.setting.set_plainly.Goals as goal
 
 pub returns-then-most-eq0-clause-under_way : goal.returns-then-most-eq0-clause-under_way

@@ -1,7 +1,7 @@
 -- the state of a run with its remainder ahead, whether the right boundary follows it or not
 use Rattle.std.proofs.Common.{drop}
 use Rattle.lig_kern.specs.declared.symbol.Symbol.TheVariants.{Char}
-use Rattle.lig_kern.specs.Result.{StaysInFront}
+use Rattle.tfm_words.specs.Appending.{StaysInFront}
 use Rattle.lig_kern.proofs.UnderWay.{IsPlainlyUnderWay}
 use Rattle.lig_kern.proofs.setting.set_plainly.Given as goal
 

@@ -1,5 +1,4 @@
-use Rattle.std.proofs.Common.{◌≡◌, drop, arith}
-use Rattle.std.specs.Prelude.{if◌then◌else◌}
+use Rattle.std.proofs.Common.{arith}
 use Rattle.lig_kern.proofs.TurnLemmas.{turned_plain, turned_kern, turned_stays, turned_becomes, turned_passes}
 use Rattle.lig_kern.proofs.setting.step.Goals as goal
 
@@ -9,11 +8,11 @@ returns-in_ok-push_symbol-in-None-clause-turned c =
     (turned_plain c.args.font.now c.args.current c.args.next c.args.ahead.now c.args.out.now.items c.push_symbol.new.out.items
     c.requires (grind arith) (grind arith))
 
-pub returns-in_ok-push-in-Some-Kern-clause-turned : goal.returns-in_ok-push-in-Some-Kern-clause-turned
-returns-in_ok-push-in-Some-Kern-clause-turned c =
+pub returns-in_ok-push_with_kern-in-Some-Kern-clause-turned : goal.returns-in_ok-push_with_kern-in-Some-Kern-clause-turned
+returns-in_ok-push_with_kern-in-Some-Kern-clause-turned c =
     rw c.pass-in-Some-Kern.ensures
-    (turned_kern c.args.font.now c.args.current c.args.next c.args.ahead.now c.in-Some-Kern.amount c.args.out.now.items c.push_symbol-in-Some-Kern.new.out.items c.push.new.self.items
-    c.requires (grind arith) (grind arith) (grind arith))
+    (turned_kern c.args.font.now c.args.current c.args.next c.args.ahead.now c.in-Some-Kern.amount c.args.out.now.items c.push_with_kern.new.out.items
+    c.requires (grind arith) (grind arith))
 
 pub returns-then-pass-passed_left-clause-turned : goal.returns-then-pass-passed_left-clause-turned
 returns-then-pass-passed_left-clause-turned c =
@@ -22,14 +21,12 @@ returns-then-pass-passed_left-clause-turned c =
 
 pub returns-then-pass-passed_left-2-clause-turned : goal.returns-then-pass-passed_left-2-clause-turned
 returns-then-pass-passed_left-2-clause-turned c =
-    let left : c.if-not-keep_right.ahead ≡ (if c.in-Some-Lig.keep_right then c.args.ahead.now else drop 1 c.args.ahead.now) = grind arith in
-    rw left
+    rw c.pass_unless.ensures
     (turned_becomes c.args.font.now c.args.current c.args.next c.args.ahead.now c.in-Some-Lig.code c.in-Some-Lig.keep_left c.in-Some-Lig.keep_right c.in-Some-Lig.pass c.args.out.now.items c.push_kept.new.out.items
     c.requires (grind arith) (grind arith) (grind arith))
 
 pub returns-in_ok-push_symbol-in-Some-Lig-clause-turned : goal.returns-in_ok-push_symbol-in-Some-Lig-clause-turned
 returns-in_ok-push_symbol-in-Some-Lig-clause-turned c =
-    let left : c.if-not-keep_right.ahead ≡ (if c.in-Some-Lig.keep_right then c.args.ahead.now else drop 1 c.args.ahead.now) = grind arith in
-    rw c.pass-in-Some-Lig.ensures (rw left
+    rw c.pass-in-Some-Lig.ensures (rw c.pass_unless.ensures
     (turned_passes c.args.font.now c.args.current c.args.next c.args.ahead.now c.in-Some-Lig.code c.in-Some-Lig.keep_left c.in-Some-Lig.keep_right c.in-Some-Lig.pass c.args.out.now.items c.push_kept.new.out.items c.push_symbol-in-Some-Lig.new.out.items
     c.requires (grind arith) (grind arith) (grind arith) (grind arith)))

@@ -1,14 +1,14 @@
 //! Damaged fonts that are still accepted, and short lines of their characters.
 use super::answers::{answer_to, terms_of, text_of};
 use lig_kern::Item;
-use sample_fonts::examples::{
-    left_boundary, ligature, ligature_with_long_header, long_header, right_boundary,
-};
 use set_line::{Answer, LineRefusal, Outcome, Policy, Terms, Version};
 use std::alloc::{AllocError, Global};
 use std::process::Abort;
 use std::sync::Arc;
 use std::test::Fail;
+use test_support::fonts::examples::{
+    left_boundary, ligature, ligature_with_long_header, long_header, right_boundary,
+};
 use tfm_tables::Font;
 
 /// The limit that the lines are set with.

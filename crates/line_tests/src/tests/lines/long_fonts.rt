@@ -1,9 +1,9 @@
 //! Lines set with fonts of which a part is long.
 use super::answers::{LIMIT, has_records, terms_of};
-use sample_fonts::lengths::{LONG, Lengths, amount_of};
 use set_line::Policy;
 use std::process::Abort;
 use std::test::Fail;
+use test_support::fonts::lengths::{LONG, Lengths, amount_of};
 
 /// Each of the three kerns, and a space.
 const LINE: &[u8] = b"aab ac";

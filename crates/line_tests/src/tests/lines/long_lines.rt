@@ -1,11 +1,11 @@
 //! Lines as long as a line may be, with each record whole.
 use super::answers::{answer_to, refusal_of, terms_of, text_of};
-use sample_fonts::examples::ligature;
-use sample_fonts::lengths::SHORT;
 use set_line::{Answer, LineRefusal, Outcome, Policy, Version};
 use std::alloc::{AllocError, Global};
 use std::process::Abort;
 use std::test::Fail;
+use test_support::fonts::examples::ligature;
+use test_support::fonts::lengths::SHORT;
 
 /// A beginning, what is repeated, and an end.
 type Parts = [&'static str; 3];

@@ -1,10 +1,10 @@
 //! Texts of many bytes, cut into lines, and records after texts of many bytes.
 use super::answers::{LIMIT, answer_to, terms_of};
-use sample_fonts::examples::ligature;
 use set_line::{Line, Policy, Version, lines, record};
 use std::alloc::{AllocError, Global};
 use std::process::Abort;
 use std::test::Fail;
+use test_support::fonts::examples::ligature;
 
 /// Appends this many times the same byte.
 fn push_many(text: &mut Vec<u8>, byte: u8, count: usize) -> Result<(), AllocError> {

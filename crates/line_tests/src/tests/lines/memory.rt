@@ -4,37 +4,16 @@
 //! before, and the same call then succeeds. The text that is printed says which it was.
 use super::answers::refusal_of;
 use lig_kern::Item;
-use sample_fonts::examples::{endless, ligature};
 use set_line::{
-    Answer, Limit, Line, LineRefusal, OutOfMemory, Outcome, Policy, Terms, Version, lines, record,
-    set,
+    Answer, Line, LineRefusal, OutOfMemory, Outcome, Policy, Terms, Version, lines, record, set,
 };
 use std::alloc::{AllocError, Global};
 use std::process::Abort;
 use std::sync::Arc;
 use std::test::Fail;
-use tfm_tables::Font;
-
-const A: Item = Item::Char {
-    code: 97,
-    width: 327_680,
-};
-
-const B: Item = Item::Char {
-    code: 98,
-    width: 163_840,
-};
-
-const C: Item = Item::Char {
-    code: 99,
-    width: 491_520,
-};
-
-const BACK: Item = Item::Kern(-40_960);
-
-const AHEAD: Item = Item::Kern(20_480);
-
-const SPACE: Item = Item::Space(218_453);
+use test_support::fonts::examples::{endless, ligature};
+use test_support::items::{A, A_C_B, AHEAD, B, BACK, C, SPACE};
+use test_support::terms::terms_of;
 
 const SKIPPED: Item = Item::Skipped(100);
 
@@ -45,12 +24,8 @@ fn ready(
     policy: Policy,
     bytes: &[u8],
 ) -> Option<(Arc<Terms>, Line)> {
-    let file = file.ok()?;
-    let font = Font::read(alloc, &file, None).ok()?;
-    let terms = Terms::new(font, Limit::new(100)?, policy);
-    let terms = Arc::new(alloc, terms).ok()?;
-    let bytes = Vec::from_slice(alloc, bytes).ok()?;
-    Some((terms, Line::new(bytes)))
+    let terms = terms_of(alloc, file, 100, policy)?;
+    Some((terms, test_support::line(alloc, bytes)?))
 }
 
 /// Terms with a ligature of a and b, which skip what is missing, and a line.
@@ -122,7 +97,7 @@ fn told_of_setting<R: Abort + AllocGlobal>(
 /// The run has more items than its line has bytes.
 #[test]
 fn a_refused_item_of_a_run(rt: HostRuntime) -> Result<(), Fail> {
-    sets_or_refuses(&rt, b"ab", (&[A, BACK, C, AHEAD, B], 962_560))
+    sets_or_refuses(&rt, b"ab", (&A_C_B, 962_560))
 }
 
 /// Up to the space there is room for as many items as the run has.

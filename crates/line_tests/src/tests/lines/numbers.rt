@@ -1,10 +1,10 @@
 //! Records with other numbers of source and place, and after other text.
 use super::answers::{LIMIT, answer_to, terms_of};
-use sample_fonts::examples::{endless, plain};
 use set_line::{Answer, Limit, Policy, Terms, Version, record};
 use std::process::Abort;
 use std::sync::Arc;
 use std::test::Fail;
+use test_support::fonts::examples::{endless, plain};
 use tfm_tables::Font;
 use tfm_words::Size;
 

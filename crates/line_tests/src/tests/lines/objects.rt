@@ -1,9 +1,9 @@
 //! Records as JSON objects, each whole.
 use super::answers::{LIMIT, answer_to, terms_of, text_of};
-use sample_fonts::examples::{endless, left_boundary, ligature, plain, right_boundary};
 use set_line::{Policy, Version, record};
 use std::process::Abort;
 use std::test::Fail;
+use test_support::fonts::examples::{endless, left_boundary, ligature, plain, right_boundary};
 
 /// The limit, the policy, a line, and what its record has after source 1 and line 1.
 type Row = (u32, Policy, &'static str, &'static str);

@@ -1,11 +1,12 @@
 //! The small types give what was put in.
 use super::answers::{answer_to, refusal_of, terms_of};
 use lig_kern::Item;
-use sample_fonts::examples::plain;
 use set_line::{Answer, Items, Limit, Line, LineRefusal, OutOfMemory, Outcome, Policy, Terms};
 use std::alloc::AllocError;
 use std::process::Abort;
 use std::test::Fail;
+use test_support::fonts::examples::plain;
+use test_support::items::{A, SPACE};
 
 /// How many steps a limit has.
 fn steps_of(limit: Option<Limit>) -> Option<u32> {
@@ -84,14 +85,7 @@ fn setting_of(answer: &Answer) -> Option<(&[Item], i64, u32)> {
 }
 
 /// The items of `d a`, if d is skipped.
-static D_A: [Item; 3] = [
-    Item::Skipped(100),
-    Item::Space(218_453),
-    Item::Char {
-        code: 97,
-        width: 327_680,
-    },
-];
+static D_A: [Item; 3] = [Item::Skipped(100), SPACE, A];
 
 #[test]
 fn a_line_that_is_set_has_items_and_a_width_and_steps(rt: HostRuntime) -> Result<(), Fail> {

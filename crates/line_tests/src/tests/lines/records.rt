@@ -1,11 +1,11 @@
 //! Lines that are set, each with its whole record in both versions.
 use super::answers::{LIMIT, Row, refuses, sets_each, sets_row, terms_of};
-use sample_fonts::examples::{
-    boundary_exists, endless, indirect, left_boundary, ligature, plain, right_boundary,
-};
 use set_line::Policy;
 use std::process::Abort;
 use std::test::Fail;
+use test_support::fonts::examples::{
+    boundary_exists, endless, indirect, left_boundary, ligature, plain, right_boundary,
+};
 
 static PLAIN: [Row; 3] = [
     ("a", 327_680, 1, " c97=327680"),

@@ -1,10 +1,10 @@
 //! Lines that are refused at sight.
 use super::answers::{LIMIT, refuses, terms_of};
-use sample_fonts::examples::{endless, plain};
 use set_line::{Policy, Terms};
 use std::process::Abort;
 use std::sync::Arc;
 use std::test::Fail;
+use test_support::fonts::examples::{endless, plain};
 
 static MISSING: [(&str, &str); 5] = [
     ("ad", "missing 1 100"),

@@ -1,9 +1,9 @@
 //! Characters that are missing, and skipped.
 use super::answers::{LIMIT, Row, refuses_with_one_step_less, sets, sets_many, terms_of};
-use sample_fonts::examples::{left_boundary, plain, right_boundary};
 use set_line::Policy;
 use std::process::Abort;
 use std::test::Fail;
+use test_support::fonts::examples::{left_boundary, plain, right_boundary};
 
 /// The lines are set so if missing characters are skipped, and refused with one step less.
 fn skips_each<R: Abort + AllocGlobal>(

@@ -2,7 +2,6 @@
 //! of `set` to the same line has, in every format and with or without ready texts.
 use super::answers::{answer_to, terms_of};
 use lig_kern::Item;
-use sample_fonts::examples::{endless, ligature};
 use set_line::{
     Outcome, Policy, RecordNumber, RecordTexts, Terms, Version, record, record_outcome, set_bytes,
 };
@@ -10,6 +9,7 @@ use std::alloc::{AllocError, Global};
 use std::process::Abort;
 use std::sync::Arc;
 use std::test::Fail;
+use test_support::fonts::examples::{endless, ligature};
 
 /// The bytes of line `i`: from none to 40, of which about one in 24 isn't a character.
 fn line_of(alloc: Global, i: u64) -> Result<Vec<u8>, AllocError> {

@@ -1,8 +1,8 @@
 //! Spaces, and lines without anything else.
 use super::answers::{LIMIT, Row, has_records, sets_each, sets_many, terms_of};
-use sample_fonts::examples::{largest, plain, without_parameters, without_space};
 use set_line::Policy;
 use std::test::Fail;
+use test_support::fonts::examples::{largest, plain, without_parameters, without_space};
 
 static SPACES: [Row; 3] = [
     ("", 0, 0, ""),

@@ -1,11 +1,12 @@
 //! What a font's program does between two neighbours.
-use super::samples::{
-    boundary_exists, indirect, largest, left_boundary, ligature, no_program, plain, right_boundary,
-    skipped, two_for_one_pair,
-};
 use lig_kern::{Action, Symbol, first_match};
 use std::process::Abort;
 use std::test::Fail;
+use test_support::fonts::examples::{
+    boundary_exists, indirect, largest, left_boundary, ligature, plain, right_boundary,
+};
+use test_support::fonts::{NO_PROGRAM, SKIPPING, TWO_KERNS};
+use test_support::terms::font_of;
 use tfm_tables::Font;
 
 const LEFT: Symbol = Symbol::Left;
@@ -39,16 +40,16 @@ fn matches_so<R: Abort>(
 
 #[test]
 fn the_first_instruction_for_a_pair(rt: HostRuntime) -> Result<(), Fail> {
-    let font = ligature(rt.alloc(), 0)?;
+    let font = font_of(rt.alloc(), ligature(rt.alloc(), 0))?;
     let pairs = [(A, C, BACK), (C, B, AHEAD), (A, A, None), (B, B, None)];
     matches_so(&rt, "the font with a ligature", &font, &pairs);
-    let font = two_for_one_pair(rt.alloc())?;
+    let font = font_of(rt.alloc(), TWO_KERNS.file(rt.alloc()))?;
     matches_so(&rt, "two kerns", &font, &[(A, B, BACK), (A, C, None)]);
-    let font = skipped(rt.alloc())?;
+    let font = font_of(rt.alloc(), SKIPPING.file(rt.alloc()))?;
     matches_so(&rt, "a skip", &font, &[(A, C, BACK), (A, B, AHEAD)]);
-    let font = indirect(rt.alloc())?;
+    let font = font_of(rt.alloc(), indirect(rt.alloc()))?;
     matches_so(&rt, "two indirections", &font, &[(A, B, None)]);
-    let font = plain(rt.alloc())?;
+    let font = font_of(rt.alloc(), plain(rt.alloc()))?;
     matches_so(&rt, "the plain font", &font, &[(A, B, None), (D, A, None)]);
     Ok(())
 }
@@ -65,7 +66,7 @@ fn inserts(code: u8, keep_left: bool, keep_right: bool, pass: u8) -> Option<Acti
 
 #[test]
 fn the_left_boundary_matches_on_the_left_alone(rt: HostRuntime) -> Result<(), Fail> {
-    let font = left_boundary(rt.alloc())?;
+    let font = font_of(rt.alloc(), left_boundary(rt.alloc()))?;
     let pairs = [
         (LEFT, A, BACK),
         (LEFT, B, inserts(99, true, true, 0)),
@@ -76,10 +77,10 @@ fn the_left_boundary_matches_on_the_left_alone(rt: HostRuntime) -> Result<(), Fa
         (RIGHT, A, None),
     ];
     matches_so(&rt, "the font with a left boundary", &font, &pairs);
-    let font = ligature(rt.alloc(), 0)?;
+    let font = font_of(rt.alloc(), ligature(rt.alloc(), 0))?;
     let pairs = [(LEFT, A, None), (LEFT, B, None), (LEFT, C, None)];
     matches_so(&rt, "a font without boundaries", &font, &pairs);
-    let font = no_program(rt.alloc())?;
+    let font = font_of(rt.alloc(), NO_PROGRAM.file(rt.alloc()))?;
     let pairs = [(LEFT, Symbol::Char(65), None), (LEFT, RIGHT, None)];
     matches_so(&rt, "a boundary without a program", &font, &pairs);
     Ok(())
@@ -87,7 +88,7 @@ fn the_left_boundary_matches_on_the_left_alone(rt: HostRuntime) -> Result<(), Fa
 
 #[test]
 fn the_right_boundary_matches_on_the_right_alone(rt: HostRuntime) -> Result<(), Fail> {
-    let font = right_boundary(rt.alloc())?;
+    let font = font_of(rt.alloc(), right_boundary(rt.alloc()))?;
     let pairs = [
         (A, RIGHT, inserts(98, true, false, 0)),
         (B, RIGHT, AHEAD),
@@ -99,10 +100,10 @@ fn the_right_boundary_matches_on_the_right_alone(rt: HostRuntime) -> Result<(), 
         (B, LEFT, None),
     ];
     matches_so(&rt, "the font with a right boundary", &font, &pairs);
-    let font = boundary_exists(rt.alloc())?;
+    let font = font_of(rt.alloc(), boundary_exists(rt.alloc()))?;
     let pairs = [(A, RIGHT, BACK), (A, B, BACK), (RIGHT, B, None)];
     matches_so(&rt, "a right boundary that exists", &font, &pairs);
-    let font = ligature(rt.alloc(), 0)?;
+    let font = font_of(rt.alloc(), ligature(rt.alloc(), 0))?;
     let pairs = [(A, RIGHT, None), (C, RIGHT, None), (RIGHT, B, None)];
     matches_so(&rt, "a font without boundaries", &font, &pairs);
     Ok(())
@@ -122,7 +123,7 @@ fn each_operation_has_its_flags(rt: HostRuntime) -> Result<(), Fail> {
         (11, true, true, 2),
     ];
     for (op, keep_left, keep_right, pass) in operations {
-        let font = ligature(rt.alloc(), op)?;
+        let font = font_of(rt.alloc(), ligature(rt.alloc(), op))?;
         let wanted = inserts(99, keep_left, keep_right, pass);
         assert_eq!(rt; first_match(&font, A, B), wanted, "operation {op}");
     }
@@ -130,7 +131,7 @@ fn each_operation_has_its_flags(rt: HostRuntime) -> Result<(), Fail> {
         if matches!(op, 0..=3 | 5..=7 | 11) {
             continue;
         }
-        let font = ligature(rt.alloc(), op)?;
+        let font = font_of(rt.alloc(), ligature(rt.alloc(), op))?;
         let wanted = inserts(99, false, false, 0);
         assert_eq!(rt; first_match(&font, A, B), wanted, "unlisted operation {op}");
     }
@@ -139,7 +140,7 @@ fn each_operation_has_its_flags(rt: HostRuntime) -> Result<(), Fail> {
 
 #[test]
 fn a_kern_in_the_largest_font(rt: HostRuntime) -> Result<(), Fail> {
-    let font = largest(rt.alloc())?;
+    let font = font_of(rt.alloc(), largest(rt.alloc()))?;
     let pairs = [
         (LEFT, RIGHT, AHEAD),
         (LEFT, Symbol::Char(65), AHEAD),

@@ -2,35 +2,19 @@
 //! one request: the first ones make the font and the list, and the next ones are the word's own. A
 //! refused one of these is told as refused memory, the list is then as before, and the text that is
 //! printed says which it was.
-use super::samples::{endless, ligature};
 use lig_kern::{Item, WordFault, set_word};
 use std::process::Abort;
 use std::test::Fail;
+use test_support::fonts::examples::{endless, ligature};
+use test_support::items::A_C_B;
+use test_support::terms::font_of;
 
 const EARLIER: [Item; 3] = [Item::Kern(1), Item::Space(2), Item::Skipped(3)];
-
-/// What a and b become: a, a kern, c, another kern, b.
-const SET: [Item; 5] = [
-    Item::Char {
-        code: 97,
-        width: 327_680,
-    },
-    Item::Kern(-40_960),
-    Item::Char {
-        code: 99,
-        width: 491_520,
-    },
-    Item::Kern(20_480),
-    Item::Char {
-        code: 98,
-        width: 163_840,
-    },
-];
 
 /// Sets a word after what stands in the list: the right answer, or refused memory and the list as
 /// before.
 fn sets_or_refuses<R: Abort + AllocGlobal + Print>(rt: &R, earlier: &[Item]) -> Result<(), Fail> {
-    let Ok(font) = ligature(rt.alloc(), 3) else {
+    let Ok(font) = font_of(rt.alloc(), ligature(rt.alloc(), 3)) else {
         return Ok(println!(rt; "refused before the word")?);
     };
     let Ok(mut out) = Vec::from_slice(rt.alloc(), earlier) else {
@@ -40,7 +24,7 @@ fn sets_or_refuses<R: Abort + AllocGlobal + Print>(rt: &R, earlier: &[Item]) -> 
         Ok(steps) => {
             assert_eq!(rt; steps, 4);
             assert!(rt; out.starts_with(earlier));
-            assert!(rt; out.ends_with(&SET));
+            assert!(rt; out.ends_with(&A_C_B));
             assert_eq!(rt; out.len(), earlier.len().saturating_add(5));
             Ok(println!(rt; "set")?)
         }
@@ -66,7 +50,7 @@ fn a_refused_item_after_earlier_ones(rt: HostRuntime) -> Result<(), Fail> {
 /// without memory. No item is sent out.
 #[test]
 fn a_refused_character_ahead(rt: HostRuntime) -> Result<(), Fail> {
-    let Ok(font) = endless(rt.alloc(), 3) else {
+    let Ok(font) = font_of(rt.alloc(), endless(rt.alloc(), 3)) else {
         return Ok(println!(rt; "refused before the word")?);
     };
     let mut out = Vec::new(rt.alloc());

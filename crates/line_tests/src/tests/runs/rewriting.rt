@@ -1,12 +1,16 @@
 //! Words of many small fonts, set by `set_word` and by the definition alone.
-use super::samples;
 use super::slow::slow_set;
 use lig_kern::{WordFault, set_word};
-use sample_fonts::{A_FROM_0, A_FROM_1, Info, boundary, go_to, kern_before, last, ligature_before};
 use std::alloc::{AllocError, Global};
 use std::process::Abort;
 use std::test::Fail;
-use tfm_tables::{Font, Step};
+use test_support::fonts;
+use test_support::fonts::{
+    A_FROM_0, A_FROM_1, Info, KERNS, PLAIN, Sample, boundary, go_to, kern_before, last,
+    ligature_before,
+};
+use test_support::terms::font_of;
+use tfm_tables::{Font, FontFault, Step};
 
 /// Both ways agree on a word. Whether it has an end within the steps that are left.
 fn agrees<R: Abort + AllocGlobal>(
@@ -46,20 +50,17 @@ const OPERATIONS: [u8; 10] = [0, 1, 2, 3, 5, 6, 7, 11, 4, 127];
 /// kern before a third code.
 type Shape = ((u8, u8), (u8, u8), Option<u8>);
 
-const SHAPES: [Shape; 12] = [
-    ((B, C), (A, C), None),
-    ((B, A), (A, B), None),
-    ((B, C), (C, B), Some(A)),
-    ((A, B), (B, A), Some(C)),
-    ((A, C), (C, A), Some(B)),
-    ((C, A), (B, C), None),
-    ((A, A), (B, B), None),
-    ((D, B), (B, C), None),
-    ((B, C), (D, A), Some(A)),
-    ((D, A), (C, D), Some(B)),
-    ((B, D), (D, C), Some(C)),
-    ((D, C), (C, B), Some(D)),
-];
+const BEFORE_B: [Shape; 2] = [((B, C), (A, C), None), ((B, A), (A, B), None)];
+
+const WITH_A_KERN: [Shape; 2] = [((B, C), (C, B), Some(A)), ((A, B), (B, A), Some(C))];
+
+const BEFORE_C: [Shape; 2] = [((A, C), (C, A), Some(B)), ((C, A), (B, C), None)];
+
+const THE_LETTER_ITSELF: [Shape; 2] = [((A, A), (B, B), None), ((D, B), (B, C), None)];
+
+const BEFORE_D: [Shape; 2] = [((B, C), (D, A), Some(A)), ((D, A), (C, D), Some(B))];
+
+const INSERTING_D: [Shape; 2] = [((B, D), (D, C), Some(C)), ((D, C), (C, B), Some(D))];
 
 /// The program of a shape by two operations, with or without the boundaries: the left one's begins
 /// with the first ligature.
@@ -82,14 +83,14 @@ const LETTERS: [Info; 4] = [
     Info {
         tag: 1,
         remainder: 2,
-        ..sample_fonts::B
+        ..fonts::B
     },
     Info {
         tag: 1,
         remainder: 1,
-        ..sample_fonts::C
+        ..fonts::C
     },
-    sample_fonts::A,
+    fonts::A,
 ];
 
 /// All words of a and b of up to four letters.
@@ -109,13 +110,30 @@ fn words(alloc: Global) -> Result<Vec<Vec<u8>>, AllocError> {
     Ok(words)
 }
 
+/// The font with these characters from a on, this program and both kerns.
+fn with_letters<'a>(
+    alloc: Global,
+    characters: &'a [Info],
+    program: &'a [Step],
+) -> Result<Font, FontFault> {
+    let count = u16::try_from(characters.len()).unwrap_or(0);
+    let sample = Sample {
+        ec: count.wrapping_add(96),
+        characters,
+        program,
+        kerns: KERNS,
+        ..PLAIN
+    };
+    font_of(alloc, sample.file(alloc))
+}
+
 /// Both ways agree on all words, within 40 steps. How many of them have no end within these.
 fn agrees_on_all<R: Abort + AllocGlobal>(
     rt: &R,
     program: &[Step],
     words: &[Vec<u8>],
 ) -> Result<u32, Fail> {
-    let font = samples::letters(rt.alloc(), &LETTERS, program)?;
+    let font = with_letters(rt.alloc(), &LETTERS, program)?;
     let mut without_end = 0u32;
     for word in words {
         for right in [false, true] {
@@ -143,23 +161,51 @@ fn agrees_with_boundaries<R: Abort + AllocGlobal>(
     Ok(without_end)
 }
 
-/// All pairs of operations in all shapes: some 300,000 words.
-#[test]
-fn small_programs_are_run_as_the_definition_says(rt: HostRuntime) -> Result<(), Fail> {
+/// Both ways agree on all pairs of operations in these shapes: some 50,000 words. Some have no end.
+fn agrees_in_shapes<R: Abort + AllocGlobal>(rt: &R, shapes: [Shape; 2]) -> Result<(), Fail> {
     let words = words(rt.alloc())?;
     assert_eq!(rt; words.len(), 31);
     let mut without_end = 0u32;
-    for shape in SHAPES {
+    for shape in shapes {
         for first in OPERATIONS {
             for second in OPERATIONS {
-                let more = agrees_with_boundaries(&rt, shape, (first, second), &words)?;
+                let more = agrees_with_boundaries(rt, shape, (first, second), &words)?;
                 without_end = without_end.wrapping_add(more);
             }
         }
     }
-    println!(rt; "{without_end} words without end")?;
     assert!(rt; without_end > 0, "some words have no end");
     Ok(())
+}
+
+#[test]
+fn ligatures_before_b(rt: HostRuntime) -> Result<(), Fail> {
+    agrees_in_shapes(&rt, BEFORE_B)
+}
+
+#[test]
+fn ligatures_beside_a_kern(rt: HostRuntime) -> Result<(), Fail> {
+    agrees_in_shapes(&rt, WITH_A_KERN)
+}
+
+#[test]
+fn ligatures_before_c(rt: HostRuntime) -> Result<(), Fail> {
+    agrees_in_shapes(&rt, BEFORE_C)
+}
+
+#[test]
+fn ligatures_of_a_letter_and_itself(rt: HostRuntime) -> Result<(), Fail> {
+    agrees_in_shapes(&rt, THE_LETTER_ITSELF)
+}
+
+#[test]
+fn ligatures_before_d(rt: HostRuntime) -> Result<(), Fail> {
+    agrees_in_shapes(&rt, BEFORE_D)
+}
+
+#[test]
+fn ligatures_that_insert_d(rt: HostRuntime) -> Result<(), Fail> {
+    agrees_in_shapes(&rt, INSERTING_D)
 }
 
 /// The letters from a on, so many that all of these can stand ahead at once.
@@ -167,7 +213,7 @@ fn many_letters(alloc: Global) -> Result<Vec<Info>, AllocError> {
     let mut letters = Vec::new(alloc);
     letters.push(A_FROM_0)?;
     for _ in 1..25 {
-        letters.push(sample_fonts::A)?;
+        letters.push(fonts::A)?;
     }
     Ok(letters)
 }
@@ -187,7 +233,7 @@ fn one_more_letter(alloc: Global) -> Result<Vec<Step>, AllocError> {
 fn many_characters_ahead(rt: HostRuntime) -> Result<(), Fail> {
     let program = one_more_letter(rt.alloc())?;
     let letters = many_letters(rt.alloc())?;
-    let font = samples::letters(rt.alloc(), &letters, &program)?;
+    let font = with_letters(rt.alloc(), &letters, &program)?;
     for word in ["ab", "aab", "abab"] {
         for right in [false, true] {
             let ends = agrees(&rt, &program, &font, (word.as_bytes(), right), 200)?;

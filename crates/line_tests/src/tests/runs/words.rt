@@ -1,31 +1,14 @@
 //! Whole words, with exactly their items and steps.
-use super::samples::{
-    boundary_exists, endless, indirect, left_boundary, ligature, plain, right_boundary, skipped,
-    two_for_one_pair,
-};
 use lig_kern::{Item, WordFault, set_word};
 use std::process::Abort;
 use std::test::Fail;
+use test_support::fonts::examples::{
+    boundary_exists, endless, indirect, left_boundary, ligature, plain, right_boundary,
+};
+use test_support::fonts::{SKIPPING, TWO_KERNS};
+use test_support::items::{A, AHEAD, B, BACK, C};
+use test_support::terms::font_of;
 use tfm_tables::Font;
-
-const A: Item = Item::Char {
-    code: 97,
-    width: 327_680,
-};
-
-const B: Item = Item::Char {
-    code: 98,
-    width: 163_840,
-};
-
-const C: Item = Item::Char {
-    code: 99,
-    width: 491_520,
-};
-
-const BACK: Item = Item::Kern(-40_960);
-
-const AHEAD: Item = Item::Kern(20_480);
 
 /// What stands in the list before a word is set.
 const EARLIER: [Item; 3] = [C, Item::Space(218_453), Item::Skipped(100)];
@@ -86,14 +69,14 @@ fn sets_both_ways<R: Abort + AllocGlobal>(
 
 #[test]
 fn ligatures_and_kerns(rt: HostRuntime) -> Result<(), Fail> {
-    let font = plain(rt.alloc())?;
+    let font = font_of(rt.alloc(), plain(rt.alloc()))?;
     let words: [(&str, &[Item], u32); 3] = [
         ("a", &[A], 1),
         ("ab", &[A, B], 2),
         ("abc", &[A, B, C], 3),
     ];
     sets_both_ways(&rt, "the plain font", &font, &words)?;
-    let font = ligature(rt.alloc(), 0)?;
+    let font = font_of(rt.alloc(), ligature(rt.alloc(), 0))?;
     let words: [(&str, &[Item], u32); 6] = [
         ("a", &[A], 1),
         ("ab", &[C], 2),
@@ -107,15 +90,15 @@ fn ligatures_and_kerns(rt: HostRuntime) -> Result<(), Fail> {
 
 #[test]
 fn the_first_instruction_that_is_met_wins(rt: HostRuntime) -> Result<(), Fail> {
-    let font = two_for_one_pair(rt.alloc())?;
+    let font = font_of(rt.alloc(), TWO_KERNS.file(rt.alloc()))?;
     sets_both_ways(&rt, "two kerns", &font, &[("ab", &[A, BACK, B], 2)])?;
-    let font = skipped(rt.alloc())?;
+    let font = font_of(rt.alloc(), SKIPPING.file(rt.alloc()))?;
     sets_both_ways(&rt, "a skip", &font, &[("ab", &[A, AHEAD, B], 2)])
 }
 
 #[test]
 fn a_second_indirection_is_not_followed(rt: HostRuntime) -> Result<(), Fail> {
-    let font = indirect(rt.alloc())?;
+    let font = font_of(rt.alloc(), indirect(rt.alloc()))?;
     sets_both_ways(&rt, "two indirections", &font, &[("ab", &[A, B], 2)])
 }
 
@@ -132,12 +115,12 @@ fn each_operation_does_what_it_says(rt: HostRuntime) -> Result<(), Fail> {
         (11, &[A, C, B], 2),
     ];
     for (op, items, steps) in operations {
-        let font = ligature(rt.alloc(), op)?;
+        let font = font_of(rt.alloc(), ligature(rt.alloc(), op))?;
         let case = format!(in rt.alloc(); "operation {op}")?;
         sets_both_ways(&rt, &case, &font, &[("ab", items, steps)])?;
     }
     for op in [4, 8, 9, 10, 12, 127] {
-        let font = ligature(rt.alloc(), op)?;
+        let font = font_of(rt.alloc(), ligature(rt.alloc(), op))?;
         let case = format!(in rt.alloc(); "unlisted operation {op}")?;
         sets_both_ways(&rt, &case, &font, &[("ab", &[C], 2)])?;
     }
@@ -146,7 +129,7 @@ fn each_operation_does_what_it_says(rt: HostRuntime) -> Result<(), Fail> {
 
 #[test]
 fn the_right_boundary_stands_after_a_word(rt: HostRuntime) -> Result<(), Fail> {
-    let font = right_boundary(rt.alloc())?;
+    let font = font_of(rt.alloc(), right_boundary(rt.alloc()))?;
     let words: [(&str, &[Item], u32); 3] = [
         ("a", &[A, BACK, B], 3),
         ("b", &[B, AHEAD], 2),
@@ -158,7 +141,7 @@ fn the_right_boundary_stands_after_a_word(rt: HostRuntime) -> Result<(), Fail> {
     }
     let case = "a right boundary that isn't asked for";
     sets(&rt, case, &font, ("a", false), (&[A], 1))?;
-    let font = boundary_exists(rt.alloc())?;
+    let font = font_of(rt.alloc(), boundary_exists(rt.alloc()))?;
     let case = "a right boundary character that exists";
     sets(&rt, case, &font, ("a", true), (&[A, BACK], 2))?;
     sets(&rt, case, &font, ("ab", true), (&[A, BACK, B], 3))
@@ -166,7 +149,7 @@ fn the_right_boundary_stands_after_a_word(rt: HostRuntime) -> Result<(), Fail> {
 
 #[test]
 fn the_left_boundary_stands_before_a_word(rt: HostRuntime) -> Result<(), Fail> {
-    let font = left_boundary(rt.alloc())?;
+    let font = font_of(rt.alloc(), left_boundary(rt.alloc()))?;
     let words: [(&str, &[Item], u32); 2] = [("a", &[BACK, A], 1), ("b", &[C, B], 3)];
     sets_both_ways(&rt, "the font with a left boundary", &font, &words)
 }
@@ -174,7 +157,7 @@ fn the_left_boundary_stands_before_a_word(rt: HostRuntime) -> Result<(), Fail> {
 #[test]
 fn a_program_without_end_is_stopped(rt: HostRuntime) -> Result<(), Fail> {
     for op in [1, 2, 3, 7] {
-        let font = endless(rt.alloc(), op)?;
+        let font = font_of(rt.alloc(), endless(rt.alloc(), op))?;
         for right in [false, true] {
             let case = format!(in rt.alloc(); "operation {op} without end")?;
             refuses(&rt, &case, &font, ("aa", right), 100)?;
@@ -188,7 +171,7 @@ fn a_program_without_end_is_stopped(rt: HostRuntime) -> Result<(), Fail> {
         (11, &[A, A, A], 2),
     ];
     for (op, items, steps) in operations {
-        let font = endless(rt.alloc(), op)?;
+        let font = font_of(rt.alloc(), endless(rt.alloc(), op))?;
         let case = format!(in rt.alloc(); "operation {op} with an end")?;
         sets_both_ways(&rt, &case, &font, &[("aa", items, steps)])?;
     }

@@ -21,6 +21,6 @@ returns-clause-text g c =
     let short : c.summary_of-summary.result ≡ summary_of_lanes (sum_by (λ text. text.refused) after.lanes.items) run.lanes.items =
     let of = c.summary_of-summary.ensures (sum_by (λ text. text.refused) after.lanes.items) (search rules) in search rules in
     kept_run (λ (texts : RunTexts g.row.K.Denot). texts.version) (λ texts. texts.lanes.items) g.K.Kept.version
-    g.S.LineSource.to_come g.S.LineSource.failed g.S.LineSource.origin c.args.sources.items run c.in-Ok.texts after c.args.version g.K.Kept.lanes
+    g.S.LineSource.to_come g.S.LineSource.failed g.S.LineSource.origin c.args.sources.items run c.in-Ok.texts after c.args.options.now.version g.K.Kept.lanes
     (g.W.Write.contents c.args.out.now) (g.W.Write.contents c.write.new.out) c.summary_of-summary.result
     c.requires.version (search rules) begun none whole collected back (search rules) short

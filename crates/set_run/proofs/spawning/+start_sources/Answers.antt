@@ -34,11 +34,11 @@ returns-in_default-begin-clause-begun g t c = λ none _. no_more (vec_len c.pop.
 pub returns-in_default-spawn_with-clause-begun : goal.returns-in_default-spawn_with-clause-begun
 returns-in_default-spawn_with-clause-begun g t c = λ none _. no_more (vec_len c.pop.new.self) (vec_len c.args.sources) c.in-Some.ensures.len none
 
-pub returns-in_default-begin-clause-unbegun : goal.returns-in_default-begin-clause-unbegun
-returns-in_default-begin-clause-unbegun g t c = c.stopped.ensures
+pub returns-in_default-begin-clause-not_started : goal.returns-in_default-begin-clause-not_started
+returns-in_default-begin-clause-not_started g t c = c.stopped.ensures
 
-pub returns-in_default-spawn_with-clause-unbegun : goal.returns-in_default-spawn_with-clause-unbegun
-returns-in_default-spawn_with-clause-unbegun g t c = c.stopped-in_default-spawn_with.ensures
+pub returns-in_default-spawn_with-clause-not_started : goal.returns-in_default-spawn_with-clause-not_started
+returns-in_default-spawn_with-clause-not_started g t c = c.stopped-in_default-spawn_with.ensures
 
 pub begin-requires : goal.begin-requires
 begin-requires g t c = c.requires.some (c.in-Some.ensures.variant.0 refl)
@@ -55,10 +55,10 @@ returns-in_default-clause-workers g t c =
     c.with_no_source.ensures.ok (λ a has. has)
 
 pub returns-in_default-clause-begun : goal.returns-in_default-clause-begun
-returns-in_default-clause-begun g t c = λ _ none. ok_below c.start_workers-started.result c.with_no_source.result (c.start_workers-started.ensures.begun none) c.with_no_source.ensures.unbegun
+returns-in_default-clause-begun g t c = λ _ none. ok_below c.start_workers-started.result c.with_no_source.result (c.start_workers-started.ensures.begun none) c.with_no_source.ensures.not_started
 
-pub returns-in_default-clause-unbegun : goal.returns-in_default-clause-unbegun
-returns-in_default-clause-unbegun g t c = err_below c.start_workers-started.result c.with_no_source.result (λ u. u.collector ≡ c.args.collector) c.start_workers-started.ensures.unbegun c.with_no_source.ensures.unbegun
+pub returns-in_default-clause-not_started : goal.returns-in_default-clause-not_started
+returns-in_default-clause-not_started g t c = err_below c.start_workers-started.result c.with_no_source.result (λ u. u.collector ≡ c.args.collector) c.start_workers-started.ensures.not_started c.with_no_source.ensures.not_started
 
 pub returns-in_default-clause-gathered : goal.returns-in_default-clause-gathered
 returns-in_default-clause-gathered g t c =
@@ -68,19 +68,19 @@ returns-in_default-clause-gathered g t c =
     let none : c.args.sources.items ≡ [] = search rules in
     IfOk-weaker c.with_no_source.result _ _ (λ a both.
     let no_lane : a.0.items ≡ [] = cc in
-    gathers_none g.S.LineSource.to_come g.S.LineSource.failed g.S.LineSource.origin g.C.Collector.lanes g.C.Collector.given g.C.Collector.refused c.args.sources.items c.args.lanes.items
+    gathers_none g.S.LineSource.to_come g.S.LineSource.failed g.S.LineSource.origin g.C.Collector.lanes g.C.Collector.given g.C.Collector.refused c.args.sources.items c.args.lanes.takers.items
     c.args.collector a.0.items a.2 none no_lane both.1) of_closed
 
 pub end_after-requires-clause-some : goal.end_after-requires-clause-some
 end_after-requires-clause-some g t c =
     IfOk-weaker c.start_sources-below.result _ _ (λ b same.
     let begun = c.in-Ok.ensures in
-    let long : length c.args.workers.items ≡ length b.1.items = as_many c.len-number.result begun.1.0 c.args.workers.items c.begin.new.workers.items b.1.items begun.1.3 same in
+    let long : length c.args.lanes.workers.items ≡ length b.1.items = as_many c.len-number.result begun.1.0 c.args.lanes.workers.items c.begin.new.workers.items b.1.items begun.1.3 same in
     omega (arith, long, c.requires.some)) c.start_sources-below.ensures.workers
 
 pub end_after-requires-clause-room : goal.end_after-requires-clause-room
 end_after-requires-clause-room g t c =
-    IfOk-weaker c.start_sources-below.result _ _ (λ b both. room_left (vec_len c.pop.new.self) (vec_len c.args.sources) (vec_capacity c.args.closed) (vec_len b.0) (vec_capacity b.0) c.in-Some.ensures.len c.requires.room both.0 both.1)
+    IfOk-weaker c.start_sources-below.result _ _ (λ b both. room_left (vec_len c.pop.new.self) (vec_len c.args.sources) (vec_capacity c.args.lanes.closed) (vec_len b.0) (vec_capacity b.0) c.in-Some.ensures.len c.requires.room both.0 both.1)
     (both_ok c.start_sources-below.result _ _ c.start_sources-below.ensures.count c.start_sources-below.ensures.room)
 
 pub end_after-requires-clause-lane : goal.end_after-requires-clause-lane
@@ -90,15 +90,15 @@ end_after-requires-clause-lane g t c =
     subst (λ f. HandsBack g.S.LineSource.to_come g.S.LineSource.failed g.S.LineSource.origin f c.join-feeding.result) from c.join-feeding.ensures
     in
     IfOk-weaker c.start_sources-below.result _ _ (λ b both.
-    can_end c.in-Some.source c.len-number.result c.in-Ok.feeding c.join-feeding.result c.args.workers.items c.begin.new.workers.items
-    b.1.items c.args.lanes.items c.begin.new.lanes.items b.2.lanes.items c.in-Ok.ensures both.0 both.1.same handed.0)
+    can_end c.in-Some.source c.len-number.result c.in-Ok.feeding c.join-feeding.result c.args.lanes.workers.items c.begin.new.workers.items
+    b.1.items c.args.lanes.takers.items c.begin.new.lanes.items b.2.lanes.items c.in-Ok.ensures both.0 both.1.same handed.0)
     (both_ok c.start_sources-below.result _ _ c.start_sources-below.ensures.workers c.start_sources-below.ensures.gathered)
 
 pub returns-clause-workers : goal.returns-clause-workers
 returns-clause-workers g t c =
     after_below c.start_sources-below.result c.end_after.result _ _ _ c.start_sources-below.ensures.workers c.end_after.ensures.ended (λ b a same ended.
     workers_back c.in-Some.source c.len-number.result c.in-Ok.feeding c.join-feeding.result b.0.items a.0.items
-    c.args.workers.items c.begin.new.workers.items b.1.items a.1.items c.args.lanes.items c.begin.new.lanes.items
+    c.args.lanes.workers.items c.begin.new.workers.items b.1.items a.1.items c.args.lanes.takers.items c.begin.new.lanes.items
     b.2.lanes.items a.2.lanes.items c.in-Ok.ensures same ended)
 
 pub returns-clause-count : goal.returns-clause-count
@@ -109,13 +109,13 @@ returns-clause-count g t c =
 pub returns-clause-room : goal.returns-clause-room
 returns-clause-room g t c =
     after_below c.start_sources-below.result c.end_after.result _ _ _ c.start_sources-below.ensures.room c.end_after.ensures.room
-    (λ b a had more. no_less (vec_capacity c.args.closed) (vec_capacity b.0) (vec_capacity a.0) had more)
+    (λ b a had more. no_less (vec_capacity c.args.lanes.closed) (vec_capacity b.0) (vec_capacity a.0) had more)
 
 pub returns-clause-begun : goal.returns-clause-begun
 returns-clause-begun g t c = λ none _. no_more (vec_len c.pop.new.self) (vec_len c.args.sources) c.in-Some.ensures.len none
 
-pub returns-clause-unbegun : goal.returns-clause-unbegun
-returns-clause-unbegun g t c = err_below c.start_sources-below.result c.end_after.result (λ u. u.collector ≡ c.args.collector) c.start_sources-below.ensures.unbegun c.end_after.ensures.unbegun
+pub returns-clause-not_started : goal.returns-clause-not_started
+returns-clause-not_started g t c = err_below c.start_sources-below.result c.end_after.result (λ u. u.collector ≡ c.args.collector) c.start_sources-below.ensures.not_started c.end_after.ensures.not_started
 
 pub returns-clause-gathered : goal.returns-clause-gathered
 returns-clause-gathered g t c =
@@ -129,5 +129,5 @@ returns-clause-gathered g t c =
     (λ b a had ended.
     has_ended g.S.LineSource.to_come g.S.LineSource.failed g.S.LineSource.origin g.C.Collector.lanes g.C.Collector.given g.C.Collector.refused c.args.sources.items c.pop.new.self.items
     c.in-Some.source c.len-number.result c.in-Ok.feeding c.join-feeding.result b.0.items a.0.items
-    c.args.workers.items c.begin.new.workers.items b.1.items a.1.items c.args.lanes.items c.begin.new.lanes.items
+    c.args.lanes.workers.items c.begin.new.workers.items b.1.items a.1.items c.args.lanes.takers.items c.begin.new.lanes.items
     c.args.collector b.2 a.2 c.in-Some.ensures.items c.in-Ok.ensures had.0 handed had.1 ended.0 ended.1.0 ended.1.1)

@@ -31,11 +31,11 @@ returns-then-is_err-clause-begun g t c = λ none. no_more (vec_len c.pop.new.sel
 pub returns-in_default-spawn_with-clause-begun : goal.returns-in_default-spawn_with-clause-begun
 returns-in_default-spawn_with-clause-begun g t c = λ none. no_more (vec_len c.pop.new.self) (vec_len c.args.workers) c.in-Some.ensures.len none
 
-pub returns-then-is_err-clause-unbegun : goal.returns-then-is_err-clause-unbegun
-returns-then-is_err-clause-unbegun g t c = c.stopped.ensures
+pub returns-then-is_err-clause-not_started : goal.returns-then-is_err-clause-not_started
+returns-then-is_err-clause-not_started g t c = c.stopped.ensures
 
-pub returns-in_default-spawn_with-clause-unbegun : goal.returns-in_default-spawn_with-clause-unbegun
-returns-in_default-spawn_with-clause-unbegun g t c = c.stopped-in_default-spawn_with.ensures
+pub returns-in_default-spawn_with-clause-not_started : goal.returns-in_default-spawn_with-clause-not_started
+returns-in_default-spawn_with-clause-not_started g t c = c.stopped-in_default-spawn_with.ensures
 
 pub returns-in_default-clause-collected : goal.returns-in_default-clause-collected
 returns-in_default-clause-collected g t c = c.collect_or_stop-collected.ensures
@@ -43,8 +43,8 @@ returns-in_default-clause-collected g t c = c.collect_or_stop-collected.ensures
 pub returns-in_default-clause-begun : goal.returns-in_default-clause-begun
 returns-in_default-clause-begun g t c = λ _. refl
 
-pub returns-in_default-clause-unbegun : goal.returns-in_default-clause-unbegun
-returns-in_default-clause-unbegun g t c = tt
+pub returns-in_default-clause-not_started : goal.returns-in_default-clause-not_started
+returns-in_default-clause-not_started g t c = tt
 
 pub come_back-requires : goal.come_back-requires
 come_back-requires g t c =
@@ -72,5 +72,5 @@ returns-clause-collected g t c =
 pub returns-clause-begun : goal.returns-clause-begun
 returns-clause-begun g t c = λ none. no_more (vec_len c.pop.new.self) (vec_len c.args.workers) c.in-Some.ensures.len none
 
-pub returns-clause-unbegun : goal.returns-clause-unbegun
-returns-clause-unbegun g t c = err_below c.start_workers-below.result c.come_back.result (λ u. u.collector ≡ c.args.collector) c.start_workers-below.ensures.unbegun c.come_back.ensures.unbegun
+pub returns-clause-not_started : goal.returns-clause-not_started
+returns-clause-not_started g t c = err_below c.start_workers-below.result c.come_back.result (λ u. u.collector ≡ c.args.collector) c.start_workers-below.ensures.not_started c.come_back.ensures.not_started

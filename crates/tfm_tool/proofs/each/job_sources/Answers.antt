@@ -3,7 +3,7 @@ use Rattle.std.proofs.lemmas.Result.{IfOk-weaker}
 use Rattle.std.specs.List.{AllZip}
 use Rattle.tfm_tool.specs.Faults.{IsRefused}
 use Rattle.tfm_tool.specs.Jobs.{AreWordsOfJobs, HasTermsOf, IsFaultOfWords, job_value, jobs_in}
-use Rattle.tfm_tool.proofs.EachLemmas.{sources_if_ok}
+use Rattle.tfm_tool.proofs.EachLemmas.{sources_of_jobs}
 use Rattle.tfm_tool.proofs.ReaderLemmas.{reader_told}
 use Rattle.tfm_tool.proofs.CauseLemmas.{few_of_jobs, refused_on}
 use Rattle.tfm_tool.proofs.WordLemmas.{lawful_words}
@@ -11,7 +11,7 @@ use Rattle.tfm_tool.proofs.each.job_sources.Goals as goal
 
 pub returns-clause-sources : goal.returns-clause-sources
 returns-clause-sources g c =
-    sources_if_ok (λ sources. sources.items) c.open_each.result (g.F.Opens.known c.args.files.now) c.args.asked.now.layout (reader_told g.F.File.Read.remaining)
+    sources_of_jobs (g.F.Opens.known c.args.files.now) (reader_told g.F.File.Read.remaining) (λ sources. sources.items) c.open_each.result c.args.asked.now.layout
     c.in_ok-given.given.items c.args.asked.now.words.items c.in_ok-with_terms.with_terms.items
     (subst (λ words. map job_value c.in_ok-given.given.items ≡ jobs_in words) c.as_slice.ensures.value c.in_ok-given.ensures.jobs)
     (subst (λ jobs. AllZip (HasTermsOf (g.F.Opens.known c.args.files.now) c.args.asked.now.layout) jobs c.in_ok-with_terms.with_terms.items)

@@ -5,7 +5,7 @@ use Rattle.std.specs.declared.sync.Arc.{Arc}
 use Rattle.set_line.specs.Terms.{TermsValue}
 use Rattle.tfm_tool.specs.FontFaults.{IsRefusedJob}
 use Rattle.tfm_tool.specs.Jobs.{HasTermsOf, job_value}
-use Rattle.tfm_tool.specs.declared.exit.Failure.{Failure}
+use Rattle.tfm_tool.specs.declared.failure.Failure.{Failure}
 use Rattle.tfm_tool.proofs.JobLemmas.{place_more}
 use Rattle.tfm_tool.proofs.CauseLemmas.{first_refused, told_on}
 use Rattle.tfm_tool.proofs.jobs.all_terms.Goals as goal

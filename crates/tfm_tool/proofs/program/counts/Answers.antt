@@ -4,7 +4,7 @@ use Rattle.font_texts.specs.CountsText.{counts_text_of, head_fault_of}
 use Rattle.run_texts.specs.declared.fault.ToolFault.{ToolFault}
 use Rattle.tfm_tool.specs.FontFaults.{IsRefusedHead}
 use Rattle.tfm_tool.specs.Named.{font_bytes_of}
-use Rattle.tfm_tool.specs.declared.exit.Failure.TheVariants.{Tool}
+use Rattle.tfm_tool.specs.declared.failure.Failure.TheVariants.{Tool}
 use Rattle.tfm_tool.proofs.FontTextLemmas.{has_no_fault}
 use Rattle.tfm_tool.proofs.KnownLemmas.{of_known}
 use Rattle.tfm_tool.proofs.CauseLemmas.{head_cause, head_cause_known, told_cause, unread_later}

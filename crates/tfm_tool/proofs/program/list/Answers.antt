@@ -4,7 +4,7 @@ use Rattle.tfm_tables.specs.Font.{FontValue, IsFontOf}
 use Rattle.run_texts.specs.declared.fault.ToolFault.{ToolFault}
 use Rattle.tfm_tool.specs.FontFaults.{IsRefusedFont}
 use Rattle.tfm_tool.specs.Named.{font_bytes_of}
-use Rattle.tfm_tool.specs.declared.exit.Failure.TheVariants.{Tool}
+use Rattle.tfm_tool.specs.declared.failure.Failure.TheVariants.{Tool}
 use Rattle.tfm_tool.specs.Requests.{list_text_of}
 use Rattle.tfm_tool.proofs.KnownLemmas.{of_font}
 use Rattle.tfm_tool.proofs.CauseLemmas.{font_cause, told_cause, tool_cause, unread_later}
@@ -12,9 +12,9 @@ use Rattle.tfm_tool.proofs.program.list.Goals as goal
 
 pub returns-clause-text : goal.returns-clause-text
 returns-clause-text g c = (
-  of_font (font_bytes_of (g.F.Opens.known c.args.files.now) (g.I.Read.remaining c.args.input.now) c.args.font.now) c.in_ok-bytes.bytes.items None
-      (λ f. Appends (g.O.Write.contents c.args.out.now) (g.O.Write.contents c.list_bytes.new.out) (list_text_of c.args.all f)) c.in_ok-bytes.ensures.bytes
-      (subst (λ b. (f : FontValue) × IsFontOf b None f × Appends (g.O.Write.contents c.args.out.now) (g.O.Write.contents c.list_bytes.new.out) (list_text_of c.args.all f))
+  of_font (font_bytes_of (g.F.Opens.known c.args.files.now) (g.I.Read.remaining c.args.input.now) c.args.listed.now.font.now) c.in_ok-bytes.bytes.items None
+      (λ f. Appends (g.O.Write.contents c.args.out.now) (g.O.Write.contents c.list_bytes.new.out) (list_text_of c.args.listed.now.all f)) c.in_ok-bytes.ensures.bytes
+      (subst (λ b. (f : FontValue) × IsFontOf b None f × Appends (g.O.Write.contents c.args.out.now) (g.O.Write.contents c.list_bytes.new.out) (list_text_of c.args.listed.now.all f))
       c.as_slice.ensures.value c.in_ok-list_bytes.ensures.text),
   refl,
 )
@@ -24,7 +24,7 @@ returns-in_err-list_bytes-clause-cause g c =
     let fault : ToolFault = c.in_err-list_bytes.field-0.0 in
     let was : c.list_bytes.result ≡ Err fault = c.in_err-list_bytes.was in
     told_cause c.from_residual-in_err-list_bytes.result fault _ c.from_residual-in_err-list_bytes.ensures.1 (λ before.
-    font_cause (font_bytes_of (g.F.Opens.known c.args.files.now) (g.I.Read.remaining c.args.input.now) c.args.font.now) c.in_ok-bytes.bytes.items (Tool fault)
+    font_cause (font_bytes_of (g.F.Opens.known c.args.files.now) (g.I.Read.remaining c.args.input.now) c.args.listed.now.font.now) c.in_ok-bytes.bytes.items (Tool fault)
     c.in_ok-bytes.ensures.bytes (subst (λ b. IsRefusedFont (Some b) (Tool fault)) c.as_slice.ensures.value
     (tool_cause c.as_slice.result.now fault (λ f is. c.list_bytes.ensures.font f (was ∙ ap Err is)) (λ f is. absurd (c.list_bytes.ensures.run f (was ∙ ap Err is))) before)))
 

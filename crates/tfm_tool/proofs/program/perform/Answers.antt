@@ -3,7 +3,7 @@ use Rattle.command_line.specs.declared.request.Request.TheVariants.{Set, Stream,
 use Rattle.tfm_tool.specs.Faults.{IsCauseOf, IsFaultOf, IsRefused, IsWithoutInput}
 use Rattle.tfm_tool.specs.Requests.{IsDone}
 use Rattle.tfm_tool.specs.Status.{AfterText, BeforeText}
-use Rattle.tfm_tool.specs.declared.exit.Failure.{Failure}
+use Rattle.tfm_tool.specs.declared.failure.Failure.{Failure}
 use Rattle.tfm_tool.proofs.CauseLemmas.{before_map, cause_of, refused_check, refused_set, refused_stream}
 use Rattle.tfm_tool.proofs.StatusLemmas.{zero_listed}
 use Rattle.tfm_tool.proofs.program.perform.Goals as goal

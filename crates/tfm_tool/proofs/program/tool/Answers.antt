@@ -1,6 +1,6 @@
 use Rattle.std.proofs.Common.{◌≡◌, true}
 use Rattle.tfm_tool.specs.Status.{is_refusal}
-use Rattle.tfm_tool.specs.declared.exit.Failure.{Failure}
+use Rattle.tfm_tool.specs.declared.failure.Failure.{Failure}
 use Rattle.tfm_tool.proofs.CauseLemmas.{before_at, before_of}
 use Rattle.tfm_tool.proofs.StatusLemmas.{no_fault_below, status_listed}
 use Rattle.tfm_tool.proofs.program.tool.Goals as goal

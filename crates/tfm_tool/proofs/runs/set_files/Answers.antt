@@ -1,31 +1,17 @@
-use Rattle.std.proofs.Common.{ℕ, List, Option, inr, subst, sym}
-use Rattle.std.specs.Prelude.{IfSome}
-use Rattle.tfm_tool.specs.Kept.{HaveSameFont}
-use Rattle.tfm_tool.specs.Named.{file_bytes_of, font_bytes_of}
-use Rattle.tfm_tool.specs.Requests.{terms_of_setting}
-use Rattle.tfm_tool.proofs.CauseLemmas.{before_map, font_cause, told_on}
-use Rattle.tfm_tool.proofs.ReaderLemmas.{reader_fault, reader_lines}
-use Rattle.tfm_tool.proofs.SourceLemmas.{named_set}
+use Rattle.std.proofs.Common.{map}
+use Rattle.tfm_tool.specs.Jobs.{told_with_terms}
+use Rattle.tfm_tool.proofs.CauseLemmas.{before_none, told_on}
+use Rattle.tfm_tool.proofs.KnownLemmas.{after_map}
+use Rattle.tfm_tool.proofs.ReaderLemmas.{reader_told}
 use Rattle.tfm_tool.proofs.runs.set_files.Goals as goal
 
 pub returns-clause-text : goal.returns-clause-text
 returns-clause-text g c =
-    named_set (reader_lines g.F.File.Read.remaining) reader_fault c.set_sources.result c.as_slice.result.now c.args.setting.now.layout.size
-    c.args.setting.now.layout.version c.in_ok-font.sources.items
-    (font_bytes_of (g.F.Opens.known c.args.files.now) (g.I.Read.remaining c.args.input.now) c.args.setting.now.font.now)
-    (file_bytes_of (g.F.Opens.known c.args.files.now) c.args.setting.now.files.items) (terms_of_setting c.args.setting.now)
-    (g.O.Write.contents c.args.out.now) (g.O.Write.contents c.set_sources.new.out)
-    (subst (λ b. IfSome (font_bytes_of (g.F.Opens.known c.args.files.now) (g.I.Read.remaining c.args.input.now) c.args.setting.now.font.now) (λ all. HaveSameFont b all))
-    (sym c.as_slice.ensures.value) c.in_ok-font.ensures.font)
-    c.in_ok-font.ensures.files c.set_sources.ensures.text
+    after_map c.set_sources.result _ _
+    (λ status printed. (map (told_with_terms (reader_told g.F.File.Read.remaining)) c.in_ok-sources.sources.items, c.in_ok-sources.ensures.sources, printed)) c.set_sources.ensures.text
 
 pub returns-clause-cause : goal.returns-clause-cause
-returns-clause-cause g c =
-    let named : Option (List ℕ) = font_bytes_of (g.F.Opens.known c.args.files.now) (g.I.Read.remaining c.args.input.now) c.args.setting.now.font.now in
-    let same : IfSome named (λ all. HaveSameFont c.as_slice.result.now all) =
-    subst (λ b. IfSome named (λ all. HaveSameFont b all)) (sym c.as_slice.ensures.value) c.in_ok-font.ensures.font in
-    before_map c.set_sources.result _ _ (λ failure is. inr (font_cause named c.as_slice.result.now failure same is))
-    (c.set_sources.ensures.cause c.in_ok-font.ensures.few)
+returns-clause-cause g c = before_none c.set_sources.result _ (c.set_sources.ensures.later c.in_ok-sources.ensures.few)
 
-pub returns-in_err-font-clause-cause : goal.returns-in_err-font-clause-cause
-returns-in_err-font-clause-cause g c = told_on c.from_residual.result c.in_err-font.field-0.0 _ c.from_residual.ensures.1 c.in_err-font.ensures.cause
+pub returns-in_err-sources-clause-cause : goal.returns-in_err-sources-clause-cause
+returns-in_err-sources-clause-cause g c = told_on c.from_residual.result c.in_err-sources.field-0.0 _ c.from_residual.ensures.1 c.in_err-sources.ensures.cause

@@ -1,33 +1,40 @@
-use Rattle.std.proofs.Common.{◌≡◌, None, Some, refl, sym, ◌∙◌}
+use Rattle.std.proofs.Common.{rules, ◌≡◌, None, Some, false, refl, subst, sym, ◌∙◌}
+use Rattle.std.specs.Prelude.{is_ok}
+use Rattle.set_run.specs.Collecting.{TellsLane}
 use Rattle.set_run.specs.declared.lane_taker.LaneTaker.{LaneTaker}
 use Rattle.set_run.proofs.TakerLemmas.{hands_ended, none_yet, not_ended, tells_answer, tells_end, tells_refused_answer, tells_refused_end}
 use Rattle.set_run.proofs.lane_taker.LaneTaker.take.Goals as goal
 
-pub returns-in-Ok-clause-told : goal.returns-in-Ok-clause-told
-returns-in-Ok-clause-told g c =
+pub returns-in_ok-take-in-Answer-clause-told : goal.returns-in_ok-take-in-Answer-clause-told
+returns-in_ok-take-in-Answer-clause-told g c =
     let t : LaneTaker = c.args.self.now in let t' : LaneTaker = record { taker = c.take.new.self; end = t.end } in
     let unended : t.end ≡ None = none_yet t.end (sym c.is_some.ensures ∙ c.if-is_some.false) in let took = c.in-Answer.ensures.took in
     tells_answer g.C.Collector.given c.args.lane t t' c.args.collector.now c.take-in-Answer.new.self c.in-Answer.answer unended unended
-    (not_ended c.take.new.self took.2) took.3 c.in-Ok.ensures.given
+    (not_ended c.take.new.self took.2) took.3 c.in_ok-take-in-Answer.ensures.given
 
-pub returns-in-Err-clause-told : goal.returns-in-Err-clause-told
-returns-in-Err-clause-told g c =
+pub returns-in_err-take-in-Answer-clause-told : goal.returns-in_err-take-in-Answer-clause-told
+returns-in_err-take-in-Answer-clause-told g c =
     let t : LaneTaker = c.args.self.now in let t' : LaneTaker = record { taker = c.take.new.self; end = t.end } in
     let unended : t.end ≡ None = none_yet t.end (sym c.is_some.ensures ∙ c.if-is_some.false) in let took = c.in-Answer.ensures.took in
-    tells_refused_answer g.C.Collector.given c.args.lane t t' c.args.collector.now c.take-in-Answer.new.self c.in-Answer.answer unended unended
-    took.3 c.in-Err.ensures.given
+    let failed : false ≡ is_ok c.from_residual.result = search rules in
+    subst (λ ok. TellsLane g.C.Collector.given c.args.lane t c.args.collector.now ok t' c.take-in-Answer.new.self) failed
+    (tells_refused_answer g.C.Collector.given c.args.lane t t' c.args.collector.now c.take-in-Answer.new.self c.in-Answer.answer unended unended
+    took.3 c.in_err-take-in-Answer.ensures.given)
 
-pub returns-in-Ok-end-clause-told : goal.returns-in-Ok-end-clause-told
-returns-in-Ok-end-clause-told g c =
+pub returns-in_ok-end-in-End-clause-told : goal.returns-in_ok-end-in-End-clause-told
+returns-in_ok-end-in-End-clause-told g c =
     let t : LaneTaker = c.args.self.now in let t' : LaneTaker = record { taker = c.take.new.self; end = Some c.in-End.end } in
     let unended : t.end ≡ None = none_yet t.end (sym c.is_some.ensures ∙ c.if-is_some.false) in let took = c.in-End.ensures.took in
     let hands = hands_ended t.taker c.take.new.self c.in-End.end took.2 in
-    tells_end g.C.Collector.given c.args.lane t t' c.args.collector.now c.end.new.self c.in-End.end unended refl hands.1 hands.0 c.in-Ok-end.ensures.given
+    tells_end g.C.Collector.given c.args.lane t t' c.args.collector.now c.end.new.self c.in-End.end unended refl hands.1 hands.0
+    c.in_ok-end-in-End.ensures.given
 
-pub returns-in-Err-end-clause-told : goal.returns-in-Err-end-clause-told
-returns-in-Err-end-clause-told g c =
+pub returns-in_err-end-in-End-clause-told : goal.returns-in_err-end-in-End-clause-told
+returns-in_err-end-in-End-clause-told g c =
     let t : LaneTaker = c.args.self.now in let t' : LaneTaker = record { taker = c.take.new.self; end = t.end } in
     let unended : t.end ≡ None = none_yet t.end (sym c.is_some.ensures ∙ c.if-is_some.false) in let took = c.in-End.ensures.took in
     let hands = hands_ended t.taker c.take.new.self c.in-End.end took.2 in
-    tells_refused_end g.C.Collector.given c.args.lane t t' c.args.collector.now c.end.new.self c.in-End.end unended unended hands.0
-    c.in-Err-end.ensures.given
+    let failed : false ≡ is_ok c.from_residual-in_err-end-in-End.result = search rules in
+    subst (λ ok. TellsLane g.C.Collector.given c.args.lane t c.args.collector.now ok t' c.end.new.self) failed
+    (tells_refused_end g.C.Collector.given c.args.lane t t' c.args.collector.now c.end.new.self c.in-End.end unended unended hands.0
+    c.in_err-end-in-End.ensures.given)

@@ -10,4 +10,4 @@ loop-i-init c = zip_refl IsWorked setter_refl c.self.inside.setters.items
 pub loop-i-preserved : goal.loop-i-preserved
 loop-i-preserved c =
     zip_change IsWorked setter_trans c.self.inside.setters.items c.loop-i.self-inside.setters.items c.loop-i.i c.index_mut.result.now
-    c.take_turns.new.setter c.index_mut.ensures.value (search rules) c.loop-i.invariant c.take_turns.ensures
+    c.take_turns.new.self c.index_mut.ensures.value (search rules) c.loop-i.invariant c.take_turns.ensures

@@ -1,0 +1,141 @@
+"""`tfmset set` and TeX's own boxes, item by item: characters, kerns, spaces and widths.
+
+200 lines are set with each of 100 fonts, chosen evenly from the TeX trees. A line is one word, or a few words
+with spaces before, between and after them. Most pairs of characters are pairs for which the font has an
+instruction, and the font lacks a few of the bytes. Three of seven fonts are set at other sizes. Then 200
+short runs are set with each of 30 small random fonts, whose programs have all eight operations and both
+boundaries. TeX runs once for each font, in batch mode, and \\showbox prints the contents of each box.
+
+The differences that docs/TEX.md lists are avoided in these ways. A space is written as \\ , which has the
+width of parameter 2 whatever precedes it, also at both ends. Bytes other than letters are written with
+\\char. Byte 10 doesn't occur in a line. The right boundary's code isn't used as a missing byte. A run with a
+random font that doesn't end within LIMIT steps isn't passed to TeX. The lines are the same in every execution
+with the same fonts.
+"""
+import os
+import random
+import re
+
+from lib.base import PROGRAM, Case, environment, execute, read, rows
+from lib.tex import fonts
+from lib.tfm import Font
+from lib.slow import random_font
+
+WEIGHT = 3
+FONTS, RANDOM, LINES = 100, 30, 200
+GROUP = 5  # fonts of one test
+LIMIT = 200  # steps of a line in a random font
+SIZES = [None, None, None, None, 327680, 917511, 8519683]  # sp; None is the design size
+LETTERS = b"ABCDEFGHIJKLMNOPQRSTUVWXYZabcdefghijklmnopqrstuvwxyz"
+
+
+def random_lines(font, seed, most):
+    """Random lines for a font."""
+    chance, codes = random.Random(seed), [code for code in font.codes if code not in (10, 32)]
+    missing = [code for code in range(256) if code not in codes and code not in (10, 32, font.right)]
+
+    def word():
+        """A walk over the characters, mostly along the instructions of the program."""
+        found = [chance.choice(codes)]
+        for _ in range(chance.randrange(most)):
+            waits = [code for code in font.waits(found[-1]) if code in codes]
+            found.append(chance.choice(waits if waits and chance.randrange(3) else codes))
+        return found
+
+    for turn in range(LINES):
+        line = word()
+        while turn % 2 and chance.randrange(4):
+            line += [32] * chance.choice([1, 1, 1, 2]) + word()
+        if turn % 6 == 5 and missing:
+            line.insert(chance.randrange(len(line) + 1), chance.choice(missing))
+        yield bytes([32] + line + [32] if turn % 20 == 3 else line)
+
+
+def code_of(text):
+    """The character in `\\f c`, or `\\f c (ligature ..)`."""
+    text = text.split(" (ligature ")[0] if " (ligature " in text else text
+    if text.startswith("^^") and len(text) > 2:
+        return int(text[2:], 16) if len(text) == 4 else (ord(text[2]) + 64) % 128
+    return ord(text)
+
+
+def items_of_box(box):
+    """The width and the items of a box. TeX prints points exactly."""
+    def scaled_points(text):
+        return round(float(text) * 65536)
+
+    items = []
+    for line in box[1:]:
+        if line.startswith(".\\f "):
+            items.append(("c", code_of(line[4:])))
+        elif line.startswith(".\\kern"):
+            items.append(("k", scaled_points(line[6:])))
+        elif line.startswith(".\\glue "):
+            items.append(("s", scaled_points(line[7:].split(" ")[0])))
+        else:
+            raise ValueError(f"in a box of TeX: {line!r}")
+    return scaled_points(re.match(r"\\hbox\(.*\)x(-?[\d.]+)$", box[0]).group(1)), items
+
+
+def items_of_record(record):
+    """The width and the items of a record, except for bytes that were skipped."""
+    _, _, width, *fields = record.split(" ")
+    return int(width), [(field[0], int(field[1:].split("=")[0])) for field in fields if field[0] in "cks"]
+
+
+class Boxes(Case):
+    """The boxes of TeX"""
+
+    def setUp(self):
+        super().setUp()
+        self.need("tex", "kpsewhich", "cmr10")
+
+    def records(self, size, lines, limit):
+        self.file("lines", b"\n".join(lines) + b"\n")
+        options = ["--missing", "skip", "--limit", str(limit)] + (["--size", str(size)] if size else [])
+        status, out, err = execute(PROGRAM, "set", *options, "f.tfm", "lines", cwd=self.room, timeout=100)
+        self.assertLess(status, 2, err)
+        return out.split("\n")[:len(lines)]
+
+    def boxes(self, size, lines):
+        """The boxes of the lines, each a list of lines of the log."""
+        text = (b"\\catcode123=1 \\catcode125=2 \\tracinglostchars=0 \\hbadness=10000 \\hfuzz=16383pt\n"
+                b"\\newlinechar=-1 \\showboxbreadth=100000 \\showboxdepth=2 \\batchmode\n"
+                b"\\font\\f=f%s\\relax \\f\n" % (b" at %dsp" % size if size else b""))
+        for line in lines:
+            codes = (b"%c" % c if c in LETTERS else b"\\ " if c == 32 else b"\\char%d " % c for c in line)
+            text += b"\\setbox0=\\hbox{%s}\\showbox0\n" % b"".join(codes)
+        self.file("boxes.tex", text + b"\\end\n")
+        env = environment(TFMFONTS=".", TEXINPUTS=".", max_print_line="100000", buf_size="1000000")
+        execute("tex", "-ini", "-interaction=batchmode", "boxes.tex", cwd=self.room, env=env, timeout=100)
+        log = read(os.path.join(self.room, "boxes.log"), "rb").decode("latin-1")
+        return [box.split("\n\n")[0].split("\n") for box in log.split("> \\box0=\n")[1:]]
+
+    def compare(self, name, content, seed, size, most, limit):
+        """Compares all lines for a font, and returns the number of ligatures."""
+        self.file("f.tfm", content)
+        lines = list(random_lines(Font(content), seed, most))
+        records = self.records(size, lines, limit)
+        kept = [pair for pair in zip(lines, records) if " refused steps " not in pair[1]]
+        boxes = self.boxes(size, [line for line, _ in kept])
+        self.same(f"{name}: boxes", len(kept), len(boxes))
+        for (line, record), box in zip(kept, boxes):
+            self.same(f"{name}: {line!r}", items_of_box(box), items_of_record(record))
+        return sum(" (ligature " in line for box in boxes for line in box)
+
+    @rows((f"fonts {first + 1} to {first + GROUP}", range(first, first + GROUP))
+          for first in range(0, FONTS, GROUP))
+    def test_fonts(self, numbers):
+        """Fonts of TeX, at their design size and at others."""
+        chosen = [(path, content) for path, content in fonts() if len(Font(content).codes) >= 20]
+        for number in numbers:
+            path, content = chosen[number * len(chosen) // FONTS]
+            self.compare(path, content, number, SIZES[number % len(SIZES)], 8, 16777216)
+
+    @rows((f"random fonts {first + 1} to {first + GROUP}", range(first, first + GROUP))
+          for first in range(0, RANDOM, GROUP))
+    def test_random(self, numbers):
+        """Random fonts with all operations and both boundaries."""
+        chosen = [(seed, random_font(random.Random(seed))) for seed in numbers]
+        ligatures = [self.compare(f"random font {seed}", font, seed, None, 5, LIMIT) for seed, font in chosen]
+        self.none([], sum(ligatures), 500)

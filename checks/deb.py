@@ -1,0 +1,70 @@
+"""The Debian package that scripts/deb makes: its contents, and installing, running and removing it."""
+import os
+import re
+
+from lib.base import DEMO, PROGRAM, Case, copy_for_scripts, environment, execute, files, output, read, shared
+
+MAINTAINER = "Jo Doe <jo@example.org>"
+FILES = ["usr/bin/tfmset", "usr/share/bash-completion/completions/tfmset", "usr/share/doc/tfmset/copyright",
+         "usr/share/fish/vendor_completions.d/tfmset.fish", "usr/share/man/man1/tfmset.1.gz",
+         "usr/share/zsh/vendor-completions/_tfmset"]
+
+
+def make_package(top):
+    """The package and its contents."""
+    os.mkdir(top)
+    copy = shared("deb-copy", copy_for_scripts)
+    package = output(copy + "/scripts/deb", top, env=environment(MAINTAINER=MAINTAINER), cwd=copy).strip()
+    os.rename(package, top + "/package.deb")
+    output("dpkg-deb", "-x", top + "/package.deb", top + "/files")
+    output("dpkg-deb", "-e", top + "/package.deb", top + "/files/DEBIAN")
+
+
+def without_format(text):
+    """The lines of a licence without indentation and empty lines."""
+    return [line.strip() for line in text.splitlines() if line.strip() not in ("", ".")]
+
+
+class Package(Case):
+    """The package"""
+
+    def setUp(self):
+        super().setUp()
+        self.need("dpkg-deb")
+        self.top = shared("deb", make_package)
+        self.package = self.top + "/package.deb"
+
+    def test_without_maintainer_it_fails(self):
+        copy = shared("deb-copy", copy_for_scripts)
+        self.same("status", 2, execute(copy + "/scripts/deb", self.room, env=environment(), cwd=copy)[0])
+
+    def test_name_version_and_maintainer(self):
+        version = output(PROGRAM, "--version").split()[1]
+        self.same("fields", f"tfmset {version} {MAINTAINER}",
+                  output("dpkg-deb", "--showformat=${Package} ${Version} ${Maintainer}", "-W", self.package))
+
+    def test_files_and_checksums(self):
+        top = self.top + "/files"
+        self.same("files", FILES, files(top, ("DEBIAN",)))
+        self.same("checksums", (0, "", ""), execute("md5sum", "--quiet", "-c", "DEBIAN/md5sums", cwd=top))
+
+    def test_licences(self):
+        text = read(self.top + "/files/usr/share/doc/tfmset/copyright")
+        head = re.search(r"^Files: \*\n(.*?)\n\n", text, re.M | re.S).group(1)
+        self.same("licence", "Copyright: 2026 the Tarovinj authors\nLicense: Expat or Apache-2.0", head)
+        for name, file in (("Expat", "LICENSE-MIT"), ("Apache-2.0", "LICENSE-APACHE")):
+            licence = re.search(rf"^License: {name}\n(.*?)(?=\n\n|\Z)", text, re.M | re.S).group(1)
+            self.same(file, without_format(read(file)), without_format(licence))
+
+    def test_installing_running_and_removing(self):
+        if os.geteuid() != 0:
+            self.lack("root")
+        if execute("dpkg", "-s", "tfmset")[0] == 0:
+            self.skipTest("a package tfmset is installed")
+        self.addCleanup(execute, "dpkg", "-P", "tfmset")
+        self.same("it installs", 0, execute("dpkg", "-i", self.package)[0])
+        self.same("it runs", *(output(program, "stream", DEMO, given=b"five")
+                               for program in (PROGRAM, "/usr/bin/tfmset")))
+        self.same("it is removed", 0, execute("dpkg", "-P", "tfmset")[0])
+        left = ["/usr/bin/tfmset", "/usr/share/doc/tfmset", "/usr/share/man/man1/tfmset.1.gz"]
+        self.same("no file remains", [], [name for name in left if os.path.exists(name)])

@@ -1,0 +1,137 @@
+"""Random fonts and texts, compared with the slow programs of lib/slow.py.
+
+Counts, listings, findings of `check`, and the records of `set`, `each` and `stream` in all formats, with their
+exit statuses. The seed is fixed. With `checks/run --minutes N` it is a new one, which is printed, and
+`--seed SEED` repeats a round that failed. A failure becomes a case of checks/cases.
+"""
+import os
+import random
+import time
+
+from lib import slow
+from lib.base import PROGRAM, Case, execute, rows
+
+WEIGHT = 8
+PARTS, ROUNDS = 8, 90
+MINUTES = float(os.environ.get("CHECKS_MINUTES", 0))
+SEED = os.environ.get("CHECKS_SEED") or (str(random.SystemRandom().randrange(10**9)) if MINUTES else "tfmset")
+ONE = SEED.count("-") == 2  # a single round
+
+
+class Round:
+    """One random font, and commands with it."""
+
+    def __init__(self, test, seed):
+        self.test, self.chance = test, random.Random(seed)
+        self.fonts = [self.font() for _ in range(3)]
+        self.texts = [self.text(self.fonts[0]) for _ in range(3)]
+        for name, content in zip("ABCxyz", self.fonts + self.texts):
+            test.file(name, content)
+
+    def font(self):
+        font = slow.random_font(self.chance) if self.chance.randrange(3) == 0 else slow.rich_font(self.chance)
+        return slow.damage(font, self.chance) if self.chance.randrange(3) == 0 else font
+
+    def text(self, font):
+        """Lines of characters of a font, spaces and other bytes."""
+        codes = slow.Font(font).codes if not slow.font_error(font) else []
+        codes = [code for code in codes if code != 10] or [97]
+        lines = []
+        for _ in range(self.chance.randrange(5)):
+            line = [self.chance.choice(codes) for _ in range(self.chance.randrange(12))]
+            for _ in range(self.chance.choice([0, 0, 1, 3])):
+                line.insert(self.chance.randrange(len(line) + 1), self.chance.choice([32, 32, self.chance.randrange(256)]))
+            lines.append(bytes(line))
+        return b"\n".join(lines) + self.chance.choice([b"", b"\n"])
+
+    def compare(self, wanted, *words, given=b"", in_order=True):
+        status, out, err = execute(PROGRAM, *words, given=given, cwd=self.test.room)
+        if not in_order:
+            # The lines of several sources may be interleaved.
+            head, lines = (1, out.splitlines(True)) if out.startswith("records 2") else (0, out.splitlines(True))
+            out = "".join(lines[:head] + sorted(lines[head:], key=source_of))
+        self.test.same(" ".join(words), wanted, (status, out, err))
+
+    def fonts_alone(self):
+        """The commands that print a font, and `check`."""
+        font = self.fonts[0]
+        for words, error, text in ((["counts", "-"], slow.count_error, slow.counts_text),
+                                   (["list", "A"], slow.font_error, slow.list_text),
+                                   (["list", "--all", "A"], slow.font_error, lambda font: slow.list_text(font, True))):
+            wrong = error(font)
+            self.compare((3, "", f"tfmset: font refused: {wrong}\n") if wrong else (0, text(font), ""), *words, given=font)
+        names = [self.chance.choice(["A", "B", "C", "no"]) for _ in range(self.chance.randrange(1, 5))]
+        wrong = {name: slow.font_error(font) for name, font in zip("ABC", self.fonts)}
+        lines = ["not read" if name == "no" else f"refused: {wrong[name]}" if wrong[name] else "accepted" for name in names]
+        status = 4 if "no" in names else int(any(wrong[name] for name in names))
+        self.compare((status, "".join(f"{name}: {line}\n" for name, line in zip(names, lines)),
+                      "tfmset: some font was not read\n" if status == 4 else ""), "check", *names)
+
+    def options(self):
+        """Random options of `set`, `each` and `stream`: the arguments, the size, the policy and the record format."""
+        size = self.chance.choice([None, 65536, 655360, self.chance.randrange(1, 2**27)])
+        skip, form = self.chance.choice([False, True]), self.chance.choice(["1", "2", "json"])
+        words = ["--record", form, "--missing", "skip" if skip else "refuse"] + (["--size", str(size)] if size else [])
+        for name, most in (("workers", 16), ("capacity", 64), ("block", 8)):
+            if self.chance.randrange(2):
+                words += [f"--{name}", str(self.chance.randint(1, most))]
+        return words, size, skip, form
+
+    def batch(self, triples, size, skip, form):
+        """What is printed for fonts, limits and texts, and the exit status."""
+        found = [slow.source_text(number, text, slow.Setter(font, size, limit, skip), form)
+                 for number, (font, limit, text) in enumerate(triples, 1)]
+        head = "records 2\n" if form == "2" else ""
+        return int(any(refused for _, refused in found)), head + "".join(text for text, _ in found), ""
+
+    def batches(self):
+        words, size, skip, form = self.options()
+        limits = [self.chance.choice([1, 5, 20, 1000]) for _ in range(3)]
+        names = [self.chance.choice("xyz") for _ in range(self.chance.randrange(1, 4))]
+        texts = [self.texts["xyz".index(name)] for name in names]
+        words, wrong = [*words, "--limit", str(limits[0])], slow.font_error(self.fonts[0])
+        refused = (3, "", f"tfmset: font refused: {wrong}\n") if wrong else None
+        triples = [(self.fonts[0], limits[0], text) for text in texts]
+        self.compare(refused or self.batch(triples, size, skip, form), "set", *words, "A", *names)
+        self.compare(refused or self.batch(triples, size, skip, form), "stream", *words, "A", *names, in_order=False)
+        self.compare(refused or self.batch(triples[:1], size, skip, form), "stream", *words, "A", given=texts[0])
+        # Each source with a font and a limit of its own.
+        errors = [slow.font_error(font) for font in self.fonts]
+        number = next((i for i, error in enumerate(errors, 1) if error), None)
+        given = [word for triple in zip("ABC", map(str, limits), "xyz") for word in triple]
+        self.compare((3, "", f"tfmset: font {number} refused: {errors[number - 1]}\n") if number
+                     else self.batch(zip(self.fonts, limits, self.texts), size, skip, form),
+                     "each", *words[:-2], *given)
+
+
+def source_of(line):
+    return int("".join(letter for letter in line.replace(":", " ").replace('{"source"', "").replace(",", " ").split()[0]
+                       if letter.isdigit()))
+
+
+class Differential(Case):
+    """Random fonts and texts"""
+
+    def one_round(self, seed):
+        before = len(self.wrong)
+        one = Round(self, seed)
+        one.fonts_alone()
+        one.batches()
+        if len(self.wrong) > before:
+            self.wrong.insert(before, f"checks/run --seed {seed} -k differential repeats this round")
+
+    @rows((f"part {part + 1}", part) for part in range(1 if ONE else PARTS))
+    def test(self, part):
+        if ONE:
+            self.one_round(SEED)
+            return
+        if MINUTES:
+            print(f"seed {SEED}")
+        until, number = time.monotonic() + 60 * MINUTES, 0
+        while number < ROUNDS or time.monotonic() < until:
+            self.one_round(f"{SEED}-{part}-{number}")
+            number += 1
+            if len(self.wrong) > 20:
+                break
+        if MINUTES:
+            print(f"{number} rounds")

@@ -1,0 +1,197 @@
+"""What `--record json` prints, compared with `--record 2`, line by line and field by field.
+
+Python's json must be able to read each line of JSON, in which no name occurs twice. Written again without
+spaces it must be the same line. Its names must be in the order of docs/TEXTS.md, and its values must be those
+of the line in record format 2. It must also conform to docs/records.schema.json; the validator here has the
+keywords that the schema uses. If Python's jsonschema is installed, it validates one of the lines that differ
+only in numbers, too.
+"""
+import functools
+import json
+import re
+
+from lib.base import PROGRAM, Case, execute, read, rows, table
+from lib.docs import blocks, text_of, worked_examples
+from lib.tfm import path_of, sample, samples
+
+WEIGHT = 3
+CASES, SCHEMA = table("json_records"), json.loads(read("docs/records.schema.json"))
+LONG = 10000  # jsonschema doesn't validate longer lines
+KNOWN = {"$schema", "title", "description", "$defs", "$ref", "oneOf", "type", "const", "enum", "minimum",
+         "maximum", "prefixItems", "items", "minItems", "properties", "required", "additionalProperties"}
+TYPES = {"object": dict, "array": list, "integer": int}
+# All bytes in words and by themselves, spaces, empty lines, lines on both sides of the longest, and some
+# without a last line feed.
+TEXTS = {
+    "lines": read("examples/lines.txt", "rb"), "demo": read("examples/demo.txt", "rb"),
+    "letters": b"a\nab\nabc\naa d\n\n  \nab abc\ndad\nacb abb cb\na|b\n",
+    "bytes": bytes(range(256)) + b"\n" + b"\n".join(bytes([byte]) for byte in range(256)) + b" ab",
+    "long": b"a" * 65535 + b"\n" + b"d" * 65536 + b"\n" + b" " * 65535 + b"\n" + b"a" * 70000,
+    "nothing": b"",
+}
+
+
+class Wrong(Exception):
+    """An error of a line."""
+
+
+def item_of(word):
+    """An item of JSON, by its field in record format 2."""
+    found = re.fullmatch(r"(c)(\d+)=(-?\d+)|([ks])(-?\d+)|(m)(\d+)", word)
+    if not found:
+        raise Wrong(f"not an item: {word!r}")
+    kind, *numbers = (part for part in found.groups() if part)
+    return [kind, *map(int, numbers)]
+
+
+def pairs_of_record(line):
+    """The names and values of a line of record format 2, in order."""
+    for found in filter(None, (re.fullmatch(form, line) for form in CASES["forms"])):
+        return [(name, [item_of(word) for word in text.split()] if name == "items"
+                 else text if name in ("end", "refused") else int(text))
+                for name, text in found.groupdict().items()]
+    raise Wrong(f"not a line of record format 2: {line!r}")
+
+
+def pairs_of_json(line):
+    """The names and values of a line of JSON, in order."""
+    def refuse(word):
+        raise Wrong(f"not an integer: {word}")
+
+    try:
+        pairs = json.loads(line, object_pairs_hook=list, parse_float=refuse, parse_constant=refuse)
+    except json.JSONDecodeError as error:
+        raise Wrong(f"{line[:200]!r}: {error}") from error
+    if not isinstance(pairs, list) or not all(isinstance(pair, tuple) for pair in pairs):
+        raise Wrong(f"not an object: {line[:200]!r}")
+    if json.dumps(dict(pairs), separators=(",", ":")) != line or len(dict(pairs)) != len(pairs):
+        raise Wrong(f"written again it is another line: {line[:200]!r}")
+    return pairs
+
+
+def is_valid(value, its):
+    """Whether a value conforms to a schema, by the keywords of KNOWN."""
+    if isinstance(its, bool):
+        return its
+    if not set(its) <= KNOWN:
+        raise Wrong(f"keywords of the schema that aren't known here: {sorted(set(its) - KNOWN)}")
+    if "$ref" in its and not is_valid(value, functools.reduce(dict.get, its["$ref"].split("/")[1:], SCHEMA)):
+        return False
+    if "oneOf" in its and sum(is_valid(value, one) for one in its["oneOf"]) != 1:
+        return False
+    if "type" in its and type(value) is not TYPES[its["type"]]:
+        return False
+    if value != its.get("const", value) or value not in its.get("enum", [value]):
+        return False
+    if type(value) is int and not its.get("minimum", value) <= value <= its.get("maximum", value):
+        return False
+    if isinstance(value, list):
+        first = its.get("prefixItems", [])
+        parts = list(zip(value, first)) + [(one, its.get("items", True)) for one in value[len(first):]]
+        return len(value) >= its.get("minItems", 0) and all(is_valid(*part) for part in parts)
+    if isinstance(value, dict):
+        names, others = its.get("properties", {}), its.get("additionalProperties", True)
+        return (set(its.get("required", [])) <= set(value)
+                and all(is_valid(one, names.get(name, others)) for name, one in value.items()))
+    return True
+
+
+@functools.lru_cache(maxsize=None)
+def other_validator():
+    """The validator of Python's jsonschema, or None if that isn't installed."""
+    try:
+        import jsonschema  # pylint: disable=import-outside-toplevel
+        jsonschema.Draft202012Validator.check_schema(SCHEMA)
+        return jsonschema.Draft202012Validator(SCHEMA).is_valid
+    except (ImportError, AttributeError):
+        return None
+
+
+@functools.lru_cache(maxsize=None)
+def is_valid_shape(line):
+    """The same by jsonschema, for a line whose numbers are 1, since jsonschema is slow."""
+    return other_validator() is None or other_validator()(json.loads(line))
+
+
+def line_errors(line, record):
+    """The errors of a line of JSON, whose line in record format 2 is given."""
+    try:
+        pairs, wanted = pairs_of_json(line), pairs_of_record(record)
+        wrong = [] if pairs == wanted else [f"{line[:200]!r}, but in record format 2 {record[:200]!r}"]
+        valid = is_valid(dict(pairs), SCHEMA) and (
+            len(line) > LONG or '"bytes"' in line or is_valid_shape(re.sub(r"\d+", "1", line)))
+        return wrong + ([] if valid else [f"{line[:200]!r} doesn't conform to the schema"])
+    except Wrong as error:
+        return [str(error)]
+
+
+class Records(Case):
+    """JSON next to record format 2"""
+
+    def compare(self, command, options, given=b""):
+        """Compares the outputs of both formats, and returns the number of lines."""
+        for name, text in {**TEXTS, "folder/file": b""}.items():
+            self.file(name, text)
+        plain, seen = (execute(PROGRAM, command, "--record", form, *options, given=given, cwd=self.room)
+                       for form in ("2", "json"))
+        self.same(f"{command} {options}", (plain[0], plain[2]), (seen[0], seen[2]))
+        if plain[0] > 1 and plain[1] == seen[1] == "":
+            return 0
+        wanted, lines = plain[1].split("\n"), seen[1].split("\n")
+        if lines.pop() or wanted.pop() or wanted[:1] != ["records 2"] or len(lines) != len(wanted) - 1:
+            self.fail(f"{command} {options}: other lines than in record format 2")
+        # The lines of several sources may be interleaved.
+        lines.sort(key=lambda line: int(re.match(r'\{"source":(\d+)|', line)[1] or 0))
+        wanted = sorted(wanted[1:], key=lambda line: int(re.match(r"\d+", line)[0]))
+        self.none([fault for line, record in zip(lines, wanted) for fault in line_errors(line, record)])
+        return len(lines)
+
+    def test_worked_examples(self):
+        counts = [self.compare("stream", [*options.split(), path_of(font)], text_of(cell))
+                  for font, options, cell, _ in worked_examples()]
+        self.none([], sum(counts), 100)
+
+    @rows((f"the font {name}", path_of(name)) for name in samples())
+    def test_font(self, path):
+        """Each font with all texts, with and without missing characters, at a size and with a limit."""
+        for options in ([], ["--missing", "skip"], ["--limit", "4", "--size", "1310720"]):
+            self.compare("set", [*options, path, "lines", "demo", "letters"])
+            self.none([], self.compare("stream", [*options, path], TEXTS["bytes"]), 100)
+
+    @rows((row["command"], row) for row in CASES["others"])
+    def test_other(self, row):
+        words = (row["command"] + row.get("more", "") * row.get("times", 0)).split()
+        words = [path_of(word[1:]) if word.startswith("@") else word for word in words]
+        self.compare(words[0], words[1:], sample(row["given"]) if "given" in row else b"")
+
+
+class Lines(Case):
+    """Single lines"""
+
+    def test_examples_of_the_page(self):
+        lines = re.findall(r"^\{.*", "\n".join(blocks("docs/TEXTS.md", r"\w*")), re.M)
+        for line in lines:
+            self.same(line, True, is_valid(dict(pairs_of_json(line)), SCHEMA))
+        self.none([], len(lines), 5)
+
+    @rows((f"{row['record']}: {old} becomes {new or 'nothing'}", row, old, new)
+          for row in CASES["lines"] for old, new in row["changes"])
+    def test_error(self, row, old, new):
+        """A line of JSON is accepted, and with a change it isn't."""
+        self.none(line_errors(row["json"], row["record"]))
+        self.assertIn(old, row["json"])
+        self.assertTrue(line_errors(row["json"].replace(old, new, 1), row["record"]))
+
+    @rows((line, line) for line in CASES["refused_by_schema"])
+    def test_schema(self, line):
+        """The schema refuses a line."""
+        self.assertFalse(is_valid(json.loads(line), SCHEMA))
+
+    def test_with_jsonschema(self):
+        valid = other_validator()
+        if not valid:
+            self.lack("jsonschema")
+        for row in CASES["lines"]:
+            self.same(row["json"], True, valid(json.loads(row["json"])))
+        for line in CASES["refused_by_schema"]:
+            self.same(line, False, valid(json.loads(line)))

@@ -1,0 +1,14 @@
+# Prints what bash completes. Arguments: the completions, and a file of beginnings of commands.
+source "$1"
+completer=$(complete -p tfmset | sed 's/.*-F \([^ ]*\) .*/\1/')
+compopt() { [ "$*" != '-o default' ] || plain=yes; }
+while IFS= read -r line; do
+    echo "? $line"
+    spaced=${line//=/ = }
+    read -ra COMP_WORDS <<< "$spaced"
+    [[ $line != *' ' ]] || COMP_WORDS+=('')
+    COMP_CWORD=$((${#COMP_WORDS[@]} - 1)) COMP_LINE=$line COMP_POINT=${#line} COMPREPLY=() plain=
+    "$completer" tfmset "${COMP_WORDS[COMP_CWORD]}" > /dev/null
+    [ -z "$plain" ] || mapfile -t COMPREPLY < <(compgen -f -- "${COMP_WORDS[COMP_CWORD]}")
+    [ ${#COMPREPLY[@]} -eq 0 ] || printf '%s\n' "${COMPREPLY[@]}"
+done < "$2"

@@ -1,0 +1,23 @@
+# Writes what zsh completes to the file $ANSWERS. Control-T asks for the completions of the line.
+unsetopt beep
+PROMPT= RPROMPT=
+zstyle ':completion:*' completer _complete
+autoload -Uz compinit && compinit -u -D
+autoload -Uz +X _tfmset && compdef _tfmset tfmset
+compadd() {
+  if [[ ${@[1,(i)(-|--)]} == *-(O|A|D)\ * ]]; then builtin compadd "$@"; return; fi
+  local -a hits
+  builtin compadd -O hits "$@"
+  (( $#hits == 0 )) || print -rl -- "${hits[@]}" >> $ANSWERS
+  builtin compadd "$@"
+}
+capture() {
+  print -r -- "? $BUFFER" >> $ANSWERS
+  _main_complete
+  compstate[insert]= compstate[list]=
+  print -r -- "." >> $ANSWERS
+}
+zle -C capture list-choices capture
+bindkey '^T' capture
+bindkey '^U' kill-whole-line
+print -r -- . >> $ANSWERS

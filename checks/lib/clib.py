@@ -1,0 +1,80 @@
+"""The library for C: where it is installed, its structs, and programs that are built with it."""
+import ctypes
+import functools
+import os
+
+from lib.base import ROOT, Case, environment, output, read, shared
+
+DONE, REFUSED, RANGE = 0, 1, 4
+WARNINGS = ["-Wall", "-Wextra", "-Werror", "-pedantic"]
+BINDINGS = os.path.join(ROOT, "bindings", "python")
+SIZE, U32, I32, U64 = ctypes.c_size_t, ctypes.c_uint32, ctypes.c_int32, ctypes.c_uint64
+PARAMETERS = ("slant", "space", "stretch", "shrink", "x_height", "quad", "extra_space")
+
+
+def struct(*groups):
+    """A struct, from the types of its fields and their names."""
+    fields = [(name, kind) for kind, names in groups for name in names.split()]
+    return type("Struct", (ctypes.Structure,), {"_fields_": fields})
+
+
+Fault = struct((SIZE, "place"), (U32, "number named"))
+About = struct((SIZE, "parameters kerns instructions"),
+               (U32, "design_size size check_sum right_boundary left_boundary"), (I32, " ".join(PARAMETERS)))
+Metrics = struct((U32, "exists"), (I32, "width height depth italic"), (U32, "tag remainder"))
+Pair = struct((U32, "action"), (I32, "kern"), (U32, "code keep_left keep_right pass"))
+
+
+def values(record):
+    return tuple(getattr(record, name) for name, _ in record._fields_)
+
+
+def install(prefix):
+    """Builds the library and installs it."""
+    output(ROOT + "/scripts/library", prefix, env=environment(), timeout=1200)
+
+
+def call(prefix, name, data, *numbers, result):
+    """The return code of a function that reads a font, and its result, a struct."""
+    return getattr(loaded(prefix), "tfmset_" + name)(data, len(data), *numbers, ctypes.byref(result)), result
+
+
+@functools.lru_cache(maxsize=None)
+def loaded(prefix):
+    """The shared library, with the types of the functions that read a font."""
+    library = ctypes.CDLL(prefix + "/lib/libtfmset.so")
+    for name, numbers in (("check", 1), ("font", 1), ("metrics", 2), ("pair", 3)):
+        function = getattr(library, "tfmset_" + name)
+        function.argtypes = [ctypes.c_char_p, SIZE] + [U32] * numbers + [ctypes.c_void_p]
+        function.restype = U32
+    return library
+
+
+class LibraryCase(Case):
+    """Tests that need the library. Without rt and the tools of scripts/library they are skipped."""
+
+    def setUp(self):
+        super().setUp()
+        self.need("cc", "ar", "objcopy")
+        self.prefix = os.environ.get("CHECKS_LIBRARY", "")
+        if not self.prefix:
+            self.need("rt")
+            self.prefix = shared("library", install)
+        self.lib = os.path.join(self.prefix, "lib")
+        self.env = {**os.environ, "LD_LIBRARY_PATH": self.lib, "TFMSET_LIBRARY": self.lib + "/libtfmset.so",
+                    "PKG_CONFIG_PATH": self.lib + "/pkgconfig", "PREFIX": self.prefix, "PYTHONPATH": BINDINGS}
+
+    def built(self, source, *compiler, link=None):
+        """Compiles a source with all warnings and the shared library. Returns the path of the program."""
+        out = os.path.join(self.room, os.path.basename(source) + ".out")
+        output(*compiler, *WARNINGS, "-I" + self.prefix + "/include", "-o", out, source,
+               *(link or ("-L" + self.lib, "-ltfmset")), cwd=ROOT)
+        return out
+
+    def output(self, *command, given=None):
+        """What a command prints at the top of the repository, with a file as standard input."""
+        return output(*command, given=read(given, "rb") if given else b"", cwd=ROOT, env=self.env)
+
+    def links(self):
+        """The arguments that link a program with the static and with the shared library."""
+        return ("static", [self.lib + "/libtfmset.a"]), ("shared", ["-L" + self.lib, "-ltfmset"])

@@ -1,0 +1,234 @@
+"""The library for C: header, linking, symbols, the functions that read a font, and where Python finds it."""
+import glob
+import itertools
+import os
+import re
+import shutil
+import sys
+import venv
+
+from lib.base import DEMO, PROGRAM, ROOT, environment, execute, output, read, rows, shared, write
+from lib.clib import (DONE, PARAMETERS, RANGE, REFUSED, WARNINGS, About, Fault, LibraryCase, Metrics, Pair,
+                      call, loaded, values)
+from lib.tfm import BOUNDARY, LISTED, Font, Listing, sample, samples
+
+WEIGHT = 6
+NINES = (9,) * 7
+TAGS = {"none": 0, "lig": 1, "list": 2, "ext": 3}
+# Functions of the toolchain. The first three allocate the library's memory.
+HELPERS = ["rattle_" + name for name in "alloc realloc dealloc arg env errno spawn".split()]
+
+
+def listing(data):
+    """The listing of a font, or the number of its error."""
+    status, out, err = execute(PROGRAM, "list", "-", given=data)
+    return int(err.split("refused: ")[1].split()[0]) if status == 3 else Listing(out)
+
+
+def characters(listed):
+    """The fields of `struct tfmset_metrics` of each character of a listing, by its code."""
+    return {code: (1, *(int(row[i]) for i in (3, 5, 7, 9)), TAGS[row[11]], int((row + ["0"])[12]))
+            for code, row in listed.chars.items()}
+
+
+def between(font, amounts, left, right):
+    """The fields of `struct tfmset_pair`, by a search in the font's program."""
+    op, rest = font.act(left, right) or (None, None)
+    if op is None:
+        return (0,) * 6
+    if op >= 128:
+        return 1, amounts[256 * (op - 128) + rest], 0, 0, 0, 0
+    # An operation that isn't listed is read as the plain one, LIG (TFtoPL, 77).
+    op = op if op in LISTED else 0
+    return 2, 0, rest, op % 4 // 2, op % 2, op // 4
+
+
+class Functions(LibraryCase):
+    """What the functions return for each sample font"""
+
+    @rows((name, name) for name in samples())
+    def test_font(self, name):
+        """Sizes, parameters, characters and pairs of neighbours are those of the listing, at two sizes."""
+        data = sample(name)
+        listed = listing(data)
+        head = listed.head
+        right = BOUNDARY if head["right"] == "none" else int(head["right"])
+        for times in (1, 2):
+            size = int(head["design"]) * times
+            self.same("accepted", DONE, self.call("check", data, size, result=Fault())[0])
+            status, about = self.call("font", data, size if times > 1 else 0, result=About())
+            self.same("sizes", (DONE, int(head["design"]), size, int(head["checksum"])),
+                      (status, about.design_size, about.size, about.check_sum))
+            self.same("boundaries", (right, int(head["left"] != "none")),
+                      (about.right_boundary, about.left_boundary))
+            if times == 1:
+                seen = [getattr(about, field) for field in PARAMETERS]
+                self.same("parameters", (listed.params + [0] * 7)[:7], seen)
+                self.same("counts", (len(listed.params), len(listed.steps)),
+                          (about.parameters, about.instructions))
+        wanted = characters(listed)
+        for code in range(257):
+            status, metrics = self.call("metrics", data, 0, code, result=Metrics(*NINES))
+            one = (DONE, wanted.get(code, (0,) * 7)) if code < 256 else (RANGE, NINES)
+            self.same(f"character {code}", one, (status, values(metrics)))
+        font, codes = Font(data), [*listed.chars, BOUNDARY]
+        for left, right in itertools.product(codes, codes):
+            status, pair = self.call("pair", data, 0, left, right, result=Pair())
+            wanted = between(font, listed.kerns, left, right)
+            self.same(f"{left} and {right}", (DONE, wanted), (status, values(pair)))
+
+    def call(self, *arguments, **result):
+        return call(self.prefix, *arguments, **result)
+
+    @rows((name, name) for name in samples())
+    def test_cut(self, name):
+        """A font that is cut is refused with the error that the program prints, and no struct changes."""
+        data = sample(name)
+        for length in sorted({0, 1, 23, 24, 25, len(data) // 2, len(data) - 1}):
+            status, fault = self.call("check", data[:length], 0, result=Fault())
+            self.same(f"{length} bytes", (REFUSED, listing(data[:length])), (status, fault.number))
+            status, metrics = self.call("metrics", data[:length], 0, 97, result=Metrics(*NINES))
+            self.same(f"{length} bytes: struct", (REFUSED, NINES), (status, values(metrics)))
+
+    def test_version_and_size(self):
+        library, numbers = loaded(self.prefix), output(PROGRAM, "--version").split()[1].split(".")
+        wanted = sum(int(number) * 1000 ** (2 - i) for i, number in enumerate(numbers))
+        header = read(self.prefix + "/include/tfmset.h")
+        version = re.search(r"^#define TFMSET_VERSION (\d+)u$", header, re.M)
+        self.same("version", (wanted, wanted), (library.tfmset_version(), int(version.group(1))))
+        policies = re.findall(r"^#define TFMSET_(?:REFUSE|SKIP) (\d)u$", header, re.M)
+        self.same("policies, which library_lines passes as numbers", ["0", "1"], policies)
+        self.same("a size too large", RANGE, self.call("check", b"", 1 << 27, result=Fault())[0])
+
+
+class Linking(LibraryCase):
+    """Header, linking and symbols"""
+
+    @rows((language, tool, language, standard)
+          for tool, language, standard in (("cc", "c", "-std=c99"), ("c++", "c++", "-std=c++11")))
+    def test_header(self, tool, language, standard):
+        """The header is compiled with all warnings."""
+        self.need(tool)
+        output(tool, "-x", language, standard, *WARNINGS, "-fsyntax-only", self.prefix + "/include/tfmset.h")
+
+    @rows((f"{tool} {standard}", tool, language, standard) for tool, language, standard in (
+        ("cc", "c", "-std=c99"), ("cc", "c", "-std=c11"), ("c++", "c++", "-std=c++11")))
+    def test_header_of_another_layout(self, tool, language, standard):
+        """A struct of another layout doesn't compile, nor a program with a size_t of 32 bits."""
+        self.need(tool)
+        header = read(self.prefix + "/include/tfmset.h")
+        compiler = tool, "-x", language, standard, "-fsyntax-only"
+        for old, new in (("keep_left, keep_right, pass;", "keep_left, pass, keep_right;"),
+                         ("size_t first, count;", "uint32_t first, count;"), ("uint32_t number;", "uint64_t number;"),
+                         ("slant;\n", "slant, more;\n")):
+            self.assertEqual(1, header.count(old), old)
+            self.same(new, 1, execute(*compiler, self.file("changed.h", header.replace(old, new)))[0])
+        narrow = "#include <stdint.h>\n#undef SIZE_MAX\n#define SIZE_MAX 4294967295u\n" + header
+        self.assertIn("64-bit size_t", execute(*compiler, self.file("narrow.h", narrow))[2])
+
+    def test_the_shared_library_is_bound_when_it_is_loaded(self):
+        self.need("readelf")
+        file = os.path.join(self.lib, "libtfmset.so")
+        self.assertRegex(output("readelf", "-d", file), "BIND_NOW|FLAGS_1.* NOW")
+        self.assertIn("GNU_RELRO", output("readelf", "-lW", file))
+        lines = output("nm", "-D", "--undefined-only", file).splitlines()
+        self.same("undefined", [], [line for line in lines if " w " not in line and "@GLIBC" not in line])
+
+    def test_an_example_with_both_libraries(self):
+        found = characters(listing(read(DEMO, "rb")))
+        for kind, link in self.links():
+            out = self.built("examples/library/widths.c", "cc", "-std=c99", link=link)
+            self.same(kind, f"box {sum(found[ord(c)][1] for c in 'box')}\n", self.output(out, DEMO, "box"))
+
+    def test_the_libraries_define_the_functions_of_the_header_only(self):
+        functions = sorted(re.findall(r"^uint32_t (\w+)\(", read(self.prefix + "/include/tfmset.h"), re.M))
+        self.same("functions", 8, len(functions))
+        for file, option in (("libtfmset.a", "-g"), ("libtfmset.so", "-D")):
+            lines = output("nm", option, "--defined-only", os.path.join(self.lib, file)).splitlines()
+            self.same(file, functions, sorted(line.split()[2] for line in lines if len(line.split()) == 3))
+
+    def test_a_program_may_have_functions_with_the_toolchain_s_names(self):
+        source = read("checks/lib/own_names.c")
+        source += "\n".join(f'void {name}(void) {{ called("{name}"); }}' for name in HELPERS) + "\n"
+        record = output(PROGRAM, "stream", DEMO, given=b"box").split()
+        for kind, link in self.links():
+            out = self.file(kind, b"")
+            name = self.file("own_names.c", source)
+            built = execute("cc", "-I" + self.prefix + "/include", "-o", out, name, *link)
+            self.same(f"{kind}: linked", (0, ""), (built[0], built[2][:400]))
+            self.same(kind, (0, f"0 {record[2]}\n", ""), execute(out, given=read(DEMO, "rb"), env=self.env))
+
+
+class Installing(LibraryCase):
+    """scripts/library, and where Python finds the module and the library"""
+
+    call = ["-B", "-c", "import tfmset; print(tfmset.__file__, tfmset._library._name)"]
+    number = "lib/python%d.%d/site-packages" % sys.version_info[:2]
+
+    def setUp(self):
+        super().setUp()
+        self.need("rt")
+
+    def install(self, prefix, **more):
+        """Runs scripts/library without building the library again, and returns what it prints."""
+        def make(path):
+            # `rt lib` was done for the first prefix. In a run with --library it may have to be done here.
+            crate = os.path.join(ROOT, "crates", "tfmset_c")
+            if not os.path.exists(os.path.join(crate, "out", "libtfmset_c.a")):
+                output("rt", "lib", cwd=crate, timeout=1200)
+            rt = write(path + "/rt", f'#!/bin/sh\n[ "$1" = lib ] || exec "{shutil.which("rt")}" "$@"\n')
+            os.chmod(rt, 0o755)
+        path = shared("rt", make) + os.pathsep + os.environ["PATH"]
+        return output(os.path.join(ROOT, "scripts", "library"), prefix, env=environment(PATH=path, **more))
+
+    def loads(self, python, prefix, directory, **more):
+        """An interpreter loads the module and the library of a prefix."""
+        wanted = f"{prefix}/{directory}/tfmset.py {prefix}/lib/libtfmset.so.0\n"
+        seen = execute(python, *self.call, env=environment(**more), cwd=self.room)
+        self.same(prefix, (0, wanted, ""), seen)
+
+    def test_with_destdir(self):
+        self.install("/opt/tfmset", DESTDIR=self.room)
+        top = self.room + "/opt/tfmset"
+        found = glob.glob(top + "/lib/python*/*-packages/tfmset.py")
+        self.same("modules", 1, len(found))
+        self.same("files", [True] * 4, [os.path.exists(f"{top}/{name}") for name in (
+            "include/tfmset.h", "lib/libtfmset.a", "lib/libtfmset.so.0", "lib/pkgconfig/tfmset.pc")])
+        self.assertIn("prefix=/opt/tfmset\n", read(top + "/lib/pkgconfig/tfmset.pc"))
+
+    def test_in_a_virtual_environment(self):
+        # Its own interpreter is chosen, although it isn't on the PATH.
+        prefix = os.path.join(self.room, "environment")
+        venv.create(prefix, symlinks=True)
+        self.assertIn(f"the module tfmset is for {prefix}/bin/python3\n", self.install(prefix))
+        self.loads(prefix + "/bin/python3", prefix, self.number)
+
+    def test_in_the_directory_of_the_user(self):
+        prefix = os.path.join(self.room, "user")
+        interpreter = os.path.realpath(os.path.join(sys.base_prefix, "bin/python3"))
+        self.need(interpreter)
+        self.install(prefix, PYTHON=interpreter, PYTHONUSERBASE=prefix)
+        self.loads(interpreter, prefix, self.number, PYTHONUSERBASE=prefix)
+
+    def test_in_another_prefix_with_a_space(self):
+        prefix = os.path.join(self.room, "other prefix")
+        printed = self.install(prefix, PYTHON=sys.executable)
+        wanted = f"the module tfmset is for {sys.executable}, with PYTHONPATH={prefix}/{self.number}"
+        self.same("the last line", wanted, printed.splitlines()[-1])
+        self.loads(sys.executable, prefix, self.number, PYTHONPATH=f"{prefix}/{self.number}")
+
+    @rows((python, python) for python in ("/none", "false"))
+    def test_without_python(self, python):
+        """Without a Python that works, the rest is installed."""
+        prefix = os.path.join(self.room, "without")
+        printed = self.install(prefix, PYTHON=python)
+        wanted = "skipped the Python module: there is no python3 of version 3.8 or later"
+        self.same("the last line", wanted, printed.splitlines()[-1])
+        self.same("files", [], glob.glob(prefix + "/lib/python*"))
+        self.same("library", True, os.path.exists(prefix + "/lib/libtfmset.so"))
+
+    @rows((" ".join(words) or "no prefix", words) for words in ((), ("here",), ("/a", "/b")))
+    def test_invalid(self, words):
+        """Invalid arguments of scripts/library end with exit status 2."""
+        status, out, err = execute(os.path.join(ROOT, "scripts", "library"), *words)
+        self.same("result", (2, "", True), (status, out, err.startswith("usage: ")))

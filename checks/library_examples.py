@@ -1,0 +1,141 @@
+"""The examples of the library in C, C++, Python and Rust, and the page docs/CALLING.md.
+
+The expected output of each example is computed from the records and listings of the program. The commands of
+the page are run, its functions in C and its sessions in Python. Its first examples have to be the files of
+examples/library, and its declarations those of the header.
+"""
+import itertools
+import os
+import re
+import sys
+
+from lib.base import DEMO, EXAMPLES, PROGRAM, bash, execute, read, rows
+from lib.clib import LibraryCase
+from lib.docs import blocks, commands
+from lib.tfm import BOUNDARY, Font
+from library import between, listing
+
+WEIGHT = 2
+PAGE, TEXT = "docs/CALLING.md", os.path.join(EXAMPLES, "demo.txt")
+
+
+def records_of(text, *options, font=DEMO):
+    """The fields of each record of a text."""
+    out = execute(PROGRAM, "stream", *options, font, given=text)[1]
+    return [line.split() for line in out.splitlines()[:-1]]
+
+
+def widths_of(text, *options):
+    """The width of each line of a text, and None for each refused line."""
+    return [int(fields[2]) if fields[1] == "set" else None for fields in records_of(text, *options)]
+
+
+def kerns_table():
+    """The expected table of kerns: a row for each character that has kerns."""
+    data = read(DEMO, "rb")
+    font, listed, shown = Font(data), listing(data), []
+    names = {code: chr(code) if 33 <= code <= 126 else str(code) for code in listed.chars} | {BOUNDARY: "|"}
+    codes = sorted(listed.chars) + [BOUNDARY]
+    for left in codes:
+        found = [(right, between(font, listed.kerns, left, right)) for right in codes]
+        kerns = [f"{names[right]} {pair[1] / 65536:+.3f}" for right, pair in found if pair[0] == 1]
+        if kerns:
+            shown.append(f"{names[left]:>4}  " + "  ".join(kerns) + "\n")
+    return "".join(shown)
+
+
+class Examples(LibraryCase):
+    """The examples in four languages"""
+
+    def test_ten_lines_in_c(self):
+        out = self.built("examples/library/ten_lines.c", "cc", "-std=c99")
+        width = widths_of(b"office ox")[0] / 65536
+        self.same("output", f"{width:.2f} points\n", self.output(out, given=DEMO))
+
+    def test_paragraph_in_c(self):
+        """The text is broken where the next word doesn't fit, and each line has its width."""
+        out = self.built("examples/library/paragraph.c", "cc", "-std=c99")
+        lines = [line.rsplit("  ", 1) for line in self.output(out, DEMO, "100", given=TEXT).splitlines()]
+        texts = [line[0] for line in lines]
+        self.same("words", read(TEXT).split(), " ".join(texts).split())
+        longer = [text + " " + following.split(" ")[0] for text, following in zip(texts, texts[1:])]
+        widths, beyond = (widths_of("\n".join(each).encode()) for each in (texts, longer))
+        self.same("widths", [f"{width / 65536:.2f}" for width in widths], [line[1] for line in lines])
+        self.same("breaks", True, max(widths) <= 100 * 65536 < min(beyond))
+
+    def test_threads_in_cpp(self):
+        self.need("c++")
+        widths = widths_of(read(TEXT, "rb"), "--missing", "skip")
+        widest = widths.index(max(widths))
+        out = self.built("examples/library/threads.cpp", "c++", "-std=c++11", "-pthread")
+        self.same("output", f"{len(widths)} lines, the widest is {widest + 1}: {widths[widest]}\n",
+                  self.output(out, DEMO, TEXT))
+
+    def test_ten_lines_and_kerns_in_python(self):
+        ox = widths_of(b"office ox", "--size", str(12 * 65536))[0]
+        self.same("ten_lines.py", f"{ox / 65536:.2f} points, 8 items\nrefused: missing, byte 7 is 65\n",
+                  self.output(sys.executable, "examples/library/ten_lines.py"))
+        self.same("kerns.py", kerns_table(), self.output(sys.executable, "examples/library/kerns.py", DEMO))
+
+    def test_setter_in_rust(self):
+        self.need("rustc")
+        out, wanted = os.path.join(self.room, "setter"), []
+        self.output("rustc", "--edition", "2021", "-D", "warnings", "-L", self.lib, "-l", "tfmset", "-o", out,
+                    "examples/library/setter.rs")
+        names = {"c": "", "k": "kern ", "s": "space "}
+        for fields in records_of(b"office ox\nAV\n\na  fly"):
+            if fields[1] == "set":
+                items = ", ".join(names[item[0]] + item[1:] for item in fields[3:])
+                wanted.append(f"{fields[2]}: {items}\n")
+            else:
+                wanted.append(f"no character {fields[4]} at {fields[3]}\n")
+        self.same("output", "".join(wanted), self.output(out, DEMO, "office ox", "AV", "", "a  fly"))
+
+
+class Page(LibraryCase):
+    """docs/CALLING.md"""
+
+    @rows((command.strip().split("\n")[0], command, wanted) for command, wanted in commands(read(PAGE))
+          if not command.startswith("scripts/library"))
+    def test_command(self, command, wanted):
+        self.need(*(tool for tool in ("cc", "c++", "rustc", "pkg-config")
+                    if re.search(rf"(^|[ (]){re.escape(tool)} ", command, re.M)))
+        self.link_repository()
+        # The command may use files that earlier commands of the page made.
+        for earlier, _ in itertools.takewhile(lambda pair: pair[0] != command, commands(read(PAGE))):
+            if re.search(r" -o |> ", earlier) and not earlier.startswith("scripts/library"):
+                bash(earlier, self.room, env=self.env)
+        self.same(command, (0, wanted or "", ""), bash(command, self.room, env=self.env))
+
+    def test_first_examples_are_the_files(self):
+        for language, name in (("c", "ten_lines.c"), ("python", "ten_lines.py")):
+            self.same(name, read("examples/library/" + name), blocks(PAGE, language)[0])
+
+    def test_declarations_are_those_of_the_header(self):
+        form = re.compile(r"^uint32_t tfmset_\w+\(.*?\);", re.M | re.S)
+        header, page = (form.findall(read(name)) for name in ("include/tfmset.h", PAGE))
+        self.same("declarations", [text.split() for text in header], [text.split() for text in page])
+
+    def printed(self, name, function, text, font):
+        """What a function of the page prints for a text, with the `main` of lib/calling.c."""
+        main = read(f"checks/lib/calling_{name}.c").replace("TEXT", '"' + text.replace("\n", "\\n") + '"')
+        return self.output(self.built(self.file(name + ".c", function + main), "cc", "-std=c99"), given=font)
+
+    def test_print_widths(self):
+        text = "\n".join("box five " * (number % 3) for number in range(40)) + "\nBox"
+        wanted = [f"{width / 65536:.2f}\n" for width in widths_of(text.encode())[:-1]]
+        wanted.append("line 41 is refused, for reason 1\n")
+        self.same("output", "".join(wanted), self.printed("print_widths", blocks(PAGE, "c")[2], text, DEMO))
+
+    @rows((name, name) for name in ("ligature_0", "ligature_3"))
+    def test_set_lines(self, name):
+        """With the second font the line has more items than bytes, so that the first array is too short."""
+        font, text = os.path.join(EXAMPLES, f"fonts/{name}.tfm"), "ab" * 500
+        fields = records_of(text.encode(), font=font)[0]
+        self.same("needs a second call", name == "ligature_3", len(fields) - 3 > 1141)
+        self.same("output", f"0 1 {len(fields) - 3} {fields[2]}\n",
+                  self.printed("set_lines", blocks(PAGE, "c")[1], text, font))
+
+    def test_sessions_in_python(self):
+        sessions = "\n".join(block for block in blocks(PAGE, "python") if block.startswith(">>> "))
+        self.same("output", "", self.output(sys.executable, "-m", "doctest", self.file("session", sessions)))

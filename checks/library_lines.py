@@ -1,0 +1,324 @@
+"""Lines that the library for C sets, in C and in Python, compared with the records of the program.
+
+The records have to be the program's, byte for byte: those that the library writes in each record format, and
+those that this module and lib/library_lines.c assemble from the lines and items. The program in C calls the
+library with arrays of exactly the necessary length, one less, more, and 0, each before a page that can't be
+accessed; eight threads call concurrently; and each allocation fails in turn. It is built with the address and
+undefined-behaviour sanitizers, if these are installed.
+"""
+import concurrent.futures
+import ctypes
+import functools
+import itertools
+import os
+import shutil
+import struct
+import sys
+
+from lib.base import DEMO, EXAMPLES, PROGRAM, ROOT, environment, execute, output, read, rows, shared, table
+from lib.clib import BINDINGS, DONE, RANGE, REFUSED, SIZE, U32, U64, WARNINGS, LibraryCase
+from lib.docs import font_errors, text_of, worked_examples
+from lib.tex import fonts
+from lib.tfm import LISTED, sample
+
+WEIGHT = 5
+CASES = table("library_lines")
+CHUNK = 30  # jobs of one test
+MOST_FONTS = 300
+
+
+class Job:
+    """A text with its font and its settings."""
+
+    def __init__(self, font, text, size=0, limit=1048576, missing="refuse"):
+        self.text, self.size, self.limit, self.missing = text, size, limit, missing
+        self.font = os.path.join(EXAMPLES, font)
+        self.name = f"{font} {text[:12]!r} at {size}, {limit}, {missing}"
+
+    def records(self, form):
+        """The program's records, in record format 1, 2, or 3 for JSON."""
+        size = ["--size", str(self.size)] if self.size else []
+        words = ["--record", {3: "json"}.get(form, str(form)), *size, "--limit", str(self.limit)]
+        out = execute(PROGRAM, "stream", *words, "--missing", self.missing, self.font, given=self.text,
+                      text="latin-1", timeout=1000)[1]
+        return b"".join(out.encode("latin-1").splitlines(keepends=True)[form == 2:-1])
+
+
+def jobs():
+    """The worked examples, texts at several sizes and limits, and texts that need long arrays."""
+    for font, options, cell, _ in worked_examples():
+        given = dict(zip(options.split()[::2], options.split()[1::2]))
+        yield Job(f"fonts/{font}.tfm", text_of(cell), int(given.get("--size", 0)),
+                  int(given.get("--limit", 1048576)), given.get("--missing", "refuse"))
+    names, policies = ("examples/demo.txt", "examples/lines.txt", "README.md"), ("refuse", "skip")
+    for name, size, missing in itertools.product(names, (0, 65536, 786432, 134217727), policies):
+        yield Job("demo.tfm", read(name, "rb"), size, missing=missing)
+    for limit in (1, 8, 30, 31, 32, 16777216):
+        yield Job("demo.tfm", read("examples/demo.txt", "rb"), limit=limit)
+    cuts = [b"", b"\n", b"\n\n", b"a", b"a\n", b"a\n\nb", b"\na", b" ", b" \n ", b"ab\r\nc",
+            bytes(range(256)), b"a" * 65535 + b"\nb", b"a" * 65536 + b"\nb", b"\n" * 3000]
+    for text, missing in itertools.product(cuts, policies):
+        yield Job("fonts/right_boundary.tfm", text, missing=missing)
+    for operation in (1, 2, 3, 7, 11):
+        yield Job(f"fonts/ligature_{operation}.tfm", b"ab" * 1500 + b"\nab", 655361)
+
+
+JOBS = list(jobs())
+
+
+@functools.lru_cache(maxsize=None)
+def module(prefix):
+    """The Python module, with the library of a prefix."""
+    os.environ["TFMSET_LIBRARY"] = prefix + "/lib/libtfmset.so"
+    sys.path.insert(0, BINDINGS)
+    import tfmset  # pylint: disable=import-outside-toplevel
+    del os.environ["TFMSET_LIBRARY"]
+    return tfmset
+
+
+def sanitizers():
+    """The options of the sanitizers, if they are installed."""
+    options = ["-fsanitize=address,undefined"]
+    given = b"int main(void) { return 0; }"
+    return [] if execute("cc", *options, "-x", "c", "-", "-o", os.devnull, given=given)[0] else options
+
+
+def assembled(tfmset, job):
+    """The records in format 2, assembled from the lines and items."""
+    names, out = "cksm", []
+    lines = tfmset.Font.from_file(job.font, job.size or None).set(job.text, job.limit, job.missing)
+    for number, line in enumerate(lines, 1):
+        fields = [f"1:{number}"]
+        if isinstance(line, tfmset.Refusal):
+            numbers = {"missing": [line.place, line.code], "too-long": [line.place], "steps": [job.limit]}
+            fields += ["refused", line.reason, *map(str, numbers[line.reason])]
+        else:
+            fields += ["set", str(line.width), "steps", str(line.steps)]
+            for kind, code, width in struct.iter_unpack("IIi", line.items):
+                name = names[kind]
+                fields.append({"c": f"c{code}={width}", "m": f"m{code}"}.get(name, f"{name}{width}"))
+        out.append(" ".join(fields) + "\n")
+    return "".join(out).encode()
+
+
+class LinesCase(LibraryCase):
+    """A test with the Python module."""
+
+    def setUp(self):
+        super().setUp()
+        self.tfmset = module(self.prefix)
+
+    def in_c(self, job, *more):
+        """Compares the records of the program in C, and returns its standard error."""
+        def make(path):
+            output("cc", "-std=gnu11", "-O1", "-g", "-pthread", *WARNINGS, f"-I{self.prefix}/include",
+                   "-Wl,--wrap=malloc,--wrap=realloc,--wrap=free", "-o", path,
+                   ROOT + "/checks/lib/library_lines.c", self.lib + "/libtfmset.a", *sanitizers())
+        numbers = [str(job.size), str(job.limit), str(int(job.missing == "skip"))]
+        command = [shared("library_lines", make), job.font, *numbers, self.file("text", job.text), *more]
+        status, out, err = execute(*command, text="latin-1", timeout=1000)
+        records = (job.records(2) + job.records(1) + job.records(2)).decode("latin-1")
+        self.same(f"{job.name}: in C, with an empty standard error", (0, True, not more),
+                  (status, out == records, err == ""))
+        return err
+
+
+class Records(LinesCase):
+    """Records, in C and in Python"""
+
+    @rows((f"jobs {first + 1} to {min(first + CHUNK, len(JOBS))}", JOBS[first:first + CHUNK])
+          for first in range(0, len(JOBS), CHUNK))
+    def test(self, some):
+        for job in some:
+            self.in_c(job)
+            self.in_python(job)
+
+    def in_python(self, job):
+        font = self.tfmset.Font.from_file(job.font, job.size or None)
+        for form in (1, 2, 3):
+            seen = font.records(job.text, job.limit, job.missing, version=form)
+            self.same(f"{job.name}: format {form}", True, seen == job.records(form))
+        self.same(f"{job.name}: from its lines", True, assembled(self.tfmset, job) == job.records(2))
+        lines = [line if isinstance(line, self.tfmset.Refusal) else line.width
+                 for line in font.set(job.text, job.limit, job.missing)]
+        self.same(f"{job.name}: widths", lines, font.widths(job.text, job.limit, job.missing))
+        other = b"".join(b"7:%d %s" % (number + 4_000_000_000, record.split(b" ", 1)[1])
+                         for number, record in enumerate(job.records(1).splitlines(keepends=True)))
+        seen = font.records(job.text, job.limit, job.missing, source=7, first_line=4_000_000_000)
+        self.same(f"{job.name}: other numbers", True, seen == other)
+
+    @rows((f"part {part + 1} of the fonts", part) for part in range(4))
+    def test_fonts_of_tex(self, part):
+        """One text with the fonts of TeX, or the font error if a font is refused."""
+        self.need("kpsewhich", "cmr10")
+        names = [path for path, _ in fonts()]
+        for number, name in list(enumerate(names[::len(names) // MOST_FONTS + 1]))[part::4]:
+            job = Job(name, read("README.md", "rb"), missing="skip")
+            try:
+                font = self.tfmset.Font.from_file(name)
+            except self.tfmset.FontRefused as error:
+                status, _, err = execute(PROGRAM, "list", name)
+                self.same(f"{name} is refused", (3, True), (status, str(error) in err))
+                continue
+            self.same(name, True, job.records(2) == font.records(job.text, missing="skip", version=2))
+            if number % 10 == part:
+                self.in_c(job)
+
+    def test_20_megabytes_in_one_call(self):
+        text = read("examples/demo.txt", "rb")
+        job = Job("demo.tfm", text * (20_000_000 // len(text)))
+        self.same("20 MB", True, job.records(1) == self.tfmset.Font.from_file(job.font).records(job.text))
+
+    def test_failed_allocations_and_threads_in_c(self):
+        errors = self.in_c(Job("demo.tfm", read("examples/demo.txt", "rb"), missing="skip"), "more")
+        counts = [int(field) for field in errors.split() if field.isdigit()]
+        self.same("failed allocations", (14, True, 1), (len(counts), all(counts), errors.count("\n")))
+        print(f"allocations that failed: {sum(counts)}")
+
+    def test_with_the_sanitizers(self):
+        self.need("cc")
+        if not sanitizers():
+            self.lack("sanitizers")
+
+    def test_eight_threads_in_python(self):
+        job = Job("demo.tfm", read("README.md", "rb"), missing="skip")
+        font = self.tfmset.Font.from_file(job.font)
+        with concurrent.futures.ThreadPoolExecutor(8) as pool:
+            records = set(pool.map(lambda _: font.records(job.text, missing="skip", version=2), range(64)))
+        self.same("records", True, records == {job.records(2)})
+
+
+class ManyBytes:
+    """A library that reports any number of bytes of records, and writes none."""
+
+    def __init__(self, count):
+        self.count = count
+
+    def tfmset_records(self, *arguments):
+        arguments[-1]._obj.value = self.count
+        return DONE
+
+
+class Module(LinesCase):
+    """Exceptions, sizes and arguments of the Python module"""
+
+    def test_font_errors(self):
+        for message, data in font_errors():
+            with self.assertRaises(self.tfmset.FontRefused) as raised:
+                self.tfmset.Font(data)
+            self.same(message, message, str(raised.exception))
+
+    def test_exceptions(self):
+        names = {"Font": self.tfmset.Font, "font": self.tfmset.Font.from_file(DEMO), "data": sample("demo")}
+        for kind, calls in CASES["raises"].items():
+            for call in calls:
+                with self.subTest(call), self.assertRaises(Exception) as raised:
+                    eval(call, names)  # pylint: disable=eval-used
+                self.same(call, kind, type(raised.exception).__name__)
+
+    def test_sizes_texts_and_indices(self):
+        font = self.tfmset.Font.from_file(DEMO)
+        for size, wanted in CASES["sizes"].items():
+            self.same(f"size {size}", wanted, self.tfmset.Font(font.data, size).size)
+        for text in (bytearray(b"ox\nox"), memoryview(b"ox\nox")):
+            self.same("other bytes", font.widths(b"ox\nox"), font.widths(text))
+        lines = font.set(b"ox\nab\nAV")
+        self.same("indices of lines", (3, 2, "missing"), (len(lines), len(lines[0:2]), lines[-1].reason))
+        self.same("all items", sum(len(line.items) for line in lines[:2]), len(lines.items))
+
+    @rows((f"operation {op}", op) for op in LISTED)
+    def test_pair(self, op):
+        """A ligature between two characters has the fields of its operation."""
+        wanted = self.tfmset.Ligature(99, bool(op // 2 % 2), bool(op % 2), op // 4)
+        self.same("pair", wanted, self.tfmset.Font(sample(f"ligature_{op}")).pair(97, 98))
+
+    def test_records_of_2_gib_and_more(self):
+        # The stand-in reports many bytes. The array of the module has only 80, and all must be returned.
+        font, real = self.tfmset.Font.from_file(DEMO), self.tfmset._library
+        self.addCleanup(setattr, self.tfmset, "_library", real)
+        for count in (80, 2**31, 2**32, 2**32 + 5):
+            self.tfmset._library = ManyBytes(count)
+            self.same(f"records of {count} bytes", 80, len(font.records(b"x")))
+
+    def test_a_failed_allocation(self):
+        source = "unsigned tfmset_version(void) { return 1000; }\n" + "".join(
+            f"unsigned tfmset_{name}(void) {{ return 2; }}\n"
+            for name in ("check", "font", "metrics", "pair", "set", "widths", "records"))
+        out = os.path.join(self.room, "out_of_memory.so")
+        output("cc", "-shared", "-fPIC", "-x", "c", "-", "-o", out, given=source.encode())
+        seen = execute(sys.executable, "-B", "-c", 'import tfmset; tfmset.Font(b"")',
+                       env={**self.env, "TFMSET_LIBRARY": out})
+        self.same("exception", "MemoryError: an allocation of libtfmset failed", seen[2].splitlines()[-1])
+
+    def test_doctests(self):
+        seen = execute(sys.executable, "-B", "-m", "doctest", BINDINGS + "/tfmset.py", cwd=ROOT, env=self.env)
+        self.same("doctest", (0, "", ""), seen)
+
+    def test_arguments_out_of_range(self):
+        """A number out of its range, or a refused font, leaves the arrays and the last argument unchanged."""
+        data, most = sample("demo"), (1 << 64) - 1
+        for name, *numbers in (("set",), ("widths",), ("records", 1, U64(1), U64(1))):
+            for settings in CASES["out_of_range"]["settings"]:
+                self.call((RANGE, True), name, data, settings, numbers)
+            self.call((REFUSED, True), name, data[:100], (0, 9, 0), numbers)
+            self.call((DONE, False), name, data, (0, 9, 0), numbers)
+        for version, first in ((0, 1), (4, 1), (1, most), (1, most - 4)):
+            self.call((RANGE, True), "records", data, (0, 9, 0), (version, U64(most), U64(first)))
+        for first in (0, most - 5):
+            self.call((DONE, False), "records", data, (0, 9, 0), (1, U64(most), U64(first)))
+
+    def call(self, wanted, name, data, settings, numbers, text=b"ox\nab"):
+        """Compares the return code of a call, and whether its arrays and its last argument are unchanged."""
+        nines = b"\x09" * 8192
+        memory = [ctypes.create_string_buffer(nines, 8192) for _ in range(3 if name == "set" else 2)]
+        given = [ctypes.c_char_p(data), SIZE(len(data)), *map(U32, settings), text, SIZE(len(text)), *numbers]
+        for array in memory[:-1]:
+            given += [array, SIZE(8192 // 48)]
+        code = getattr(ctypes.CDLL(self.lib + "/libtfmset.so"), "tfmset_" + name)(*given, memory[-1])
+        unchanged = all(array.raw == nines for array in memory)
+        self.same(f"{name} with {settings}, {numbers}", wanted, (code, unchanged))
+
+
+class Finding(LinesCase):
+    """Where the module finds the library"""
+
+    def setUp(self):
+        super().setUp()
+        self.own, self.beside, self.so = self.room + "/own", self.room + "/beside", self.lib + "/libtfmset.so"
+        self.modules = self.own + "/lib/python3.8/dist-packages"
+        for directory in (self.modules, self.beside):
+            os.makedirs(directory)
+            shutil.copy(BINDINGS + "/tfmset.py", directory)
+
+    def loaded(self, directory, **more):
+        """The path of the library that the module in a directory loads, or the last line of an error."""
+        call = [sys.executable, "-B", "-c", "import tfmset; tfmset.version(); print(tfmset._library._name)"]
+        _, out, err = execute(*call, env=environment(PYTHONPATH=directory, **more))
+        return (out or err).splitlines()[-1]
+
+    def fails(self, beginning, directory, **more):
+        self.same(f"in {directory} with {more}", beginning, self.loaded(directory, **more)[:len(beginning)])
+
+    def test_by_variables(self):
+        self.same("TFMSET_LIBRARY", self.so, self.loaded(self.beside, TFMSET_LIBRARY=self.so))
+        self.fails("ImportError: /none can't be loaded: ", self.beside, TFMSET_LIBRARY="/none")
+        self.fails("ImportError: libc.so.6 isn't libtfmset", self.beside, TFMSET_LIBRARY="libc.so.6")
+        for more in ({}, {"PATH": "/none"}):  # without ld and gcc
+            seen = self.loaded(self.beside, LD_LIBRARY_PATH=self.lib, **more)
+            self.same("LD_LIBRARY_PATH", "libtfmset.so.0", seen)
+
+    def test_without_a_library(self):
+        try:
+            ctypes.CDLL("libtfmset.so.0")
+        except OSError:
+            for directory in (self.beside, self.modules):
+                self.fails("ImportError: libtfmset.so was not found", directory)
+
+    def test_in_its_prefix_and_next_to_the_module(self):
+        own = shutil.copy(self.so, self.own + "/lib/libtfmset.so.0")
+        self.same("its prefix", own, self.loaded(self.modules, LD_LIBRARY_PATH=self.lib))
+        for directory in (self.modules, self.beside):
+            own = shutil.copy(self.so, directory)
+            self.same("its directory", own, self.loaded(directory, LD_LIBRARY_PATH="/none"))
+            self.fails("ImportError: /none can't be loaded: ", directory, TFMSET_LIBRARY="/none")
+            self.same("TFMSET_LIBRARY is empty", own, self.loaded(directory, TFMSET_LIBRARY=""))

@@ -1,0 +1,154 @@
+"""A lint: each value that reports a failed call is in a line that hands on the error of a call.
+
+The values report failed allocation, a thread that couldn't be started, a failed read, opening or write, and
+an abandoned lane. Accepted are: a `From`; a `map_err` of a call, the arm `Err(_)` of a match on it, the
+`else` of a `let Ok(..)` of it and an `if` on its `is_err`, if the call can fail in this way only; and the arm
+of a value of the same kind. Each other line needs a row in checks/cases/origins.toml: the file, the line, and
+the reason. A row without a line is an error, too. Errors that `?` passes on aren't written out.
+
+The lint reads formatted lines and knows no types. Tests and the crates of tests are left out; contracts,
+patterns and comparisons make no value.
+"""
+import re
+
+from lib.base import ROOT, Case, files, read, rows, table
+
+RULES = table("origins")
+KINDS = {value: kind for kind, values in RULES["values"].items() for value in values}
+FORMS = "|".join(re.escape(value) if "::" in value or value[0] == "." else r"(?:\w+::)*" + value
+                 for value in KINDS)
+VALUE = re.compile(rf"(?<![\w.])(?:{FORMS})\b(?!::)|\.give_up\(")
+# What has no value: comments, contracts, comparisons, declarations.
+NO_VALUE = re.compile(r"//.*|^.*[≡⊎×].*|^\s*(?:ensures|requires|ghost)\b.*|[=!]= ?(?:Some\()?[\w:]+|-> .*|"
+                      r"^\s*(?:pub )?(?:struct|enum|fn|const fn|impl) .*|^\s*\w+: Result<.*|^\s*\w+,$")
+IMPORT = re.compile(r"^(?:pub )?use [^;]*;", re.M)
+# A function that returns a Result, and the type of its error.
+FUNCTION = re.compile(r"\bfn (\w+)(?:<[^>]*>)?\((?:[^()]|\([^()]*\))*\)\s*->\s*Result<(?:[^{;]*?), "
+                      r"(\w+|\([^()]*\))>\s*(?:\n|where|\{)")
+PURE = {"AllocError", "OutOfMemory", "(Line, OutOfMemory)"}
+
+
+def sources():
+    """The files of the crates without tests, by short names, each with its lines."""
+    for name in files(ROOT + "/crates", ("out", "proofs", "specs", "must-fail", "tests", "test_support")):
+        if re.fullmatch(r"\w+(?<!_tests)/src/(?:.*/)?(?!tests\.rt)[^/]*\.rt", name):
+            yield name.replace("/src/", "/"), read("crates/" + name)
+
+
+def kind_of(value):
+    return KINDS.get(value) or KINDS.get(value.split("::")[-1]) or KINDS.get(value.rstrip("("))
+
+
+class Functions:
+    """The errors of the functions of all files, to find what a call can fail with."""
+
+    def __init__(self, texts):
+        self.errors = [(file, *found) for file, text in texts.items() for found in FUNCTION.findall(text)]
+
+    def kind(self, text, file):
+        """The only kind of failure of the last call in a piece of code, or None."""
+        shorter = None
+        while shorter != text:
+            shorter, text = text, re.sub(r"\((?:[^()]|\(\))+\)", "()", text)
+        text = re.sub(r"\b(?:Ok|Err|Some)\(\)", "", text)
+        calls = re.findall(r"((?:\w+::)?\w+|\.\w+)(?:::<[^()]*?>)?!?\(\)", text)
+        calls = [call for call in calls if call not in (".is_err", ".map_err")]
+        if not calls:
+            return None
+        for kind, known in RULES["library"].items():
+            if calls[-1] in known:
+                return kind
+        name = re.split(r"::|\.", calls[-1])[-1]
+        for near in (file, file.split("/")[0] + "/", ""):
+            found = {error for other, known, error in self.errors if known == name and other.startswith(near)}
+            if found:
+                return "memory" if found <= PURE else None
+        return None
+
+
+def indentation(line):
+    return len(line) - len(line.lstrip())
+
+
+def heads_of(lines, i):
+    """The statement of a line up to this line, and the heads of the blocks around it, from the inside out."""
+    begin = i
+    while begin and lines[begin - 1].strip() and not re.search(r"[;{},]\s*$", lines[begin - 1]):
+        begin -= 1
+    found, level, at, head = [" ".join(lines[begin:i + 1])], indentation(lines[begin]), begin, []
+    while at and level:
+        at -= 1
+        if not lines[at].strip() or not head and indentation(lines[at]) >= level:
+            continue
+        head.insert(0, lines[at].strip())
+        level = indentation(lines[at]) if len(head) == 1 else level
+        # A head of several lines begins at the indentation of its last one.
+        if not head[0].startswith((")", "}", ".", "else")) and indentation(lines[at]) == level:
+            found.append(" ".join(head))
+            head = []
+    return found
+
+
+def is_handed_on(lines, i, value, file, functions):
+    """Whether a value is in one of the accepted forms."""
+    own, *heads = heads_of(lines, i)
+    kind = kind_of(value)
+    if heads and re.match(r"impl.* From<", heads[-1]):
+        return True
+    if ".map_err(" in own:
+        return functions.kind(own.split(".map_err(")[0].split("=")[-1], file) == kind
+    if "=>" not in own and heads and heads[0].endswith("=> {"):
+        own, *heads = heads
+    pattern, arrow, _ = own.partition("=>")
+    if arrow and VALUE.search(pattern):
+        return all(kind_of(one) == kind for one in VALUE.findall(pattern))
+    head = heads[0] if heads else ""
+    if arrow and re.match(r"\s*Err\([a-z_]\w*\)\s*$", pattern):
+        return functions.kind(head.split("match ")[-1], file) == kind
+    refused = re.search(r"\bif ([^|&!]*)\.is_err\(\) \{$|\blet Ok\(\w+\) = (.*) else \{$", head)
+    return bool(refused) and functions.kind(refused[1] or refused[2], file) == kind
+
+
+def origins(text, file, functions):
+    """The lines of a file with such a value, each with whether it is accepted."""
+    text = IMPORT.sub(lambda found: "\n" * found[0].count("\n"), text)
+    plain = [NO_VALUE.sub("", line) if "impl" not in line else line for line in text.split("\n")]
+    for i, line in enumerate(plain):
+        body = line.partition("=>")[2] if "=>" in line else line
+        for value in VALUE.findall(body) if not line.startswith("impl") else ():
+            if "matches!(" not in " ".join(heads_of(plain, i)[:2]):
+                yield " ".join(line.split()), is_handed_on(plain, i, value, file, functions)
+
+
+def hiding_imports(text):
+    """The imports that rename such a value or its type, or leave out its type."""
+    heads = {value.split("::")[0] for value in KINDS if value[0] != "."}
+    types = "|".join(value.split("::")[0] for value in KINDS if "::" in value)
+    return [found for found in IMPORT.findall(text) if re.search(rf"\b(?:{types}) ?::", found)
+            or any(old in heads and new != "_" for old, new in re.findall(r"(\w+) as (\w+)", found))]
+
+
+class Origins(Case):
+    """Values that report a failed call"""
+
+    def test_lines(self):
+        texts = dict(sources())
+        functions, count = Functions(texts), 0
+        rows_left = [tuple(row[:2]) for row in RULES["rows"]]
+        for name, text in texts.items():
+            for line, right in origins(text, name, functions):
+                count += 1
+                if not right and (name, line) in rows_left:
+                    rows_left.remove((name, line))
+                elif not right:
+                    self.wrong.append(f"{name}: no failed call leads to this line: {line}")
+            self.wrong += [f"{name}: an import hides such a value: {found}" for found in hiding_imports(text)]
+        self.wrong += [f"a row of the table without its line: {name}: {line}" for name, line in rows_left]
+        self.none([], count, 20)
+
+    @rows((body, body) for body in RULES["wrong"])
+    def test_wrong(self, body):
+        """A body in which no call failed is found."""
+        text = "fn planted() {\n" + "".join(f"    {line}\n" for line in body.split("\n")) + "}"
+        functions = Functions({"here/planted.rt": RULES["first"]})
+        self.assertIn(False, [right for _, right in origins(text, "here/planted.rt", functions)])

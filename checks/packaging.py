@@ -1,0 +1,268 @@
+"""The command table, the man page, the completions and scripts/install.
+
+scripts/commands.toml has to agree with the help of the program and of each subcommand, and with the error
+messages of the parser; scripts/command_pages must change nothing. What the shells complete is computed from
+the table. The examples of the man page are run. scripts/install is run in a copy, in which a short script
+replaces ./tfmset, so that nothing is built.
+"""
+import functools
+import os
+import pty
+import re
+import select
+import shlex
+import signal
+import time
+
+from lib.base import (EXAMPLES, PROGRAM, ROOT, Case, bash, copy_for_scripts, environment, execute, files,
+                      output, read, rows, script, table)
+
+SECONDS = 20  # for the answer of a shell
+CASES = table("packaging")
+PAGES = script("scripts/command_pages")
+TABLE = PAGES.Table()
+NAMES = [None, *TABLE.commands]
+
+
+def title(command):
+    return command["name"] if command else "tfmset"
+
+
+@functools.lru_cache(maxsize=None)
+def help_of(name):
+    return output(PROGRAM, *{"tfmset": ["--help"], "help": ["help", "help"]}.get(name, [name, "--help"]))
+
+
+def section(text, name):
+    """The lines of a section of a help text."""
+    found = re.search(rf"^{name}:\n((?:  .*\n)+)", text, re.M)
+    return found.group(1).splitlines() if found else []
+
+
+class Help(Case):
+    """The command table agrees with the help"""
+
+    @rows((title(command), command) for command in NAMES)
+    def test(self, command):
+        """Subcommands, usage, options, ranges and defaults are those of the help, in its order."""
+        text = help_of(title(command))
+        usage = re.search(r"^Usage: tfmset ?(.*)$", text, re.M).group(1)
+        wanted = f"{command['name']} {command['usage']}" if command else "COMMAND"
+        self.same("usage", wanted, re.sub(r"[<>]", "", usage.replace("[OPTIONS] ", "")))
+        if not command:
+            listed = [re.match(r"  ([\w-]+)  ", line).group(1) for line in section(text, "Commands")]
+            self.same("subcommands", sorted(TABLE.names()), sorted(listed))
+        form = r" +(?:-(\w), )?(?:    )?--([\w-]+)(?: <(\w+)>)?  +(.*)"
+        lines = [re.fullmatch(form, line).groups() for line in section(text, "Options")]
+        self.same("options", TABLE.options_of(command), [name for _, name, _, _ in lines])
+        for short, name, value, about in lines:
+            option = TABLE.options[name]
+            self.same(f"--{name}", (option.get("short"), option.get("value")), (short, value))
+            if value:
+                self.compare_values(title(command), option, about)
+
+    def compare_values(self, command, option, about):
+        """The range or the choices are those that the parser prints for the value 0, and are in the help."""
+        message = execute(PROGRAM, command, f"--{option['name']}", "0", "x", "x", "x")[2]
+        if "range" in option:
+            low, high = option["range"]
+            self.assertIn(f"0 is not in {low}..={high}\n", message + "\n")
+            self.assertIn(f"{low} to {high}", about)
+        else:
+            choices = option["choices"]
+            self.assertIn(f"[possible values: {', '.join(choices)}]", message)
+            self.assertIn(", ".join(choices[:-1]) + " or " + choices[-1], about)
+        default = option.get("default")
+        default = default.get(command) if isinstance(default, dict) else default
+        seen = re.findall(r"\[default: (\S+)\]", about)
+        self.same(f"--{option['name']}: default", [default] if default else [], seen)
+
+    def test_the_script_changes_nothing(self):
+        copy_for_scripts(self.room)
+        self.same("exit status", (0, "", ""), execute(self.room + "/scripts/command_pages"))
+        for name in PAGES.FILES:
+            self.same(f"{name} is generated", True, read(name) == read(f"{self.room}/{name}"))
+
+
+def plain(line):
+    """A line of the page without its macro, its fonts and its escapes."""
+    macro = re.match(r"\.(\w+) ?", line)
+    if macro:
+        words = shlex.split(line[macro.end():].replace("\\", "\\\\").replace("'", "\\'"))
+        line = ("" if macro.group(1) in ("BI", "BR", "IB", "IR", "RB", "RI") else " ").join(words)
+    return re.sub(r"\\f[BIRP]", "", line).replace("\\-", "-").replace("\\(aq", "'").replace("\\(rs", "\\")
+
+
+def section_of_page(name):
+    return re.search(rf"^\.SH {name}\n(.*?)(?=^\.SH |\Z)", read("man/tfmset.1"), re.M | re.S).group(1)
+
+
+def entries(name):
+    """The entries of a section, each with its head and its first line."""
+    found = re.findall(r"^\.TP\n(.*)\n(.*)", section_of_page(name), re.M)
+    return [(plain(head), plain(line)) for head, line in found]
+
+
+class ManPage(Case):
+    """The man page"""
+
+    def test_version_and_subcommands(self):
+        self.assertIn(f'"{output(PROGRAM, "--version").strip()}"', read("man/tfmset.1").split("\n.SH")[0])
+        self.same("subcommands", TABLE.names(), [head for head, _ in entries("COMMANDS")])
+
+    def test_exit_statuses_are_those_of_the_help(self):
+        wanted = [line.split()[0] for line in section(help_of("tfmset"), "Exit status")]
+        self.same("exit statuses", wanted, [head for head, _ in entries("EXIT STATUS")])
+
+    def test_diagnostics_are_those_of_errors_md(self):
+        messages = read("docs/ERRORS.md").partition("\n## All other messages")[2]
+        # Only `each` prints the message with K. The page mentions it in the sentence after the entries.
+        wanted = [("tfmset: " + message, status)
+                  for message, status in re.findall(r"^\| `(.*?)` \| (\d) \|", messages, re.M)
+                  if message != "font K not read"] + [("tfmset: font refused: NUMBER...", "3")]
+        found = [(head, re.match(r"Exit status (\d)\.", line)[1]) for head, line in entries("DIAGNOSTICS")]
+        self.same("errors", sorted(wanted), sorted(found))
+
+    @rows((words, words) for words in ("groff -man -ww -Tutf8", "man --warnings -E UTF-8 -l"))
+    def test_warnings(self, words):
+        """There are no warnings."""
+        command = words.split()
+        self.need(command[0])
+        env = environment(LC_ALL="C.UTF-8", MANWIDTH="80")
+        self.same("result", (0, ""), execute(*command, ROOT + "/man/tfmset.1", env=env)[::2])
+        if command[0] == "groff":
+            wrong = self.file("wrong.1", read("man/tfmset.1").replace(".SH FILES\n", ".SH FILES\n.XY\n"))
+            self.same("a macro that doesn't exist", True, bool(execute(*command, wrong, env=env)[2]))
+
+    def test_examples(self):
+        blocks = re.findall(r"^\.EX\n(.*?)^\.EE", section_of_page("EXAMPLES"), re.M | re.S)
+        os.symlink(PROGRAM, os.path.join(self.room, "tfmset"))
+        env = environment(PATH=self.room + ":" + os.environ["PATH"])
+        for block in blocks:
+            command, *wanted = [plain(line) for line in block.splitlines()]
+            _, out, err = bash(command.removeprefix("$ "), EXAMPLES, env=env)
+            self.same(command, ("".join(line + "\n" for line in wanted), ""), (out, err))
+        self.none([], len(blocks))
+
+
+def questions():
+    """Beginnings of commands, each with exactly the words that complete it, or with one file among them."""
+    names = TABLE.names()
+    asked = [("tfmset ", names), ("tfmset help ", names), ("tfmset -", PAGES.words_of(TABLE, None))]
+    for command in TABLE.commands[:-1]:
+        name = command["name"]
+        asked.append((f"tfmset {name} -", PAGES.words_of(TABLE, command)))
+        for option in command["options"]:
+            if "value" in TABLE.options[option]:
+                values = PAGES.values_of(TABLE.options[option])
+                asked += [(f"tfmset {name} --{option}{end}", values) for end in (" ", "=")]
+        asked.append((f"tfmset {name} ", "a.tfm"))
+    return asked + CASES["questions"]
+
+
+class Completions(Case):
+    """Completions"""
+
+    def setUp(self):
+        super().setUp()
+        for name in ("a.tfm", "text", "directory/file"):
+            self.file("here/" + name, "")
+        self.here = self.room + "/here"
+        self.env = environment(HOME=self.room, LC_ALL="C.UTF-8", TERM="dumb")
+
+    def compare(self, text):
+        """Compares the completions that follow each question in a text with those that are wanted."""
+        answers = {}
+        for part in text.split("? ")[1:]:
+            line, _, rest = part.partition("\n")
+            answers[line] = list(dict.fromkeys(word for word in rest.splitlines() if word != "."))
+        for line, wanted in questions():
+            seen = answers.get(line, ["no answer"])
+            if isinstance(wanted, list):
+                self.same(repr(line), sorted(wanted), sorted(seen))
+            elif wanted not in seen:
+                self.wrong.append(f"{line!r}: no file {wanted}")
+
+    @rows((shell, shell, *options) for shell, *options in (("bash",), ("fish", "--no-config")))
+    def test_answers(self, shell, *options):
+        """The shell completes what the command table has."""
+        self.need(shell)
+        lines = self.file("lines", "".join(line + "\n" for line, _ in questions()))
+        ask, completions = f"{ROOT}/checks/lib/ask.{shell}", f"{ROOT}/completions/tfmset.{shell}"
+        _, out, err = execute(shell, *options, ask, completions, lines, cwd=self.here, env=self.env)
+        self.same("messages", "", err)
+        self.compare(out)
+
+    def test_answers_of_zsh(self):
+        """zsh completes only in a terminal."""
+        self.need("zsh")
+        said = self.file("answers", "")
+        variables = f"fpath=({shlex.quote(ROOT + '/completions')} $fpath)\nANSWERS={shlex.quote(said)}\n"
+        ask = self.file("ask", variables + read("checks/lib/ask.zsh"))
+        child, terminal = pty.fork()
+        if child == 0:
+            os.chdir(self.here)
+            os.execvpe("zsh", ["zsh", "-f", "-i"], self.env)
+        try:
+            os.write(terminal, b"source %s\n" % shlex.quote(ask).encode())
+            self.wait_for(terminal, said, 1)
+            for count, (line, _) in enumerate(questions()):
+                os.write(terminal, b"\x15" + line.encode() + b"\x14")
+                self.wait_for(terminal, said, count + 2)
+        finally:
+            os.kill(child, signal.SIGKILL)
+            os.waitpid(child, 0)
+            os.close(terminal)
+        self.compare(read(said))
+
+    def wait_for(self, terminal, said, count):
+        """Waits until the shell has given so many answers."""
+        until = time.monotonic() + SECONDS
+        while len(re.findall(r"^\.$", read(said), re.M)) < count:
+            self.assertLess(time.monotonic(), until, "zsh gave no answer")
+            if select.select([terminal], [], [], 0.01)[0]:
+                os.read(terminal, 4096)
+
+    @rows((f"{shell}: {name}", shell, name) for shell, name in CASES["syntax"])
+    def test_syntax(self, shell, name):
+        """The syntax of a script."""
+        self.need(shell)
+        self.same("messages", (0, "", ""), execute(shell, "-n", os.path.join(ROOT, name)))
+
+
+class Install(Case):
+    """scripts/install"""
+
+    def install(self, *words, status=0, **variables):
+        """Runs scripts/install in a copy in which ./tfmset installs the program, or ends with a status."""
+        copy = os.path.join(self.room, "copy")
+        copy_for_scripts(copy, status)
+        env = environment(**variables)
+        return execute(copy + "/scripts/install", *words, cwd=self.room, env=env, umask=0o022)
+
+    @rows((("PREFIX", "/a prefix", ""), ("PREFIX with DESTDIR", "/usr", "/staged")))
+    def test_installs(self, prefix, staged):
+        """Five files are installed and named, with their modes, and the program works."""
+        prefix, destination = self.room + prefix, staged and self.room + staged
+        status, out, err = self.install(prefix, **({"DESTDIR": destination} if staged else {}))
+        self.same("status", (0, ""), (status, err))
+        top, installed = destination + prefix, CASES["installed"]
+        self.same("said", sorted(f"installed {top}/{name}" for name in installed), sorted(out.splitlines()))
+        self.same("files", sorted(installed), files(top))
+        self.same("other files", len(installed), len(files(self.room, ("copy",))))
+        for name, (source, mode) in installed.items():
+            self.same(f"{name} is its source", True,
+                      read(f"{top}/{name}", "rb") == read(f"{self.room}/copy/{source}", "rb"))
+            self.same(f"mode of {name}", mode, f"{os.stat(f'{top}/{name}').st_mode & 0o777:o}")
+        wanted = read("examples/README.md").partition("```text\n")[2].partition("```")[0]
+        seen = execute(top + "/bin/tfmset", "set", "examples/demo.tfm", "examples/lines.txt", cwd=ROOT)
+        self.same("the program", (0, wanted, ""), seen)
+
+    @rows((f"{words} with exit status {status}", failed, words, status)
+          for failed, words, status in CASES["installs_nothing"])
+    def test_installs_nothing(self, failed, words, status):
+        """Nothing is installed without PREFIX, with an invalid one, with two, or if the build fails."""
+        words = [word.replace("EMPTY", self.room) for word in words]
+        seen = self.install(*words, status=failed)
+        self.same("result", (status, "", status == 2), (*seen[:2], seen[2].startswith("usage: ")))
+        self.same("files", [], files(self.room, ("copy",)))

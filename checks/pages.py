@@ -1,0 +1,324 @@
+"""The commands, examples and links of the pages, and the files of examples/.
+
+Each ```sh block is run in a directory that has the repository's files. If a ```text block follows, the
+command has to print exactly that; the lines after `$ ` in a ```text block are run in the same way. Nothing
+may be printed on standard error, and no file may be left in the repository: a block that makes files puts
+them into "$tmp". A ```c or ```python block is saved under the name in the comment on its first line, and the
+blocks after it can use it. PREFIX is set, and so are those of the variables of VARIABLES that the page names.
+A command whose tool is missing is skipped.
+"""
+import os
+import re
+import shutil
+import sys
+import unicodedata
+import unittest
+
+from lib.base import (EXAMPLES, PROGRAM, ROOT, Case, bash, environment, execute, files, has, read, rows,
+                      script, table, write)
+from lib.clib import LibraryCase
+from lib.docs import commands, font_errors, record_of, text_of, worked_examples
+from lib.tfm import path_of, sample, samples
+
+WEIGHT = 7
+RULES = table("pages")
+NEEDS = RULES["needs"]
+ENCODINGS = script("examples/font_encodings.py").ENCODINGS
+RUN = RULES["pages"] + [page for page in RULES["perhaps"] if list(commands(read(page)))]
+LIBRARY = "library for C"
+VARIABLES = ("PKG_CONFIG_PATH", "LD_LIBRARY_PATH", "TFMSET_LIBRARY", "PYTHONPATH")
+SAMPLES = "crates/test_support/src/fonts"
+
+
+def parts(text):
+    """The parts of a page in their order: ("source", name or None, content), ("command", command, output)."""
+    for turn, cut in enumerate(re.split(r"^```(?:c|python)\n(.*?)^```$", text, flags=re.M | re.S)):
+        if turn % 2:
+            name = re.match(r"(?:/\*|#) (\w+\.(?:c|py))\b", cut)
+            yield "source", name and name.group(1), cut
+        else:
+            yield from (("command", *command) for command in commands(cut))
+
+
+class Commands(LibraryCase):
+    """The commands of the pages"""
+
+    def setUp(self):
+        try:
+            super().setUp()
+            self.lacks = set()
+        except unittest.SkipTest:
+            self.lacks, self.prefix, self.env = {LIBRARY}, "", {}
+
+    @rows((page, page) for page in RUN)
+    def test(self, page):
+        self.link_repository()
+        count, missing, sources, text = 0, set(), {}, read(page)
+        tmp = self.other_room()
+        env = {**os.environ, "tmp": tmp, "TMPDIR": tmp, "PREFIX": self.prefix}
+        env |= {name: self.env[name] for name in VARIABLES if name in text and name in self.env}
+        self.before = self.files()
+        for kind, first, second in parts(text):
+            if kind == "source":
+                self.same("a block without a name on its first line", False, first is None)
+                sources[first] = second
+                self.file(first or "unnamed", second)
+                continue
+            lacking = {need for need in self.needs_of(first, sources)
+                       if need in self.lacks or need != LIBRARY and not has(need)}
+            missing |= lacking
+            if not lacking and not re.match(RULES["not_run"], first):
+                count += 1
+                self.compare(first, second, env, {source.split(".")[0] for source in sources})
+        self.none([], count, int(page in RULES["pages"] and not missing))
+        for need in sorted(missing)[:1] if not self.wrong else ():
+            self.lack(need)
+
+    def files(self):
+        return set(files(self.room, ("crates", "__pycache__")))
+
+    def needs_of(self, command, sources):
+        """What a command, and the sources that it uses, need."""
+        needs = {need for need, form in NEEDS.items() if re.search(form, command, re.M)}
+        for name, source in sources.items():
+            is_used = re.search(rf"\b{name.split('.')[0]}\b", command)
+            if is_used and re.search(r"tfmset\.h|import tfmset", source):
+                needs.add(LIBRARY)
+        return needs
+
+    def compare(self, command, wanted, env, stems):
+        status, out, err = bash(command, self.room, env=env, timeout=120, stdin=None)
+        if err and not re.search(NEEDS["pv"], command) or status > 1 or wanted not in (None, out):
+            self.wrong.append(f"{command!r}: status {status}, {out!r} instead of {wanted!r}, {err!r}")
+        left = {path for path in self.files() - self.before if path.split(".")[0] not in stems}
+        if left:
+            self.wrong.append(f"{command!r} leaves {', '.join(sorted(left))}")
+            self.before |= left
+
+
+class Tables(Case):
+    """The tables of the pages"""
+
+    def test_worked_examples(self):
+        found = worked_examples()
+        for font, options, cell, record in found:
+            text = text_of(cell)
+            seen = execute(PROGRAM, "stream", "--record", "2", *options.split(), path_of(font), given=text)[1]
+            wanted = f"records 2\n1:1 {record_of(record, text)}\n1 end complete 1\n"
+            self.same(f"{font} {options} {cell}", True, seen == wanted)
+        self.none([], len(found), 51)
+
+    def test_font_errors(self):
+        found = font_errors()
+        for message, data in found:
+            self.same(message, (3, "", f"tfmset: font refused: {message}\n"),
+                      execute(PROGRAM, "list", "-", given=data))
+        self.none([], len(found), 18)
+
+    def test_sizes(self):
+        lines = re.findall(r"^\|((?: [\d.]+ \|)+)$", read("docs/RECIPES.md"), re.M)
+        cells = [cell for line in lines for cell in line.strip("| ").split(" | ")]
+        pairs = list(zip(cells[::2], cells[1::2]))
+        for points, scaled in pairs:
+            self.same(points, int(float(points) * 65536 + 0.5), int(scaled))
+        self.none([], len(pairs), 12)
+
+
+def without_blocks(text):
+    """A page without its ``` blocks."""
+    return re.sub(r"^```.*?^```$", "", text, flags=re.M | re.S)
+
+
+def anchors_of(text):
+    """The anchors that GitHub makes of a page's headings, and those that are written as HTML."""
+    anchors, seen = set(re.findall(r"<a (?:id|name)=\"([^\"]+)\"", text)), {}
+    for heading in re.findall(r"^#{1,6} +(.*?)(?: +#+)? *$", without_blocks(text), re.M):
+        shown = re.sub(r"!?\[([^\]]*)\]\([^)]*\)", r"\1", heading)
+        anchor = re.sub(r"[^\w -]", "", shown.lower()).replace(" ", "-")
+        count = seen[anchor] = seen.get(anchor, -1) + 1
+        anchors.add(f"{anchor}-{count}" if count else anchor)
+    return anchors
+
+
+def link_errors_of(page, text):
+    """Returns the links of a page that lead nowhere, and how many links it has."""
+    wrong, prose = [], re.sub(r"`[^`\n]*`", "", without_blocks(text))
+    links = re.findall(r"\]\(\s*<?([^)\s>]+)>?[^)]*\)|^ {0,3}\[[^\]]+\]: +(\S+)", prose, re.M)
+    for link in map("".join, links):
+        if re.match(r"[a-z][a-z+.-]*:", link):
+            continue
+        path, _, anchor = link.partition("#")
+        name = os.path.normpath(os.path.join(os.path.dirname(page), path)) if path else page
+        if name.startswith("..") or not os.path.exists(os.path.join(ROOT, name)):
+            wrong.append(f"{page}: no file {link}")
+        elif anchor and not (name.endswith(".md")
+                             and anchor in anchors_of(text if name == page else read(name))):
+            wrong.append(f"{page}: no anchor {link}")
+    return wrong, len(links)
+
+
+def named_pages(name, text):
+    """The pages that a file names and that don't exist, next to the file, at the top or in docs/."""
+    places = (os.path.join(ROOT, os.path.dirname(name)), ROOT, os.path.join(ROOT, "docs"))
+    named = set(re.findall(r"(?<![\w/.-])[\w./-]*\w\.md\b", re.sub(r"\\f[A-Z]", "", text)))
+    gone = [page for page in RULES["gone"]
+            if name.endswith(".md") and re.search(rf"(?<![\w/]){page}\b(?!\.md)", text)]
+    return [f"{name}: {page}" for page in gone + sorted(named - set(RULES["outside"]))
+            if page in gone or not any(os.path.exists(os.path.join(at, page)) for at in places)]
+
+
+class Links(Case):
+    """Links and names of pages"""
+
+    def test_links(self):
+        docs = [f"docs/{name}" for name in files(ROOT + "/docs") if name.endswith(".md")]
+        found = [link_errors_of(page, read(page)) for page in RULES["linking"] + docs]
+        self.none([error for wrong, _ in found for error in wrong], sum(count for _, count in found), 51)
+
+    def test_wrong_links_are_found(self):
+        text = ("[a](#b-c) [d](docs/TEXTS.md#none) [e](docs/NONE.md) [f](#b-c-1)\n\n"
+                "# `B` *c*\n\n```sh\n# B c\n```\n")
+        found = [error.split()[-1] for error in link_errors_of("README.md", text)[0]]
+        self.same("found", ["docs/TEXTS.md#none", "docs/NONE.md", "#b-c-1"], found)
+        found = named_pages("docs/TEXTS.md", "TEX.md, SCALE, ../README.md and `NONE.md`")
+        self.same("found", ["docs/TEXTS.md: SCALE", "docs/TEXTS.md: NONE.md"], found)
+
+    def test_names_of_pages(self):
+        """No file names a page that doesn't exist. The CHANGELOG may name pages that were removed."""
+        contents = {path: read(path, "rb") for path in files(ROOT, (".git", "out", "__pycache__"))
+                    if path not in ("CHANGELOG.md", "checks/pages.py")}
+        wrong = [named_pages(path, text.decode("utf-8", "replace"))
+                 for path, text in contents.items() if b"\0" not in text]
+        self.none(sum(wrong, []), len(wrong), 101)
+
+
+def printer(names):
+    """A program that prints the bytes of these fonts of the tests."""
+    calls = []
+    for name in names:
+        base, _, op = name.rpartition("_")
+        call = f"{base}(alloc, {op})" if op.isdigit() else f"{name}(alloc)"
+        calls.append(f'    let font = examples::{call}?;\n    println!(rt; "{name} {{font:?}}")?;\n')
+    modules = "".join(f"mod {name[:-3]};\n" for name in sorted(os.listdir(f"{ROOT}/{SAMPLES}")))
+    return read("checks/lib/print_fonts.txt").replace("MODULES", modules).replace("CALLS", "".join(calls))
+
+
+class Fonts(Case):
+    """The fonts of examples/"""
+
+    def test_fonts_are_those_that_the_scripts_write(self):
+        for name in ("make_fonts.py", "make_demo_font.py"):
+            shutil.copy(f"{EXAMPLES}/{name}", self.room)
+        seen = bash("python3 make_fonts.py . && python3 make_demo_font.py", self.room)
+        self.same("scripts", (0, "", ""), seen)
+        written = sorted(name.removesuffix(".tfm") for name in os.listdir(self.room) if name.endswith(".tfm"))
+        self.same("names", sorted(samples()), written)
+        for name in written:
+            self.same(name, True, read(f"{self.room}/{name}.tfm", "rb") == sample(name))
+
+    def test_fonts_are_those_of_the_tests(self):
+        """`rt try` runs the builders of test_support, without proofs."""
+        self.need("rt")
+        names = sorted(name[:-4] for name in os.listdir(f"{EXAMPLES}/fonts"))
+        self.same("fonts that are named", set(), set(RULES["named"]) - set(names))
+        crate = f"{self.room}/crates/fonts"
+        for name in os.listdir(f"{ROOT}/{SAMPLES}"):
+            text = read(f"{SAMPLES}/{name}")
+            write(f"{crate}/src/{name}", text.replace("use tfm_tables::Step;", "use crate::Step;"))
+        self.file("crates/fonts/src/main.rt", printer(names))
+        self.file("crates.txt", "fonts:\n")
+        self.file("HANDLES", read("HANDLES"))
+        _, out, err = bash("rt try", crate, timeout=600)
+        lines = dict(line.split(" ", 1) for line in out.splitlines() if re.match(r"\w+ \[", line))
+        for name in names:
+            built = bytes(int(byte) for byte in lines.get(name, "[]").strip("[]").split(", ") if byte)
+            self.same(f"{name} {'' if built else err[-300:]}", True, built == sample(name))
+        # One font is a literal of 48 bytes in the tests.
+        literal = re.search(r"NO_CHARACTERS: \[u8; 48\] = \[(.*?)\];", read(f"{SAMPLES}/files.rt"), re.S)[1]
+        numbers = re.findall(r"0x[0-9A-F]+|\d+", re.sub(r"//.*", "", literal))
+        self.same("no_characters", sample("no_characters"), bytes(int(one, 0) for one in numbers))
+
+
+class Scripts(Case):
+    """The scripts of examples/"""
+
+    def script(self, name, *arguments, given=b"", **how):
+        return execute(sys.executable, f"{EXAMPLES}/{name}", *arguments, given=given, cwd=self.room,
+                       env=environment(LC_ALL="C"), **how)
+
+    def test_picture_of_the_readme(self):
+        self.link_repository()
+        recipe = next(command for command, _ in commands(read("docs/RECIPES.md")) if "boxes.svg" in command)
+        tmp = self.other_room()
+        bash(recipe, self.room, env=environment(tmp=tmp))
+        self.same("the picture is the recipe's", True, read(f"{tmp}/boxes.svg") == read("examples/boxes.svg"))
+        self.assertIn("](examples/boxes.svg)", read("README.md"))
+
+    @rows((name, name, file) for name, file in RULES["encodings"].items())
+    def test_letters(self, name, file):
+        """The letters of examples/font_encodings.py are those of TeX's encodings."""
+        self.need("kpsewhich")
+        glyphs, count = {}, 0
+        for names in ("glyphlist.txt", "texglyphlist.txt"):
+            path = bash(f"kpsewhich {names}", self.room)[1].strip()
+            for line in read(path).splitlines() if path else []:
+                glyph, _, codes = line.strip().split(",")[0].partition(";")
+                if codes and not line.startswith("#"):
+                    glyphs.setdefault(glyph, "".join(chr(int(code, 16)) for code in codes.split()))
+        path = bash(f"kpsewhich {file}", self.room)[1].strip()
+        if not path or not glyphs:
+            self.lack(file)
+        listed = re.sub("%.*", "", read(path, "rb").decode("latin-1"))
+        for code, glyph in enumerate(re.findall(r"/([\w.]+)", listed[listed.index("["):])):
+            if glyph not in RULES["unlisted"]:
+                letter, wanted = (unicodedata.normalize("NFKD", text) for text in (
+                    ENCODINGS[name].get(code, ""), glyphs.get(glyph, "?")))
+                count += 1
+                self.same(f"{code} {glyph}", wanted, letter)
+        self.none([], count, 100)
+
+    @rows((name, name) for name in RULES["encodings"])
+    def test_encode_is_the_inverse_of_letters(self, name):
+        # Every code with one letter, in a line of its own, except the codes of the line feed and the space.
+        letters = [(code, letter) for code, letter in sorted(ENCODINGS[name].items())
+                   if len(letter) == 1 and code not in (10, 32)]
+        given = "".join(f"{letter}\n" for _, letter in letters).encode()
+        status, codes, messages = self.script("encode", name, given=given, text="latin-1")
+        lines = codes.split("\n")[:-1]
+        records = "".join(f"1:1 set 0 {' '.join(f'c{ord(code)}=0' for code in line)}\n" for line in lines)
+        back = self.script("letters", name, given=records.encode())[1].replace("1:1 0.00 ", "").splitlines()
+        # The ASCII character ` is set as ‘, also where the font has a grave accent.
+        wanted = [letter.replace("`", "‘") for _, letter in letters]
+        self.same("letters", (0, "", wanted), (status, messages, back))
+        self.none([], len(lines), max(len(letters), 100))
+
+    @rows((f"{row['encoding']} {row['text']}", row) for row in RULES["encoded"])
+    def test_encode(self, row):
+        """A text, its codes by TeX's encoding files, and its characters that have no code."""
+        name, without = row["encoding"], row.get("without", "")
+        given = f"\ufefffirst\r\n{row['text']}\r\nlast".encode()
+        status, codes, messages = self.script("encode", name, given=given, text="latin-1")
+        named = re.findall(rf"^encode: line 2: no code in {name} for U\+([0-9A-F]{{4}}) .*\n", messages, re.M)
+        self.same("characters without a code", (list(without), messages.count("\n")),
+                  ([chr(int(code, 16)) for code in named], len(named)))
+        self.same("codes", (int(bool(without)), f"first\n{row['codes']}\nlast"), (status, codes))
+
+    def test_encode_of_bytes_that_are_not_utf_8(self):
+        message = "encode: line 2: no code in T1 for byte 0x{}, which isn't UTF-8\n"
+        self.same("result", (1, "a\nb", message.format("E9") + message.format("FF")),
+                  self.script("encode", "T1", given=b"a\n\xe9b\xff"))
+
+    @rows((" ".join((row["script"], *row["arguments"], row["given"])), row) for row in RULES["messages"])
+    def test_message(self, row):
+        """A script ends with one line on standard error and an exit status."""
+        self.file("listing", execute(PROGRAM, "list", f"{EXAMPLES}/demo.tfm")[1])
+        shutil.copy(f"{EXAMPLES}/demo.txt", self.room)
+        status, out, err = self.script(row["script"], *row["arguments"], given=row["given"].encode())
+        self.same("result", (row["status"], "", 1), (status, out, err.count("\n")))
+        self.assertIn(row["message"], err)
+
+    @rows((name, name) for name in ("letters", "encode"))
+    def test_closed_pipe(self, name):
+        """A closed pipe ends a script without a message."""
+        self.same("result", (0, "a\n141\n", ""),
+                  bash(f"set -o pipefail; yes a | {EXAMPLES}/{name} | head -n 1; echo $?", self.room))

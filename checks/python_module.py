@@ -1,0 +1,81 @@
+"""The Python module: its arguments, the version of the library, and the memory of the items."""
+import sys
+
+from lib.base import DEMO, execute, read
+from lib.clib import LibraryCase
+
+# Each row: a title, a program, and its output.
+PROGRAMS = (
+    # Mutant: `_bytes` returns a subclass of bytes as it is. The library then reads beyond the memory, or never ends.
+    ("A subclass of bytes that reports another length counts as its memory", """
+class Long(bytes):
+    __len__ = count = lambda *_: 1 << 40
+font = tfmset.Font(Long(data))
+print(len(font.data), font.widths(Long(b"ox")), len(font.set(Long(b"ox\\nox"))), font.records(Long(b"o")))
+""", "{bytes} [665189] 2 b'1:1 set 334233 c111=334233\\n'\n"),
+    # Mutant: `_number` calls __index__ twice. The second number isn't checked.
+    ("A number is asked for its value once", """
+class Number:
+    numbers = iter((655360, (1 << 32) + 5))
+    def __index__(self):
+        return next(self.numbers)
+print(tfmset.Font(data, Number()).size)
+""", "655360\n"),
+    # Mutant: `_number` accepts a bool.
+    ("A bool isn't a number", """
+for call in (lambda: tfmset.Font(data, True), lambda: font.metrics(True), lambda: font.set(b"", limit=True)):
+    try:
+        print("accepted", call())
+    except TypeError as error:
+        print(error)
+""", "size is True, but must be an integer\ncode is True, but must be an integer\n"
+     "limit is True, but must be an integer\n"),
+    # Mutant: `Line.items` shares the memory of the result.
+    ("Writing to the items of a line changes no line", """
+lines = font.set(b"ox\\nox")
+lines[0].items[0].width = 7
+print(lines[0].items[0].width, lines[1].items[0].width, lines.items[0].width)
+""", "334233 334233 334233\n"),
+    # Mutant: `Line` keeps a pointer to the items instead of the array.
+    ("Items stay after their lines are gone", """
+import gc
+line = font.set(b"ox\\n" * 1000)[999]
+items = line.items
+del line
+gc.collect()
+print([item.width for item in items], len(font.set(b"xo" * 9999)))
+""", "[334233, -16384, 347340] 1\n"),
+)
+
+
+class Module(LibraryCase):
+    """Arguments and results"""
+
+    def test_programs(self):
+        head = f"import tfmset\ndata = open({DEMO!r}, 'rb').read()\nfont = tfmset.Font(data)\n"
+        for title, program, wanted in PROGRAMS:
+            seen = execute(sys.executable, "-c", head + program, env=self.env)
+            self.same(title, (0, wanted.replace("{bytes}", str(len(read(DEMO, "rb")))), ""), seen)
+
+
+class Version(LibraryCase):
+    """The version of the library"""
+
+    names = ("check", "font", "metrics", "pair", "set", "widths", "records")
+
+    def imported(self, number):
+        """Imports the module with a library that has this version, and returns what Python prints."""
+        functions = "".join(f"unsigned tfmset_{name}(void) {{ return 4; }}\n" for name in self.names)
+        source = self.file(f"v{number}.c", functions + f"unsigned tfmset_version(void) {{ return {number}u; }}\n")
+        path = source + ".so"
+        self.same("compiled", 0, execute("cc", "-shared", "-fPIC", "-o", path, source)[0])
+        status, out, err = execute(sys.executable, "-c", "import tfmset; print(tfmset.version())",
+                                   env={**self.env, "TFMSET_LIBRARY": path})
+        return status, out or err.splitlines()[-1].replace(path, "PATH")
+
+    def test_a_library_of_another_version_is_not_loaded(self):
+        # Mutant: `_load` doesn't compare the versions. The library would write structs of another layout.
+        for number, name in ((2000, "0.2.0"), (1_001_000, "1.1.0"), (0, "0.0.0")):
+            wanted = f"ImportError: PATH has version {name}, but tfmset.py has 0.1.0"
+            self.same(name, (1, wanted), self.imported(number))
+        self.same("0.1.7", (0, "(0, 1, 7)\n"), self.imported(1007))

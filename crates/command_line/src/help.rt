@@ -1,0 +1,198 @@
+//! The help texts of the command. `clap` prints the lines as they are, so each has fewer than 80 columns.
+
+pub(crate) const ABOUT: &str = "Reads TeX font metric (TFM) files and sets lines of text with them";
+
+pub(crate) const AFTER_HELP: &str = "Examples, in the directory examples of the sources:
+  tfmset counts demo.tfm    print the twelve counts and the design size
+  tfmset list demo.tfm      print the contents of a font
+  tfmset check demo.tfm     check whether a font is accepted
+  tfmset set demo.tfm lines.txt
+                            set the lines of a file with a font
+  echo five | tfmset stream demo.tfm
+                            set the lines of standard input as they arrive
+  tfmset each demo.tfm 100 lines.txt demo.tfm 1048576 demo.txt
+                            set each file with its own font and step limit
+
+All sizes and widths are in scaled points (sp): 65536 sp = 1pt.
+
+Exit status:
+  0  Success. Help and version output also end with 0.
+  1  Success, but a line (or, with `check`, a font) was refused.
+  2  The arguments are invalid. The output is empty.
+  3  A font is refused (except with `check`). The output is empty.
+  4  A font or a file could not be opened, or could not be read to its end.
+  5  Memory allocation, a thread start or writing the output failed.";
+
+pub(crate) const COUNTS_ABOUT: &str = "Prints the twelve counts and the design size of a font";
+
+pub(crate) const COUNTS_AFTER_HELP: &str = "Example, in the directory examples of the sources:
+  tfmset counts demo.tfm
+
+Prints twelve lines, from `lf N` to `np N`, and `design N`, the design size in
+scaled points (65536 sp = 1pt). Checks the counts, the length of the file and
+the design size, but not the contents of its tables.
+
+Exit status:
+  0  The counts were printed.
+  2  The arguments are invalid. The output is empty.
+  3  The font is refused. The output is empty.
+  4  The font could not be opened, or could not be read to its end.
+  5  Memory allocation or writing the output failed.";
+
+pub(crate) const LIST_ABOUT: &str = "Prints the contents of a font, one item per line";
+
+pub(crate) const LIST_AFTER_HELP: &str = "Example, in the directory examples of the sources:
+  tfmset list demo.tfm
+
+Prints the header, the boundaries, the characters with their dimensions, the
+instructions of the lig/kern program, the kerns and the parameters. Dimensions
+are in scaled points (65536 sp = 1pt) at the design size. With --all, the
+twelve counts are printed first, and the extensible recipes and every word
+(four bytes) of the file, in hexadecimal, are printed last.
+
+Exit status:
+  0  The contents were printed.
+  2  The arguments are invalid. The output is empty.
+  3  The font is refused. The output is empty.
+  4  The font could not be opened, or could not be read to its end.
+  5  Memory allocation or writing the output failed.";
+
+pub(crate) const CHECK_ABOUT: &str =
+    "Checks whether fonts are accepted, and prints one line for each";
+
+pub(crate) const CHECK_AFTER_HELP: &str = "Example, in the directory of the sources:
+  tfmset check examples/demo.tfm
+
+Reads the FONTs in order and prints one line for each: `NAME: accepted`,
+`NAME: refused: ` and the first error of the font, or `NAME: not read`. A font
+that isn't accepted doesn't stop the check. The result is the same at every
+--size.
+
+Exit status:
+  0  Every FONT is accepted.
+  1  Every FONT was read, but at least one is refused.
+  2  The arguments are invalid, or two FONTs are -. The output is empty.
+  4  At least one FONT could not be opened, or could not be read to its end.
+  5  Memory allocation or writing the output failed. The check stops there.";
+
+pub(crate) const SET_ABOUT: &str =
+    "Sets the lines of files with a font, and prints one record per line";
+
+pub(crate) const SET_AFTER_HELP: &str = "Examples, in the directory examples of the sources:
+  tfmset set demo.tfm lines.txt
+  tfmset set --workers 4 --block 8 demo.tfm lines.txt demo.txt
+  echo five | tfmset set demo.tfm /dev/stdin
+
+Reads FONT and sets the lines of 1 to 64 FILEs concurrently. Prints nothing
+until every FILE is set. Then prints the FILEs in order: a record for each
+line, and an end line. A record contains the width of its line and its
+characters, kerns and spaces in scaled points (65536 sp = 1pt), or the reason
+why the line was refused. If the lines of a FILE could not all be read and set,
+its end line states the reason, and the other FILEs are set. For output as it
+is produced, and for large inputs, use `tfmset stream`.
+
+A FILE named - is a file of that name; /dev/stdin is standard input. Bytes are
+character codes of the font, not Unicode. Byte 32 is a space, byte 10 ends a
+line, and a carriage return (13) is a code like any other. A line has at most
+65535 bytes.
+
+Without --size, the font is set at its design size. A --size below 65536 is
+less than 1pt. A line that needs more steps than --limit is refused; this stops
+lig/kern programs that never end. A missing character is a byte, other than the
+space, for which the font has no character. Record format 2 adds the number of
+steps to each record; json prints the same data as one JSON object per line. A
+larger --block takes less processor time.
+
+Exit status:
+  0  Every line of every FILE was set, and the output was written.
+  1  The output was written, but at least one line was refused.
+  2  The arguments are invalid, or there are more than 64 FILEs.
+  3  FONT is refused.
+  4  FONT or a FILE could not be opened, or could not be read to its end.
+  5  Memory allocation, a thread start or writing the output failed.
+With 2 and 3, the output is empty.";
+
+pub(crate) const STREAM_ABOUT: &str =
+    "Sets lines as `set` does, printing each record as soon as it is ready";
+
+pub(crate) const STREAM_AFTER_HELP: &str = "Examples, in the directory examples of the sources:
+  echo five | tfmset stream demo.tfm
+  tfmset stream --workers 4 --block 8 demo.tfm lines.txt demo.txt
+
+Reads FONT and sets the lines of up to 64 FILEs concurrently, or, without a
+FILE, those of standard input; FONT can't be - then. Prints the same records
+and end lines as `tfmset set`. The records of one FILE are printed in order;
+those of several FILEs are interleaved as they are produced.
+
+Use `set` for all-or-nothing output in file order: it prints nothing until all
+FILEs are set, and only a failed write can cut its output short. Use `stream`
+for output as it is produced, and for inputs of any size: it keeps the lines
+that are being set, but not the whole output. If `stream` fails, every complete
+line that it has printed is valid. With both commands, if the lines of a FILE
+could not all be read and set, its end line states the reason.
+
+A larger --block takes less processor time. A record doesn't wait for input
+that hasn't arrived, however large the block is. If the reader of a pipe closes
+it, `stream` ends at its next write, with exit status 5.
+
+Exit status:
+  0  Every line was set, and the output was written.
+  1  The output was written, but at least one line was refused.
+  2  The arguments are invalid, there are more than 64 FILEs, or FONT and the
+     lines are both on standard input.
+  3  FONT is refused.
+  4  FONT or a FILE could not be opened, or could not be read to its end.
+  5  Memory allocation, a thread start or writing the output failed.
+With 2 and 3, the output is empty.";
+
+pub(crate) const EACH_ABOUT: &str =
+    "Sets the lines of files, each with its own font and step limit";
+
+pub(crate) const EACH_AFTER_HELP: &str = "Example, in the directory examples of the sources:
+  tfmset each demo.tfm 100 lines.txt demo.tfm 1048576 demo.txt
+
+The arguments are 1 to 64 triples FONT LIMIT FILE. FONT is a TFM file, LIMIT is
+the largest number of steps for a line, 1 to 16777216, and FILE is a file with
+lines. Here - is always the name of a file, and never standard input. All fonts
+are set at --size; without it, each font is set at its own design size.
+
+Prints the same records and end lines as `tfmset set`, once every FILE is set.
+Bytes are character codes of the font, not Unicode. Byte 32 is a space, byte 10
+ends a line, and a carriage return (13) is a code like any other. A line has at
+most 65535 bytes. A --size below 65536 is less than 1pt.
+
+Exit status:
+  0  Every line of every FILE was set, and the output was written.
+  1  The output was written, but at least one line was refused.
+  2  The arguments are invalid, are not triples, or are more than 64 triples.
+  3  A FONT is refused.
+  4  A FONT or a FILE could not be opened, or could not be read to its end.
+  5  Memory allocation, a thread start or writing the output failed.
+With 2 and 3, the output is empty.";
+
+pub(crate) const WORKERS_HELP: &str = "Maximum threads that set lines, 1 to 16";
+
+pub(crate) const CAPACITY_HELP: &str = "Slots per queue between threads, 1 to 65536";
+
+pub(crate) const BLOCK_HELP: &str = "Lines per message between threads, 1 to 8";
+
+pub(crate) const WORDS_HELP: &str = "FONT LIMIT FILE, repeated for each file";
+
+pub(crate) const FILE_HELP: &str = "Files with the lines to set";
+
+pub(crate) const STREAM_FILE_HELP: &str =
+    "Files with the lines to set; without one, standard input is read";
+
+pub(crate) const SIZE_HELP: &str = "Font size, 1 to 134217727 scaled points; 10pt = 655360";
+
+pub(crate) const LIMIT_HELP: &str = "Maximum steps per line, 1 to 16777216";
+
+pub(crate) const MISSING_HELP: &str = "On a missing character: refuse or skip";
+
+pub(crate) const RECORD_HELP: &str = "Record format: 1, 2 or json; 1 omits steps";
+
+pub(crate) const ALL_HELP: &str = "Also print the counts, the extensible recipes and all words";
+
+pub(crate) const FONT_HELP: &str = "TFM file, or - for standard input";
+
+pub(crate) const FONTS_HELP: &str = "TFM files; at most one of them may be -, for standard input";

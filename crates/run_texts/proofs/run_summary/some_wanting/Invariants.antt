@@ -1,9 +1,0 @@
--- whether some lane so far is
-use Rattle.std.proofs.Common.{◌≡◌, false, take}
-use Rattle.std.specs.List.{list_any}
-use Rattle.std.specs.Option.{option_map_or}
-use Rattle.run_texts.specs.ReportText.{is_wanting}
-use Rattle.run_texts.proofs.run_summary.some_wanting.Given as goal
-
-abbrev pub invariant-loop-lane : goal.invariant-loop-lane
-invariant-loop-lane g l = l.some ≡ list_any (λ lane. option_map_or is_wanting lane.end false) (take l.lane-index l.lanes)

@@ -1,0 +1,7 @@
+//! Writes the record of a result, in each format.
+
+mod json_text;
+pub(crate) mod ready;
+pub(crate) mod record_number;
+pub(crate) mod record_text;
+mod writing;

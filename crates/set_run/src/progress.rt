@@ -1,0 +1,10 @@
+/// The result of one round over the lanes, or of one visit to a lane.
+#[derive(Clone, Copy, Debug, PartialEq, Eq)]
+pub(crate) enum Progress {
+    /// Nothing is left to do.
+    Done,
+    /// Something was done.
+    Made,
+    /// Nothing could be done yet.
+    None,
+}

@@ -1,0 +1,23 @@
+use Rattle.std.proofs.Common.{rules, ◌≡◌, ◌∙◌, Some, None, sym}
+use Rattle.font_texts.specs.CountsText.{counts_text_of, head_fault_of}
+use Rattle.std.specs.Io.KnownBytes.{Appends}
+use Rattle.tfm_tool.proofs.FontTextLemmas.{first_told, of_head, told_first, told_no_run}
+use Rattle.tfm_tool.proofs.font_output.counts_text.Goals as goal
+
+pub returns-in_err-text-clause-font : goal.returns-in_err-text-clause-font
+returns-in_err-text-clause-font g c = λ f.
+    let is = of_head c.args.bytes.now c.in_err-text.field-0.0 c.in_err-text.ensures.fault in (
+      told_first (head_fault_of c.args.bytes.now) c.in_err-text.field-0.0 is c.from_residual.result c.from_residual.ensures.1 f,
+      first_told (head_fault_of c.args.bytes.now) c.in_err-text.field-0.0 is c.from_residual.result c.from_residual.ensures.1 f,
+    )
+
+pub returns-in_err-text-clause-run : goal.returns-in_err-text-clause-run
+returns-in_err-text-clause-run g c = λ f is.
+    told_no_run (head_fault_of c.args.bytes.now) c.in_err-text.field-0.0 (of_head c.args.bytes.now c.in_err-text.field-0.0 c.in_err-text.ensures.fault)
+    c.from_residual.result c.from_residual.ensures.1 f is
+
+pub returns-clause-font : goal.returns-clause-font
+returns-clause-font g c = λ f. (
+  λ is. absurd (search rules),
+  λ first. let none : head_fault_of c.args.bytes.now ≡ None = c.in_ok-text.ensures.accepted in absurd (cc),
+)

@@ -1,0 +1,110 @@
+//! Sets the lines of the sources of a request in one batch, writes the output, and returns the exit status.
+ghost use Rattle.std.specs.Prelude.{◌≡◌, ◌⊎◌, ◌≤◌, true, false, List, [], ◌∷◌, length, map, Contains, Err, IfErr, IfOk, vec_len};
+ghost use Rattle.std.specs.Io.KnownBytes.{Keeps};
+ghost use Rattle.set_run.specs.declared.report.LaneReport.{LaneReport as Lane};
+ghost use Rattle.set_run.specs.declared.run_fault.RunFault.{RunFault as Fault};
+ghost use Rattle.set_run.specs.declared.run_fault.RunFault.TheVariants.{OutOfMemory as NoMemory, Thread};
+ghost use Rattle.tfm_tables.specs.declared.fault.FontFault.{FontFault as Refusal};
+ghost use Rattle.run_texts.specs.Endings.{summary_status};
+ghost use Rattle.run_texts.specs.ReportText.{summary_of_run};
+ghost use Rattle.run_texts.specs.Setting.{AreOwnReports};
+ghost use Rattle.tfm_tool.specs.Jobs.{told_with_terms};
+ghost use Rattle.tfm_tool.specs.Runs.{IsDelivered, IsPrinted};
+ghost use Rattle.tfm_tool.specs.Status.{AfterText, is_refusal, is_unread, is_without_text, status_of};
+ghost use Rattle.tfm_tool.specs.Told.{told_by};
+ghost use Rattle.tfm_tool.specs.declared.failure.Failure.TheVariants.{Tool};
+
+use crate::failure::Failure;
+use command_line::Layout;
+use run_texts::{OutputOptions, Summary, ToolFault, set_each, status, stream_each};
+use set_line::Terms;
+use set_run::{LineSource, NoGate};
+use std::io::Write;
+use std::sync::{Arc, Wait};
+use std::thread::Threads;
+
+/// The time at which the output of a batch is written.
+#[derive(Clone, Copy)]
+pub(crate) enum Delivery {
+    /// The output is written when the batch is done, in the order of the sources.
+    AtTheEnd,
+    /// The output is written as the results arrive.
+    AsTheyCome,
+}
+
+/// Sets the lines of all sources, each with its settings, in one batch, and writes the output. Returns the
+/// summary.
+fn deliver<R, S, O>(
+    rt: &R,
+    sources: Vec<(S, Arc<Terms>)>,
+    layout: &Layout,
+    delivery: Delivery,
+    out: &mut O,
+) -> Result<Summary, ToolFault>
+where
+    R: AllocGlobal + Threads + Wait + Sync,
+    S: LineSource + Send + Drop,
+    O: Write,
+    ensures text { IfOk result (λ summary. (reports : List (Lane S))
+        × AreOwnReports S.to_come S.failed S.origin sources.items reports
+        × IsDelivered delivery layout.now.version reports (O.contents out.old) (O.contents out.new)
+        × (summary ≡ summary_of_run reports)) }
+    ensures few { vec_len sources ≤ 64 → (fault : Fault) → result ≡ Err (ToolFault.Run fault)
+        → (fault ≡ NoMemory) ⊎ (fault ≡ Thread) }
+    ensures run { (fault : Fault) → result ≡ Err (ToolFault.Run fault) → out.new ≡ out.old }
+    ensures font { (fault : Refusal) → result ≡ Err (ToolFault.Font fault) → ⊥ }
+{
+    let options = OutputOptions {
+        plan: layout.plan,
+        version: layout.version,
+        gate: &NoGate,
+    };
+    match delivery {
+        Delivery::AtTheEnd => set_each(rt, rt.alloc(), sources, &options, out),
+        Delivery::AsTheyCome => stream_each(rt, rt.alloc(), sources, &options, out),
+    }
+}
+
+/// Sets the lines of all sources, each with its settings, in one batch, writes the output, and flushes it.
+/// Returns the exit status: 1 if a line was refused, otherwise 0.
+pub(crate) fn set_sources<R, S, O>(
+    rt: &R,
+    sources: Vec<(S, Arc<Terms>)>,
+    layout: &Layout,
+    delivery: Delivery,
+    out: &mut O,
+) -> Result<u8, Failure>
+where
+    R: AllocGlobal + Threads + Wait + Sync,
+    S: LineSource + Send + Drop,
+    O: Write,
+    ensures text { AfterText result (IsPrinted delivery
+        (map (told_with_terms (told_by S.to_come S.failed)) sources.items)
+        layout.now.version (O.contents out.old) (O.contents out.new)) }
+    ensures status { IfOk result (λ status. Contains (0 ∷ 1 ∷ []) status) }
+    ensures untouched { IfErr result (λ failure. is_without_text failure ≡ true → out.new ≡ out.old) }
+    ensures later { length sources.items ≤ 64 → IfErr result (λ failure. is_refusal failure ≡ false) }
+{
+    let summary = deliver(rt, sources, layout, delivery, out)?;
+    finish(&summary, out)
+}
+
+/// Flushes the output, and returns the exit status for the summary, if it is 0 or 1. The error is `Write` if
+/// the flush fails; otherwise it is the failure for exit status 4 or 5.
+fn finish<O: Write>(summary: &Summary, out: &mut O) -> Result<u8, Failure>
+    ensures status { IfOk result (λ status. Contains (0 ∷ 1 ∷ []) status) }
+    ensures worst { AfterText result (λ status. status ≡ summary_status summary.now) }
+    ensures kept { Keeps (O.contents out.old) (O.contents out.new) }
+    ensures told { IfErr result (λ failure. is_refusal failure ≡ false) }
+    ensures written { IfErr result (λ failure. is_unread failure ≡ false) }
+    ensures status_told { IfErr result (λ failure. (failure ≡ Tool ToolFault.Write)
+        ⊎ (status_of failure ≡ summary_status summary.now)) }
+{
+    out.flush().map_err(|_| Failure::Tool(ToolFault::Write))?;
+    match status(summary) {
+        0 => Ok(0),
+        1 => Ok(1),
+        4 => Err(Failure::FileNotEnded),
+        _ => Err(Failure::Tool(ToolFault::OutOfMemory)),
+    }
+}

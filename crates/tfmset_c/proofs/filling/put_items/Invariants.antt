@@ -1,7 +1,0 @@
-use Rattle.std.proofs.Common.{map, take}
-use Rattle.tfmset_c.specs.Filling.{ArePut}
-use Rattle.tfmset_c.specs.Texts.{item_told}
-use Rattle.tfmset_c.proofs.filling.put_items.Given as goal
-
-abbrev pub invariant-loop-item : goal.invariant-loop-item
-invariant-loop-item l = ArePut (map item_told (take l.item-index l.made)) l.fn.first l.at l.initial.items l.items

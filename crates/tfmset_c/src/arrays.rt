@@ -1,0 +1,48 @@
+//! Writes to the arrays of the caller while they have room, and counts all elements, written or not. A count
+//! stops at 2^64 - 1.
+ghost use Rattle.std.specs.Prelude.{◌≡◌, ℕ, ◌∷◌, [], true, false};
+ghost use Rattle.tfmset_c.specs.Arrays.{ArePut, HasRoom};
+ghost use Rattle.tfmset_c.specs.Texts.{held};
+
+use crate::lines::{TfmsetItem, TfmsetLine};
+
+/// Returns whether this many elements fit into an array of `room` elements. The count 2^64 - 1 never fits,
+/// because it may mean a larger number.
+#[tactic(auto, unfolding(crate::specs::Arrays::HasRoom))]
+pub fn has_room(count: usize, room: usize) -> bool
+    ensures fits { (n : ℕ) → count ≡ held n → result ≡ true → HasRoom n room }
+    ensures lacks { (n : ℕ) → count ≡ held n → result ≡ false → HasRoom n room → ⊥ }
+{
+    count <= room && count < usize::MAX
+}
+
+/// Writes an item at index `at`, if the array has this index, and returns the next index, at most 2^64 - 1.
+pub fn put_item(items: &mut [TfmsetItem], at: usize, item: TfmsetItem) -> usize
+    ensures { ArePut (item ∷ []) at result items.old items.new }
+{
+    if at < items.len() {
+        items[at] = item;
+    }
+    at.saturating_add(1)
+}
+
+/// Writes a line at index `at`, if the array has this index, and returns the next index, at most 2^64 - 1.
+pub fn put_line(lines: &mut [TfmsetLine], at: usize, line: TfmsetLine) -> usize
+    ensures { ArePut (line ∷ []) at result lines.old lines.new }
+{
+    if at < lines.len() {
+        lines[at] = line;
+    }
+    at.saturating_add(1)
+}
+
+/// Writes bytes, starting at index `at`, if the array has room for all of them, and returns the index after
+/// them, at most 2^64 - 1.
+pub fn put_bytes(bytes: &mut [u8], at: usize, made: &[u8]) -> usize
+    ensures { ArePut made.now at result bytes.old bytes.new }
+{
+    if at <= bytes.len() && made.len() <= bytes.len() - at {
+        bytes[at..at + made.len()].copy_from_slice(made);
+    }
+    at.saturating_add(made.len())
+}

@@ -1,0 +1,153 @@
+//! `tfmset_check`: checks a font.
+ghost use Rattle.std.specs.Prelude.{◌≡◌, ◌≢◌, ◌≤◌, ◌<◌, ◌↔◌, Some, None};
+ghost use Rattle.std.specs.Option.{option_map};
+ghost use Rattle.tfm_tables.specs.Acceptance.{font_fault_of};
+ghost use Rattle.tfmset_c.specs.Faults.{
+  count_fault_told,
+  count_number,
+  fault_told,
+  part_number,
+  table_number,
+};
+ghost use Rattle.tfmset_c.specs.Reading.{IsNoSize};
+
+use crate::reading::{DONE, Denial, MOST_SIZE, RANGE, read_metrics};
+use std::alloc::Global;
+use tfm_tables::{FontFault, Part};
+use tfm_words::{Count, CountFault, Table};
+
+/// The first error of a font.
+#[repr(C)]
+#[derive(Clone, Copy, Debug, PartialEq, Eq)]
+pub struct TfmsetFault {
+    /// Errors 1 and 8: the number of bytes needed. 10 and 11: a character code. 13: the index of an entry in
+    /// its table, starting at 0, or the number of a parameter, starting at 1. 14: the address of an
+    /// instruction. Otherwise 0.
+    pub place: usize,
+    /// The number of the error, from 1 to 14 (docs/ERRORS.md).
+    pub number: u32,
+    /// Error 2: a count. 5, 10, 12 and 13: a table. 14: a part of an instruction. Counts and tables are
+    /// numbered in the order of the file, and parts in the order of the checks, each starting at 0. Otherwise
+    /// 0.
+    pub named: u32,
+}
+
+/// Returns the number of a count.
+fn count_named(count: Count) -> u32
+    ensures { result ≡ count_number count }
+{
+    match count {
+        Count::Lf => 0,
+        Count::Lh => 1,
+        Count::Bc => 2,
+        Count::Ec => 3,
+        Count::Nw => 4,
+        Count::Nh => 5,
+        Count::Nd => 6,
+        Count::Ni => 7,
+        Count::Nl => 8,
+        Count::Nk => 9,
+        Count::Ne => 10,
+        Count::Np => 11,
+    }
+}
+
+/// Returns the number of a table.
+fn table_named(table: Table) -> u32
+    ensures { result ≡ table_number table }
+{
+    match table {
+        Table::Header => 0,
+        Table::CharInfo => 1,
+        Table::Width => 2,
+        Table::Height => 3,
+        Table::Depth => 4,
+        Table::Italic => 5,
+        Table::LigKern => 6,
+        Table::Kern => 7,
+        Table::Exten => 8,
+        Table::Param => 9,
+    }
+}
+
+/// Returns the number of a part of an instruction.
+fn part_named(part: Part) -> u32
+    ensures { result ≡ part_number part }
+{
+    match part {
+        Part::Restart => 0,
+        Part::Next => 1,
+        Part::Ligature => 2,
+        Part::Kern => 3,
+        Part::Skip => 4,
+    }
+}
+
+fn fault(number: u32, named: u32, place: usize) -> TfmsetFault
+    ensures { result ≡ record { number = number; named = named; place = place } }
+{
+    TfmsetFault {
+        place,
+        number,
+        named,
+    }
+}
+
+/// Returns an error of the counts as C gets it.
+#[tactic(auto, unfolding(crate::specs::Faults::count_fault_told))]
+fn count_fault_for_c(first: CountFault) -> TfmsetFault
+    ensures { result ≡ count_fault_told first }
+{
+    match first {
+        CountFault::Truncated { need } => fault(if need == 24 { 1 } else { 8 }, 0, need),
+        CountFault::CountRange(count) => fault(2, count_named(count), 0),
+        CountFault::CharRange => fault(3, 0, 0),
+        CountFault::HeaderShort => fault(4, 0, 0),
+        CountFault::EmptyTable(table) => fault(5, table_named(table), 0),
+        CountFault::TooManyRecipes => fault(6, 0, 0),
+        CountFault::LengthEquation => fault(7, 0, 0),
+    }
+}
+
+/// Returns a font error as C gets it. A failed allocation isn't a font error, and gets number 0.
+#[tactic(auto, unfolding(crate::specs::Faults::fault_told))]
+fn fault_for_c(first: FontFault) -> TfmsetFault
+    ensures { result ≡ fault_told first }
+{
+    match first {
+        FontFault::Counts(counts) => count_fault_for_c(counts),
+        FontFault::Design(_) => fault(9, 0, 0),
+        FontFault::CharIndex { code, table } => fault(10, table_named(table), usize::from(code)),
+        FontFault::LigStart(code) => fault(11, 0, usize::from(code)),
+        FontFault::FirstNotZero(table) => fault(12, table_named(table), 0),
+        FontFault::FixWordRange { table, index } => fault(13, table_named(table), index),
+        FontFault::Step { index, part } => fault(14, part_named(part), index),
+        FontFault::OutOfMemory => fault(0, 0, 0),
+    }
+}
+
+/// Checks a font. `size` is in sp, and 0 is the design size. Whether a font is accepted doesn't depend on the
+/// size. Returns: 0 if the font is accepted; 1 if it is refused, with its first error in `told`; 2 if an
+/// allocation fails; 4 if `size` is above 134,217,727. After every code except 1 `told` is unchanged.
+#[unsafe(no_mangle)]
+pub extern "C" fn tfmset_check(alloc: Global, font: &[u8], size: u32, told: &mut TfmsetFault) -> u32
+    ensures answers { (result ≤ 4) × (result ≢ 3) }
+    ensures range { (result ≡ 4) ↔ IsNoSize size }
+    ensures done { result ≡ 0 → font_fault_of font.now ≡ None }
+    ensures refused { result ≡ 1 → option_map fault_told (font_fault_of font.now) ≡ Some told.new }
+    ensures memory { result ≡ 2 → font_fault_of font.now ≡ None }
+    ensures kept { result ≢ 1 → told.new ≡ told.old }
+{
+    if size > MOST_SIZE {
+        return RANGE;
+    }
+    match read_metrics(alloc, font, size) {
+        Ok(_) => DONE,
+        Err(denial) => {
+            if let Denial::Refused(fault) = denial {
+                *told = fault_for_c(fault);
+            }
+            denial.code()
+        }
+    }
+}

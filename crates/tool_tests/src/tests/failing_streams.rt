@@ -1,0 +1,148 @@
+//! `stream` over readers and writers that fail, and with refused memory.
+use super::reads_and_writes::FAILED;
+use super::set_text_calls::two_sources;
+use super::settings::file_name;
+use super::*;
+use set_line::{Limit, Policy, Version};
+use set_run::NoGate;
+use std::test::Fail;
+use std::{fs, process};
+use test_support::{FailingWriter, TricklingReader, lines_of_source, small_plan};
+use tfm_tool::{FontSetting, OutputOptions, Summary, ToolFault, stream_text};
+
+const ONE: &str = "1:1 set 983040 c97=327680 c98=163840 c99=491520\n1 end complete 1\n";
+
+const NOT_ENDED: &str = "tfmset: some file was not read to its end\n";
+
+/// The font `plain` in a file of this process's own, and its name.
+fn plain_file<R: Files + Env + AllocGlobal>(rt: &R, part: &str, id: u32) -> Result<String, Fail> {
+    let name = file_name(rt, part, id)?;
+    fs::write(rt, name.as_str(), PLAIN.as_slice())?;
+    Ok(name)
+}
+
+/// A stream of what a reader gives.
+fn stream_of<R: Abort + Files + Env + Threads + Wait + Sync + AllocGlobal>(
+    rt: &R,
+    font: &str,
+    mut input: TricklingReader<'_>,
+) -> Outcome
+where
+    R::File: Send,
+{
+    let mut out = Vec::new(rt.alloc());
+    let mut err = Vec::new(rt.alloc());
+    let status = tool(rt, &["stream", font], &mut input, &mut out, &mut err);
+    Outcome { status, out, err }
+}
+
+/// How many reads of `ab`, `c` are good, one byte each, the status, and what is printed and told.
+static READS: [(usize, u8, &str, &str); 4] = [
+    (0, 4, "1 end read 0\n", NOT_ENDED),
+    (2, 4, "1 end read 0\n", NOT_ENDED),
+    (
+        4,
+        4,
+        "1:1 set 491520 c97=327680 c98=163840\n1 end read 1\n",
+        NOT_ENDED,
+    ),
+    (
+        5,
+        0,
+        "1:1 set 491520 c97=327680 c98=163840\n1:2 set 491520 c99=491520\n1 end complete 2\n",
+        "",
+    ),
+];
+
+#[test]
+fn standard_input_that_fails_has_its_first_lines(rt: HostRuntime) -> Result<(), Fail> {
+    let font = plain_file(&rt, "trickle", process::id(rt.process()))?;
+    for (good_reads, status, out, err) in &READS {
+        let done = stream_of(&rt, &font, TricklingReader::new(b"ab\nc", 1, *good_reads));
+        assert!(rt;
+            done.is(*status, out.as_bytes(), err.as_bytes()),
+            "{good_reads}"
+        );
+    }
+    fs::remove_file(&rt, font.as_str())?;
+    Ok(())
+}
+
+/// A stream whose output is refused after this many writes, or at each flush.
+fn output_is_refused<R: Abort + Files + Env + Threads + Wait + Sync + AllocGlobal>(
+    rt: &R,
+    font: &str,
+    good_writes: usize,
+    flushes: bool,
+)
+where
+    R::File: Send,
+{
+    let mut input = b"abc".as_slice();
+    let mut out = FailingWriter::new(rt.alloc(), 10, good_writes, flushes);
+    let mut err = Vec::new(rt.alloc());
+    let status = tool(rt, &["stream", font], &mut input, &mut out, &mut err);
+    assert!(rt; status == 5 && err.as_slice() == FAILED, "{good_writes}");
+    assert!(rt;
+        ONE.as_bytes().starts_with(out.text.as_slice()),
+        "{good_writes}"
+    );
+}
+
+#[test]
+fn a_stream_whose_output_is_refused(rt: HostRuntime) -> Result<(), Fail> {
+    let font = plain_file(&rt, "refused", process::id(rt.process()))?;
+    // 65 bytes, ten at a time
+    for good_writes in 0..7 {
+        output_is_refused(&rt, &font, good_writes, true);
+    }
+    output_is_refused(&rt, &font, usize::MAX, false);
+    fs::remove_file(&rt, font.as_str())?;
+    Ok(())
+}
+
+/// The lines of two sources, as they come.
+fn stream_two<R: Abort + Threads + Wait + Sync + AllocGlobal>(
+    rt: &R,
+    font: &[u8],
+    out: &mut Vec<u8>,
+) -> Result<Summary, ToolFault> {
+    let font = FontSetting {
+        bytes: font,
+        size: None,
+        limit: Limit::new(100).expect(rt, "a limit"),
+        policy: Policy::Refuse,
+    };
+    let options = OutputOptions {
+        plan: small_plan().expect(rt, "a plan"),
+        version: Version::One,
+        gate: &NoGate,
+    };
+    stream_text(rt, &font, two_sources(rt.alloc(), 5)?, &options, out)
+}
+
+const OF_FIRST: &str =
+    "1:1 set 491520 c97=327680 c98=163840\n1:2 set 491520 c99=491520\n1 end complete 2\n";
+
+const OF_SECOND: &str = "2:1 set 327680 c97=327680\n2 end complete 1\n";
+
+/// With memory enough both sources have their whole text. The kit's option `--fail-alloc` refuses one
+/// request: then that is told, or a lane ends early.
+#[test]
+fn a_refused_request_of_a_stream(rt: HostRuntime) -> Result<(), Fail> {
+    let mut out = Vec::new(rt.alloc());
+    let told = match stream_two(&rt, &PLAIN, &mut out) {
+        Ok(summary) if summary.memory => "a lane ended early",
+        Ok(summary) => {
+            assert!(rt; summary.refused == 0 && !summary.read_failed);
+            let text = String::from_utf8(out)?;
+            assert!(rt; lines_of_source(rt.alloc(), &text, 1)?.as_str() == OF_FIRST);
+            assert!(rt; lines_of_source(rt.alloc(), &text, 2)?.as_str() == OF_SECOND);
+            "whole"
+        }
+        Err(ToolFault::OutOfMemory) => "out of memory",
+        Err(ToolFault::Run(_)) => "the run is refused",
+        Err(ToolFault::Font(_) | ToolFault::Write) => panic!(rt; "another fault"),
+    };
+    Ok(println!(rt; "{told}")?)
+}

@@ -1,0 +1,129 @@
+//! `set_text` itself: sources that fail, writers that fail, and refused memory.
+use super::*;
+use set_line::{Limit, Policy, Version};
+use set_run::{NoGate, ReaderSource};
+use std::io::Write;
+use std::test::Fail;
+use test_support::{FailingWriter, TricklingReader, small_plan};
+use tfm_tool::{FontSetting, OutputOptions, Summary, ToolFault, set_text};
+
+/// Two sources: one of `ab` and `c`, which fails after this many reads, and one of `a`.
+pub fn two_sources<'a>(
+    alloc: Global,
+    good_reads: usize,
+) -> Result<Vec<ReaderSource<TricklingReader<'a>>>, ToolFault> {
+    let mut sources = Vec::new(alloc);
+    for (bytes, good_reads) in [(b"ab\nc".as_slice(), good_reads), (b"a", 2)] {
+        let source = ReaderSource::new(alloc, TricklingReader::new(bytes, 1, good_reads));
+        if sources.push(source).is_err() {
+            return Err(ToolFault::OutOfMemory);
+        }
+    }
+    Ok(sources)
+}
+
+/// The text of these two.
+fn set_two<R, W>(
+    rt: &R,
+    font: &[u8],
+    good_reads: usize,
+    version: Version,
+    out: &mut W,
+) -> Result<Summary, ToolFault>
+where
+    R: Abort + Threads + Wait + Sync + AllocGlobal,
+    W: Write,
+{
+    let alloc = rt.alloc();
+    let sources = two_sources(alloc, good_reads)?;
+    let font = FontSetting {
+        bytes: font,
+        size: None,
+        limit: Limit::new(100).expect(rt, "a limit"),
+        policy: Policy::Refuse,
+    };
+    let options = OutputOptions {
+        plan: small_plan().expect(rt, "a plan"),
+        version,
+        gate: &NoGate,
+    };
+    set_text(rt, &font, sources, &options, out)
+}
+
+const WHOLE: &str = "records 2\n1:1 set 491520 steps 2 c97=327680 c98=163840\n\
+1:2 set 491520 steps 1 c99=491520\n1 end complete 2\n\
+2:1 set 327680 steps 1 c97=327680\n2 end complete 1\n";
+
+const BROKEN: &str = "1:1 set 491520 c97=327680 c98=163840\n1 end read 1\n\
+2:1 set 327680 c97=327680\n2 end complete 1\n";
+
+const EMPTY: &str = "1 end read 0\n2:1 set 327680 c97=327680\n2 end complete 1\n";
+
+const WHOLE_IN_JSON: &str = "\
+{\"source\":1,\"line\":1,\"width\":491520,\"steps\":2,\"items\":[[\"c\",97,327680],[\"c\",98,163840]]}\n\
+{\"source\":1,\"line\":2,\"width\":491520,\"steps\":1,\"items\":[[\"c\",99,491520]]}\n\
+{\"source\":1,\"end\":\"complete\",\"lines\":2}\n\
+{\"source\":2,\"line\":1,\"width\":327680,\"steps\":1,\"items\":[[\"c\",97,327680]]}\n\
+{\"source\":2,\"end\":\"complete\",\"lines\":1}\n";
+
+const BROKEN_IN_JSON: &str = "\
+{\"source\":1,\"line\":1,\"width\":491520,\"steps\":2,\"items\":[[\"c\",97,327680],[\"c\",98,163840]]}\n\
+{\"source\":1,\"end\":\"read\",\"lines\":1}\n\
+{\"source\":2,\"line\":1,\"width\":327680,\"steps\":1,\"items\":[[\"c\",97,327680]]}\n\
+{\"source\":2,\"end\":\"complete\",\"lines\":1}\n";
+
+/// How many reads are good, the version, the text, and whether a read failed.
+static CASES: [(usize, Version, &str, bool); 5] = [
+    (5, Version::Two, WHOLE, false),
+    (4, Version::One, BROKEN, true),
+    (2, Version::One, EMPTY, true),
+    (5, Version::Json, WHOLE_IN_JSON, false),
+    (4, Version::Json, BROKEN_IN_JSON, true),
+];
+
+#[test]
+fn a_source_that_fails_has_its_first_lines(rt: HostRuntime) -> Result<(), Fail> {
+    for (good_reads, version, text, read_failed) in &CASES {
+        let mut out = Vec::new(rt.alloc());
+        let summary = set_two(&rt, &PLAIN, *good_reads, *version, &mut out)?;
+        assert!(rt; out.as_slice() == text.as_bytes(), "{text}");
+        assert!(rt; summary.read_failed == *read_failed && !summary.memory);
+        assert!(rt; summary.refused == 0);
+    }
+    Ok(())
+}
+
+#[test]
+fn a_text_whose_write_fails(rt: HostRuntime) -> Result<(), Fail> {
+    // 163 bytes, twenty at a time
+    for good_writes in 0..9 {
+        let mut out = FailingWriter::new(rt.alloc(), 20, good_writes, true);
+        let done = set_two(&rt, &PLAIN, 5, Version::Two, &mut out);
+        let all = out.text.as_slice() == WHOLE.as_bytes();
+        match done {
+            Ok(_) => assert!(rt; all, "{good_writes}"),
+            Err(ToolFault::Write) => assert!(rt; !all, "{good_writes}"),
+            Err(_) => panic!(rt; "another fault"),
+        }
+        assert!(rt; WHOLE.as_bytes().starts_with(out.text.as_slice()));
+    }
+    Ok(())
+}
+
+/// With memory enough the whole text is written. The kit's option `--fail-alloc` refuses one request:
+/// then the font or the run is refused for lack of memory or of a thread, or a lane is given up.
+#[test]
+fn a_refused_request_of_a_text(rt: HostRuntime) -> Result<(), Fail> {
+    let mut out = Vec::new(rt.alloc());
+    let told = match set_two(&rt, &PLAIN, 5, Version::Two, &mut out) {
+        Ok(summary) if summary.memory => "given up",
+        Ok(_) => {
+            assert!(rt; out.as_slice() == WHOLE.as_bytes());
+            "whole"
+        }
+        Err(ToolFault::OutOfMemory) => "out of memory",
+        Err(ToolFault::Run(_)) => "the run is refused",
+        Err(ToolFault::Font(_) | ToolFault::Write) => panic!(rt; "another fault"),
+    };
+    Ok(println!(rt; "{told}")?)
+}
