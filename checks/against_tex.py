@@ -6,6 +6,8 @@ instruction, and the font lacks a few of the bytes. Three of seven fonts are set
 short runs are set with each of 30 small random fonts, whose programs have all eight operations and both
 boundaries. TeX runs once for each font, in batch mode, and \\showbox prints the contents of each box.
 
+Sizes of random texts such as 10.95pt are compared with \\number\\dimen0 after \\dimen0=10.95pt.
+
 The differences that docs/TEX.md lists are avoided in these ways. A space is written as \\ , which has the
 width of parameter 2 whatever precedes it, also at both ends. Bytes other than letters are written with
 \\char. Byte 10 doesn't occur in a line. The right boundary's code isn't used as a missing byte. A run with a
@@ -17,6 +19,7 @@ import random
 import re
 
 from lib.base import PROGRAM, Case, environment, execute, read, rows
+from lib.clib import DONE, RANGE, U32, LibraryCase, call
 from lib.tex import fonts
 from lib.tfm import Font
 from lib.slow import random_font
@@ -25,6 +28,11 @@ WEIGHT = 3
 FONTS, RANDOM, LINES = 100, 30, 200
 GROUP = 5  # fonts of one test
 LIMIT = 200  # steps of a line in a random font
+SIZE_TEXTS = 400
+LARGEST = 134217727  # sp
+# The whole numbers below and above the largest size, for each unit.
+LARGEST_NUMBERS = {"pt": (2046, 2049), "in": (27, 29), "pc": (169, 172), "cm": (70, 73), "mm": (717, 721),
+                   "bp": (2039, 2042), "dd": (1912, 1916), "cc": (158, 161), "sp": (134217725, 134217729)}
 SIZES = [None, None, None, None, 327680, 917511, 8519683]  # sp; None is the design size
 LETTERS = b"ABCDEFGHIJKLMNOPQRSTUVWXYZabcdefghijklmnopqrstuvwxyz"
 
@@ -81,6 +89,47 @@ def items_of_record(record):
     """The width and the items of a record, except for bytes that were skipped."""
     _, _, width, *fields = record.split(" ")
     return int(width), [(field[0], int(field[1:].split("=")[0])) for field in fields if field[0] in "cks"]
+
+
+def random_sizes(seed):
+    """Random numbers with a unit: of any number of digits, near the ends of the range, and near the numbers
+    at which the rounding of a fraction changes."""
+    chance = random.Random(seed)
+    for turn in range(SIZE_TEXTS):
+        whole = chance.choice(["", "0", str(chance.randrange(20)), str(chance.randrange(2100)),
+                               str(chance.randrange(10 ** chance.randrange(1, 12))), "00012"])
+        fraction = "".join(chance.choices("0123456789", k=chance.randrange(22)))
+        if turn % 4 == 0:
+            # An odd multiple of 2^-17 has 17 digits; below it the fraction is rounded downward.
+            half = (2 * chance.randrange(1 << 16) + 1) * 5 ** 17
+            fraction = chance.choice(["%017d" % half, "%017d" % (half - 1) + "9" * chance.randrange(5)])
+        name = chance.choice("pt in pc cm mm bp dd cc sp".split())
+        if turn % 8 == 1:
+            least, most = LARGEST_NUMBERS[name]
+            whole = str(chance.randrange(least, most + 1))
+        if name == "sp" and turn % 3:
+            whole = str(chance.randrange(1 << 28))
+        yield whole + chance.choice(["." + fraction, "," + fraction, ""]) * bool(whole or fraction) + name
+
+
+class Sizes(LibraryCase):
+    """Sizes with a unit, as TeX reads them"""
+
+    @rows((f"seed {seed}", seed) for seed in range(3))
+    def test_sizes(self, seed):
+        """The size is the dimension that TeX reads from the same text, if it is in the range."""
+        self.need("tex")
+        texts = [text for text in random_sizes(seed) if text[0] in "0123456789.,"]
+        lines = (f"\\dimen0={text}\\relax \\message{{[\\number\\dimen0]}}\n" for text in texts)
+        self.file("sizes.tex", "\\catcode123=1 \\catcode125=2 \\batchmode\n" + "".join(lines) + "\\end\n")
+        env = environment(TEXINPUTS=".", max_print_line="100000")
+        execute("tex", "-ini", "-interaction=batchmode", "sizes.tex", cwd=self.room, env=env, timeout=100)
+        numbers = re.findall(r"\[(-?\d+)\]", read(os.path.join(self.room, "sizes.log")))
+        self.same("numbers", len(texts), len(numbers))
+        for text, number in zip(texts, map(int, numbers)):
+            status, size = call(self.prefix, "size", text.encode(), result=U32(0))
+            wanted = (DONE, number) if 1 <= number <= LARGEST else (RANGE, 0)
+            self.same(text, wanted, (status, size.value))
 
 
 class Boxes(Case):

@@ -1,4 +1,5 @@
 """The library for C: header, linking, symbols, the functions that read a font, and where Python finds it."""
+import ctypes
 import glob
 import itertools
 import os
@@ -8,8 +9,8 @@ import sys
 import venv
 
 from lib.base import DEMO, PROGRAM, ROOT, environment, execute, output, read, rows, shared, write
-from lib.clib import (DONE, PARAMETERS, RANGE, REFUSED, WARNINGS, About, Fault, LibraryCase, Metrics, Pair,
-                      call, loaded, values)
+from lib.clib import (DONE, PARAMETERS, RANGE, REFUSED, U32, WARNINGS, About, Fault, LibraryCase, Metrics,
+                      Pair, call, loaded, values)
 from lib.tfm import BOUNDARY, LISTED, Font, Listing, sample, samples
 
 WEIGHT = 6
@@ -100,6 +101,17 @@ class Functions(LibraryCase):
         self.same("policies, which library_lines passes as numbers", ["0", "1"], policies)
         self.same("a size too large", RANGE, self.call("check", b"", 1 << 27, result=Fault())[0])
 
+    def test_size_of_a_text(self):
+        """A text is read up to its length. After code 4 the size is unchanged."""
+        for text, size in ((b"12pt", 786432), (b"10,95pt", 717619), (b"4mm", 745871), (b"655360", 655360),
+                           (b"134217727sp", 134217727), (b"134217728sp", None), (b"0pt", None), (b"", None),
+                           (b"12ptx", None), (b"12pt\0", None), (b"12 pt", None), (b"\xff", None)):
+            status, seen = self.call("size", text, result=U32(7))
+            self.same(text, (RANGE, 7) if size is None else (DONE, size), (status, seen.value))
+        data, result = ctypes.create_string_buffer(b"12pt12pt"), U32(7)
+        size_of = loaded(self.prefix).tfmset_size
+        self.same("the first bytes", (DONE, 786432), (size_of(data, 4, ctypes.byref(result)), result.value))
+
 
 class Linking(LibraryCase):
     """Header, linking and symbols"""
@@ -142,7 +154,7 @@ class Linking(LibraryCase):
 
     def test_the_libraries_define_the_functions_of_the_header_only(self):
         functions = sorted(re.findall(r"^uint32_t (\w+)\(", read(self.prefix + "/include/tfmset.h"), re.M))
-        self.same("functions", 8, len(functions))
+        self.same("functions", 9, len(functions))
         for file, option in (("libtfmset.a", "-g"), ("libtfmset.so", "-D")):
             lines = output("nm", option, "--defined-only", os.path.join(self.lib, file)).splitlines()
             self.same(file, functions, sorted(line.split()[2] for line in lines if len(line.split()) == 3))

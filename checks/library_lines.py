@@ -243,7 +243,7 @@ class Module(LinesCase):
     def test_a_failed_allocation(self):
         source = "unsigned tfmset_version(void) { return 1000; }\n" + "".join(
             f"unsigned tfmset_{name}(void) {{ return 2; }}\n"
-            for name in ("check", "font", "metrics", "pair", "set", "widths", "records"))
+            for name in ("size", "check", "font", "metrics", "pair", "set", "widths", "records"))
         out = os.path.join(self.room, "out_of_memory.so")
         output("cc", "-shared", "-fPIC", "-x", "c", "-", "-o", out, given=source.encode())
         seen = execute(sys.executable, "-B", "-c", 'import tfmset; tfmset.Font(b"")',

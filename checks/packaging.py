@@ -62,9 +62,15 @@ class Help(Case):
                 self.compare_values(title(command), option, about)
 
     def compare_values(self, command, option, about):
-        """The range or the choices are those that the parser prints for the value 0, and are in the help."""
+        """The range, the units or the choices are those that the parser prints for the value 0. Ranges, except
+        that of a size, and choices are in the help, too."""
         message = execute(PROGRAM, command, f"--{option['name']}", "0", "x", "x", "x")[2]
-        if "range" in option:
+        if "units" in option:
+            low, high = option["range"]
+            units = ", ".join(option["units"][:-1]) + " or " + option["units"][-1]
+            self.assertIn(f"a size is {low} to {high} scaled points, or a number with a unit ({units})",
+                          message)
+        elif "range" in option:
             low, high = option["range"]
             self.assertIn(f"0 is not in {low}..={high}\n", message + "\n")
             self.assertIn(f"{low} to {high}", about)

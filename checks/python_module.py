@@ -30,6 +30,20 @@ for call in (lambda: tfmset.Font(data, True), lambda: font.metrics(True), lambda
         print(error)
 """, "size is True, but must be an integer\ncode is True, but must be an integer\n"
      "limit is True, but must be an integer\n"),
+    # Mutants: `_size` ignores the code of `tfmset_size`, keeps spaces, accepts a number
+    # without a unit, or computes a size in points itself.
+    ("A size in a str has a unit", """
+for size in "12pt", "10.95pt", "10,95 pt", "12bp", "4mm", "655360sp", ".5in":
+    print(tfmset.Font(data, size).size, end=" ")
+for size in "", "0pt", "12", "+12", "12PT", "-1pt", "2048pt", "1em", "1e1pt", "12\\u00a0pt", "12pt\\0":
+    try:
+        print(tfmset.Font(data, size).size, end=" ")
+    except ValueError as error:
+        print(str(error).split(",")[0], end="; ")
+print()
+""", "786432 717619 717619 789381 745871 655360 2368143 size is ''; size is '0pt'; size is '12'; size is '+12'; size is '12PT'; "
+     "size is '-1pt'; size is '2048pt'; size is '1em'; size is '1e1pt'; size is '12\\xa0pt'; "
+     "size is '12pt\\x00'; \n"),
     # Mutant: `Line.items` shares the memory of the result.
     ("Writing to the items of a line changes no line", """
 lines = font.set(b"ox\\nox")
@@ -61,7 +75,7 @@ class Module(LibraryCase):
 class Version(LibraryCase):
     """The version of the library"""
 
-    names = ("check", "font", "metrics", "pair", "set", "widths", "records")
+    names = ("size", "check", "font", "metrics", "pair", "set", "widths", "records")
 
     def imported(self, number):
         """Imports the module with a library that has this version, and returns what Python prints."""

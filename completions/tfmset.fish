@@ -65,7 +65,7 @@ complete -c tfmset -n __tfmset_none -a each -d 'Set the lines of files, each wit
 complete -c tfmset -n __tfmset_none -a stream -d 'Set lines, and print each record as soon as it is ready'
 complete -c tfmset -n __tfmset_none -a help -d 'Print help'
 complete -c tfmset -n '__tfmset_is list' -l all -d 'Also print the counts, the extensible recipes and all words'
-complete -c tfmset -n '__tfmset_is check set each stream' -l size -x -d 'Font size in scaled points, 1 to 134217727'
+complete -c tfmset -n '__tfmset_is check set each stream' -l size -x -d 'Font size, such as 12pt, or in scaled points, 1 to 134217727'
 complete -c tfmset -n '__tfmset_is set stream' -l limit -x -d 'Maximum steps per line, 1 to 16777216'
 complete -c tfmset -n '__tfmset_is set each stream' -l missing -x -a 'refuse skip' -d 'On a missing character'
 complete -c tfmset -n '__tfmset_is set each stream' -l workers -x -a '(seq 1 16)' -d 'Maximum threads that set lines'

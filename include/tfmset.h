@@ -4,6 +4,7 @@
  * Functions:
  *
  *     tfmset_version   returns the version of the library
+ *     tfmset_size      reads a size, such as "12pt", from a text
  *     tfmset_check     returns whether a font is accepted, or its first error
  *     tfmset_font      returns the sizes, boundaries and parameters of a font
  *     tfmset_metrics   returns the dimensions and the tag of a character
@@ -24,8 +25,8 @@
  * be freed.
  *
  * Size: `size` is the size to read the font at, from 1 to 134,217,727 scaled points, or 0 for the design size
- * of the font. All dimensions are in scaled points, of which 65,536 are one point. The slant is the
- * exception: it is a ratio in units of 2^-20, and isn't scaled.
+ * of the font. tfmset_size reads a size from a text with a unit. All dimensions are in scaled points, of which
+ * 65,536 are one point. The slant is the exception: it is a ratio in units of 2^-20, and isn't scaled.
  *
  * Pointers: no pointer may be null, not even with length 0. The memory that a function writes to (whatever
  * its pointers without `const` point to) may not overlap any other memory that it is given. The memory that
@@ -47,6 +48,7 @@
  * argument is written to as follows; after any other code it is unchanged:
  *
  *     tfmset_check                                  after TFMSET_FONT_REFUSED
+ *     tfmset_size                                   after TFMSET_DONE
  *     tfmset_font, tfmset_metrics, tfmset_pair      after TFMSET_DONE
  *     tfmset_set, tfmset_widths, tfmset_records     after TFMSET_DONE and TFMSET_NO_ROOM
  *
@@ -76,13 +78,21 @@ extern "C" {
 /* An array is too short. The last argument contains the lengths that are needed, and the contents of the
  * arrays are unspecified. */
 #define TFMSET_NO_ROOM 3u
-/* A number is out of its range. The font wasn't read. */
+/* A number is out of its range, or a text isn't a size. No font was read. */
 #define TFMSET_OUT_OF_RANGE 4u
 
 /* Returns the version of the library: for version X.Y.Z it is 1,000,000 * X + 1,000 * Y + Z.
  * TFMSET_VERSION is the version of this header. */
 #define TFMSET_VERSION 1000u
 uint32_t tfmset_version(void);
+
+/* Reads a size from a text of text_length bytes, which needs no zero byte at its end. The text is a number
+ * with a unit, such as "12pt", "10.95pt" or "4mm", or a whole number of scaled points, such as "655360". A
+ * number with a unit is read and rounded as TeX reads a dimension: the fraction follows a point or a comma;
+ * the units are pt, in, pc, cm, mm, bp, dd, cc and sp, in lower case; and the fraction of a number of sp is
+ * ignored. Signs and spaces aren't allowed, except for a plus sign before a whole number without a unit.
+ * Returns TFMSET_DONE, or TFMSET_OUT_OF_RANGE if the text isn't a size from 1 to 134,217,727 scaled points. */
+uint32_t tfmset_size(const uint8_t *text, size_t text_length, uint32_t *size);
 
 /* The first error of a font. docs/ERRORS.md in the sources describes each error, with an example. */
 struct tfmset_fault {

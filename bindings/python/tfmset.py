@@ -42,7 +42,6 @@ import ctypes
 import functools
 import operator
 import os
-import re
 import struct
 from typing import List, NamedTuple, Optional, Sequence, Tuple, Union, overload
 
@@ -137,6 +136,7 @@ def _load() -> ctypes.CDLL:
     settings, array = [_u32, _u32], [ctypes.c_void_p, _size_t]
     functions = {
         "version": [],
+        "size": text + out,
         "check": font + out,
         "font": font + out,
         "metrics": font + [_u32] + out,
@@ -378,12 +378,13 @@ def _size(size: Size) -> int:
     if size is None:
         return 0
     if isinstance(size, str):
-        form = re.fullmatch(r"(\d+)(?:\.(\d{0,17}))?pt", size.replace(" ", ""), re.ASCII)
-        if not form:
-            raise ValueError(f"size is {size!r}, but must be a number of points such as '10pt' or '10.95pt'")
-        # Rounded to the nearest sp, and half of one upward, as TeX does.
-        unit = 10 ** len(form[2] or "")
-        size = (2 * POINT * int(form[1] + (form[2] or "")) + unit) // (2 * unit)
+        content, read = size.replace(" ", "").encode("ascii", "replace"), _u32()
+        code = _library.tfmset_size(content, len(content), ctypes.byref(read))
+        # The library also reads a number of sp without a unit, which in a str is rather meant in points.
+        if code != _DONE or not content[-1:].isalpha():
+            raise ValueError(f"size is {size!r}, but must be a number with a unit, such as '10pt' or '4mm', "
+                             f"from 1 to {_LARGEST_SIZE:,} sp")
+        return read.value
     return _number("size", size, 1, _LARGEST_SIZE)
 
 
@@ -398,12 +399,13 @@ def _bytes(name: str, content: Text) -> bytes:
 class Font:
     """A font: the contents of a TFM file, read at a size.
 
-    `data` is the contents of the file. `size` is an int, in sp, from 1 to 134,217,727; or a str with a number
-    of points, such as "10pt" or "10.95pt"; or None for the design size of the font.
+    `data` is the contents of the file. `size` is from 1 to 134,217,727 sp: a str with a unit (pt, in, pc, cm,
+    mm, bp, dd, cc or sp), such as "10pt", "10.95pt" or "4mm", which is rounded as TeX rounds it; or an int, in
+    sp; or None for the design size of the font. Spaces in a str are ignored.
 
-    Raises FontRefused if the font is refused, ValueError if the size is out of range, and TypeError for
-    arguments of another type. Like each method that calls the library, it raises MemoryError if an
-    allocation fails.
+    Raises FontRefused if the font is refused, ValueError if the size is out of range or the str isn't a size,
+    and TypeError for arguments of another type. Like each method that calls the library, it raises
+    MemoryError if an allocation fails.
 
     Attributes:
 
@@ -420,6 +422,8 @@ class Font:
     >>> font = Font.from_file("examples/demo.tfm", size="10pt")
     >>> font.size == font.design_size == 10 * POINT
     True
+    >>> Font.from_file("examples/demo.tfm", size="4mm").size
+    745871
     >>> font.space, font.right_boundary, font.left_boundary
     (209715, 124, False)
     """

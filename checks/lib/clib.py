@@ -35,15 +35,15 @@ def install(prefix):
 
 
 def call(prefix, name, data, *numbers, result):
-    """The return code of a function that reads a font, and its result, a struct."""
+    """The return code of a function that reads a font, or of tfmset_size, and its result."""
     return getattr(loaded(prefix), "tfmset_" + name)(data, len(data), *numbers, ctypes.byref(result)), result
 
 
 @functools.lru_cache(maxsize=None)
 def loaded(prefix):
-    """The shared library, with the types of the functions that read a font."""
+    """The shared library, with the types of the functions that read a font, and of tfmset_size."""
     library = ctypes.CDLL(prefix + "/lib/libtfmset.so")
-    for name, numbers in (("check", 1), ("font", 1), ("metrics", 2), ("pair", 3)):
+    for name, numbers in (("size", 0), ("check", 1), ("font", 1), ("metrics", 2), ("pair", 3)):
         function = getattr(library, "tfmset_" + name)
         function.argtypes = [ctypes.c_char_p, SIZE] + [U32] * numbers + [ctypes.c_void_p]
         function.restype = U32

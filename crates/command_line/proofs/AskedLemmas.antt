@@ -1,11 +1,12 @@
 -- The requests of arguments, from the clauses about a parse.
-use Rattle.std.proofs.Common.{◌≡◌, true, List, Option, Some, None, refl, sym, subst}
+use Rattle.std.proofs.Common.{◌≡◌, ◌∙◌, ap, true, List, Option, Some, None, refl, sym, subst}
 use Rattle.std.proofs.lemmas.Option.{none-some, same_Some}
 use Rattle.std.specs.Prelude.{Result}
 use Rattle.clap.specs.Words.{App, FailsBy, HasMatchesOf, Text, fault_of, is_simple, is_simple_and_free, subcommand_of, subcommand_rows_of}
 use Rattle.clap.specs.declared.error.Error.{Error}
+use Rattle.clap.specs.declared.error.kind.ErrorKind.{ErrorKind}
 use Rattle.clap.specs.declared.parser.matches.ArgMatches.{ArgMatches}
-use Rattle.command_line.specs.Asked.{Finds, IsAskedOf, IsAskedWith}
+use Rattle.command_line.specs.Asked.{Finds, IsAskedOf, IsAskedWith, kind_without_request}
 use Rattle.command_line.specs.Commands.{AllChoices, tfmset_app}
 use Rattle.command_line.specs.declared.request.Request.{Request}
 
@@ -20,6 +21,11 @@ module _ (choices : AllChoices) where
   module _ (words : List Text) (app : App) (is : app ≡ tfmset_app choices) where
     rows_of_words : (m : ArgMatches) → HasMatchesOf app words m → subcommand_rows_of m ≡ subcommand_of (tfmset_app choices) words
     rows_of_words m has = (subst (λ a. HasMatchesOf a words m) is has simple).1
+
+    -- the kind of the error is the same by the matches and by the arguments
+    pub kind_in_words : (m : ArgMatches) (kind : ErrorKind) → HasMatchesOf app words m → kind ≡ kind_without_request (subcommand_rows_of m)
+        → kind ≡ kind_without_request (subcommand_of (tfmset_app choices) words)
+    kind_in_words m kind has is = is ∙ ap kind_without_request (rows_of_words m has)
 
     -- the request found in the matches is the one that the arguments state
     pub asked_in_words : (m : ArgMatches) (found : Option Request) (request : Request) → HasMatchesOf app words m → Finds (IsAskedOf (subcommand_rows_of m)) found

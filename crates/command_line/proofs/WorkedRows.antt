@@ -1,9 +1,10 @@
 -- Examples of command lines, with the values and errors that the definitions give them.
-use Rattle.std.proofs.Common.{◌≡◌, List, [], ◌∷◌, Option, Some, None, refl, codes}
+use Rattle.std.proofs.Common.{◌≡◌, Bool, true, false, List, [], ◌∷◌, Option, Some, None, refl, codes}
 use Rattle.std.specs.Prelude.{option_map}
 use Rattle.clap.specs.Words.{Kinds, Text, all_of, fault_of, first_of, one_of, subcommand_of}
 use Rattle.clap.specs.declared.error.kind.ErrorKind.TheVariants.{ArgumentConflict, DisplayHelp, DisplayVersion, DisplayHelpOnMissingArgumentOrSubcommand, MissingRequiredArgument, UnknownArgument, ValueValidation}
 use Rattle.clap.proofs.OnLiterals.{clap_on_literals}
+use Rattle.command_line.specs.Asked.{misstates_size}
 use Rattle.command_line.specs.Commands.{AllChoices, tfmset_app}
 
 module _ (choices : AllChoices) where
@@ -19,6 +20,10 @@ module _ (choices : AllChoices) where
 
   abbrev fault_in : List Text → Kinds
   fault_in words = fault_of (tfmset_app choices) words
+
+  -- whether `--size` has a value that states no size
+  abbrev wrong_size_in : List Text → Option Bool
+  wrong_size_in words = option_map (λ s. misstates_size s.1) (subcommand_of (tfmset_app choices) words)
 
   -- ---- values that are given
 
@@ -40,7 +45,10 @@ module _ (choices : AllChoices) where
   abbrev set : List Text
   set = codes "set" ∷ codes "--size=655360" ∷ codes "--workers" ∷ codes "4" ∷ codes "f.tfm" ∷ codes "a" ∷ codes "b" ∷ []
 
-  set_size : read_in (codes "size") set ≡ Some (Some (codes "655360"))
+  abbrev set_one_file : List Text
+  set_one_file = codes "set" ∷ codes "f.tfm" ∷ codes "a" ∷ []
+
+  set_size : text_in (codes "size") set ≡ Some (Some (codes "655360"))
   unfolding clap_on_literals
   set_size = refl
 
@@ -104,7 +112,11 @@ module _ (choices : AllChoices) where
   unfolding clap_on_literals
   no_font = refl
 
-  size_of_nothing : fault_in (codes "check" ∷ codes "--size" ∷ codes "0" ∷ codes "f.tfm" ∷ []) ≡ ValueValidation ∷ []
+  limit_of_nothing : fault_in (codes "set" ∷ codes "--limit" ∷ codes "0" ∷ codes "f.tfm" ∷ codes "a" ∷ []) ≡ ValueValidation ∷ []
+  unfolding clap_on_literals
+  limit_of_nothing = refl
+
+  size_of_nothing : wrong_size_in (codes "check" ∷ codes "--size" ∷ codes "0" ∷ codes "f.tfm" ∷ []) ≡ Some true
   unfolding clap_on_literals
   size_of_nothing = refl
 
@@ -116,7 +128,7 @@ module _ (choices : AllChoices) where
   unfolding clap_on_literals
   two_sizes = refl
 
-  larger_size : fault_in (codes "check" ∷ codes "--size" ∷ codes "134217728" ∷ codes "f.tfm" ∷ []) ≡ ValueValidation ∷ []
+  larger_size : wrong_size_in (codes "check" ∷ codes "--size" ∷ codes "134217728" ∷ codes "f.tfm" ∷ []) ≡ Some true
   unfolding clap_on_literals
   larger_size = refl
 
@@ -126,6 +138,18 @@ module _ (choices : AllChoices) where
 
   -- ---- valid arguments
 
-  largest_size : fault_in (codes "check" ∷ codes "--size" ∷ codes "134217727" ∷ codes "f.tfm" ∷ codes "-" ∷ []) ≡ []
+  two_fonts : fault_in (codes "check" ∷ codes "--size" ∷ codes "12pt" ∷ codes "f.tfm" ∷ codes "-" ∷ []) ≡ []
+  unfolding clap_on_literals
+  two_fonts = refl
+
+  largest_size : wrong_size_in (codes "check" ∷ codes "--size" ∷ codes "134217727" ∷ codes "f.tfm" ∷ codes "-" ∷ []) ≡ Some false
   unfolding clap_on_literals
   largest_size = refl
+
+  size_in_points : wrong_size_in (codes "stream" ∷ codes "--size=10.95pt" ∷ codes "f.tfm" ∷ []) ≡ Some false
+  unfolding clap_on_literals
+  size_in_points = refl
+
+  no_size : wrong_size_in set_one_file ≡ Some false
+  unfolding clap_on_literals
+  no_size = refl

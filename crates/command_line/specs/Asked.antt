@@ -1,11 +1,14 @@
 -- The request that the arguments after the program's name state, by the values that a parse finds for them.
 -- This project's own.
-use Rattle.std.specs.Prelude.{◌≡◌, ◌⊎◌, ◌≤◌, ℕ, List, [], Bool, true, false, Option, Some, None, IsSomeAnd, codes, map, unwrap_or}
+use Rattle.std.specs.Prelude.{◌≡◌, ◌⊎◌, ◌≤◌, ℕ, List, [], Bool, true, false, cond, Option, Some, None, IsSomeAnd, codes, is_none, map, option_map, unwrap_or}
+use Rattle.std.specs.Option.{option_map_or}
 use Rattle.std.specs.Borrow.{Bor}
 use Rattle.std.specs.Str.Parse.{IsNumeral, digits_value, without_leading_plus}
 use Rattle.clap.specs.Words.{HasKind, Row, Text, all_of, fault_of, first_of, kind_of, one_of, subcommand_of}
 use Rattle.clap.specs.declared.error.Error.{Error}
-use Rattle.clap.specs.declared.error.kind.ErrorKind.TheVariants.{MissingSubcommand, OutOfMemory}
+use Rattle.clap.specs.declared.error.kind.ErrorKind.{ErrorKind}
+use Rattle.clap.specs.declared.error.kind.ErrorKind.TheVariants.{MissingSubcommand, OutOfMemory, ValueValidation}
+use Rattle.tex_sizes.specs.Sizes.{is_plain, size_of}
 use Rattle.set_line.specs.declared.policy.Policy.{Policy}
 use Rattle.set_line.specs.declared.policy.Policy.TheVariants.{Refuse, Skip}
 use Rattle.set_line.specs.declared.version.Version.{Version}
@@ -57,9 +60,13 @@ IsFlag (Some text) set = (text ≡ codes "true" → set ≡ true) × (text ≡ c
 -- ---- requests, by the values of the arguments of a subcommand
 
 module _ (rows : List Row) where
-  -- the number of `--size`, or None if the option has no number from 1 to 134217727
+  -- the value of `--size` states this size; None if the option has no value
   abbrev pub IsSize : Option ℕ → Type 0
-  IsSize size = Finds (IsNumberIn 1 134217727 (one_of (codes "size") rows)) size
+  IsSize size = option_map size_of (first_of (codes "size") rows) ≡ option_map Some size
+
+  -- `--size` has a value without a unit
+  abbrev pub has_plain_size : Bool
+  has_plain_size = option_map_or is_plain (first_of (codes "size") rows) false
 
   -- the numbers of `--capacity`, `--block` and `--workers`
   abbrev pub IsPlan : Plan → Type 0
@@ -72,6 +79,7 @@ module _ (rows : List Row) where
   abbrev pub IsLayout : Layout → Type 0
   IsLayout layout =
       IsSize layout.size
+      × (layout.plain_size ≡ has_plain_size)
       × (first_of (codes "missing") rows ≡ Some (policy_word layout.policy))
       × IsPlan layout.plan
       × (first_of (codes "record") rows ≡ Some (version_word layout.version))
@@ -106,6 +114,14 @@ module _ (rows : List Row) where
 abbrev pub IsAskedOf : Option (Text × List Row) → Request → Type 0
 IsAskedOf subcommand request = IsSomeAnd subcommand (λ s. AsksFor s.1 s.0 request)
 
+-- `--size` has a value that states no size
+abbrev pub misstates_size : List Row → Bool
+misstates_size rows = option_map_or (λ text. is_none (size_of text)) (first_of (codes "size") rows) false
+
+-- the kind of the error if a parse has none and the subcommand states no request
+abbrev pub kind_without_request : Option (Text × List Row) → ErrorKind
+kind_without_request subcommand = cond (option_map_or (λ s. misstates_size s.1) subcommand false) ValueValidation MissingSubcommand
+
 -- ---- requests, by the arguments
 
 module _ (choices : AllChoices) (words : List Text) where
@@ -114,11 +130,13 @@ module _ (choices : AllChoices) (words : List Text) where
   IsAskedWith request = (fault_of (tfmset_app choices) words ≡ []) × IsAskedOf (subcommand_of (tfmset_app choices) words) request
 
   -- the error of the arguments: out of memory, or the first error of a parse; or, if a parse has none, that
-  -- they state no request
+  -- they state no request, since `--size` states no size or since there is no subcommand
   abbrev pub IsRefusedWith : Error → Type 0
   IsRefusedWith error =
       HasKind (fault_of (tfmset_app choices) words) error
-      ⊎ ((fault_of (tfmset_app choices) words ≡ []) × (kind_of error ≡ MissingSubcommand) × ((request : Request) → ¬ IsAskedWith request))
+      ⊎ ((fault_of (tfmset_app choices) words ≡ [])
+      × (kind_of error ≡ kind_without_request (subcommand_of (tfmset_app choices) words))
+      × ((request : Request) → ¬ IsAskedWith request))
 
 -- the arguments state this request for the command with some parsers
 abbrev pub IsAskedBy : List Text → Request → Type 0

@@ -59,9 +59,9 @@ pub record Choices : Type 0 where
   pub missing_taken : TakesWords missing_words missing
   pub records_taken : TakesWords record_words records
 
--- the option `--size`, in sp
+-- the option `--size`, whose value is any text for a parse
 abbrev pub size_rule : Rule
-size_rule = number_rule (codes "size") 134217727
+size_rule = record (new_rule (codes "size")) { long = Some (codes "size"); value_names = 1 }
 
 -- the options of `set`, `stream` and `each`, except `--size`, with this default for `--block`
 abbrev pub run_rules : Text → Choices → List Rule

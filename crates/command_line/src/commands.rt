@@ -177,7 +177,10 @@ fn all_option<'a>(alloc: Global) -> Arg<'a>
 fn size_option<'a>(alloc: Global) -> Arg<'a>
     ensures { IsArgument size_rule result }
 {
-    number_option(alloc, "size", SIZE_HELP, 134_217_727)
+    Arg::new(alloc, "size")
+        .long("size")
+        .value_name("N")
+        .help(SIZE_HELP)
 }
 
 fn missing_option<'a>(alloc: Global) -> Arg<'a>

@@ -8,12 +8,12 @@ pub(crate) const AFTER_HELP: &str = "Examples, in the directory examples of the 
   tfmset check demo.tfm     check whether a font is accepted
   tfmset set demo.tfm lines.txt
                             set the lines of a file with a font
-  echo five | tfmset stream demo.tfm
+  echo five | tfmset stream --size 12pt demo.tfm
                             set the lines of standard input as they arrive
   tfmset each demo.tfm 100 lines.txt demo.tfm 1048576 demo.txt
                             set each file with its own font and step limit
 
-All sizes and widths are in scaled points (sp): 65536 sp = 1pt.
+All sizes and widths are printed in scaled points (sp): 65536 sp = 1pt.
 
 Exit status:
   0  Success. Help and version output also end with 0.
@@ -66,7 +66,7 @@ pub(crate) const CHECK_AFTER_HELP: &str = "Example, in the directory of the sour
 Reads the FONTs in order and prints one line for each: `NAME: accepted`,
 `NAME: refused: ` and the first error of the font, or `NAME: not read`. A font
 that isn't accepted doesn't stop the check. The result is the same at every
---size.
+--size, which is as for `tfmset set`.
 
 Exit status:
   0  Every FONT is accepted.
@@ -79,7 +79,7 @@ pub(crate) const SET_ABOUT: &str =
     "Sets the lines of files with a font, and prints one record per line";
 
 pub(crate) const SET_AFTER_HELP: &str = "Examples, in the directory examples of the sources:
-  tfmset set demo.tfm lines.txt
+  tfmset set --size 12pt demo.tfm lines.txt
   tfmset set --workers 4 --block 8 demo.tfm lines.txt demo.txt
   echo five | tfmset set demo.tfm /dev/stdin
 
@@ -96,12 +96,16 @@ character codes of the font, not Unicode. Byte 32 is a space, byte 10 ends a
 line, and a carriage return (13) is a code like any other. A line has at most
 65535 bytes.
 
-Without --size, the font is set at its design size. A --size below 65536 is
-less than 1pt. A line that needs more steps than --limit is refused; this stops
-lig/kern programs that never end. A missing character is a byte, other than the
-space, for which the font has no character. Record format 2 adds the number of
-steps to each record; json prints the same data as one JSON object per line. A
-larger --block takes less processor time.
+Without --size, the font is set at its design size. A size is a number directly
+followed by pt, in, pc, cm, mm, bp, dd, cc or sp, such as 10.95pt or 4mm, and
+is rounded as TeX rounds it. Without a unit it is a whole number of scaled
+points: 10pt is 655360. A size is 1 to 134217727 scaled points.
+
+A line that needs more steps than --limit is refused; this stops lig/kern
+programs that never end. A missing character is a byte, other than the space,
+for which the font has no character. Record format 2 adds the number of steps
+to each record; json prints the same data as one JSON object per line. A larger
+--block takes less processor time.
 
 Exit status:
   0  Every line of every FILE was set, and the output was written.
@@ -116,7 +120,7 @@ pub(crate) const STREAM_ABOUT: &str =
     "Sets lines as `set` does, printing each record as soon as it is ready";
 
 pub(crate) const STREAM_AFTER_HELP: &str = "Examples, in the directory examples of the sources:
-  echo five | tfmset stream demo.tfm
+  echo five | tfmset stream --size 12pt demo.tfm
   tfmset stream --workers 4 --block 8 demo.tfm lines.txt demo.txt
 
 Reads FONT and sets the lines of up to 64 FILEs concurrently, or, without a
@@ -130,6 +134,9 @@ for output as it is produced, and for inputs of any size: it keeps the lines
 that are being set, but not the whole output. If `stream` fails, every complete
 line that it has printed is valid. With both commands, if the lines of a FILE
 could not all be read and set, its end line states the reason.
+
+A size is as for `tfmset set`. If it has no unit and is below 65536, which is
+less than 1pt, a warning is printed on standard error.
 
 A larger --block takes less processor time. A record doesn't wait for input
 that hasn't arrived, however large the block is. If the reader of a pipe closes
@@ -159,7 +166,7 @@ are set at --size; without it, each font is set at its own design size.
 Prints the same records and end lines as `tfmset set`, once every FILE is set.
 Bytes are character codes of the font, not Unicode. Byte 32 is a space, byte 10
 ends a line, and a carriage return (13) is a code like any other. A line has at
-most 65535 bytes. A --size below 65536 is less than 1pt.
+most 65535 bytes. A size is as for `tfmset set`.
 
 Exit status:
   0  Every line of every FILE was set, and the output was written.
@@ -183,7 +190,10 @@ pub(crate) const FILE_HELP: &str = "Files with the lines to set";
 pub(crate) const STREAM_FILE_HELP: &str =
     "Files with the lines to set; without one, standard input is read";
 
-pub(crate) const SIZE_HELP: &str = "Font size, 1 to 134217727 scaled points; 10pt = 655360";
+pub(crate) const SIZE_HELP: &str = "Font size, such as 12pt; a number without a unit is in sp";
+
+pub(crate) const SIZE_ERROR: &str = "a size is 1 to 134217727 scaled points, or a number with a \
+    unit (pt, in, pc, cm, mm, bp, dd, cc or sp) in this range, such as 12pt";
 
 pub(crate) const LIMIT_HELP: &str = "Maximum steps per line, 1 to 16777216";
 

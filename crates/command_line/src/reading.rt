@@ -1,10 +1,11 @@
 //! Returns the request that the arguments state, from the values that a parse finds for them.
 ghost use Rattle.std.specs.Prelude.{◌≡◌, [], map, IfErr, IfOk, Some, codes, option_map, unwrap_or};
-ghost use Rattle.clap.specs.Words.{all_of, first_of, found_of, one_of, rows_of, subcommand_rows_of};
+ghost use Rattle.clap.specs.Words.{all_of, first_of, found_of, kind_of, one_of, rows_of, subcommand_rows_of};
 ghost use Rattle.command_line.specs.Commands.{AllChoices, IsCommandOf, tfmset_app};
-ghost use Rattle.command_line.specs.Asked.{AreJobs, AsksFor, Finds, IsAskedBy, IsAskedOf, IsAskedWith, IsChecking, IsFlag, IsLayout, IsNumberIn, IsPlan, IsRefusedBy, IsRefusedWith, IsSetting, IsSize, policy_word, texts, version_word};
+ghost use Rattle.command_line.specs.Asked.{AreJobs, AsksFor, Finds, has_plain_size, IsAskedBy, IsAskedOf, IsAskedWith, IsChecking, IsFlag, IsLayout, IsNumberIn, IsPlan, IsRefusedBy, IsRefusedWith, IsSetting, IsSize, kind_without_request, misstates_size, policy_word, texts, version_word};
 
 use crate::commands::tfmset_command;
+use crate::help::SIZE_ERROR;
 use crate::request::{Checking, Jobs, Layout, Request, Setting};
 use clap::error::ErrorKind;
 use clap::{ArgMatches, Command, Error};
@@ -12,6 +13,7 @@ use run_plan::{Block, Capacity, Plan, Workers};
 use set_line::{Limit, Policy, Version};
 use std::alloc::{AllocError, Global};
 use std::convert::AsStr;
+use tex_sizes::{is_plain, read_size};
 use tfm_words::Size;
 
 /// Parses the arguments that follow the program's name, and returns the request that they state. The error is
@@ -39,8 +41,46 @@ fn requested_of<'a, S: AsStr>(
     let matches = command.try_get_matches_from_mut(words)?;
     match given(alloc, &matches)? {
         Some(request) => Ok(request),
-        None => Err(command.error(ErrorKind::MissingSubcommand, "no subcommand was given")?),
+        None => Err(without_request(alloc, command, &matches)?),
     }
+}
+
+/// Returns the error of arguments that state no request although the parse has no error: `--size` states no
+/// size, or there is no subcommand.
+fn without_request<'a>(
+    alloc: Global,
+    command: &mut Command<'a>,
+    matches: &ArgMatches<'a>,
+) -> Result<Error, AllocError>
+    ensures { IfOk result (λ error. kind_of error ≡ kind_without_request (subcommand_rows_of matches.now)) }
+{
+    match matches.subcommand() {
+        Some((_, matches)) if misstated(matches) => wrong_size(alloc, command, matches),
+        _ => command.error(ErrorKind::MissingSubcommand, "no subcommand was given"),
+    }
+}
+
+/// Returns whether `--size` has a value that states no size.
+fn misstated(matches: &ArgMatches<'_>) -> bool
+    ensures { result ≡ misstates_size (rows_of (found_of matches.now)) }
+{
+    match given_size(matches) {
+        Some(text) => read_size(text.as_bytes()).is_none(),
+        None => false,
+    }
+}
+
+/// Returns the error of a value of `--size` that states no size.
+fn wrong_size<'a>(
+    alloc: Global,
+    command: &mut Command<'a>,
+    matches: &ArgMatches<'a>,
+) -> Result<Error, AllocError>
+    ensures { IfOk result (λ error. kind_of error ≡ ErrorKind.ValueValidation) }
+{
+    let value = given_size(matches).unwrap_or("");
+    let message = format!(in alloc; "invalid value '{value}' for '--size <N>': {SIZE_ERROR}")?;
+    command.error(ErrorKind::ValueValidation, message.as_str())
 }
 
 /// Returns the request of the subcommand that the parse found, or `None` if it states none.
@@ -85,8 +125,10 @@ fn asked_fonts<'a>(
     let Some(fonts) = words(matches, "FONT") else {
         return Ok(None);
     };
+    let Some(size) = asked_size(matches) else {
+        return Ok(None);
+    };
     let fonts = Vec::from_slice(alloc, fonts)?;
-    let size = asked_size(matches);
     Ok(Some(Checking { fonts, size }))
 }
 
@@ -152,7 +194,8 @@ fn asked_layout(matches: &ArgMatches<'_>) -> Option<Layout>
     ensures { Finds (IsLayout (rows_of (found_of matches.now))) result }
 {
     Some(Layout {
-        size: asked_size(matches),
+        size: asked_size(matches)?,
+        plain_size: asked_plain_size(matches),
         policy: asked_policy(matches)?,
         plan: asked_plan(matches)?,
         version: asked_version(matches)?,
@@ -192,10 +235,29 @@ fn asked_plan(matches: &ArgMatches<'_>) -> Option<Plan>
     })
 }
 
-fn asked_size(matches: &ArgMatches<'_>) -> Option<Size>
-    ensures { IsSize (rows_of (found_of matches.now)) result }
+fn asked_size(matches: &ArgMatches<'_>) -> Option<Option<Size>>
+    ensures { Finds (IsSize (rows_of (found_of matches.now))) result }
 {
-    Size::new(number(matches, "size")?)
+    match given_size(matches) {
+        Some(text) => Some(Some(read_size(text.as_bytes())?)),
+        None => Some(None),
+    }
+}
+
+/// Returns the value of `--size`.
+fn given_size<'a>(matches: &ArgMatches<'a>) -> Option<&'a str>
+    ensures { option_map (λ text. text.now) result ≡ first_of (codes "size") (rows_of (found_of matches.now)) }
+{
+    matches.get_str("size")
+}
+
+fn asked_plain_size(matches: &ArgMatches<'_>) -> bool
+    ensures { result ≡ has_plain_size (rows_of (found_of matches.now)) }
+{
+    match given_size(matches) {
+        Some(text) => is_plain(text.as_bytes()),
+        None => false,
+    }
 }
 
 fn asked_limit(matches: &ArgMatches<'_>) -> Option<Limit>

@@ -34,6 +34,8 @@ pub enum Request<'a> {
 pub struct Layout {
     /// The size of all fonts, in sp; `None` means the design size of each font.
     pub size: Option<Size>,
+    /// Whether the size was given as a number without a unit.
+    pub plain_size: bool,
     /// The missing-character policy.
     pub policy: Policy,
     /// The capacity and the block of each lane, and the largest number of workers.

@@ -11,3 +11,4 @@ pub mod EachLemmas
 pub mod WordLemmas
 pub mod CauseLemmas
 pub mod WorkedRows
+pub mod WarningLemmas

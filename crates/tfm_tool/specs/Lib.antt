@@ -10,3 +10,4 @@ pub mod FontFaults
 pub mod Faults
 pub mod Served
 pub mod FailureTexts
+pub mod Warnings

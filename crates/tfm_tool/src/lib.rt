@@ -23,3 +23,4 @@ mod jobs;
 mod opening;
 mod program;
 mod runs;
+mod warning;

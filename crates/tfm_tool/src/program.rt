@@ -13,6 +13,7 @@ ghost use Rattle.tfm_tool.specs.Named.{font_bytes_of};
 ghost use Rattle.tfm_tool.specs.Requests.{CountsAreTold, IsDone, IsListed, list_text_of};
 ghost use Rattle.tfm_tool.specs.Served.{IsServed, IsTurnedDown, IsTurnedDownBy, is_answer, is_usage};
 ghost use Rattle.tfm_tool.specs.declared.failure.Failure.TheVariants.{Usage};
+ghost use Rattle.tfm_tool.specs.Warnings.{IsWarned};
 ghost use Rattle.tfm_tool.specs.Status.{AfterText, BeforeText, is_refusal, is_without_text, status_of};
 
 use crate::checking::check;
@@ -21,6 +22,7 @@ use crate::failure::Failure;
 use crate::files::font_bytes;
 use crate::font_output::list_file_text;
 use crate::runs::{set_files, stream};
+use crate::warning::warn;
 use crate::{Disk, Opens, counts_text, list_all_text};
 use clap::error::ErrorKind as WordsKind;
 use command_line::{Request, requested};
@@ -40,7 +42,8 @@ use std::thread::Threads;
 /// The exit status is 0 or 1 after the whole output: 1 if a line was refused or `check` refused a font;
 /// otherwise, and after help or the version, 0. It is 2 to 5 after a failure, as the failure determines; the
 /// text of the failure is written to `err`: one line, or the text of `clap` if the arguments are invalid. If
-/// `err` fails, its error is ignored.
+/// `err` fails, its error is ignored. If `stream` has a size below 65,536 without a unit, a warning is written
+/// to `err` before the font is read.
 pub fn tool<R, S, I, O, E>(rt: &R, words: &[S], input: &mut I, out: &mut O, err: &mut E) -> u8
 where
     R: Files + AllocGlobal + Threads + Wait + Sync,
@@ -50,7 +53,7 @@ where
     O: Write,
     E: Write,
     ensures statuses { Contains (0 ∷ 1 ∷ 2 ∷ 3 ∷ 4 ∷ 5 ∷ []) result }
-    ensures silent { result < 2 → err.new ≡ err.old }
+    ensures silent { result < 2 → ¬ (IsWarned (map S.text words.now)) → err.new ≡ err.old }
     ensures served { result < 2 → (written : Option (List ℕ)) × Keeps written (O.contents out.new)
         × IsServed (map S.text words.now) (I.remaining input.old) (O.contents out.old) written result }
     ensures usage { result ≡ 2 → Keeps (O.contents out.old) (O.contents out.new) }
@@ -58,7 +61,7 @@ where
     ensures cause { (result ≡ 2) ⊎ (result ≡ 3)
         → IsTurnedDown (map S.text words.now) (I.remaining input.old) result }
 {
-    let answered = answer(rt, words, input, out);
+    let answered = answer(rt, words, input, out, err);
     let flushed = out.flush();
     match (answered, flushed) {
         (Ok(status), Ok(())) => status,
@@ -82,14 +85,22 @@ pub fn words_refused<E: Write>(error: &io::Error, err: &mut E) -> u8
 }
 
 /// Does what the arguments request, with the files of the file system, or writes help or the version. Returns
-/// the exit status, 0 or 1.
-fn answer<R, S, I, O>(rt: &R, words: &[S], input: &mut I, out: &mut O) -> Result<u8, Failure>
+/// the exit status, 0 or 1. A warning is written to `err`, whose errors are ignored.
+fn answer<R, S, I, O, E>(
+    rt: &R,
+    words: &[S],
+    input: &mut I,
+    out: &mut O,
+    err: &mut E,
+) -> Result<u8, Failure>
 where
     R: Files + AllocGlobal + Threads + Wait + Sync,
     R::File: Send,
     S: AsStr,
     I: Read + Send,
     O: Write,
+    E: Write,
+    ensures silent { ¬ (IsWarned (map S.text words.now)) → err.new ≡ err.old }
     ensures served { IfOk result (IsServed (map S.text words.now) (I.remaining input.old)
         (O.contents out.old) (O.contents out.new)) }
     ensures status { IfOk result (λ status. Contains (0 ∷ 1 ∷ []) status) }
@@ -97,7 +108,10 @@ where
     ensures cause { BeforeText result (IsTurnedDownBy (map S.text words.now) (I.remaining input.old)) }
 {
     match requested(rt.alloc(), words) {
-        Ok(request) => perform(rt, &Disk::new(rt), &request, input, out),
+        Ok(request) => {
+            warn(&request, err);
+            perform(rt, &Disk::new(rt), &request, input, out)
+        }
         Err(error) => {
             show(error, out)?;
             Ok(0)

@@ -9,6 +9,7 @@ pub use metrics::{TfmsetMetrics, tfmset_metrics};
 pub use pair::{TfmsetPair, tfmset_pair};
 pub use records::tfmset_records;
 pub use set::{tfmset_set, tfmset_widths};
+pub use size::tfmset_size;
 pub use version::tfmset_version;
 
 mod arrays;
@@ -21,4 +22,5 @@ mod reading;
 mod records;
 mod set;
 mod settings;
+mod size;
 mod version;

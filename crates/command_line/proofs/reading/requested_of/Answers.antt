@@ -3,7 +3,7 @@ use Rattle.std.specs.Prelude.{Ok, Err, IfErr}
 use Rattle.clap.specs.Words.{app_of}
 use Rattle.clap.specs.declared.parser.matches.ArgMatches.{ArgMatches}
 use Rattle.command_line.specs.Asked.{IsRefusedWith}
-use Rattle.command_line.proofs.AskedLemmas.{asked_in_words, faults, nothing_in_words}
+use Rattle.command_line.proofs.AskedLemmas.{asked_in_words, faults, kind_in_words, nothing_in_words}
 use Rattle.command_line.proofs.reading.requested_of.Goals as goal
 
 pub returns-in_err-matches-clause-refused : goal.returns-in_err-matches-clause-refused
@@ -28,7 +28,8 @@ returns-clause-refused g c = λ choices is.
     let none = faults choices words (app_of c.args.command.now) is.0 {T = ArgMatches} (Ok c.in_ok-matches.matches) c.in_ok-matches.ensures.kinds in
     inr (
       none,
-      c.in_ok-error-in-None.ensures.kind,
+      kind_in_words choices words (app_of c.args.command.now) is.0 c.in_ok-matches.matches _ c.in_ok-matches.ensures.ok.2
+          c.in_ok-without_request-in-None.ensures,
       nothing_in_words choices words (app_of c.args.command.now) is.0 c.in_ok-matches.matches c.in_ok-request.field-0
           c.in_ok-matches.ensures.ok.2 c.in_ok-request.ensures (search rules),
     )

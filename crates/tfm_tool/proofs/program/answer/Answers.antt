@@ -1,6 +1,8 @@
 use Rattle.std.proofs.Common.{inl, inr}
 use Rattle.tfm_tool.proofs.CauseLemmas.{before_map, served_of}
 use Rattle.tfm_tool.proofs.StatusLemmas.{after_text_of_ok}
+use Rattle.tfm_tool.proofs.WarningLemmas.{none_from}
+use Rattle.tfm_tool.specs.Warnings.{warned_size}
 use Rattle.tfm_tool.proofs.program.answer.Goals as goal
 
 pub returns-in-Ok-clause-served : goal.returns-in-Ok-clause-served
@@ -11,3 +13,6 @@ returns-in-Ok-clause-served g c =
 pub returns-in-Ok-clause-cause : goal.returns-in-Ok-clause-cause
 returns-in-Ok-clause-cause g c =
     before_map c.perform.result _ _ (λ failure cause. inr (c.in-Ok.request, c.in-Ok.ensures.asked, cause)) c.perform.ensures.cause
+
+pub returns-in-Ok-clause-silent : goal.returns-in-Ok-clause-silent
+returns-in-Ok-clause-silent g c = λ unwarned. c.warn.ensures (none_from (warned_size c.in-Ok.request) (λ some. unwarned (c.in-Ok.request, c.in-Ok.ensures.asked, some)))

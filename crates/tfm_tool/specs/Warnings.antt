@@ -1,0 +1,31 @@
+-- The warning for a size of less than one point that was given without a unit.
+-- This project's own.
+use Rattle.std.specs.Prelude.{ℕ, List, ◌++◌, cond, Option, Some, None, IsSome, codes, decimal, nat_lt, option_and_then}
+use Rattle.clap.specs.Words.{Text}
+use Rattle.command_line.specs.Asked.{IsAskedBy}
+use Rattle.command_line.specs.declared.request.Layout.{Layout}
+use Rattle.command_line.specs.declared.request.Request.{Request}
+use Rattle.command_line.specs.declared.request.Request.TheVariants.{Stream}
+
+-- this number of sp, if it is below 65,536, which is one point
+abbrev pub below_one_point : ℕ → Option ℕ
+below_one_point size = cond (nat_lt size 65536) (Some size) None
+
+-- the size of a layout, if it was given without a unit and is below one point
+abbrev pub small_size : Layout → Option ℕ
+small_size layout = cond layout.plain_size (option_and_then below_one_point layout.size) None
+
+-- the size of which a request warns: only `stream` does
+abbrev pub warned_size : Request → Option ℕ
+warned_size (Stream setting) = small_size setting.layout
+warned_size _ = None
+
+-- the line of the warning
+abbrev pub warning_text : ℕ → List ℕ
+warning_text size =
+    codes "tfmset: size "
+    ++ (decimal size ++ (codes " is " ++ (decimal size ++ (codes " scaled points; for points write " ++ (decimal size ++ codes "pt\n")))))
+
+-- the arguments state a request that warns of its size
+abbrev pub IsWarned : List Text → Type 0
+IsWarned words = (request : Request) × IsAskedBy words request × IsSome (warned_size request)
