@@ -4,7 +4,7 @@ The records have to be the program's, byte for byte: those that the library writ
 those that this module and lib/library_lines.c assemble from the lines and items. The program in C calls the
 library with arrays of exactly the necessary length, one less, more, and 0, each before a page that can't be
 accessed; eight threads call concurrently; and each allocation fails in turn. It is built with the address and
-undefined-behaviour sanitizers, if these are installed.
+undefined-behaviour sanitizers, and a second time with the thread sanitizer, if these are installed.
 """
 import concurrent.futures
 import ctypes
@@ -14,6 +14,7 @@ import os
 import shutil
 import struct
 import sys
+import tempfile
 
 from lib.base import DEMO, EXAMPLES, PROGRAM, ROOT, environment, execute, output, read, rows, shared, table
 from lib.clib import BINDINGS, DONE, RANGE, REFUSED, SIZE, U32, U64, WARNINGS, LibraryCase
@@ -25,6 +26,8 @@ WEIGHT = 5
 CASES = table("library_lines")
 CHUNK = 30  # jobs of one test
 MOST_FONTS = 300
+IN_C = (("ten_lines.c",), ("widths.c", DEMO, "box"), ("paragraph.c", DEMO, "160"),
+        ("threads.cpp", DEMO, "README.md"))
 
 
 class Job:
@@ -76,17 +79,19 @@ def module(prefix):
     return tfmset
 
 
-def sanitizers():
-    """The options of the sanitizers, if they are installed."""
-    options = ["-fsanitize=address,undefined"]
-    given = b"int main(void) { return 0; }"
-    return [] if execute("cc", *options, "-x", "c", "-", "-o", os.devnull, given=given)[0] else options
+@functools.lru_cache(maxsize=None)
+def sanitizers(kinds="address,undefined"):
+    """The option of sanitizers, if a program can be built with them, and if all of twenty runs succeed."""
+    option, given = "-fsanitize=" + kinds, b"int main(void) { return 0; }"
+    with tempfile.TemporaryDirectory() as room:
+        built = execute("cc", option, "-x", "c", "-", "-o", room + "/program", given=given)[0] == 0
+        return [option] if built and not any(execute(room + "/program")[0] for _ in range(20)) else []
 
 
-def assembled(tfmset, job):
+def assembled(tfmset, job, lines=None):
     """The records in format 2, assembled from the lines and items."""
     names, out = "cksm", []
-    lines = tfmset.Font.from_file(job.font, job.size or None).set(job.text, job.limit, job.missing)
+    lines = lines or tfmset.Font.from_file(job.font, job.size or None).set(job.text, job.limit, job.missing)
     for number, line in enumerate(lines, 1):
         fields = [f"1:{number}"]
         if isinstance(line, tfmset.Refusal):
@@ -108,14 +113,15 @@ class LinesCase(LibraryCase):
         super().setUp()
         self.tfmset = module(self.prefix)
 
-    def in_c(self, job, *more):
+    def in_c(self, job, *more, kinds="address,undefined"):
         """Compares the records of the program in C, and returns its standard error."""
         def make(path):
             output("cc", "-std=gnu11", "-O1", "-g", "-pthread", *WARNINGS, f"-I{self.prefix}/include",
                    "-Wl,--wrap=malloc,--wrap=realloc,--wrap=free", "-o", path,
-                   ROOT + "/checks/lib/library_lines.c", self.lib + "/libtfmset.a", *sanitizers())
+                   ROOT + "/checks/lib/library_lines.c", self.lib + "/libtfmset.a", *sanitizers(kinds))
         numbers = [str(job.size), str(job.limit), str(int(job.missing == "skip"))]
-        command = [shared("library_lines", make), job.font, *numbers, self.file("text", job.text), *more]
+        program, text = shared("library_lines_" + kinds, make), self.file("text", job.text)
+        command = [program, job.font, *numbers, text, *more]
         status, out, err = execute(*command, text="latin-1", timeout=1000)
         records = (job.records(2) + job.records(1) + job.records(2)).decode("latin-1")
         self.same(f"{job.name}: in C, with an empty standard error", (0, True, not more),
@@ -169,23 +175,45 @@ class Records(LinesCase):
         job = Job("demo.tfm", text * (20_000_000 // len(text)))
         self.same("20 MB", True, job.records(1) == self.tfmset.Font.from_file(job.font).records(job.text))
 
+    # Mutant of the library: `tfmset_pair` keeps a block that it allocates.
     def test_failed_allocations_and_threads_in_c(self):
         errors = self.in_c(Job("demo.tfm", read("examples/demo.txt", "rb"), missing="skip"), "more")
         counts = [int(field) for field in errors.split() if field.isdigit()]
         self.same("failed allocations", (14, True, 1), (len(counts), all(counts), errors.count("\n")))
         print(f"allocations that failed: {sum(counts)}")
 
-    def test_with_the_sanitizers(self):
-        self.need("cc")
-        if not sanitizers():
-            self.lack("sanitizers")
+    @rows((kinds, kinds) for kinds in ("address,undefined", "thread"))
+    def test_with_sanitizers(self, kinds):
+        """The programs in C and C++ print the same with sanitizers, which report nothing."""
+        # Mutants: threads.cpp counts its calls in a static variable; ten_lines.c prints text[sizeof text].
+        self.need("c++")
+        if not sanitizers(kinds):
+            self.lack("-fsanitize=" + kinds)
+        self.in_c(Job("demo.tfm", read("examples/demo.txt", "rb"), missing="skip"), "more", kinds=kinds)
+        for name, *words in IN_C:
+            compiler = ["c++", "-std=c++11"] if name.endswith(".cpp") else ["cc", "-std=c99"]
+            given = read("examples/demo.txt" if name == "paragraph.c" else DEMO, "rb")
+            programs = (self.built("examples/library/" + name, *compiler, "-pthread", "-g", *options)
+                        for options in ((), sanitizers(kinds)))
+            wanted, seen = (execute(path, *words, given=given, cwd=ROOT, env=self.env) for path in programs)
+            self.same(name, (0, wanted[1], ""), seen)
 
     def test_eight_threads_in_python(self):
-        job = Job("demo.tfm", read("README.md", "rb"), missing="skip")
-        font = self.tfmset.Font.from_file(job.font)
+        """Eight threads call all functions of one font, each with a text of its own."""
+        # Mutants: `set` or `widths` keeps its array of lines in the font for the next call.
+        lines = read("README.md", "rb").splitlines(keepends=True)
+        jobs = [Job("demo.tfm", b"".join(lines[n:] + lines[:n]), missing="skip") for n in range(0, 80, 10)]
+        font, wanted = self.tfmset.Font.from_file(jobs[0].font), {job: job.records(2) for job in jobs}
+
+        def called(job):
+            settings = job.text, job.limit, job.missing
+            return job, font.records(*settings, version=2), font.widths(*settings), font.set(*settings)
+
         with concurrent.futures.ThreadPoolExecutor(8) as pool:
-            records = set(pool.map(lambda _: font.records(job.text, missing="skip", version=2), range(64)))
-        self.same("records", True, records == {job.records(2)})
+            results = list(pool.map(called, jobs * 8))
+        for job, records, widths, lines in results:
+            self.same(job.name, True, assembled(self.tfmset, job, lines) == records == wanted[job])
+            self.same(job.name, [line.width for line in lines], widths)
 
 
 class ManyBytes:

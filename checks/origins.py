@@ -1,13 +1,19 @@
-"""A lint: each value that reports a failed call is in a line that hands on the error of a call.
+"""Lints of errors, of functions that write texts, and of the sizes of requests for memory.
 
-The values report failed allocation, a thread that couldn't be started, a failed read, opening or write, and
-an abandoned lane. Accepted are: a `From`; a `map_err` of a call, the arm `Err(_)` of a match on it, the
-`else` of a `let Ok(..)` of it and an `if` on its `is_err`, if the call can fail in this way only; and the arm
-of a value of the same kind. Each other line needs a row in checks/cases/origins.toml: the file, the line, and
-the reason. A row without a line is an error, too. Errors that `?` passes on aren't written out.
+Each value that reports a failed call is in a line that hands on the error of a call. The values report
+failed allocation, a thread that couldn't be started, a failed read, opening or write, and an abandoned lane.
+Accepted are: a `From`; a `map_err` of a call, the arm `Err(_)` of a match on it, the `else` of a `let Ok(..)`
+of it and an `if` on its `is_err`, if the call can fail in this way only; and the arm of a value of the same
+kind. Each other line needs a row in checks/cases/origins.toml: the file, the line, and the reason. A row
+without a line is an error, too. Errors that `?` passes on aren't written out.
 
 The lint reads formatted lines and knows no types. Tests and the crates of tests are left out; contracts,
 patterns and comparisons make no value.
+
+A contract permits `fmt` to fail, and any request for memory to be too large. Therefore a function that
+returns a `fmt::Result` may only write, hand on the error of a write, and make values. The size of a request
+is a number up to 131,072, such a constant of the same file, a length, or a sum of these. Each other request
+and each line with a larger number needs a row.
 """
 import re
 
@@ -25,6 +31,17 @@ IMPORT = re.compile(r"^(?:pub )?use [^;]*;", re.M)
 # A function that returns a Result, and the type of its error.
 FUNCTION = re.compile(r"\bfn (\w+)(?:<[^>]*>)?\((?:[^()]|\([^()]*\))*\)\s*->\s*Result<(?:[^{;]*?), "
                       r"(\w+|\([^()]*\))>\s*(?:\n|where|\{)")
+FORMATTER = re.compile(r"^( *)(?:pub[^\n]*)?fn [^;{]*-> (?:\w+::)*(?:fmt::Result|Result<[^{]*fmt::Error>)"
+                       r"(.*?)^\1\}", re.M | re.S)
+# `number_of` returns the number of a font error, and can't fail.
+FORMATTERS = ("write!", "writeln!", "f.write_str", "match", "if", "number_of")
+REQUEST = re.compile(r"\b(?:with_capacity|with_protocol|(?:try_)?reserve(?:_exact)?|resize(?:_with)?|"
+                     r"from_elem|repeat|(?<=[.:])collect|vec!)(?:::<[^()]*>)?[(\[]"
+                     r"((?:[^()]|\((?:[^()]|\(\))*\))*)")
+MOST = 131072  # bytes or elements of a request
+# A bound of a range and a constant of 32 bits are no sizes.
+LARGE = re.compile(r"\bMAX\b|\b\d[\d_]*(?:u\d+|usize)? ?<<|"
+                   r"(?<!\.\.)(?<!\.\.=)(?<!32 = )\b(0x[\da-fA-F_]+|\d[\d_]*)(?:[ui]\d+|usize)?\b(?!\.\.)")
 PURE = {"AllocError", "OutOfMemory", "(Line, OutOfMemory)"}
 
 
@@ -128,6 +145,36 @@ def hiding_imports(text):
             or any(old in heads and new != "_" for old, new in re.findall(r"(\w+) as (\w+)", found))]
 
 
+def code_of(text):
+    """A file without the contents of strings, comments and contracts."""
+    text = re.sub(r"""//.*|b?"(?:[^"\\]|\\[\s\S])*"|b?'(?:\\.|[^\\'])'""",
+                  lambda found: "" if found[0][0] == "/" else '""', text)
+    return re.sub(r"(?m)^ *(?:ensures|requires|ghost)\b(?:[^{\n]*\{(?:[^{}]|\{[^{}]*\})*\})?", "", text)
+
+
+def failing_formats(text):
+    """What the functions that return a `fmt::Result` do except write, hand on errors, and make values."""
+    code = code_of(text)
+    found = re.findall(r"\bfmt::Error\b|use .*fmt::.*\bError\b", code)
+    for _, body in FORMATTER.findall(code):
+        calls = re.findall(r"([\w.:]*\w!?)(?:::<[^()]*>)?\(", body)
+        found += set(calls) - set(FORMATTERS) - set(re.findall(r"\b(?:\w+::)*[A-Z]\w*", body))
+        found += re.findall(r"\bErr\b|\bError\b|[^)]\?", body)
+    return found
+
+
+def large_requests(text):
+    """The requests of a file whose size isn't seen to be small, and its lines with large numbers."""
+    constants = dict(re.findall(r"\bconst (\w+): \w+ = (\d[\d_]*);", text))
+    for line in code_of(text).split("\n"):
+        request = REQUEST.search(line)
+        parts = request[1].split(", ")[-1].split(" + ") if request else []
+        sizes = [constants.get(part, re.sub(r"\w+\.len\(\)(?: / \d+)?$", "0", part)) for part in parts]
+        numbers = [one or "MAX" for one in LARGE.findall(line)] + sizes
+        if any(not re.match(r"\d", one) or int(one.replace("_", ""), 0) > MOST for one in numbers):
+            yield " ".join(line.split())
+
+
 class Origins(Case):
     """Values that report a failed call"""
 
@@ -152,3 +199,29 @@ class Origins(Case):
         text = "fn planted() {\n" + "".join(f"    {line}\n" for line in body.split("\n")) + "}"
         functions = Functions({"here/planted.rt": RULES["first"]})
         self.assertIn(False, [right for _, right in origins(text, "here/planted.rt", functions)])
+
+
+class Formats(Case):
+    """Functions that write texts, and sizes of requests for memory"""
+
+    def test_formats(self):
+        found = {name: failing_formats(text) for name, text in sources()}
+        self.none([f"{name}: a text may not be written: {calls}" for name, calls in found.items() if calls],
+                  sum(len(FORMATTER.findall(code_of(text))) for _, text in sources()), 10)
+
+    def test_requests(self):
+        left = {tuple(row[:2]) for row in RULES["requests"]}
+        found = {(name, line) for name, text in sources() for line in large_requests(text)}
+        self.none([f"{name}: a size that may be absurd: {line}" for name, line in found - left])
+        self.none([f"a row of the table without its line: {name}: {line}" for name, line in left - found])
+
+    @rows((body, body) for body in RULES["wrong_formats"])
+    def test_wrong_format(self, body):
+        """A formatter that may fail is found."""
+        head = "" if re.match("fn|use", body) else "    fn fmt(&self, f: &mut F) -> fmt::Result {\n        "
+        self.assertTrue(failing_formats("impl fmt::Display for Part {\n" + head + body + "\n    }\n}\n"))
+
+    @rows((body, body) for body in RULES["wrong_requests"])
+    def test_wrong_request(self, body):
+        """A request of an absurd size is found."""
+        self.assertTrue(list(large_requests(f"const ROOM: usize = 1000;\nfn planted() {{\n    {body}\n}}\n")))

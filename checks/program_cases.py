@@ -4,8 +4,9 @@ The cases are the tables of checks/cases/program. A font in a table is `@NAME CH
 docs/ERRORS.md; other contents are written as they are. `checks/run --update` writes the files of checks/help.
 """
 import os
+import unicodedata
 
-from lib.base import PROGRAM, ROOT, Case, execute, read, rows, table, write
+from lib.base import PROGRAM, ROOT, Case, bash, execute, read, rows, table, write
 from lib.tfm import sample
 
 GROUPS = "counts list check unread_fonts unread_files set stream before_a_stream each".split()
@@ -100,6 +101,78 @@ class ManyFiles(Case):
     def test_65_files_are_too_many(self):
         for args in (["set"] + ["no"] * 66, ["stream"] + ["no"] * 66, ["each"] + ["no", "x", "no"] * 65):
             self.same(args[0], (2, "", "tfmset: more than 64 files\n"), run(args, b"", self.room))
+
+
+class Numbers(Case):
+    """The number of a font or a file in a message"""
+
+    # Mutants of tfm_tool: each number is 1; or at most 9; or too small by one if it is above 9.
+    @rows((f"number {number}", number) for number in (1, 2, 9, 64))
+    def test_number(self, number):
+        """One of 64 fonts or files isn't there, or is refused."""
+        for name, text in (("T", "@plain"), ("R", "@no_characters bytes 47"), ("F", "ab")):
+            self.file(name, content(text))
+
+        def names(usual, one):
+            return [usual] * (number - 1) + [one] + [usual] * (64 - number)
+
+        def each(fonts, texts):
+            return ["each", *(word for font, text in zip(fonts, texts) for word in (font, "9", text))]
+
+        texts = names("F", "no")
+        for args, status, message in (
+                (["set", "T", *texts], 4, "file {} not read"),
+                (["stream", "T", *texts], 4, "file {} not read"),
+                (each("T" * 64, texts), 4, "file {} not read"),
+                (each(names("T", "no"), "F" * 64), 4, "font {} not read"),
+                (each(names("T", "R"), "F" * 64), 3, "font {} refused: 8 truncated, 48 bytes needed")):
+            wanted = (status, "", f"tfmset: {message.format(number)}\n")
+            self.same((args[0], message), wanted, run(args, b"", self.room))
+
+
+class Names(Case):
+    """Names of fonts and files"""
+
+    # Mutants of `Disk::open`: the name without blanks at its ends; up to a line feed; up to 254 bytes.
+    @rows((repr(name[:20]), name) for name in (" a", "a ", "\ta\n", " ", "-a", "--", "-", "a\nb", "é",
+                                               "e\u0301", "A", "a\\", "~", "$a", "*", "é" * 127 + "x"))
+    def test_name(self, name):
+        """A file is opened by exactly the bytes of its name, among files with similar names."""
+        similar = {name.strip(), name.lower(), name.split("\n")[0], name[:-1], name.strip("-"),
+                   *(unicodedata.normalize(form, name[-9:]) for form in ("NFC", "NFD"))}
+        for other in similar - {name, ""}:
+            self.file(other, content("@plain"))
+        font, text = self.file("usual.tfm", content("@ligature_0")), self.file("usual.txt", "ab\n")
+        shown = "".join(chr(c) if 31 < c < 127 and c != 92 else f"\\x{c:02x}" for c in name.encode())
+        lines = "1:1 set 491520 c99=491520\n1 end complete 1\n"
+        calls = [(text, [command, "--", font, name], lines, "file 1") for command in ("set", "stream")]
+        calls += [(font, ["each", "--", name, "9", text], lines, "font 1"),
+                  (text, ["each", "--", font, "9", name], lines, "file 1")]
+        if name != "-":
+            calls += [(font, [command, "--", name, text], lines, "font") for command in ("set", "stream")]
+            calls += [(font, ["list", "--", name], run(["list", font])[1], "font"),
+                      (font, ["check", "--", name], shown + ": accepted\n", "some font was")]
+        for source, args, out, what in calls:
+            path = self.file(name, read(source, "rb"))
+            self.same(args, (0, out, ""), run(args, b"", self.room))
+            os.remove(path)
+            out = shown + ": not read\n" if args[0] == "check" else ""
+            wanted = (4, out, f"tfmset: {what} not read\n")
+            self.same((args, "isn't there"), wanted, run(args, b"", self.room))
+
+
+class FullDevices(Case):
+    """Output that can't be written"""
+
+    # Mutant of `set_sources`: a failed write is reported as a file that isn't read to its end.
+    @rows((f"{words} {to}", words, to) for to in ("> /dev/full", ">&-") for words in (
+        "set T Q", "set T .", "stream T F .", "each T 9 . T 9 F", "check R", "check no T", "list T"))
+    def test_output(self, words, to):
+        """The exit status is 5, whatever it would have been otherwise."""
+        for name, text in (("T", "@plain"), ("R", "@no_characters bytes 47"), ("F", "ab"), ("Q", "Q")):
+            self.file(name, content(text))
+        status, _, err = bash(f"'{PROGRAM}' {words} {to}", self.room)
+        self.same(words, (5, "tfmset: output failed\n"), (status, err))
 
 
 def help_forms(command):

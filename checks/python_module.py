@@ -50,15 +50,18 @@ lines = font.set(b"ox\\nox")
 lines[0].items[0].width = 7
 print(lines[0].items[0].width, lines[1].items[0].width, lines.items[0].width)
 """, "334233 334233 334233\n"),
-    # Mutant: `Line` keeps a pointer to the items instead of the array.
+    # Mutants: `Line` keeps a pointer instead of the array; `Lines.items` is made from an address.
     ("Items stay after their lines are gone", """
 import gc
-line = font.set(b"ox\\n" * 1000)[999]
+lines = font.set(b"ox\\n" * 99999)
+line, every = lines[999], lines.items
+del lines
+gc.collect()
 items = line.items
 del line
 gc.collect()
-print([item.width for item in items], len(font.set(b"xo" * 9999)))
-""", "[334233, -16384, 347340] 1\n"),
+print(len(font.set(b"xo\\n" * 99999)), [item.width for item in items], [item.width for item in every[-3:]])
+""", "99999 [334233, -16384, 347340] [334233, -16384, 347340]\n"),
 )
 
 

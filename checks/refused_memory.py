@@ -37,7 +37,7 @@ class Command:
         self.words, self.given, self.status = words.split(" "), given, status
         self.fonts, self.sources = fonts.split(), sources.split()
         self.name = "tfmset " + words + (" < " + given if given else "")
-        self.kind, self.want = self.words[0], None
+        self.kind, self.want, self.seconds = self.words[0], None, SECONDS
 
 
 COMMANDS, LONG = ([Command(*row) for row in CASES[name]] for name in ("commands", "long"))
@@ -52,20 +52,21 @@ def make_files(room):
     output("cc", "-O1", "-shared", "-fPIC", "-o", room + "/refuse.so", ROOT + "/checks/lib/refuse.c", "-ldl")
 
 
-def run(command, what="nothing", number=0, on=False, error=errno.ENOMEM):
+def run(command, what="nothing", number=0, on=False, error=errno.ENOMEM, out=subprocess.PIPE):
     """Executes a command with the library."""
     room = shared("refused_memory", make_files)
     with tempfile.TemporaryFile() as told, open(os.path.join(room, command.given or "c"), "rb") as given:
         env = {**os.environ, "REFUSE": f"{what} {number} {int(on)} {error} {told.fileno()}",
                "LD_PRELOAD": room + "/refuse.so"}
         try:
-            ran = subprocess.run([PROGRAM, *command.words], cwd=room, stdin=given, capture_output=True,
-                                 check=False, pass_fds=[told.fileno()], env=env, timeout=SECONDS)
+            ran = subprocess.run([PROGRAM, *command.words], cwd=room, stdin=given, stdout=out,
+                                 stderr=subprocess.PIPE, check=False, pass_fds=[told.fileno()], env=env,
+                                 timeout=command.seconds)
         except subprocess.TimeoutExpired:
-            return Got(f"no end in {SECONDS} seconds", "", "", ["time"])
+            return Got(f"no end in {command.seconds} seconds", "", "", ["time"])
         told.seek(0)
         names = told.read().decode().splitlines()
-    return Got(ran.returncode, ran.stdout.decode("latin-1"), ran.stderr.decode("latin-1"), names)
+    return Got(ran.returncode, (ran.stdout or b"").decode("latin-1"), ran.stderr.decode("latin-1"), names)
 
 
 def sources_of(text, command):
@@ -204,6 +205,8 @@ def in_turn(command, what, on=False, error=errno.ENOMEM, most=MOST):
         untouched += not got.told
         if fault:
             wrong.append(f"number {number}{' and all after it' if on else ''}: {fault}")
+        if got.told == ["time"]:
+            break
     return wrong + ([f"{number} requests, and no end"] if number >= MOST else []), number - untouched
 
 
@@ -252,9 +255,44 @@ class Failures(Case):
             for number in (1, 7):
                 fault = fault_of(command, run(command, "few", number), "few", False, 0)
                 self.same(f"{number} bytes at a time", None, fault)
+            for number in (1, 2, 3):
+                fault = fault_of(command, run(command, "write", number, False, errno.EINTR), "few", False, 0)
+                self.same(f"write {number} is interrupted", None, fault)
             if command.want.err:
                 got = run(command, "telling", 1, True, errno.EIO)
                 self.same("standard error", None, fault_of(command, got, "telling", True, errno.EIO))
+
+    # Mutant of `set_sources`: a failed write is reported as a file that isn't read to its end.
+    @rows((command.name, command) for command in COMMANDS if command.sources and command.status < 4)
+    def test_full_device(self, command):
+        """An allocation fails, and no output can be written: the exit status is 5, with one message."""
+        number, untouched = 0, 0
+        while untouched < ENOUGH and number < MOST:
+            number += 1
+            with open("/dev/full", "wb") as full:
+                got = run(command, "memory", number, out=full)
+            untouched += not got.told
+            allowed = [MESSAGES[name] for name in ("output", "memory", "thread")[:3 if got.told else 1]]
+            self.same(f"number {number}", (5, True), (got.status, got.err in allowed))
+
+
+    @rows((f"{kind}, {what}", kind, what, numbers) for kind in ("set", "stream")
+          for what, numbers in (("thread", range(1, 5)), ("memory", range(1, 400, 3))))
+    def test_endless(self, kind, what, numbers):
+        """The last source never ends, and a thread or all memory fails. Mutant: no thread is stopped."""
+        endless = os.path.join(self.room, "endless")
+        os.mkfifo(endless)
+        pipe = os.open(endless, os.O_RDWR)
+        self.addCleanup(os.close, pipe)
+        feeder = subprocess.Popen(["yes", "the office five"], stdout=pipe)
+        self.addCleanup(feeder.wait)
+        self.addCleanup(feeder.kill)
+        command = Command(f"{kind} font.tfm b {endless}", 0, "c")
+        command.seconds = 20
+        for number in numbers:
+            got = run(command, what, number, what == "memory", errno.EAGAIN)
+            told = got.err in (MESSAGES["thread"], MESSAGES["memory"])
+            self.assertEqual((5, True), (got.status, told), number)
 
 
 class Judgement(Case):

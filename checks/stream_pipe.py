@@ -1,24 +1,31 @@
-"""`tfmset stream` through pipes.
+"""`tfmset stream` through pipes, and the threads and rings of `set`, `each` and `stream`.
 
 The record of a line must be printed before the next line is sent, whatever `--block` is; `--workers` must set
-the number of threads; memory must be bounded; and a closed pipe must end the program. What contracts state
-isn't tested here: that each line has its record, and which one.
+the number of threads; `--capacity` and `--block` must set how far a source is read ahead; memory must be
+bounded; and a closed pipe must end the program. What contracts state isn't tested here: that each line has
+its record, and which one.
 """
 import contextlib
+import ctypes
+import fcntl
 import os
 import select
 import statistics
+import struct
 import subprocess
+import termios
 import threading
 import time
 
-from lib.base import DEMO, PROGRAM, Case, rows
+from lib.base import DEMO, PROGRAM, Case, read, rows
 
 WEIGHT = 4
 SECONDS = 20  # for one record or one end
 LINES = 50  # that are sent one by one
 TIMED = 200  # that are sent one by one, and timed
-MOST_LATENCY = 0.05  # seconds, the median; about 0.0001 if nothing else is executed
+PAUSE = 0.12  # seconds before each fifth of them; no sleep is longer than 0.05
+MOST_LATENCY = (0.005, 0.012, 0.03)  # seconds: the median, that after a pause, the 95th percentile
+SILENCE, MOST_IDLE = 5, 0.2  # seconds, and the seconds of processor time in them; about 0.01
 MEGABYTES = (20, 200)
 # A megabyte of lines of up to 80 bytes, the last of which don't fill a block of eight.
 WORDS = b"the office five after all of it affable flow in".split()
@@ -41,14 +48,19 @@ def read_line(pipe):
     return line
 
 
+LIBC = ctypes.CDLL(None)
+LIBC.ptrace.argtypes = [ctypes.c_long, ctypes.c_long, ctypes.c_void_p, ctypes.c_void_p]
+SEIZE, INTERRUPT, DETACH, ANY_THREAD = 0x4206, 0x4207, 17, 0x40000000
+
+
 class Pipes(Case):
     """Streams in pipes"""
 
-    def start(self, *arguments, **pipes):
-        """A stream of its standard input, which is killed at the end of the test."""
+    def start(self, *arguments, command="stream", **pipes):
+        """A command, by default a stream of its standard input, which is killed at the end of the test."""
         pipes = {"stdin": subprocess.PIPE, "stdout": subprocess.PIPE, "bufsize": 0, **pipes}
         # pylint: disable-next=consider-using-with
-        child = subprocess.Popen([PROGRAM, "stream", *arguments], **pipes)
+        child = subprocess.Popen([PROGRAM, command, *arguments], **pipes)
         for pipe in filter(None, (child.stdin, child.stdout, child.stderr)):
             self.addCleanup(pipe.close)
         self.addCleanup(child.wait)
@@ -60,10 +72,11 @@ class Pipes(Case):
         child.stdin.close()
         self.same("end", (b"1 end complete %d\n" % lines, 0), (read_line(child.stdout), child.wait(SECONDS)))
 
-    def one_by_one(self, options, lines):
+    def one_by_one(self, options, lines, pause=0):
         """Sends each line after the record of the line before. Returns the seconds until each record."""
         child, times = self.start(*options, DEMO), []
         for number in range(1, lines + 1):
+            time.sleep(0 if number % 5 else pause)
             begin = time.monotonic()
             child.stdin.write(b"the office five\n")
             record = read_line(child.stdout)
@@ -87,27 +100,130 @@ class Pipes(Case):
             self.same("record", b"1:%d set" % number, record[:record.find(b"set") + 3])
         self.ends(child, lines)
 
-    def test_median_latency_of_a_line_with_blocks_of_eight(self):
-        median = statistics.median(self.one_by_one(["--block", "8"], TIMED))
-        print(f"{1000 * median:.3f} ms from a line to its record")
-        self.assertLess(median, MOST_LATENCY)
+    @rows((f"--block {block} --workers {workers}", block, workers) for block in "18" for workers in (1, 16))
+    def test_latency(self, block, workers):
+        """A record is printed soon after its line was sent. Mutant: the worker isn't woken."""
+        least, tries, options = [SECONDS] * 3, 0, ["--block", block, "--workers", str(workers)]
+        while tries < 3 and any(one >= most for one, most in zip(least, MOST_LATENCY)):
+            times, tries = self.one_by_one(options, TIMED, PAUSE), tries + 1
+            last = statistics.quantiles(times, n=20)[-1]
+            least = list(map(min, least, (statistics.median(times), statistics.median(times[4::5]), last)))
+        print(f"{options}: {[round(1000 * one, 2) for one in least]} ms from a line to its record")
+        self.same("below the bounds", [True] * 3, [one < most for one, most in zip(least, MOST_LATENCY)])
 
-    @rows((f"--workers {workers}: {threads} threads", workers, threads)
-          for workers, threads in ((1, 5), (2, 6), (3, 7), (16, 7)))
-    def test_threads(self, workers, threads):
-        """Three sources have a thread each, one thread collects, and at most three threads set lines."""
-        names = [os.path.join(self.room, str(number)) for number in range(3)]
+    def fifos(self, count):
+        """Named pipes that are open for reading and writing, so that to open them never waits."""
+        names = [os.path.join(self.room, f"silent{number}") for number in range(count)]
         for name in names:
             os.mkfifo(name)
+        pipes = [open(name, "r+b", 0) for name in names]  # pylint: disable=consider-using-with
+        for pipe in pipes:
+            self.addCleanup(pipe.close)
+        return names, pipes
+
+    @rows((f"number {place}, --workers {workers}", place, workers)
+          for place in (1, 20, 40) for workers in (1, 16))
+    def test_silent_source(self, place, workers):
+        """One of 40 sources is silent, the others have all records. Mutant: a worker stays with its lane."""
+        (name,), (pipe,) = self.fifos(1)
+        names = [self.file("good", b"five\n" * 500)] * 39
+        names.insert(place - 1, name)
         child = self.start("--workers", str(workers), DEMO, *names, stdin=None)
-        pipes = [open(name, "wb") for name in names]  # pylint: disable=consider-using-with
-        count, until = 0, time.monotonic() + SECONDS
-        while count != threads and time.monotonic() < until:
+        seen = b""
+        while seen.count(b" end complete 500\n") < 39 and select.select([child.stdout], [], [], SECONDS)[0]:
+            seen += os.read(child.stdout.fileno(), 1 << 16)
+        self.assertEqual((39, 501 * 39), (seen.count(b" end complete 500\n"), seen.count(b"\n")))
+        pipe.write(b"five\n")
+        self.same("record", b"%d:1 set" % place, read_line(child.stdout)[:len(b"%d:1 set" % place)])
+        pipe.close()
+        self.same("end", (b"%d end complete 1\n" % place, 0), (read_line(child.stdout), child.wait(SECONDS)))
+
+    @rows((f"{count} sources", count) for count in (1, 16))
+    def test_silence_takes_no_processor_time(self, count):
+        """Silent sources take hardly any processor time. Mutant: the threads poll and never sleep."""
+        child = self.start("--workers", "16", DEMO, *self.fifos(count)[0], stdin=None)
+        time.sleep(SILENCE)
+        with open(f"/proc/{child.pid}/stat", encoding="ascii") as stat:
+            ticks = sum(map(int, stat.read().rsplit(")", 1)[1].split()[11:13]))
+        self.assertLess(ticks / os.sysconf("SC_CLK_TCK"), MOST_IDLE)
+
+    def start_with_fifos(self, command, count, *options):
+        """A command whose files are so many named pipes: the process, and the pipes open for writing."""
+        names = [os.path.join(self.room, str(number)) for number in range(count)]
+        for name in names:
+            os.mkfifo(name)
+        triples = [word for name in names for word in (DEMO, "999", name)]
+        words = triples if command == "each" else [DEMO, *names]
+        child = self.start(*options, *words, command=command, stdin=None)
+        pipes = [open(name, "wb", buffering=0) for name in names]  # pylint: disable=consider-using-with
+        for pipe in pipes:
+            self.addCleanup(pipe.close)
+        return child, pipes
+
+    def wait_for(self, wanted, seen):
+        """Calls a function until it returns the wanted value. Returns its last value."""
+        until = time.monotonic() + SECONDS
+        while seen() != wanted and time.monotonic() < until:
             time.sleep(0.02)
-            count = len(os.listdir(f"/proc/{child.pid}/task"))
+        return seen()
+
+    # Mutants of `deliver` in tfm_tool: the plan has one worker, or 16.
+    @rows((f"{command} --workers {workers}: {threads} threads", command, workers, threads)
+          for command in ("set", "each", "stream") for workers, threads in ((1, 5), (2, 6), (3, 7), (16, 7)))
+    def test_threads(self, command, workers, threads):
+        """Three sources have a thread each, one thread collects, and at most three threads set lines."""
+        child, pipes = self.start_with_fifos(command, 3, "--workers", str(workers))
+        count = self.wait_for(threads, lambda: len(os.listdir(f"/proc/{child.pid}/task")))
         for pipe in pipes:
             pipe.close()
         self.same("threads and exit status", (threads, 0), (count, child.wait(SECONDS)))
+
+    # Mutants of `deliver` in tfm_tool: the plan has 16 slots, or blocks of one line, or of eight.
+    @rows((f"{command} --capacity {capacity} --block {block}: {reads} reads", command, capacity, block, reads)
+          for command in ("set", "each", "stream")
+          for capacity, block, reads in ((40, 1, 2), (40, 4, 6), (40, 8, 11), (10, 8, 3)))
+    def test_lines_ahead(self, command, capacity, block, reads):
+        """While all other threads are stopped, a source is read until it has filled a ring and a block."""
+        # These are (capacity + 1) * block lines. A read returns 32 lines of 128 bytes.
+        child, (pipe,) = self.start_with_fifos(command, 1, "--capacity", str(capacity), "--block", str(block))
+        text = (b"five " * 25 + b"ox\n") * 512
+        with self.others_stopped(child):
+            self.assertEqual(len(text), pipe.write(text))
+
+            def done():
+                unread, = struct.unpack("i", fcntl.ioctl(pipe, termios.FIONREAD, bytes(4)))
+                return (len(text) - unread) // 4096
+
+            self.same("reads", reads, self.wait_for(reads, done))
+            time.sleep(0.1)
+            self.same("reads, later", reads, done())
+        pipe.close()
+        lines = child.communicate(timeout=SECONDS)[0].splitlines()
+        self.same("lines", (513, b"1 end complete 512", 0), (len(lines), lines[-1], child.returncode))
+
+    @contextlib.contextmanager
+    def others_stopped(self, child):
+        """Stops the two threads of a batch that don't read its source, when that waits for input."""
+        tasks = f"/proc/{child.pid}/task"
+
+        def others():
+            calls = {thread: read(f"{tasks}/{thread}/syscall").split()[0] for thread in os.listdir(tasks)}
+            return [int(thread) for thread, call in calls.items() if call != "0"] if len(calls) == 3 else []
+
+        try:
+            self.assertEqual(2, self.wait_for(2, lambda: len(others())))
+        except OSError:
+            self.lack("/proc/PID/task/TID/syscall")
+        threads = others()
+        for thread in threads:
+            if LIBC.ptrace(SEIZE, thread, None, None) or LIBC.ptrace(INTERRUPT, thread, None, None):
+                self.lack("ptrace")
+            os.waitpid(thread, ANY_THREAD)
+        try:
+            yield
+        finally:
+            for thread in threads:
+                LIBC.ptrace(DETACH, thread, None, None)
 
     def test_ten_times_the_text_needs_no_more_memory(self):
         peaks = [self.peak_of(times) for times in MEGABYTES]

@@ -6,8 +6,8 @@
  * the results of tfmset_records in formats 1 and 2. With `more` it first lets the first allocation of a
  * function fail, then the second, and so on, in one call each, and then again with all allocations after it,
  * and prints the number of allocations of each function on standard error; then eight threads call the
- * library concurrently. Each result that isn't as the header says is printed on standard error, and the exit
- * status is then 1.
+ * library concurrently. After each call nothing that it allocated may be left. Each result that isn't as the
+ * header says is printed on standard error, and the exit status is then 1.
  *
  * Each array that the library writes to ends right before a page that can't be accessed, and the memory that
  * it reads is in pages that can't be written to. The program is linked with --wrap for malloc, realloc and
@@ -77,6 +77,15 @@ void __wrap_free(void *old)
 {
     allocated -= old != NULL;
     __real_free(old);
+}
+
+/* Calls a function. When it returns, it has to have freed all that it allocated. */
+#define CALLED(name, arguments) (allocated = 0, freed(tfmset_##name arguments, #name " frees its memory"))
+
+static uint32_t freed(uint32_t code, const char *what)
+{
+    must(allocated == 0, what);
+    return code;
 }
 
 /* Guarded arrays. */
@@ -154,11 +163,9 @@ static struct set set_with(size_t lines, size_t items)
     set.lines = array_of(lines * sizeof(struct tfmset_line));
     set.items = array_of(items * sizeof(struct tfmset_item));
     set.counts = untouched;
-    allocated = 0;
-    set.code = tfmset_set(font.bytes, font.length, size, limit, policy, text.bytes, text.length,
+    set.code = CALLED(set, (font.bytes, font.length, size, limit, policy, text.bytes, text.length,
                             (struct tfmset_line *)set.lines.at, lines,
-                            (struct tfmset_item *)set.items.at, items, &set.counts);
-    must(allocated == 0, "set frees its memory");
+                            (struct tfmset_item *)set.items.at, items, &set.counts));
     return set;
 }
 
@@ -168,10 +175,8 @@ static struct set widths_with(size_t lines)
     set.lines = array_of(lines * sizeof(struct tfmset_line));
     set.items = array_of(0);
     set.counts = untouched;
-    allocated = 0;
-    set.code = tfmset_widths(font.bytes, font.length, size, limit, policy, text.bytes, text.length,
-                               (struct tfmset_line *)set.lines.at, lines, &set.counts);
-    must(allocated == 0, "widths frees its memory");
+    set.code = CALLED(widths, (font.bytes, font.length, size, limit, policy, text.bytes, text.length,
+                               (struct tfmset_line *)set.lines.at, lines, &set.counts));
     return set;
 }
 
@@ -186,10 +191,8 @@ static struct output records_with(uint32_t version, size_t length)
     struct output output;
     output.bytes = array_of(length);
     output.length = 77;
-    allocated = 0;
-    output.code = tfmset_records(font.bytes, font.length, size, limit, policy, text.bytes, text.length,
-                                 version, 1, 1, output.bytes.at, length, &output.length);
-    must(allocated == 0, "records frees its memory");
+    output.code = CALLED(records, (font.bytes, font.length, size, limit, policy, text.bytes, text.length,
+                                   version, 1, 1, output.bytes.at, length, &output.length));
     return output;
 }
 
@@ -368,28 +371,28 @@ static int font_reports_failure(const struct expected *expected)
 {
     struct tfmset_font about;
     (void)expected;
-    return tfmset_font(font.bytes, font.length, size, &about) == TFMSET_OUT_OF_MEMORY;
+    return CALLED(font, (font.bytes, font.length, size, &about)) == TFMSET_OUT_OF_MEMORY;
 }
 
 static int check_reports_failure(const struct expected *expected)
 {
     struct tfmset_fault fault;
     (void)expected;
-    return tfmset_check(font.bytes, font.length, size, &fault) == TFMSET_OUT_OF_MEMORY;
+    return CALLED(check, (font.bytes, font.length, size, &fault)) == TFMSET_OUT_OF_MEMORY;
 }
 
 static int metrics_reports_failure(const struct expected *expected)
 {
     struct tfmset_metrics metrics;
     (void)expected;
-    return tfmset_metrics(font.bytes, font.length, size, 97, &metrics) == TFMSET_OUT_OF_MEMORY;
+    return CALLED(metrics, (font.bytes, font.length, size, 97, &metrics)) == TFMSET_OUT_OF_MEMORY;
 }
 
 static int pair_reports_failure(const struct expected *expected)
 {
     struct tfmset_pair pair;
     (void)expected;
-    return tfmset_pair(font.bytes, font.length, size, 97, 98, &pair) == TFMSET_OUT_OF_MEMORY;
+    return CALLED(pair, (font.bytes, font.length, size, 97, 98, &pair)) == TFMSET_OUT_OF_MEMORY;
 }
 
 static void check_memory(const struct expected *expected)

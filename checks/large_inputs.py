@@ -1,0 +1,148 @@
+"""Inputs of each size, and messages with each number.
+
+A contract permits a function to report failed allocation for any input, and a formatter to fail. A body that
+does so only for some inputs, by a request for an absurd amount of memory, is proved. Therefore lines, paths,
+tables and texts have each size up to the limits of the formats here, and fonts have errors at each code,
+entry and instruction.
+"""
+import ctypes
+import os
+
+from lib.base import PROGRAM, Case, execute, rows, write
+from lib.clib import DONE, SIZE, U32, U64, LibraryCase
+from lib.tfm import make, sample, scaled
+
+WEIGHT = 5
+MOST_LINE, MOST_WORDS = 65535, 32767  # bytes of a line that is set, words of a font
+SIZES = sorted({2 ** i + more for i in range(22) for more in (-1, 0, 1)} | set(range(1000, 66000, 1000)))
+ITEMS = [(b"a", 327680, " c97=327680"), (b" ", 218453, " s218453"), (b"d", 0, " m100")]
+ENTRIES = {"width": 256, "height": 16, "depth": 16, "italic": 64}  # the largest tables of dimensions
+TEN_POINTS, SIXTEEN = 655360, 16 << 20  # a size in scaled points, a fix_word that is out of range
+
+
+def run(*args, given=b"", room=None):
+    return execute(PROGRAM, *args, given=given, cwd=room)
+
+
+class Sizes(Case):
+    """Lines, paths and tables of each size"""
+
+    @rows((f"{args}, {kind[0]}", args.split(), *kind) for kind in ITEMS for args in (
+        "set font lines", "stream --block 1 font lines", "stream font", "each font 16777216 lines"))
+    def test_lines(self, args, byte, width, item):
+        """Lines of up to 65,535 bytes are set, and longer ones refused. Mutant: a request above 33,000."""
+        text = b"\n".join(byte * size for size in SIZES)
+        self.file("font", sample("plain"))
+        self.file("lines", text)
+        status, out, err = run(args[0], "--missing", "skip", *args[1:], given=text, room=self.room)
+        wanted = [f"1:{number} " + (
+            f"set {size * width}" + item * size if size <= MOST_LINE else f"refused too-long {size}")
+            for number, size in enumerate(SIZES, 1)] + [f"1 end complete {len(SIZES)}"]
+        self.same("status", (1, "", len(wanted)), (status, err, out.count("\n")))
+        self.none([f"{one[:60]}: {two[:60]}" for one, two in zip(wanted, out.splitlines()) if one != two])
+
+    @rows((f"{length} bytes", length) for length in (200, 255, 256, 500, 1023, 2048, 4095))
+    def test_path(self, length):
+        """A long path is opened and printed. Mutant: a request for a path above 200 bytes."""
+        path = (self.room + "/" + "d" * 60 + ("/" + "d" * 99) * 41)[:length - 2].rstrip("/")
+        path = write(path + "/" + "f" * (length - len(path) - 1), sample("plain"))
+        self.same("check", (0, f"{path}: accepted\n", ""), run("check", path))
+        for args in (["set", path, path], ["stream", path, path], ["each", path, "9", path]):
+            self.same(args[0], (1, ""), run(*args)[::2])
+        self.same("list", (0, ""), run("list", path)[::2])
+
+    def test_tables(self):
+        """Fonts with kerns and instructions of each number. Mutant: a request for more than 5,000 kerns."""
+        parts = {"infos": [(1, 0, 1, 0), (1, 0, 0, 0)], "widths": [0, 1 << 20]}
+        for count in [size for size in SIZES if 0 < size < MOST_WORDS - 20] + [MOST_WORDS - 19]:
+            last = (128, 98, *(32768 + count - 1).to_bytes(2, "big"))
+            self.one_font("kern", count, make(program=[last], kerns=range(count), **parts), count - 1)
+            program = [(0, 97, 128, 0)] * (count - 1) + [(128, 98, 128, 0)]
+            self.one_font("step", count, make(program=program, kerns=[9], **parts), 9)
+
+    def one_font(self, name, count, font, kern):
+        """Compares the number of rows of `list`, and a record with the last kern or instruction."""
+        status, out, err = run("list", "-", given=font)
+        self.same((name, count), (0, "", count), (status, err, out.count(f"\n{name} ")))
+        kern = scaled(kern, TEN_POINTS)
+        wanted = f"1:1 set {2 * TEN_POINTS + kern} c97={TEN_POINTS} k{kern} c98={TEN_POINTS}\n"
+        seen = run("stream", self.file("font", font), given=b"ab")
+        self.same((name, count), (0, wanted + "1 end complete 1\n", ""), seen)
+
+
+def font_errors():
+    """Fonts with an error at each code, entry and instruction, with the error that is printed."""
+    info, parts = (1, 0x11, 4, 0), {name + "s": [0, 1] for name in ENTRIES}
+    parts |= {"first": 0, "kerns": [1], "program": [(128, 98, 128, 0)]}
+    bad = {f"10 character {{}}, table {table}": word for table, word in zip(
+        ENTRIES, ((2, 0x11, 4, 0), (1, 0x21, 4, 0), (1, 0x12, 4, 0), (1, 0x11, 8, 0)))}
+    for error, word in {**bad, "11 character {}, program start": (1, 0x11, 5, 1)}.items():
+        for code in range(256):
+            yield make([info] * code + [word] + [info] * (255 - code), **parts), error.format(code)
+    for table, most in {**ENTRIES, "kern": 600, "param": 600}.items():
+        parts = {"widths": [0], "program": [(128, 97, 128, 0)], "kerns": [0]}
+        for entry in range(table in ENTRIES, most):
+            parts[table + "s"] = [0] * entry + [SIXTEEN] + [0] * (most - 1 - entry)
+            if table != "param" or entry:
+                yield make([(0, 0, 0, 0)], **parts), f"13 table {table}, entry {entry + (table == 'param')}"
+        if table in ENTRIES:
+            yield make([(0, 0, 0, 0)], **{**parts, table + "s": [1]}), f"12 table {table}, first entry"
+    for part, word in {"restart": (200, 97, 255, 255), "next": (0, 99, 128, 0), "ligature": (0, 97, 0, 99),
+                       "kern": (0, 97, 128, 1), "skip": (127, 97, 128, 0)}.items():
+        for index in range(300):
+            program = [(0, 97, 128, 0)] * index + [word, (128, 97, 128, 0)]
+            font = make([(1, 0, 0, 0)], widths=[0, 1], program=program, kerns=[1])
+            yield font, f"14 instruction {index}, {part}"
+    for words in [*range(13, 600), *range(600, MOST_WORDS, 997)]:
+        yield make(header=bytes(4 * words - 48), first=1)[:-1], f"8 truncated, {4 * words} bytes needed"
+
+
+class Messages(Case):
+    """Messages with each number"""
+
+    def test_font_errors(self):
+        """`check` prints the font errors of 5,000 fonts, and other commands some of them.
+
+        Mutants: a text fails for code 200; a request for each font after the hundredth.
+        """
+        cases = [(self.file(str(i), data), data, error) for i, (data, error) in enumerate(font_errors())]
+        for i in range(0, len(cases), 2500):
+            status, out, err = run("check", *(name for name, _, _ in cases[i:i + 2500]))
+            wanted = [f"{name}: refused: {error}" for name, _, error in cases[i:i + 2500]]
+            self.same("check", (1, "", len(wanted)), (status, err, out.count("\n")))
+            self.none([f"{one} isn't {two}" for one, two in zip(out.splitlines(), wanted) if one != two])
+        for name, data, error in cases[::50]:
+            for args in (["list", "-"], ["set", "-", name], ["stream", name]):
+                self.same(args, (3, "", f"tfmset: font refused: {error}\n"), run(*args, given=data))
+
+    def test_numbers_of_files(self):
+        """Each number of a font, file or limit is printed. Mutant: the text of file 33 fails."""
+        font, cut = self.file("font", sample("plain")), self.file("cut", sample("plain")[:-1])
+        for number in range(1, 65):
+            before = ["each", *[font, "9", font] * (number - 1)]
+            for args, status, error in (
+                    ([*before, "none", "9", font], 4, f"font {number} not read"),
+                    ([*before, cut, "9", font], 3, f"font {number} refused: 8 truncated, 88 bytes needed"),
+                    ([*before, font, "9", "none"], 4, f"file {number} not read"),
+                    ([*before, font, "x", font], 2, f"limit {number} out of range"),
+                    (["set", *[font] * number, "none"], 4, f"file {number} not read"),
+                    (["stream", *[font] * number, "none"], 4, f"file {number} not read")):
+                self.same(args[0], (status, "", f"tfmset: {error}\n"), run(*args, room=self.room))
+
+
+class Library(LibraryCase):
+    """Texts of many megabytes in one call of the library"""
+
+    @rows((f"{name}, {count} lines", name, line, count) for name in ("set", "widths", "records")
+          for line, count in ((b"d" * 65000, 1600), (b"d", 3000000)))
+    def test_text(self, name, line, count):
+        """All lines of a text of 100 MB, and of one of 3,000,000 lines. Mutant: a request above 30 MB."""
+        text, data, counts = (line + b"\n") * count, sample("plain"), (U64 * 2)()
+        numbers, room = ([U32(1), U64(1), U64(1)], 40 * count) if name == "records" else ([], count)
+        arrays = [ctypes.create_string_buffer(room if numbers else 48 * room), SIZE(room)]
+        arrays += [ctypes.create_string_buffer(12), SIZE(1)] if name == "set" else []
+        code = getattr(ctypes.CDLL(self.lib + "/libtfmset.so"), "tfmset_" + name)(
+            data, SIZE(len(data)), U32(0), U32(9), U32(0), text, SIZE(len(text)), *numbers, *arrays, counts)
+        wanted = b"".join(b"1:%d refused missing 0 100\n" % number for number in range(1, count + 1))
+        self.same("code and length", (DONE, len(wanted) if numbers else count), (code, counts[0]))
+        self.assertTrue(not numbers or arrays[0].raw[:len(wanted)] == wanted)

@@ -1,0 +1,198 @@
+"""Each field and constant of the header, and each attribute of the Python module, compared with other values.
+
+The fields of the header must be where the Python module has them, and the attributes of the module must have
+the values that lib/tfm.py reads from the font, or those of docs/ERRORS.md and of the program's records. The
+constants must be the numbers that the library takes and returns. Any other name fails.
+"""
+import ctypes
+import itertools
+import json
+import re
+
+from lib.base import DEMO, PROGRAM, execute, has, output, read
+from lib.docs import font_errors
+from lib.tfm import BOUNDARY, NAMES, Font, changed, make, sample, scaled
+from library import between
+from library_lines import LinesCase
+
+WEIGHT = 5
+STRUCTS = {"_Fault": "fault", "_About": "font", "_Metrics": "metrics", "_Pair": "pair", "_Counts": "counts",
+           "_Line": "line", "Item": "item"}
+PARAMETERS = "slant space stretch shrink x_height quad extra_space".split()
+TABLES = "header char_info width height depth italic lig_kern kern exten param".split()
+NAMED = {2: NAMES, **dict.fromkeys((5, 10, 12, 13), TABLES), 14: "restart next ligature kern skip".split()}
+KINDS = {"c": "CHARACTER", "k": "KERN", "s": "SPACE", "m": "SKIPPED"}
+REFUSALS = {None: "SET", "missing": "MISSING", "too-long": "TOO_LONG", "steps": "TOO_MANY_STEPS"}
+SAMPLES = ("demo", "left_boundary", "ligature_7", "no_characters")
+# The lines are set, have too many steps, or a missing character, and one is too long.
+TEXT, SETTINGS = b"a b\nab\nab|ac ad\naQ\n" + b"a" * 65536 + b"\n", ((2, "refuse"), (1 << 24, "skip"))
+OFFSETS = """#include <stddef.h>
+#include <stdio.h>
+#include <tfmset.h>
+#define F(s, f) { struct tfmset_##s it; it.f = 0; it.f--; printf(#s " " #f " %zu %zu %d\\n", \\
+    offsetof(struct tfmset_##s, f), sizeof it.f, (double)it.f < 0); }
+int main(void) { FIELDS return 0; }
+"""
+
+
+def every_field():
+    """A font in which all values that the module reports about it, and about a character, differ."""
+    infos = [(1, 0x12, 0x0D, 1), (2, 0x21, 0x0A, 99), (3, 0x11, 0x0B, 0), (4, 0x22, 0x08, 0)]
+    program = [(255, 124, 0, 0), (0, 98, 128, 0), (0, 99, 6, 100), (0, 100, 11, 99), (128, 124, 128, 2),
+               (128, 97, 128, 1), (255, 0, 0, 5)]
+    numbers = iter(range(70_000, 2_000_000, 90_001))
+    widths, heights, depths, italics = ((0, *itertools.islice(numbers, n)) for n in (4, 2, 2, 3))
+    params = (-300_000, *itertools.islice(numbers, 8))
+    font = make(infos, widths, program, (-40_000, 50_000, -60_000), params, exten=[(97, 98, 99, 100)],
+                heights=heights, depths=depths, italics=italics)
+    return changed(font, "6: 87654321")
+
+
+def about(font, size):
+    """The attributes of a Font, except those that are functions."""
+    check_sum, design = (int.from_bytes(font.data[at:at + 4], "big") for at in (24, 28))
+    slant, *others = (font.fixes("param") + [0] * 7)[:7]
+    return {**dict(zip(PARAMETERS, [slant, *(scaled(fix, size) for fix in others)])), "data": font.data,
+            "size": size, "design_size": design >> 4, "check_sum": check_sum, "right_boundary": font.right,
+            "left_boundary": font.left is not None, "parameters": font.lengths["param"],
+            "kerns": font.lengths["kern"], "instructions": font.lengths["program"]}
+
+
+def characters(font, size):
+    """The attributes of the Metrics of each code."""
+    names = ("width", "height", "depth", "italic")
+    tables = [[scaled(fix, size) for fix in font.fixes(name)] for name in names]
+    for code in range(256):
+        width, both, last, rest = font.infos.get(code, (0,) * 4)
+        indices, tag = (width, both // 16, both % 16, last // 4), last % 4
+        found = {name: table[i] for name, table, i in zip(names, tables, indices)}
+        yield {**found, "tag": tag, "remainder": rest if tag else 0} if width else {}
+
+
+def pairs(font, size):
+    """The attributes of the Kern or the Ligature between two neighbours, by these."""
+    kerns, codes = [scaled(fix, size) for fix in font.fixes("kern")], [*font.codes, BOUNDARY]
+    for pair in itertools.product(codes, codes):
+        action, kern, *others = between(font, kerns, *pair)
+        ligature = dict(zip(("code", "keep_left", "keep_right", "passed"), others))
+        yield pair, ({}, {"width": kern}, ligature)[action]
+
+
+def fault(message):
+    """The attributes of a FontRefused, for an error as the program prints it."""
+    number, *words = re.findall(r"\w+", message)
+    named = [word for word in words if word in NAMED.get(int(number), [])]
+    place = [int(word) for word in words if word.isdigit() and number != "6"]
+    found = int(number), [*named, ""][0], [*place, 0][0]
+    return {"args": found, **dict(zip(("number", "named", "place"), found))}
+
+
+class Fields(LinesCase):
+    """Fields, constants and attributes"""
+
+    # Mutants: those of the header and of the module in checks/mutants.toml.
+
+    def setUp(self):
+        super().setUp()
+        self.header = re.sub(r"/\*.*?\*/", "", read(self.prefix + "/include/tfmset.h"), flags=re.S)
+        found = re.findall(r"^#define TFMSET_(\w+) (\d+)u$", self.header, re.M)
+        self.constants = {name: int(number) for name, number in found}
+
+    def test_fields(self):
+        """The fields of the header have the order, the offsets and the types of those of the module."""
+        structs = re.findall(r"^struct tfmset_(\w+) \{(.*?)^\};", self.header, re.M | re.S)
+        fields = "".join(f"F({name}, {field}) " for name, body in structs
+                         for field in re.findall(r"(\w+)\s*[,;]", body))
+        source = self.file("offsets.c", OFFSETS.replace("FIELDS", fields))
+        seen, wanted = self.output(self.built(source, "cc", "-std=c99")).splitlines(), []
+        for name, title in STRUCTS.items():
+            for field, kind in getattr(self.tfmset, name)._fields_:
+                place = getattr(getattr(self.tfmset, name), field)
+                field = "pass" if field == "passed" else field  # `pass` is a word of Python.
+                wanted.append(f"{title} {field} {place.offset} {place.size} {int(kind(-1).value < 0)}")
+        self.same("fields", sorted(wanted), sorted(seen))
+
+    def test_constants(self):
+        """The constants are the numbers that the library takes and returns."""
+        library, data, line = self.tfmset._library, read(DEMO, "rb"), ctypes.create_string_buffer(48)
+        font, out = (data, len(data), 0), ctypes.create_string_buffer(99)
+
+        def widths(limit, policy=0, lines=1):
+            code = library.tfmset_widths(*font, limit, policy, b"Q", 1, line, lines, out)
+            return code, self.tfmset._Line.from_buffer(line).refusal
+
+        policies = {widths(9, policy)[1]: policy for policy in (0, 1)}
+        seen = {
+            "DONE": widths(9)[0], "NO_ROOM": widths(9, lines=0)[0], "OUT_OF_RANGE": widths(0)[0],
+            "FONT_REFUSED": library.tfmset_check(data, 9, 0, out), "REFUSE": policies[1], "SKIP": policies[0],
+            "BOUNDARY": max(code for code in range(300) if not library.tfmset_pair(*font, code, 97, out)),
+            "MOST_STEPS": max(limit for limit in range((1 << 24) - 1, (1 << 24) + 2) if not widths(limit)[0]),
+            "JSON": next(n for n in (1, 2, 3) if self.tfmset.Font(data).records(b"o", version=n)[:1] == b"{")}
+        # test_attributes, library_lines.c and library.py compare the others.
+        others = {*KINDS.values(), *REFUSALS.values(), "OUT_OF_MEMORY", "VERSION"}
+        self.same("constants", seen, {name: n for name, n in self.constants.items() if name not in others})
+        names = {"TFMSET_" + name for name in ("H", "ASSERT", "LAYOUT", *seen, *others)}
+        self.same("names", names, set(re.findall(r"#define (\w+)|\benum\b", self.header)))
+        functions = set(re.findall(r"^uint32_t tfmset_(\w+)\(const", self.header, re.M))
+        called = set(re.findall(r"CALLED\((\w+), \(", read("checks/lib/library_lines.c")))
+        self.same("functions whose allocations are counted", functions, called)
+
+    def fonts(self):
+        """Paths, readers and sizes: of the font above, of samples, and of fonts of TeX if there are any."""
+        found = [("every_field", every_field(), size) for size in (900_000, 655_360)]
+        found += [(name, sample(name), 777_777) for name in SAMPLES]
+        for name in ("cmr10", "cmex10") if has("cmr10") else ():
+            found.append((name, read(output("kpsewhich", name + ".tfm").strip(), "rb"), 1_000_000))
+        return [(self.file(name, content), Font(content), size) for name, content, size in found]
+
+    def has(self, wanted, value):
+        """Compares the public attributes that aren't functions, and records the class."""
+        found = {name: getattr(value, name) for name in dir(value) if name[0] != "_"}
+        seen = {name: each for name, each in found.items() if not callable(each)}
+        if isinstance(seen.get("items"), ctypes.Array):
+            seen["items"] = [(item.kind, item.code, item.width) for item in seen["items"]]
+        self.classes.add(type(value).__name__)
+        self.same(value, wanted, seen)
+
+    def compare_lines(self, found, size, path, limit, missing):
+        """Compares the lines and items of the text with the program's records."""
+        words = ["--size", str(size), "--record", "json", "--limit", str(limit), "--missing", missing, path]
+        records, every = execute(PROGRAM, "stream", *words, given=TEXT)[1].splitlines()[:-1], []
+        for record, line, own in zip(map(json.loads, records), found, found._lines):
+            items, reason = [], record.get("refused")
+            for kind, *numbers in record.get("items", []):
+                fields = {"c": numbers, "m": numbers + [0]}.get(kind, [0] + numbers)
+                items.append((self.constants[KINDS[kind]], *fields))
+            wanted = {"width": record.get("width"), "steps": record.get("steps"), "items": items}
+            if reason:
+                place = record.get("offset", record.get("bytes", 0))
+                wanted = {"reason": reason, "place": place, "code": record.get("code", 0)}
+            self.has(wanted, line)
+            self.same(record, self.constants[REFUSALS[reason]], own.refusal)
+            every += items
+        self.same("lines", len(records), len(found))
+        self.has({"items": every}, found)
+        for item, one in zip(every, found.items):
+            self.has(dict(zip(("kind", "code", "width"), item)), one)
+
+    def test_attributes(self):
+        """The attributes of all objects and of the module."""
+        self.classes = set()
+        for path, font, size in self.fonts():
+            seen = self.tfmset.Font.from_file(path, size)
+            self.has(about(font, size), seen)
+            for code, wanted in enumerate(characters(font, size)):
+                self.has(wanted, seen.metrics(code))
+            for pair, wanted in pairs(font, size):
+                self.has(wanted, seen.pair(*pair))
+            for settings in SETTINGS:
+                self.compare_lines(seen.set(TEXT, *settings), size, path, *settings)
+        for message, content in font_errors():
+            with self.assertRaises(self.tfmset.FontRefused) as raised:
+                self.tfmset.Font(content)
+            self.has(fault(message), raised.exception)
+        found = {name: getattr(self.tfmset, name) for name in self.tfmset.__all__}
+        wanted = {name: self.constants[name] for name in ("BOUNDARY", *KINDS.values())}
+        wanted.update({"POINT": 65536, "__version__": output(PROGRAM, "--version").split()[1]})
+        self.same("constants", wanted, {name: value for name, value in found.items() if not callable(value)})
+        self.same("names", set(found), {*wanted, *self.classes, "version"} - {"NoneType"})

@@ -1,0 +1,126 @@
+"""The amount of work: processor time, writes and address space.
+
+No contract bounds the work of a call: a body that makes a table anew for each byte, or writes once per
+record, is proved. The bounds are ratios of processor times in one execution of this module, and leave room
+for a busy machine. lib/plain.c only prints for each byte a text that was made before.
+"""
+import os
+import resource
+import socket
+import subprocess
+import sys
+
+from lib.base import DEMO, PROGRAM, ROOT, Case, output, rows, shared, write
+from lib.clib import LibraryCase
+from lib.tfm import path_of
+from stream_pipe import PIECE
+
+WEIGHT = 6
+SECONDS = 50  # for one execution
+TIMES = 3  # executions, of which the fastest counts
+MB = 1 << 20
+WORDS = b"the office five after all of it affable flow in " * 1400
+TEXTS = {"20 MB": PIECE * 20, "2 MB": PIECE * 2, "short": b"office\n" * 300000, "aa": b"aa\n" * 10000,
+         "long": (WORDS[:65000] + b"\n") * 60, "usual": (WORDS[:64] + b"\n") * 60000}
+STREAM, SET, CHECK = [PROGRAM, "stream", DEMO], [PROGRAM, "set", DEMO], [PROGRAM, "check"]
+LIMITED = [PROGRAM, "stream", "--limit", "100"]
+RATIOS = [
+    ("ten times the text, stream", [*STREAM, "20 MB"], 30, [*STREAM, "2 MB"]),
+    ("ten times the text, set", [*SET, "20 MB"], 30, [*SET, "2 MB"]),
+    ("ten times the fonts", CHECK + [DEMO] * 2000, 30, CHECK + [DEMO] * 200),
+    ("lines of 65,000 bytes, stream", [*STREAM, "long"], 4, [*STREAM, "usual"]),
+    ("lines of 65,000 bytes, set", [*SET, "long"], 4, [*SET, "usual"]),
+    *((f"a limit of 100, operation {op}", [*LIMITED, path_of(f"endless_{op}"), "aa"], 20,
+       [*LIMITED, path_of("plain"), "aa"]) for op in (1, 2, 3, 7)),
+    *((f"the plain program, {name}", [*STREAM, name], 20, ["plain", name]) for name in ("20 MB", "short")),
+]
+
+
+def named(words):
+    """A command with the paths of its texts and of the plain program."""
+    def path(word):
+        if word == "plain":
+            source = ROOT + "/checks/lib/plain.c"
+            return shared(word, lambda made: output("cc", "-O2", "-o", made, source))
+        return shared("text " + word, lambda made: write(made, TEXTS[word])) if word in TEXTS else word
+    return list(map(path, words))
+
+
+def limited(what, most):
+    """A function that limits a resource of a new process."""
+    return lambda: resource.setrlimit(what, (most, most))
+
+
+def seconds(words):
+    """The processor time of a command, the least of several executions. It is ended if it takes too long."""
+    times, how = [], {"stdout": subprocess.DEVNULL, "preexec_fn": limited(resource.RLIMIT_CPU, SECONDS)}
+    for _ in range(TIMES):
+        with subprocess.Popen(named(words), **how) as child:
+            _, child.returncode, used = os.wait4(child.pid, 0)
+        if child.returncode not in (0, 256):
+            raise AssertionError(f"{words[:2]} ended with wait status {child.returncode}")
+        times.append(used.ru_utime + used.ru_stime)
+    return max(min(times), 0.001)
+
+
+class Times(Case):
+    """Processor time"""
+
+    @rows(RATIOS)
+    def test(self, command, most, other):
+        """A command takes less than `most` times the processor time of another one.
+
+        Mutants: all earlier records are visited for each record; the rest of a line is read for each word;
+        steps beyond the limit are taken; the texts of a font are made for each record.
+        """
+        self.need(*["cc"] * ("plain" in other))
+        took, little = seconds(command), seconds(other)
+        print(f"{took:.3f} s, {took / little:.1f} times {little:.3f} s; less than {most} times is right")
+        self.assertLess(took, most * little)
+
+
+class LibraryTimes(LibraryCase):
+    """Processor time of the library"""
+
+    def time(self, name, given):
+        """The processor time of a call for all lines of a text, the least of several."""
+        code = ("import sys, time, tfmset; font, text = (open(path, 'rb').read() for path in sys.argv[1:]);"
+                f"begin = time.process_time(); tfmset.Font(font).{name}(text);"
+                "print(time.process_time() - begin)")
+        command = named([sys.executable, "-B", "-c", code, DEMO, given])
+        return min(float(self.output(*command)) for _ in range(TIMES))
+
+    @rows((name, name) for name in ("widths", "records"))
+    def test_call(self, name):
+        """A call takes less than 12 times the time of the plain program. Mutant: a table for each line."""
+        for given in ("2 MB", "short", "long"):
+            took, little = self.time(name, given), seconds(["plain", given])
+            print(f"{name}, {given}: {took:.3f} s, {took / little:.1f} times {little:.3f} s")
+            self.assertLess(took, 12 * little)
+        self.assertLess(self.time(name, "20 MB"), 30 * self.time(name, "2 MB"))
+
+
+class Amounts(Case):
+    """Writes and address space"""
+
+    @rows((words[1], words, most) for words, most in (
+        ([*STREAM, "20 MB"], PIECE.count(b"\n") * 5), ([*SET, "20 MB"], 5000),
+        ([PROGRAM, "list", "--all", DEMO], 10)))
+    def test_writes(self, words, most):
+        """A socket that keeps the boundaries of messages counts the writes. Mutant: one for each record."""
+        ours, theirs = socket.socketpair(socket.AF_UNIX, socket.SOCK_SEQPACKET)
+        with ours, theirs, subprocess.Popen(named(words), stdout=theirs) as child:
+            theirs.close()
+            ours.settimeout(SECONDS)
+            writes = sum(1 for _ in iter(lambda: ours.recv(MB), b""))
+        print(f"{words[1]}: {writes} writes")
+        self.same("exit status, and few writes", (0, True), (child.returncode, writes < most))
+
+    @rows((f"{words[1]}, {most} MB", words, most) for words, most in (
+        ([*STREAM, "2 MB"], 200), ([*SET, "2 MB"], 250), ([*SET, "20 MB"], 900), (CHECK + [DEMO] * 2000, 64),
+        ([PROGRAM, "list", "--all", DEMO], 64), ([PROGRAM, "counts", DEMO], 64)))
+    def test_address_space(self, words, most):
+        """A command succeeds in so much address space. Mutant: 200 MB are requested for each font."""
+        how = {"stdout": subprocess.DEVNULL, "stderr": subprocess.PIPE, "timeout": SECONDS, "check": False}
+        ran = subprocess.run(named(words), preexec_fn=limited(resource.RLIMIT_AS, most * MB), **how)
+        self.same(words[1], (0, b""), (ran.returncode, ran.stderr))
