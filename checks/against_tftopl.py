@@ -1,16 +1,17 @@
-"""`tfmset list` and `tftopl` for the same fonts, number by number, and which fonts both refuse.
+"""`tfmset list`, `tfmset pairs` and `tftopl` for the same fonts, number by number, and which both refuse.
 
 For each font of the TeX trees the check sum, the design size, the strings, flag and face of the header, and
 both boundaries are compared; for each character its dimensions and its tag, with the pieces of its extensible
-recipe; each instruction in order, with its skip or stop; the program of each character as a search visits it;
-and each parameter. tftopl prints a multiple of 2^-20 with enough decimals to read it back exactly. Then each
-byte of the first words, and of the first entries of the tables, of some fonts is changed. A table relates
-each message of tftopl to font errors, or gives the reason why the font is accepted here.
+recipe; each instruction in order, with its skip or stop; the program of each character as a search visits it,
+and the pairs that `tfmset pairs` prints for the character; and each parameter. tftopl prints a multiple of
+2^-20 with enough decimals to read it back exactly. Then each byte of the first words, and of the first
+entries of the tables, of some fonts is changed. A table relates each message of tftopl to font errors, or
+gives the reason why the font is accepted here.
 """
 import os
 import re
 
-from lib.base import PROGRAM, Case, execute, rows, table
+from lib.base import PROGRAM, Case, execute, output, rows, table
 from lib.tex import fonts
 from lib.tfm import Font, Listing, scaled
 
@@ -181,6 +182,20 @@ class Comparison:
                   {name: i for name, i in self.theirs.labels.items() if name in labels or name not in starts})
 
 
+    def pairs(self):
+        """The lines of `tfmset pairs`: the first instruction for each code, in the programs of tftopl."""
+        head, chains = self.theirs.head, self.theirs.chains
+        right = code_of(head["BOUNDARYCHAR"]) if "BOUNDARYCHAR" in head else None
+        # tftopl prints no program of the left boundary by itself; `instructions` compares its beginning.
+        left = [self.program[i][1:] for i in self.font.chain(self.font.left)]
+        for name, chain in [("left", left), *((code, chains[code]) for code in sorted(chains))]:
+            acts = dict(reversed(chain))
+            for code, word in [*((code, code) for code in sorted(self.theirs.chars)), (right, "right")]:
+                if code in acts:
+                    action, value = acts[code] if name == "left" else self.sized(acts[code])
+                    yield f"{name} {word} {action.replace('KRN', 'kern')} {value}"
+
+
 def reached(font):
     """The addresses at which programs begin, and all instructions that a program comes to."""
     starts = font.starts(every=True) | ({"BOUNDARYCHAR": font.left} if font.left is not None else {})
@@ -254,7 +269,9 @@ class Fonts(Case):
             if ours[0] or theirs[0]:
                 self.same(path, (3, 1), (ours[0], theirs[0]))
                 continue
-            self.none([f"{path}: {wrong}" for wrong in Comparison(content, ours[1], theirs[1]).wrong[:3]])
+            compare = Comparison(content, ours[1], theirs[1])
+            self.none([f"{path}: {wrong}" for wrong in compare.wrong[:3]])
+            self.same(f"{path}: pairs", list(compare.pairs()), output(PROGRAM, "pairs", path).splitlines())
             compared += 1
         self.none([], compared, 10)
 

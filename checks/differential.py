@@ -1,8 +1,8 @@
 """Random fonts and texts, compared with the slow programs of lib/slow.py.
 
-Counts, listings, findings of `check`, and the records of `set`, `each` and `stream` in all formats, with their
-exit statuses. The seed is fixed. With `checks/run --minutes N` it is a new one, which is printed, and
-`--seed SEED` repeats a round that failed. A failure becomes a case of checks/cases.
+Counts, listings, pairs, findings of `check`, and the records of `set`, `each` and `stream` in all formats,
+with their exit statuses. The seed is fixed. With `checks/run --minutes N` it is a new one, which is printed,
+and `--seed SEED` repeats a round that failed. A failure becomes a case of checks/cases.
 """
 import os
 import random
@@ -57,6 +57,7 @@ class Round:
         font = self.fonts[0]
         for words, error, text in ((["counts", "-"], slow.count_error, slow.counts_text),
                                    (["list", "A"], slow.font_error, slow.list_text),
+                                   (["pairs", "A"], slow.font_error, slow.pairs_text),
                                    (["list", "--all", "A"], slow.font_error, lambda font: slow.list_text(font, True))):
             wrong = error(font)
             self.compare((3, "", f"tfmset: font refused: {wrong}\n") if wrong else (0, text(font), ""), *words, given=font)

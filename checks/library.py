@@ -9,15 +9,31 @@ import sys
 import venv
 
 from lib.base import DEMO, PROGRAM, ROOT, environment, execute, output, read, rows, shared, write
-from lib.clib import (DONE, PARAMETERS, RANGE, REFUSED, U32, WARNINGS, About, Fault, LibraryCase, Metrics,
-                      Pair, call, loaded, values)
-from lib.tfm import BOUNDARY, LISTED, Font, Listing, sample, samples
+from lib.clib import (DONE, NO_ROOM, PARAMETERS, RANGE, REFUSED, U32, WARNINGS, About, Fault, LibraryCase,
+                      Metrics, Neighbours, Pair, call, loaded, values)
+from lib.tfm import BOUNDARY, LISTED, Font, Listing, path_of, sample, samples
 
 WEIGHT = 6
 NINES = (9,) * 7
 TAGS = {"none": 0, "lig": 1, "list": 2, "ext": 3}
 # Functions of the toolchain. The first three allocate the library's memory.
 HELPERS = ["rattle_" + name for name in "alloc realloc dealloc arg env errno spawn".split()]
+# Prints the pairs of the font on standard input, with the names of the fields in the header.
+PAIRS = """
+#include <stdio.h>
+#include <tfmset.h>
+static struct tfmset_neighbours all[66049];
+int main(void)
+{
+    static uint8_t font[131068];
+    size_t i, count = 0, length = fread(font, 1, sizeof font, stdin);
+    unsigned code = tfmset_pairs(font, length, 0, all, 66049, &count);
+    for (i = 0; i < count; i++)
+        printf("%u %u %u %d %u %u %u %u\\n", all[i].left, all[i].right, all[i].pair.action, all[i].pair.kern,
+               all[i].pair.code, all[i].pair.keep_left, all[i].pair.keep_right, all[i].pair.pass);
+    return (int)code;
+}
+"""
 
 
 def listing(data):
@@ -77,6 +93,23 @@ class Functions(LibraryCase):
             status, pair = self.call("pair", data, 0, left, right, result=Pair())
             wanted = between(font, listed.kerns, left, right)
             self.same(f"{left} and {right}", (DONE, wanted), (status, values(pair)))
+        self.pairs(data, [(left, right, between(font, listed.kerns, left, right))
+                          for left in (BOUNDARY, *listed.chars) for right in codes if font.act(left, right)])
+
+    def pairs(self, data, wanted):
+        """All pairs in arrays that have more room, just enough, and too little; nothing else is written."""
+        for room in {len(wanted) + 2, len(wanted), max(len(wanted) - 1, 0)}:
+            count, array = ctypes.c_size_t(9), (Neighbours * (room + 1))()
+            ctypes.memset(array, 9, ctypes.sizeof(array))
+            before = bytes(array)
+            status = loaded(self.prefix).tfmset_pairs(data, len(data), 0, array, room, ctypes.byref(count))
+            self.same(f"room for {room}", (DONE if room >= len(wanted) else NO_ROOM, len(wanted)),
+                      (status, count.value))
+            filled = len(wanted) if status == DONE else 0
+            self.same(f"room for {room}: pairs", wanted[:filled],
+                      [(each.left, each.right, values(each.pair)) for each in array[:filled]])
+            size = filled * ctypes.sizeof(Neighbours)
+            self.same(f"room for {room}: the rest", before[size:], bytes(array)[size:])
 
     def call(self, *arguments, **result):
         return call(self.prefix, *arguments, **result)
@@ -90,6 +123,14 @@ class Functions(LibraryCase):
             self.same(f"{length} bytes", (REFUSED, listing(data[:length])), (status, fault.number))
             status, metrics = self.call("metrics", data[:length], 0, 97, result=Metrics(*NINES))
             self.same(f"{length} bytes: struct", (REFUSED, NINES), (status, values(metrics)))
+            self.no_pairs(data[:length], 0, REFUSED)
+
+    def no_pairs(self, data, size, wanted):
+        """`tfmset_pairs` returns a code, and writes nothing."""
+        count, array = ctypes.c_size_t(9), (Neighbours * 1)()
+        status = loaded(self.prefix).tfmset_pairs(data, len(data), size, array, 1, ctypes.byref(count))
+        self.same(f"pairs of {len(data)} bytes", (wanted, 9, bytes(ctypes.sizeof(array))),
+                  (status, count.value, bytes(array)))
 
     def test_version_and_size(self):
         library, numbers = loaded(self.prefix), output(PROGRAM, "--version").split()[1].split(".")
@@ -100,6 +141,7 @@ class Functions(LibraryCase):
         policies = re.findall(r"^#define TFMSET_(?:REFUSE|SKIP) (\d)u$", header, re.M)
         self.same("policies, which library_lines passes as numbers", ["0", "1"], policies)
         self.same("a size too large", RANGE, self.call("check", b"", 1 << 27, result=Fault())[0])
+        self.no_pairs(b"", 1 << 27, RANGE)
 
     def test_size_of_a_text(self):
         """A text is read up to its length. After code 4 the size is unchanged."""
@@ -152,9 +194,14 @@ class Linking(LibraryCase):
             out = self.built("examples/library/widths.c", "cc", "-std=c99", link=link)
             self.same(kind, f"box {sum(found[ord(c)][1] for c in 'box')}\n", self.output(out, DEMO, "box"))
 
+    def test_pairs_in_c(self):
+        out = self.built(self.file("pairs.c", PAIRS), "cc", "-std=c99")
+        self.same("pairs", "97 98 1 -40960 0 0 0 0\n97 256 2 0 98 1 0 0\n98 256 1 20480 0 0 0 0\n",
+                  self.output(out, given=path_of("right_boundary")))
+
     def test_the_libraries_define_the_functions_of_the_header_only(self):
         functions = sorted(re.findall(r"^uint32_t (\w+)\(", read(self.prefix + "/include/tfmset.h"), re.M))
-        self.same("functions", 9, len(functions))
+        self.same("functions", 10, len(functions))
         for file, option in (("libtfmset.a", "-g"), ("libtfmset.so", "-D")):
             lines = output("nm", option, "--defined-only", os.path.join(self.lib, file)).splitlines()
             self.same(file, functions, sorted(line.split()[2] for line in lines if len(line.split()) == 3))

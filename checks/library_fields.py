@@ -16,8 +16,8 @@ from library import between
 from library_lines import LinesCase
 
 WEIGHT = 5
-STRUCTS = {"_Fault": "fault", "_About": "font", "_Metrics": "metrics", "_Pair": "pair", "_Counts": "counts",
-           "_Line": "line", "Item": "item"}
+STRUCTS = {"_Fault": "fault", "_About": "font", "_Metrics": "metrics", "_Pair": "pair",
+           "_Neighbours": "neighbours", "_Counts": "counts", "_Line": "line", "Item": "item"}
 PARAMETERS = "slant space stretch shrink x_height quad extra_space".split()
 TABLES = "header char_info width height depth italic lig_kern kern exten param".split()
 NAMED = {2: NAMES, **dict.fromkeys((5, 10, 12, 13), TABLES), 14: "restart next ligature kern skip".split()}
@@ -31,6 +31,7 @@ OFFSETS = """#include <stddef.h>
 #include <tfmset.h>
 #define F(s, f) { struct tfmset_##s it; it.f = 0; it.f--; printf(#s " " #f " %zu %zu %d\\n", \\
     offsetof(struct tfmset_##s, f), sizeof it.f, (double)it.f < 0); }
+#define S(s, f) printf(#s " " #f " %zu %zu 0\\n", offsetof(struct tfmset_##s, f), sizeof(struct tfmset_##f));
 int main(void) { FIELDS return 0; }
 """
 
@@ -101,15 +102,16 @@ class Fields(LinesCase):
     def test_fields(self):
         """The fields of the header have the order, the offsets and the types of those of the module."""
         structs = re.findall(r"^struct tfmset_(\w+) \{(.*?)^\};", self.header, re.M | re.S)
-        fields = "".join(f"F({name}, {field}) " for name, body in structs
-                         for field in re.findall(r"(\w+)\s*[,;]", body))
+        fields = "".join(f"{'S' if kind else 'F'}({name}, {field}) " for name, body in structs
+                         for kind, field in re.findall(r"(struct tfmset_\w+ )?(\w+)\s*[,;]", body))
         source = self.file("offsets.c", OFFSETS.replace("FIELDS", fields))
         seen, wanted = self.output(self.built(source, "cc", "-std=c99")).splitlines(), []
         for name, title in STRUCTS.items():
             for field, kind in getattr(self.tfmset, name)._fields_:
                 place = getattr(getattr(self.tfmset, name), field)
                 field = "pass" if field == "passed" else field  # `pass` is a word of Python.
-                wanted.append(f"{title} {field} {place.offset} {place.size} {int(kind(-1).value < 0)}")
+                sign = 0 if issubclass(kind, ctypes.Structure) else int(kind(-1).value < 0)
+                wanted.append(f"{title} {field} {place.offset} {place.size} {sign}")
         self.same("fields", sorted(wanted), sorted(seen))
 
     def test_constants(self):

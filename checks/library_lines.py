@@ -20,7 +20,7 @@ from lib.base import DEMO, EXAMPLES, PROGRAM, ROOT, environment, execute, output
 from lib.clib import BINDINGS, DONE, RANGE, REFUSED, SIZE, U32, U64, WARNINGS, LibraryCase
 from lib.docs import font_errors, text_of, worked_examples
 from lib.tex import fonts
-from lib.tfm import LISTED, sample
+from lib.tfm import LISTED, make, sample
 
 WEIGHT = 5
 CASES = table("library_lines")
@@ -179,7 +179,7 @@ class Records(LinesCase):
     def test_failed_allocations_and_threads_in_c(self):
         errors = self.in_c(Job("demo.tfm", read("examples/demo.txt", "rb"), missing="skip"), "more")
         counts = [int(field) for field in errors.split() if field.isdigit()]
-        self.same("failed allocations", (14, True, 1), (len(counts), all(counts), errors.count("\n")))
+        self.same("failed allocations", (16, True, 1), (len(counts), all(counts), errors.count("\n")))
         print(f"allocations that failed: {sum(counts)}")
 
     @rows((kinds, kinds) for kinds in ("address,undefined", "thread"))
@@ -260,6 +260,20 @@ class Module(LinesCase):
         wanted = self.tfmset.Ligature(99, bool(op // 2 % 2), bool(op % 2), op // 4)
         self.same("pair", wanted, self.tfmset.Font(sample(f"ligature_{op}")).pair(97, 98))
 
+    def test_pairs(self):
+        """All pairs of a font are those for which `pair` returns an action, also if there are many."""
+        program = [(0, code, 128, 0) for code in range(255)] + [(128, 255, 1, 7)]
+        infos = [(1, 0, int(code < 20), 0) for code in range(256)]
+        many = make(infos, (0, 65536), program, (32768,), first=0)
+        for data in (sample("demo"), sample("left_boundary"), sample("plain"), many):
+            font = self.tfmset.Font(data)
+            codes = [code for code in range(256) if font.metrics(code)]
+            lefts, rights = [self.tfmset.BOUNDARY, *codes], [*codes, self.tfmset.BOUNDARY]
+            if data == many:
+                lefts, rights = range(20), codes  # the other ones have no program
+            found = [(left, right, font.pair(left, right)) for left in lefts for right in rights]
+            self.same("pairs", [row for row in found if row[2]], font.pairs())
+
     def test_records_of_2_gib_and_more(self):
         # The stand-in reports many bytes. The array of the module has only 80, and all must be returned.
         font, real = self.tfmset.Font.from_file(DEMO), self.tfmset._library
@@ -271,7 +285,7 @@ class Module(LinesCase):
     def test_a_failed_allocation(self):
         source = "unsigned tfmset_version(void) { return 1000; }\n" + "".join(
             f"unsigned tfmset_{name}(void) {{ return 2; }}\n"
-            for name in ("size", "check", "font", "metrics", "pair", "set", "widths", "records"))
+            for name in ("size", "check", "font", "metrics", "pair", "pairs", "set", "widths", "records"))
         out = os.path.join(self.room, "out_of_memory.so")
         output("cc", "-shared", "-fPIC", "-x", "c", "-", "-o", out, given=source.encode())
         seen = execute(sys.executable, "-B", "-c", 'import tfmset; tfmset.Font(b"")',

@@ -64,7 +64,8 @@ class Help(Case):
     def compare_values(self, command, option, about):
         """The range, the units or the choices are those that the parser prints for the value 0. Ranges, except
         that of a size, and choices are in the help, too."""
-        message = execute(PROGRAM, command, f"--{option['name']}", "0", "x", "x", "x")[2]
+        files = ["x"] * (1 if command == "pairs" else 3)
+        message = execute(PROGRAM, command, f"--{option['name']}", "0", *files)[2]
         if "units" in option:
             low, high = option["range"]
             units = ", ".join(option["units"][:-1]) + " or " + option["units"][-1]

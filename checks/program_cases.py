@@ -9,8 +9,8 @@ import unicodedata
 from lib.base import PROGRAM, ROOT, Case, bash, execute, read, rows, table, write
 from lib.tfm import sample
 
-GROUPS = "counts list check unread_fonts unread_files set stream before_a_stream each".split()
-COMMANDS = ("counts", "list", "check", "set", "each", "stream")
+GROUPS = "counts list pairs check unread_fonts unread_files set stream before_a_stream each".split()
+COMMANDS = ("counts", "list", "pairs", "check", "set", "each", "stream")
 HELP = os.path.join(ROOT, "checks", "help")
 
 

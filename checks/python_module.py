@@ -78,7 +78,7 @@ class Module(LibraryCase):
 class Version(LibraryCase):
     """The version of the library"""
 
-    names = ("size", "check", "font", "metrics", "pair", "set", "widths", "records")
+    names = ("size", "check", "font", "metrics", "pair", "pairs", "set", "widths", "records")
 
     def imported(self, number):
         """Imports the module with a library that has this version, and returns what Python prints."""

@@ -2,7 +2,7 @@
 # scripts/command_pages writes a part of this file. checks/packaging.py tests the completions in bash.
 
 # begin generated: table, from scripts/commands.toml
-_tfmset_commands='counts list check set each stream help'
+_tfmset_commands='counts list pairs check set each stream help'
 
 # Sets `options` to the options of a subcommand, or to those of the program if there is none.
 _tfmset_options() {
@@ -10,6 +10,7 @@ _tfmset_options() {
         '') options='-h --help -V --version' ;;
         counts) options='-h --help' ;;
         list) options='--all -h --help' ;;
+        pairs) options='--size --format -h --help' ;;
         check) options='--size -h --help' ;;
         set) options='--size --limit --missing --workers --capacity --block --record -h --help' ;;
         each) options='--size --missing --workers --capacity --block --record -h --help' ;;
@@ -24,6 +25,7 @@ _tfmset_values() {
     values=''
     case $1 in
         --size) values='' ;;
+        --format) values='text csv json' ;;
         --limit) values='' ;;
         --missing) values='refuse skip' ;;
         --workers) values='1 2 3 4 5 6 7 8 9 10 11 12 13 14 15 16' ;;
@@ -95,7 +97,7 @@ _tfmset() {
     fi
 
     case ${COMP_WORDS[1]} in
-        counts | list) ((count > 0)) || _tfmset_font "$word" ;;
+        counts | list | pairs) ((count > 0)) || _tfmset_font "$word" ;;
         check) _tfmset_font "$word" ;;
         set | stream) if ((count == 0)); then _tfmset_font "$word"; else _tfmset_file; fi ;;
         each)

@@ -47,7 +47,7 @@ function __tfmset_wants
     else if __tfmset_is check
         test $argv[1] = font
     else if test $count -eq 0
-        test $argv[1] = font; and __tfmset_is counts list set stream
+        test $argv[1] = font; and __tfmset_is counts list pairs set stream
     else
         test $argv[1] = file; and __tfmset_is set stream
     end
@@ -59,21 +59,23 @@ complete -c tfmset -n __tfmset_none -s h -l help -d 'Print help'
 complete -c tfmset -n __tfmset_none -s V -l version -d 'Print the version'
 complete -c tfmset -n __tfmset_none -a counts -d 'Print the twelve counts and the design size of a font'
 complete -c tfmset -n __tfmset_none -a list -d 'Print the contents of a font'
+complete -c tfmset -n __tfmset_none -a pairs -d 'Print the pairs of a font that have a kern or a ligature'
 complete -c tfmset -n __tfmset_none -a check -d 'Check whether fonts are accepted'
 complete -c tfmset -n __tfmset_none -a set -d 'Set the lines of files with a font'
 complete -c tfmset -n __tfmset_none -a each -d 'Set the lines of files, each with its own font and step limit'
 complete -c tfmset -n __tfmset_none -a stream -d 'Set lines, and print each record as soon as it is ready'
 complete -c tfmset -n __tfmset_none -a help -d 'Print help'
 complete -c tfmset -n '__tfmset_is list' -l all -d 'Also print the counts, the extensible recipes and all words'
-complete -c tfmset -n '__tfmset_is check set each stream' -l size -x -d 'Font size, such as 12pt, or in scaled points, 1 to 134217727'
+complete -c tfmset -n '__tfmset_is pairs check set each stream' -l size -x -d 'Font size, such as 12pt, or in scaled points, 1 to 134217727'
+complete -c tfmset -n '__tfmset_is pairs' -l format -x -a 'text csv json' -d 'Output format'
 complete -c tfmset -n '__tfmset_is set stream' -l limit -x -d 'Maximum steps per line, 1 to 16777216'
 complete -c tfmset -n '__tfmset_is set each stream' -l missing -x -a 'refuse skip' -d 'On a missing character'
 complete -c tfmset -n '__tfmset_is set each stream' -l workers -x -a '(seq 1 16)' -d 'Maximum threads that set lines'
 complete -c tfmset -n '__tfmset_is set each stream' -l capacity -x -d 'Slots per queue between threads, 1 to 65536'
 complete -c tfmset -n '__tfmset_is set each stream' -l block -x -a '(seq 1 8)' -d 'Lines per message between threads'
 complete -c tfmset -n '__tfmset_is set each stream' -l record -x -a '1 2 json' -d 'Record format'
-complete -c tfmset -n '__tfmset_is counts list check set each stream' -s h -l help -d 'Print help'
-complete -c tfmset -n '__tfmset_is help; and test (__tfmset_count) -eq 0' -a 'counts list check set each stream help'
+complete -c tfmset -n '__tfmset_is counts list pairs check set each stream' -s h -l help -d 'Print help'
+complete -c tfmset -n '__tfmset_is help; and test (__tfmset_count) -eq 0' -a 'counts list pairs check set each stream help'
 
 # Prints the options that have no value.
 function __tfmset_flags

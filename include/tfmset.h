@@ -9,6 +9,7 @@
  *     tfmset_font      returns the sizes, boundaries and parameters of a font
  *     tfmset_metrics   returns the dimensions and the tag of a character
  *     tfmset_pair      returns the kern or the ligature operation between two characters
+ *     tfmset_pairs     returns all pairs of characters that have a kern or a ligature operation
  *     tfmset_set       sets the lines of a text: their widths and their items
  *     tfmset_widths    sets the lines of a text: their widths
  *     tfmset_records   sets the lines of a text: their records, as the program prints them
@@ -50,7 +51,8 @@
  *     tfmset_check                                  after TFMSET_FONT_REFUSED
  *     tfmset_size                                   after TFMSET_DONE
  *     tfmset_font, tfmset_metrics, tfmset_pair      after TFMSET_DONE
- *     tfmset_set, tfmset_widths, tfmset_records     after TFMSET_DONE and TFMSET_NO_ROOM
+ *     tfmset_pairs, tfmset_set, tfmset_widths,
+ *     tfmset_records                                after TFMSET_DONE and TFMSET_NO_ROOM
  *
  * C++: the structs tfmset_font, tfmset_metrics and tfmset_pair have the names of functions. C++ therefore
  * needs the keyword, as C does: `struct tfmset_font about;`.
@@ -76,7 +78,7 @@ extern "C" {
 /* An allocation failed. Arrays may have been written to, and their contents are unspecified. */
 #define TFMSET_OUT_OF_MEMORY 2u
 /* An array is too short. The last argument contains the lengths that are needed, and the contents of the
- * arrays are unspecified. */
+ * arrays are unspecified, except with tfmset_pairs, which leaves its array unchanged. */
 #define TFMSET_NO_ROOM 3u
 /* A number is out of its range, or a text isn't a size. No font was read. */
 #define TFMSET_OUT_OF_RANGE 4u
@@ -199,6 +201,26 @@ struct tfmset_pair {
 uint32_t tfmset_pair(const uint8_t *font, size_t font_length, uint32_t size, uint32_t left, uint32_t right,
                      struct tfmset_pair *pair);
 
+/* Two neighbours, and the action between them. */
+struct tfmset_neighbours {
+    /* Codes from 0 to 255, or TFMSET_BOUNDARY: in `left` the left boundary, in `right` the right boundary. */
+    uint32_t left, right;
+    /* The action, which is 1 or 2. */
+    struct tfmset_pair pair;
+};
+
+/* Reports all pairs of neighbours that have an action, in the array `pairs`, which has `pairs_length`
+ * elements. A neighbour is a character of the font or a boundary. The pairs are in the order of `left`, where
+ * the left boundary comes first, and then of `right`, where the right boundary comes last. 66,049 elements
+ * are always enough.
+ *
+ * After TFMSET_DONE `count` is the number of pairs, and the other elements of the array are unchanged. After
+ * TFMSET_NO_ROOM `count` is the length that is needed. After every return value except TFMSET_DONE the array
+ * is unchanged. Other return values: TFMSET_FONT_REFUSED, TFMSET_OUT_OF_RANGE if `size` is out of range,
+ * TFMSET_OUT_OF_MEMORY. */
+uint32_t tfmset_pairs(const uint8_t *font, size_t font_length, uint32_t size, struct tfmset_neighbours *pairs,
+                      size_t pairs_length, size_t *count);
+
 /* The missing-character policies. A missing character is a byte of a line that is neither a space (32) nor
  * a character of the font. TFMSET_REFUSE refuses the line. TFMSET_SKIP skips the byte, which is then an
  * item of kind TFMSET_SKIPPED. */
@@ -312,6 +334,7 @@ TFMSET_LAYOUT(tfmset_fault, 16, named, 12);
 TFMSET_LAYOUT(tfmset_font, 72, extra_space, 68);
 TFMSET_LAYOUT(tfmset_metrics, 28, remainder, 24);
 TFMSET_LAYOUT(tfmset_pair, 24, pass, 20);
+TFMSET_LAYOUT(tfmset_neighbours, 32, pair, 8);
 TFMSET_LAYOUT(tfmset_item, 12, width, 8);
 TFMSET_LAYOUT(tfmset_line, 48, code, 40);
 TFMSET_LAYOUT(tfmset_counts, 16, items, 8);

@@ -18,7 +18,7 @@ are in scaled points (sp); 65,536 sp are one TeX point, and 72.27 TeX points are
     [1468004, 1025637]
 
 `POINT` is the number of sp in a point. `CHARACTER`, `KERN`, `SPACE` and `SKIPPED` are the kinds of items.
-`BOUNDARY` stands for a boundary in `Font.pair`.
+`BOUNDARY` stands for a boundary in `Font.pair` and `Font.pairs`.
 
 On import the module loads the library from the first of these locations that has one:
 
@@ -57,7 +57,7 @@ CHARACTER, KERN, SPACE, SKIPPED = range(4)
 """The kinds of items: a character, a kern, a space, and a missing character that was skipped."""
 
 BOUNDARY = 256
-"""In `Font.pair`: the left boundary as the left argument, the right boundary as the right argument."""
+"""In `Font.pair` and `Font.pairs`: the left boundary on the left, the right boundary on the right."""
 
 Size = Union[None, int, str]
 Text = Union[bytes, bytearray, memoryview]
@@ -86,6 +86,10 @@ class _Metrics(ctypes.Structure):
 class _Pair(ctypes.Structure):
     _fields_ = [("action", _u32), ("kern", _i32), ("code", _u32), ("keep_left", _u32), ("keep_right", _u32),
                 ("passed", _u32)]
+
+
+class _Neighbours(ctypes.Structure):
+    _fields_ = [("left", _u32), ("right", _u32), ("pair", _Pair)]
 
 
 class _Line(ctypes.Structure):
@@ -141,6 +145,7 @@ def _load() -> ctypes.CDLL:
         "font": font + out,
         "metrics": font + [_u32] + out,
         "pair": font + [_u32, _u32] + out,
+        "pairs": font + array + out,
         "set": font + settings + text + array + array + out,
         "widths": font + settings + text + array + out,
         "records": font + settings + text + [_u32, _u64, _u64] + array + out,
@@ -261,6 +266,15 @@ class Ligature(NamedTuple):
     keep_left: bool
     keep_right: bool
     passed: int
+
+
+Action = Union[Kern, Ligature]
+
+
+def _action(pair: _Pair) -> Action:
+    if pair.action == 1:
+        return Kern(pair.kern)
+    return Ligature(pair.code, bool(pair.keep_left), bool(pair.keep_right), pair.passed)
 
 
 class Refusal(NamedTuple):
@@ -517,11 +531,27 @@ class Font:
         pair = _Pair()
         left, right = _number("left", left, 0, BOUNDARY), _number("right", right, 0, BOUNDARY)
         self._raise(_library.tfmset_pair(*self._font, left, right, ctypes.byref(pair)))
-        if pair.action == 1:
-            return Kern(pair.kern)
-        if pair.action == 2:
-            return Ligature(pair.code, bool(pair.keep_left), bool(pair.keep_right), pair.passed)
-        return None
+        return _action(pair) if pair.action else None
+
+    def pairs(self) -> List[Tuple[int, int, Action]]:
+        """Returns all pairs of neighbours that have a kern or a ligature operation, each with its action.
+
+        A neighbour is the code of a character of the font, or BOUNDARY. The pairs are in the order of the
+        left neighbour, where the left boundary comes first, and then of the right one, where the right
+        boundary comes last.
+
+        >>> font = Font.from_file("examples/demo.tfm")
+        >>> font.pairs()[1]
+        (11, 256, Kern(width=19660))
+        """
+        room, count = 4096, _size_t()
+        while True:
+            array = (_Neighbours * room)()
+            code = _library.tfmset_pairs(*self._font, array, room, ctypes.byref(count))
+            if code != _NO_ROOM:
+                self._raise(code)
+                return [(each.left, each.right, _action(each.pair)) for each in array[:count.value]]
+            room = count.value
 
     def _call(self, text: Text, limit: int, missing: str) -> tuple:
         """Returns the first arguments of the functions that set lines."""

@@ -5,7 +5,7 @@ import os
 
 from lib.base import ROOT, Case, environment, output, read, shared
 
-DONE, REFUSED, RANGE = 0, 1, 4
+DONE, REFUSED, NO_ROOM, RANGE = 0, 1, 3, 4
 WARNINGS = ["-Wall", "-Wextra", "-Werror", "-pedantic"]
 BINDINGS = os.path.join(ROOT, "bindings", "python")
 SIZE, U32, I32, U64 = ctypes.c_size_t, ctypes.c_uint32, ctypes.c_int32, ctypes.c_uint64
@@ -23,6 +23,8 @@ About = struct((SIZE, "parameters kerns instructions"),
                (U32, "design_size size check_sum right_boundary left_boundary"), (I32, " ".join(PARAMETERS)))
 Metrics = struct((U32, "exists"), (I32, "width height depth italic"), (U32, "tag remainder"))
 Pair = struct((U32, "action"), (I32, "kern"), (U32, "code keep_left keep_right pass"))
+
+Neighbours = struct((U32, "left right"), (Pair, "pair"))
 
 
 def values(record):
@@ -47,6 +49,8 @@ def loaded(prefix):
         function = getattr(library, "tfmset_" + name)
         function.argtypes = [ctypes.c_char_p, SIZE] + [U32] * numbers + [ctypes.c_void_p]
         function.restype = U32
+    library.tfmset_pairs.argtypes = [ctypes.c_char_p, SIZE, U32, ctypes.c_void_p, SIZE, ctypes.c_void_p]
+    library.tfmset_pairs.restype = U32
     return library
 
 

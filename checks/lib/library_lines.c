@@ -395,12 +395,24 @@ static int pair_reports_failure(const struct expected *expected)
     return CALLED(pair, (font.bytes, font.length, size, 97, 98, &pair)) == TFMSET_OUT_OF_MEMORY;
 }
 
+static int pairs_reports_failure(const struct expected *expected)
+{
+    struct tfmset_neighbours pairs[1];
+    size_t count = 77;
+    uint32_t code = CALLED(pairs, (font.bytes, font.length, size, pairs, 1, &count));
+    (void)expected;
+    must(code != TFMSET_OUT_OF_MEMORY || count == 77, "pairs changes nothing, or has a result");
+    return code == TFMSET_OUT_OF_MEMORY;
+}
+
 static void check_memory(const struct expected *expected)
 {
     static int (*const calls[])(const struct expected *) = {
         set_reports_failure, widths_reports_failure, records_reports_failure, font_reports_failure,
-        check_reports_failure, metrics_reports_failure, pair_reports_failure};
+        check_reports_failure, metrics_reports_failure, pair_reports_failure, pairs_reports_failure};
+    uint32_t points = 0;
     size_t call;
+    must(CALLED(size, ((const uint8_t *)"12pt", 4, &points)) == TFMSET_DONE && points == 786432, "a size is read");
     for (call = 0; call < sizeof calls / sizeof *calls; call++) {
         for (all_fail = 0; all_fail < 2; all_fail++) {
             long turn, reported;

@@ -1,6 +1,7 @@
 """Slow programs that do what tfmset does, written from the pages of docs/ alone, and random fonts and texts.
 
-font_error follows docs/ERRORS.md, counts_text and list_text docs/TEXTS.md, and set_line docs/LIGATURES.md.
+font_error follows docs/ERRORS.md, counts_text, list_text and pair_rows docs/TEXTS.md, and set_line
+docs/LIGATURES.md.
 """
 import struct
 
@@ -197,6 +198,24 @@ def list_text(data, everything=False):
         words = (f"word {i} {data[4 * i:4 * i + 4].hex()}\n" for i in range(font.words))
         text = counts_text(data).rpartition("design")[0] + text + "".join(pieces) + "".join(words)
     return text
+
+
+def pair_rows(data, size):
+    """The fields of each pair that has an action, in order: left, right, action and value."""
+    font = Font(data)
+    kerns, codes = [scaled(fix, size) for fix in font.fixes("kern")], [(code, code) for code in font.codes]
+    for left, before in [("left", BOUNDARY), *codes]:
+        for right, after in [*codes, ("right", BOUNDARY)]:
+            op, rest = font.act(before, after) or (0, None)
+            if rest is not None:
+                yield [left, right, *(("kern", kerns[256 * (op - 128) + rest]) if op >= 128
+                                      else (OPERATIONS[op if op in LISTED else 0], rest))]
+
+
+def pairs_text(data):
+    """What `pairs` prints of a font without an error."""
+    size = struct.unpack(">i", data[28:32])[0] // 16
+    return "".join(" ".join(map(str, row)) + "\n" for row in pair_rows(data, size))
 
 
 # Lines.

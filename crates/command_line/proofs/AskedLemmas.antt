@@ -1,14 +1,16 @@
 -- The requests of arguments, from the clauses about a parse.
-use Rattle.std.proofs.Common.{◌≡◌, ◌∙◌, ap, true, List, Option, Some, None, refl, sym, subst}
+use Rattle.std.proofs.Common.{◌≡◌, ◌∙◌, ap, true, List, Option, Some, None, Bor, codes, refl, rules, sym, subst}
 use Rattle.std.proofs.lemmas.Option.{none-some, same_Some}
 use Rattle.std.specs.Prelude.{Result}
-use Rattle.clap.specs.Words.{App, FailsBy, HasMatchesOf, Text, fault_of, is_simple, is_simple_and_free, subcommand_of, subcommand_rows_of}
+use Rattle.clap.specs.Words.{App, FailsBy, HasMatchesOf, Row, Text, fault_of, first_of, is_simple, is_simple_and_free, subcommand_of, subcommand_rows_of}
 use Rattle.clap.specs.declared.error.Error.{Error}
 use Rattle.clap.specs.declared.error.kind.ErrorKind.{ErrorKind}
 use Rattle.clap.specs.declared.parser.matches.ArgMatches.{ArgMatches}
-use Rattle.command_line.specs.Asked.{Finds, IsAskedOf, IsAskedWith, kind_without_request}
+use Rattle.font_texts.specs.declared.pairs_format.PairsFormat.{PairsFormat}
+use Rattle.command_line.specs.Asked.{AsksFor, Finds, IsAskedOf, IsAskedWith, format_word, kind_without_request}
 use Rattle.command_line.specs.Commands.{AllChoices, tfmset_app}
 use Rattle.command_line.specs.declared.request.Request.{Request}
+use Rattle.command_line.specs.declared.request.Request.TheVariants.{Counts, List as ListFont, Pairs, Check, Set, Stream, Each}
 
 module _ (choices : AllChoices) where
   -- the clauses about a parse hold for this command
@@ -42,3 +44,23 @@ module _ (choices : AllChoices) where
     -- a parse fails with the first error of the arguments, and otherwise they have no error
     pub faults : {T : Type 0} (r : Result T Error) → (is_simple_and_free app ≡ true → FailsBy (fault_of app words) r) → FailsBy (fault_of (tfmset_app choices) words) r
     faults r fails = subst (λ a. is_simple_and_free a ≡ true → FailsBy (fault_of a words) r) is fails free
+
+-- the font and the format that the arguments of `pairs` have
+abbrev AreFontFormat : List Row → Bor Text × PairsFormat → Type 0
+AreFontFormat rows found = (first_of (codes "FONT") rows ≡ Some found.0.now) × (first_of (codes "format") rows ≡ Some (format_word found.1))
+
+-- `pairs` states no request without a font and a format
+no_pairs : (rows : List Row) → ((any : Bor Text × PairsFormat) → ¬ AreFontFormat rows any) → (any : Request) → ¬ AsksFor rows (codes "pairs") any
+no_pairs rows none (Pairs font size format) asks = none (font, format) (asks.1, asks.3)
+no_pairs rows none (Counts font) asks = let is = asks.0 in absurd (search rules)
+no_pairs rows none (ListFont font all) asks = let is = asks.0 in absurd (search rules)
+no_pairs rows none (Check asked) asks = let is = asks.0 in absurd (search rules)
+no_pairs rows none (Set asked) asks = let is = asks.0 in absurd (search rules)
+no_pairs rows none (Stream asked) asks = let is = asks.0 in absurd (search rules)
+no_pairs rows none (Each asked) asks = let is = asks.0 in absurd (search rules)
+
+pub pairs_none : (rows : List Row) (found : Option (Bor Text × PairsFormat)) (result : Option Request) → Finds (AreFontFormat rows) found → found ≡ None → result ≡ None
+    → Finds (AsksFor rows (codes "pairs")) result
+pairs_none rows found (Some request) finds none is = absurd (none-some request (sym is))
+pairs_none rows (Some pair) None finds none is = absurd (none-some pair (sym none))
+pairs_none rows None None finds none is = no_pairs rows finds

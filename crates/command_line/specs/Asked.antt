@@ -9,6 +9,8 @@ use Rattle.clap.specs.declared.error.Error.{Error}
 use Rattle.clap.specs.declared.error.kind.ErrorKind.{ErrorKind}
 use Rattle.clap.specs.declared.error.kind.ErrorKind.TheVariants.{MissingSubcommand, OutOfMemory, ValueValidation}
 use Rattle.tex_sizes.specs.Sizes.{is_plain, size_of}
+use Rattle.font_texts.specs.declared.pairs_format.PairsFormat.{PairsFormat}
+use Rattle.font_texts.specs.declared.pairs_format.PairsFormat.TheVariants.{Text as TextFormat, Csv, Json as JsonFormat}
 use Rattle.set_line.specs.declared.policy.Policy.{Policy}
 use Rattle.set_line.specs.declared.policy.Policy.TheVariants.{Refuse, Skip}
 use Rattle.set_line.specs.declared.version.Version.{Version}
@@ -19,7 +21,7 @@ use Rattle.command_line.specs.declared.request.Checking.{Checking}
 use Rattle.command_line.specs.declared.request.Jobs.{Jobs}
 use Rattle.command_line.specs.declared.request.Layout.{Layout}
 use Rattle.command_line.specs.declared.request.Request.{Request}
-use Rattle.command_line.specs.declared.request.Request.TheVariants.{Counts, List as ListFont, Check, Set, Stream, Each}
+use Rattle.command_line.specs.declared.request.Request.TheVariants.{Counts, List as ListFont, Pairs, Check, Set, Stream, Each}
 use Rattle.command_line.specs.declared.request.Setting.{Setting}
 
 -- a value that satisfies Fits, or None if no value does
@@ -51,6 +53,12 @@ abbrev pub version_word : Version → Text
 version_word One = codes "1"
 version_word Two = codes "2"
 version_word Json = codes "json"
+
+-- the value of `--format` for a format of pairs
+abbrev pub format_word : PairsFormat → Text
+format_word TextFormat = codes "text"
+format_word Csv = codes "csv"
+format_word JsonFormat = codes "json"
 
 -- a flag is set if its value is `true`, and isn't set if its value is `false` or it has none
 abbrev pub IsFlag : Option Text → Bool → Type 0
@@ -105,6 +113,11 @@ module _ (rows : List Row) where
   AsksFor name (Counts font) = (name ≡ codes "counts") × (first_of (codes "FONT") rows ≡ Some font.now)
   AsksFor name (ListFont font all) =
       (name ≡ codes "list") × (first_of (codes "FONT") rows ≡ Some font.now) × IsFlag (one_of (codes "all") rows) all
+  AsksFor name (Pairs font size format) =
+      (name ≡ codes "pairs")
+      × (first_of (codes "FONT") rows ≡ Some font.now)
+      × IsSize size
+      × (first_of (codes "format") rows ≡ Some (format_word format))
   AsksFor name (Check asked) = (name ≡ codes "check") × IsChecking asked
   AsksFor name (Set asked) = (name ≡ codes "set") × IsSetting asked
   AsksFor name (Stream asked) = (name ≡ codes "stream") × IsSetting asked

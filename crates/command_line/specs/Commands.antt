@@ -52,6 +52,10 @@ missing_words = codes "refuse" ∷ codes "skip" ∷ []
 abbrev pub record_words : List Text
 record_words = codes "1" ∷ codes "2" ∷ codes "json" ∷ []
 
+-- the values of `--format`
+abbrev pub format_words : List Text
+format_words = codes "text" ∷ codes "csv" ∷ codes "json" ∷ []
+
 -- the parsers of `--missing` and `--record`
 pub record Choices : Type 0 where
   pub missing : ValueParser
@@ -92,6 +96,12 @@ counts_shape = subcommand_with (codes "counts") (needed (new_rule (codes "FONT")
 abbrev pub list_shape : Shape
 list_shape = subcommand_with (codes "list") (flag_rule (codes "all") ∷ needed (new_rule (codes "FONT")) ∷ [])
 
+-- `pairs` takes `--size`, `--format` with this parser, and one font
+abbrev pub pairs_shape : ValueParser → Shape
+pairs_shape formats =
+    subcommand_with (codes "pairs")
+    (size_rule ∷ with_default (codes "text") (choice_rule (codes "format") formats) ∷ needed (new_rule (codes "FONT")) ∷ [])
+
 -- `check` takes `--size` and one or more fonts
 abbrev pub check_shape : Shape
 check_shape = subcommand_with (codes "check") (size_rule ∷ needed (words_rule (codes "FONT")) ∷ [])
@@ -127,16 +137,20 @@ bare_app = record {
 abbrev pub command_with : List Shape → App
 command_with shapes = record { top = record bare_app.top { is_leaf = false }; subs = shapes }
 
--- the parsers of `set`, `stream` and `each`
+-- the parsers of `pairs`, `set`, `stream` and `each`
 pub record AllChoices : Type 0 where
+  pub formats : ValueParser
+  pub formats_taken : TakesWords format_words formats
   pub set : Choices
   pub stream : Choices
   pub each : Choices
 
--- the whole command, with its six subcommands
+-- the whole command, with its seven subcommands
 abbrev pub tfmset_app : AllChoices → App
 tfmset_app choices =
-    command_with (counts_shape ∷ list_shape ∷ check_shape ∷ set_shape choices.set ∷ stream_shape choices.stream ∷ each_shape choices.each ∷ [])
+    command_with
+    (counts_shape ∷ list_shape ∷ pairs_shape choices.formats ∷ check_shape ∷ set_shape choices.set
+    ∷ stream_shape choices.stream ∷ each_shape choices.each ∷ [])
 
 -- ---- building the command
 

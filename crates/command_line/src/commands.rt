@@ -3,26 +3,28 @@ ghost use Rattle.std.specs.Prelude.{codes, IfOk, IsOkAnd};
 ghost use Rattle.clap.specs.declared.builder.value_parser.ValueParser.{ValueParser};
 ghost use Rattle.clap.specs.declared.builder.value_parser.ValueParser.TheVariants.{Names};
 ghost use Rattle.clap.specs.Words.{App, Rule, Shape, new_app, new_rule, with_rule, with_subcommand};
-ghost use Rattle.command_line.specs.Commands.{AllChoices, Choices, IsArgument, IsCommandOf, IsSubcommand, TakesWords, bare_app, check_shape, choice_rule, counts_shape, each_shape, flag_rule, list_shape, missing_words, needed, number_rule, record_words, run_rules, set_shape, setting_rules, size_rule, stream_shape, tfmset_app, with_default, with_rules, words_rule};
+ghost use Rattle.command_line.specs.Commands.{AllChoices, Choices, IsArgument, IsCommandOf, IsSubcommand, TakesWords, bare_app, check_shape, choice_rule, counts_shape, each_shape, flag_rule, format_words, list_shape, missing_words, needed, number_rule, pairs_shape, record_words, run_rules, set_shape, setting_rules, size_rule, stream_shape, tfmset_app, with_default, with_rules, words_rule};
 
 use crate::help::{
     ABOUT, AFTER_HELP, ALL_HELP, BLOCK_HELP, CAPACITY_HELP, CHECK_ABOUT, CHECK_AFTER_HELP,
     COUNTS_ABOUT, COUNTS_AFTER_HELP, EACH_ABOUT, EACH_AFTER_HELP, FILE_HELP, FONT_HELP, FONTS_HELP,
-    LIMIT_HELP, LIST_ABOUT, LIST_AFTER_HELP, MISSING_HELP, RECORD_HELP, SET_ABOUT, SET_AFTER_HELP,
-    SIZE_HELP, STREAM_ABOUT, STREAM_AFTER_HELP, STREAM_FILE_HELP, WORDS_HELP, WORKERS_HELP,
+    FORMAT_HELP, LIMIT_HELP, LIST_ABOUT, LIST_AFTER_HELP, MISSING_HELP, PAIRS_ABOUT,
+    PAIRS_AFTER_HELP, RECORD_HELP, SET_ABOUT, SET_AFTER_HELP, SIZE_HELP, STREAM_ABOUT,
+    STREAM_AFTER_HELP, STREAM_FILE_HELP, WORDS_HELP, WORKERS_HELP,
 };
 use clap::{Arg, ArgAction, Command, value_parser};
 use std::alloc::{AllocError, Global};
 
 const VERSION: &str = "0.1.0";
 
-/// Builds the whole command: `tfmset` with its six subcommands.
+/// Builds the whole command: `tfmset` with its seven subcommands.
 pub(crate) fn tfmset_command<'a>(alloc: Global) -> Result<Command<'a>, AllocError>
     ensures { IfOk result (λ command. (choices : AllChoices) × IsCommandOf (tfmset_app choices) command) }
 {
     let command = bare_command(alloc)?;
     let command = with(command, counts_command(alloc))?;
     let command = with(command, list_command(alloc))?;
+    let command = with(command, pairs_command(alloc))?;
     let command = with(command, check_command(alloc))?;
     let command = with(command, set_command(alloc))?;
     let command = with(command, stream_command(alloc))?;
@@ -68,6 +70,16 @@ fn list_command<'a>(alloc: Global) -> Result<Command<'a>, AllocError>
 {
     let command = subcommand(alloc, "list", LIST_ABOUT, LIST_AFTER_HELP);
     let command = with_argument(command, all_option(alloc))?;
+    with_argument(command, font_argument(alloc))
+}
+
+fn pairs_command<'a>(alloc: Global) -> Result<Command<'a>, AllocError>
+    ensures { IfOk result (λ made. (formats : ValueParser) × TakesWords format_words formats
+        × IsSubcommand (pairs_shape formats) made) }
+{
+    let command = subcommand(alloc, "pairs", PAIRS_ABOUT, PAIRS_AFTER_HELP);
+    let command = with_argument(command, size_option(alloc))?;
+    let command = with_argument(command, format_option(alloc))?;
     with_argument(command, font_argument(alloc))
 }
 
@@ -197,6 +209,14 @@ fn record_option<'a>(alloc: Global) -> Arg<'a>
 {
     let words = &["1", "2", "json"];
     choice_option(alloc, "record", "V", RECORD_HELP, words).default_value("1")
+}
+
+fn format_option<'a>(alloc: Global) -> Arg<'a>
+    ensures { (parser : ValueParser) × TakesWords format_words parser
+        × IsArgument (with_default (codes "text") (choice_rule (codes "format") parser)) result }
+{
+    let words = &["text", "csv", "json"];
+    choice_option(alloc, "format", "F", FORMAT_HELP, words).default_value("text")
 }
 
 /// Builds an argument that takes one or more values.

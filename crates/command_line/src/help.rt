@@ -5,6 +5,7 @@ pub(crate) const ABOUT: &str = "Reads TeX font metric (TFM) files and sets lines
 pub(crate) const AFTER_HELP: &str = "Examples, in the directory examples of the sources:
   tfmset counts demo.tfm    print the twelve counts and the design size
   tfmset list demo.tfm      print the contents of a font
+  tfmset pairs demo.tfm     print the pairs that have a kern or a ligature
   tfmset check demo.tfm     check whether a font is accepted
   tfmset set demo.tfm lines.txt
                             set the lines of a file with a font
@@ -52,6 +53,27 @@ twelve counts are printed first, and the extensible recipes and every word
 
 Exit status:
   0  The contents were printed.
+  2  The arguments are invalid. The output is empty.
+  3  The font is refused. The output is empty.
+  4  The font could not be opened, or could not be read to its end.
+  5  Memory allocation or writing the output failed.";
+
+pub(crate) const PAIRS_ABOUT: &str = "Prints the pairs of a font that have a kern or a ligature";
+
+pub(crate) const PAIRS_AFTER_HELP: &str = "Example, in the directory examples of the sources:
+  tfmset pairs demo.tfm
+
+Prints a line for each pair of neighbours for which the lig/kern program of the
+font has an action: LEFT RIGHT kern AMOUNT, or LEFT RIGHT OPERATION CODE. LEFT
+is the code of a character of the font, or `left` for the left boundary. RIGHT
+is the code of a character of the font, or `right` for the right boundary.
+AMOUNT is in scaled points (65536 sp = 1pt), at the design size without --size.
+OPERATION is LIG, LIG/, /LIG, /LIG/, LIG/>, /LIG>, /LIG/> or /LIG/>>, and CODE
+is the code of the inserted character. With csv, commas separate the fields and
+the first line names them; json prints one JSON object per line.
+
+Exit status:
+  0  The pairs were printed.
   2  The arguments are invalid. The output is empty.
   3  The font is refused. The output is empty.
   4  The font could not be opened, or could not be read to its end.
@@ -200,6 +222,8 @@ pub(crate) const LIMIT_HELP: &str = "Maximum steps per line, 1 to 16777216";
 pub(crate) const MISSING_HELP: &str = "On a missing character: refuse or skip";
 
 pub(crate) const RECORD_HELP: &str = "Record format: 1, 2 or json; 1 omits steps";
+
+pub(crate) const FORMAT_HELP: &str = "Output format: text, csv or json";
 
 pub(crate) const ALL_HELP: &str = "Also print the counts, the extensible recipes and all words";
 

@@ -2,13 +2,14 @@
 ghost use Rattle.std.specs.Prelude.{◌≡◌, [], map, IfErr, IfOk, Some, codes, option_map, unwrap_or};
 ghost use Rattle.clap.specs.Words.{all_of, first_of, found_of, kind_of, one_of, rows_of, subcommand_rows_of};
 ghost use Rattle.command_line.specs.Commands.{AllChoices, IsCommandOf, tfmset_app};
-ghost use Rattle.command_line.specs.Asked.{AreJobs, AsksFor, Finds, has_plain_size, IsAskedBy, IsAskedOf, IsAskedWith, IsChecking, IsFlag, IsLayout, IsNumberIn, IsPlan, IsRefusedBy, IsRefusedWith, IsSetting, IsSize, kind_without_request, misstates_size, policy_word, texts, version_word};
+ghost use Rattle.command_line.specs.Asked.{AreJobs, AsksFor, Finds, format_word, has_plain_size, IsAskedBy, IsAskedOf, IsAskedWith, IsChecking, IsFlag, IsLayout, IsNumberIn, IsPlan, IsRefusedBy, IsRefusedWith, IsSetting, IsSize, kind_without_request, misstates_size, policy_word, texts, version_word};
 
 use crate::commands::tfmset_command;
 use crate::help::SIZE_ERROR;
 use crate::request::{Checking, Jobs, Layout, Request, Setting};
 use clap::error::ErrorKind;
 use clap::{ArgMatches, Command, Error};
+use font_texts::PairsFormat;
 use run_plan::{Block, Capacity, Plan, Workers};
 use set_line::{Limit, Policy, Version};
 use std::alloc::{AllocError, Global};
@@ -107,12 +108,31 @@ fn asked_by<'a>(
             let all = flag(matches, "all");
             Ok(text(matches, "FONT").map(|font| Request::List { font, all }))
         }
+        "pairs" => Ok(asked_pairs(matches)),
         "check" => Ok(asked_fonts(alloc, matches)?.map(Request::Check)),
         "set" => Ok(asked_setting(alloc, matches)?.map(Request::Set)),
         "stream" => Ok(asked_setting(alloc, matches)?.map(Request::Stream)),
         "each" => Ok(asked_jobs(alloc, matches)?.map(Request::Each)),
         _ => Ok(None),
     }
+}
+
+/// Returns the request of `pairs`.
+fn asked_pairs<'a>(matches: &ArgMatches<'a>) -> Option<Request<'a>>
+    ensures { Finds (AsksFor (rows_of (found_of matches.now)) (codes "pairs")) result }
+{
+    let (font, format) = font_format(matches)?;
+    let size = asked_size(matches)?;
+    Some(Request::Pairs { font, size, format })
+}
+
+/// Returns the font and the format of `pairs`.
+fn font_format<'a>(matches: &ArgMatches<'a>) -> Option<(&'a str, PairsFormat)>
+    ensures { Finds (λ found.
+        (first_of (codes "FONT") (rows_of (found_of matches.now)) ≡ Some found.0.now)
+        × (first_of (codes "format") (rows_of (found_of matches.now)) ≡ Some (format_word found.1))) result }
+{
+    Some((text(matches, "FONT")?, asked_format(matches)?))
 }
 
 /// Returns the fonts that `check` reads, and their size.
@@ -221,6 +241,18 @@ fn asked_version(matches: &ArgMatches<'_>) -> Option<Version>
         "1" => Some(Version::One),
         "2" => Some(Version::Two),
         "json" => Some(Version::Json),
+        _ => None,
+    }
+}
+
+fn asked_format(matches: &ArgMatches<'_>) -> Option<PairsFormat>
+    ensures { Finds (λ format. first_of (codes "format") (rows_of (found_of matches.now))
+        ≡ Some (format_word format)) result }
+{
+    match text(matches, "format")? {
+        "text" => Some(PairsFormat::Text),
+        "csv" => Some(PairsFormat::Csv),
+        "json" => Some(PairsFormat::Json),
         _ => None,
     }
 }

@@ -1,4 +1,5 @@
 //! The requests that arguments can state.
+use font_texts::PairsFormat;
 use run_plan::Plan;
 use set_line::{Limit, Policy, Version};
 use tfm_words::Size;
@@ -17,6 +18,15 @@ pub enum Request<'a> {
         font: &'a str,
         /// Whether the counts, the extensible recipes and all words of the file are printed, too.
         all: bool,
+    },
+    /// Prints the pairs of a font for which its lig/kern program has an action.
+    Pairs {
+        /// The name of the font; `-` is standard input.
+        font: &'a str,
+        /// The size of the font, in sp; `None` means its design size.
+        size: Option<Size>,
+        /// The format of the output.
+        format: PairsFormat,
     },
     /// Checks whether fonts are accepted, and prints one line for each.
     Check(Checking<'a>),

@@ -1,4 +1,5 @@
 pub mod CountsTextLemmas
 pub mod ListingLemmas
+pub mod PairRows
 pub mod TextLemmas
 pub mod LawLemmas

@@ -43,7 +43,18 @@ pub range-all_codes : (n : ℕ) → n ≡ 256 → range_with_len 0 n ≡ all_cod
 unfolding all_codes
 range-all_codes n e = ap (range_with_len 0) e
 
-pub ruleset more = (rows_more, rows_more_from_1, rows_where_more, range-all_codes, append_assoc, append-nil)
+-- one more number in the range is one more element if the number passes the test, and none otherwise
+pub map_where_more : {A : Type 0} (f : ℕ → A) (p : ℕ → Bool) (n : ℕ)
+    → map f (filter p (range_with_len 0 (n + 1))) ≡ map f (filter p (range_with_len 0 n)) ++ (if p n then f n ∷ [] else [])
+map_where_more f p n =
+    ap (map f) (filter-range_more p n) ∙ (map-append f (filter p (range_with_len 0 n)) (if p n then n ∷ [] else []) ∙ mapped (p n))
+  where
+    mapped : (b : Bool) → map f (filter p (range_with_len 0 n)) ++ map f (if b then n ∷ [] else [])
+        ≡ map f (filter p (range_with_len 0 n)) ++ (if b then f n ∷ [] else [])
+    mapped true = refl
+    mapped false = refl
+
+pub ruleset more = (map_where_more, rows_more, rows_more_from_1, rows_where_more, range-all_codes, append_assoc, append-nil)
 
 -- a signed number that is passed by value is converted to bits and back
 pub ruleset signed = (to_z-of_z, append_assoc, append-nil)

@@ -5,3 +5,5 @@ pub mod ListingWords
 pub mod FaultWords
 pub mod Findings
 pub mod Laws
+pub mod Pairs
+pub mod PairsText

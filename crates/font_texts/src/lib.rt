@@ -1,5 +1,5 @@
-//! Makes texts about a font: its counts and design size, its listing, its full listing, and the result of its
-//! check.
+//! Makes texts about a font: its counts and design size, its listing, its full listing, its pairs, and the
+//! result of its check.
 #![tactic(auto)]
 
 pub use all_listing::list_all_text;
@@ -9,6 +9,10 @@ pub use fault_words::Numbered;
 pub use finding::Finding;
 pub use laws::listing_tells_font;
 pub use listing::{list_file_text, list_text};
+pub use pair::Pair;
+pub use pair_lines::pairs_text;
+pub use pairing::pairs;
+pub use pairs_format::PairsFormat;
 
 mod all_listing;
 mod appending;
@@ -18,4 +22,8 @@ mod fault_words;
 mod finding;
 mod laws;
 mod listing;
+mod pair;
+mod pair_lines;
+mod pairing;
+mod pairs_format;
 mod rows;

@@ -21,7 +21,7 @@ use Rattle.run_texts.specs.declared.fault.ToolFault.TheVariants.{Font, Run, OutO
 use Rattle.command_line.specs.declared.request.Checking.{Checking}
 use Rattle.command_line.specs.declared.request.Layout.{Layout}
 use Rattle.command_line.specs.declared.request.Request.{Request}
-use Rattle.command_line.specs.declared.request.Request.TheVariants.{Counts, List as ListFont, Check, Set, Stream, Each}
+use Rattle.command_line.specs.declared.request.Request.TheVariants.{Counts, List as ListFont, Pairs, Check, Set, Stream, Each}
 use Rattle.command_line.specs.declared.request.Setting.{Setting}
 use Rattle.tfm_tool.specs.Checking.{dashes_in}
 use Rattle.tfm_tool.specs.Faults.{IsCauseOf, IsFaultOf, IsFaultOfCheck, IsFaultOfSet, IsFaultOfStream, IsFontFaultOf, IsRefused}
@@ -223,6 +223,7 @@ module _ (known : List ℕ → Option (List ℕ)) (input : Option (List ℕ)) wh
   not_of_font : (request : Request) (failure : Failure) → IsFaultOf request failure → IsFontFaultOf known input request failure → ⊥
   not_of_font (Counts font) failure fault is = fault
   not_of_font (ListFont font all) failure fault is = fault
+  not_of_font (Pairs font size format) failure fault is = fault
   not_of_font (Check asked) failure fault is = is
   not_of_font (Set setting) failure fault is = not_of_font_set setting (font_bytes_of known input setting.font.now) failure fault is
   not_of_font (Stream setting) failure fault is = not_of_font_stream setting (font_bytes_of known input setting.font.now) failure fault is
@@ -232,6 +233,7 @@ module _ (known : List ℕ → Option (List ℕ)) (input : Option (List ℕ)) wh
   memory_not_of_font : (request : Request) → IsFontFaultOf known input request (Tool OutOfMemory) → ⊥
   memory_not_of_font (Counts font) is = is
   memory_not_of_font (ListFont font all) is = is
+  memory_not_of_font (Pairs font size format) is = is
   memory_not_of_font (Check asked) is = is
   memory_not_of_font (Set setting) is = is
   memory_not_of_font (Stream setting) is = is

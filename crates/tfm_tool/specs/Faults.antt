@@ -5,7 +5,7 @@ use Rattle.std.specs.Prelude.{◌≡◌, ◌≢◌, ◌⊎◌, ℕ, ◌<◌, Lis
 use Rattle.run_texts.specs.declared.fault.ToolFault.TheVariants.{OutOfMemory}
 use Rattle.command_line.specs.declared.request.Checking.{Checking}
 use Rattle.command_line.specs.declared.request.Request.{Request}
-use Rattle.command_line.specs.declared.request.Request.TheVariants.{Counts, List as ListFont, Check, Set, Stream, Each}
+use Rattle.command_line.specs.declared.request.Request.TheVariants.{Counts, List as ListFont, Pairs, Check, Set, Stream, Each}
 use Rattle.command_line.specs.declared.request.Setting.{Setting}
 use Rattle.tfm_tool.specs.Checking.{dashes_in}
 use Rattle.tfm_tool.specs.FontFaults.{IsFirstRefused, IsRefusedFont, IsRefusedHead}
@@ -29,10 +29,11 @@ abbrev pub IsFaultOfStream : Setting → Failure → Type 0
 IsFaultOfStream setting FontAndText = (setting.files.items ≡ []) × (setting.font.now ≡ codes "-")
 IsFaultOfStream setting failure = IsFaultOfSet setting failure
 
--- a usage error of a request; `counts` and `list` have none
+-- a usage error of a request; `counts`, `list` and `pairs` have none
 abbrev pub IsFaultOf : Request → Failure → Type 0
 IsFaultOf (Counts _) failure = ⊥
 IsFaultOf (ListFont _ _) failure = ⊥
+IsFaultOf (Pairs _ _ _) failure = ⊥
 IsFaultOf (Check asked) failure = IsFaultOfCheck asked failure
 IsFaultOf (Set setting) failure = IsFaultOfSet setting failure
 IsFaultOf (Stream setting) failure = IsFaultOfStream setting failure
@@ -52,6 +53,7 @@ module _ (known : List ℕ → Option (List ℕ)) (input : Option (List ℕ)) wh
   abbrev pub IsFontFaultOf : Request → Failure → Type 0
   IsFontFaultOf (Counts font) failure = IsRefusedHead (font_bytes_of known input font.now) failure
   IsFontFaultOf (ListFont font _) failure = IsRefusedFont (font_bytes_of known input font.now) failure
+  IsFontFaultOf (Pairs font _ _) failure = IsRefusedFont (font_bytes_of known input font.now) failure
   IsFontFaultOf (Check _) failure = ⊥
   IsFontFaultOf (Set setting) failure = IsRefusedFont (font_bytes_of known input setting.font.now) failure
   IsFontFaultOf (Stream setting) failure = IsRefusedFont (font_bytes_of known input setting.font.now) failure
@@ -65,6 +67,7 @@ module _ (known : List ℕ → Option (List ℕ)) (input : Option (List ℕ)) wh
 abbrev pub IsWithoutInput : Request → Type 0
 IsWithoutInput (Counts font) = font.now ≢ codes "-"
 IsWithoutInput (ListFont font _) = font.now ≢ codes "-"
+IsWithoutInput (Pairs font _ _) = font.now ≢ codes "-"
 IsWithoutInput (Check asked) = dashes_in asked.fonts.items ≡ 0
 IsWithoutInput (Set setting) = setting.font.now ≢ codes "-"
 IsWithoutInput (Stream setting) = (setting.font.now ≢ codes "-") × (setting.files.items ≢ [])

@@ -6,6 +6,8 @@ use Rattle.std.specs.List.{AllZip}
 use Rattle.font_texts.specs.AllListing.{all_listing_of}
 use Rattle.font_texts.specs.CountsText.{counts_text_of, head_fault_of}
 use Rattle.font_texts.specs.Listing.{listing_of}
+use Rattle.font_texts.specs.PairsText.{pairs_text_of}
+use Rattle.font_texts.specs.declared.pairs_format.PairsFormat.{PairsFormat}
 use Rattle.tfm_tables.specs.Font.{FontValue, IsFontOf}
 use Rattle.set_line.specs.Terms.{TermsValue}
 use Rattle.tfm_tool.specs.Checking.{AreChecked}
@@ -16,7 +18,7 @@ use Rattle.tfm_tool.specs.Told.{IsSourceOf, Told}
 use Rattle.tfm_tool.specs.declared.delivery.Delivery.{Delivery}
 use Rattle.tfm_tool.specs.declared.delivery.Delivery.TheVariants.{AtTheEnd, AsTheyCome}
 use Rattle.command_line.specs.declared.request.Request.{Request}
-use Rattle.command_line.specs.declared.request.Request.TheVariants.{Counts, List as ListFont, Check, Set, Stream, Each}
+use Rattle.command_line.specs.declared.request.Request.TheVariants.{Counts, List as ListFont, Pairs, Check, Set, Stream, Each}
 use Rattle.command_line.specs.declared.request.Jobs.{Jobs}
 use Rattle.command_line.specs.declared.request.Setting.{Setting}
 
@@ -56,6 +58,14 @@ module _ (known : List ℕ → Option (List ℕ)) (input before after : Option (
       × Appends before after (list_text_of all_of_it font))
       × (status ≡ 0)
 
+  -- the pairs of the font at this size, or at its design size, were written in this format
+  abbrev pub ArePairsTold : List ℕ → Option ℕ → PairsFormat → ℕ → Type 0
+  ArePairsTold name size format status =
+      OfKnown (font_bytes_of known input name) (λ all. (font : FontValue)
+      × IsFontOf all size font
+      × Appends before after (pairs_text_of format font))
+      × (status ≡ 0)
+
   -- the output of a batch was written; its sources have these bytes, and the settings of the request
   abbrev pub IsSetFrom : Delivery → List (Option (List ℕ)) → Setting → ℕ → Type 0
   IsSetFrom delivery bytes setting status =
@@ -77,6 +87,7 @@ module _ (known : List ℕ → Option (List ℕ)) (input before after : Option (
   abbrev pub IsDone : Request → ℕ → Type 0
   IsDone (Counts font) status = CountsAreTold known input before after font.now status
   IsDone (ListFont font all_of_it) status = IsListed known input before after font.now all_of_it status
+  IsDone (Pairs font size format) status = ArePairsTold known input before after font.now size format status
   IsDone (Check asked) status = AreChecked known input asked.fonts.items before after status
   IsDone (Set setting) status = IsSetFrom known input before after AtTheEnd (file_bytes_of known setting.files.items) setting status
   IsDone (Stream setting) status =

@@ -4,8 +4,10 @@
 
 pub use command_line::{Checking, Jobs, Layout, Request, Setting, requested};
 pub use failure::Failure;
-pub use font_output::{check_text, counts_text, finding_text, list_all_text, list_text};
-pub use font_texts::Finding;
+pub use font_output::{
+    check_text, counts_text, finding_text, list_all_text, list_text, pairs_text,
+};
+pub use font_texts::{Finding, PairsFormat};
 pub use opening::{Disk, InMemory, Opens};
 pub use program::{perform, tool, words_refused};
 pub use run_texts::{

@@ -10,7 +10,7 @@ ghost use Rattle.tfm_tool.specs.Faults.{IsCauseOf, IsFaultOf, IsRefused, IsWitho
 ghost use Rattle.tfm_tool.specs.FailureTexts.{failure_text};
 ghost use Rattle.tfm_tool.specs.FontFaults.{IsRefusedFont, IsRefusedHead};
 ghost use Rattle.tfm_tool.specs.Named.{font_bytes_of};
-ghost use Rattle.tfm_tool.specs.Requests.{CountsAreTold, IsDone, IsListed, list_text_of};
+ghost use Rattle.tfm_tool.specs.Requests.{ArePairsTold, CountsAreTold, IsDone, IsListed, list_text_of};
 ghost use Rattle.tfm_tool.specs.Served.{IsServed, IsTurnedDown, IsTurnedDownBy, is_answer, is_usage};
 ghost use Rattle.tfm_tool.specs.declared.failure.Failure.TheVariants.{Usage};
 ghost use Rattle.tfm_tool.specs.Warnings.{IsWarned};
@@ -23,9 +23,10 @@ use crate::files::font_bytes;
 use crate::font_output::list_file_text;
 use crate::runs::{set_files, stream};
 use crate::warning::warn;
-use crate::{Disk, Opens, counts_text, list_all_text};
+use crate::{Disk, Opens, counts_text, list_all_text, pairs_text};
 use clap::error::ErrorKind as WordsKind;
 use command_line::{Request, requested};
+use font_texts::PairsFormat;
 use run_texts::ToolFault;
 use std::alloc::Global;
 use std::convert::AsStr;
@@ -34,6 +35,7 @@ use std::io::{ErrorKind, Read, Write};
 use std::rt::Files;
 use std::sync::Wait;
 use std::thread::Threads;
+use tfm_words::Size;
 
 /// Runs the whole program: does what the arguments after its name request, and returns the exit status.
 /// `input` is read for the font `-`, except with `each`, and for the lines of `stream` if it names no file.
@@ -153,6 +155,14 @@ where
             let listed = Listed { font, all: *all };
             list(rt.alloc(), files, &listed, input, out)
         }
+        Request::Pairs { font, size, format } => {
+            let asked = Paired {
+                font,
+                size: *size,
+                format: *format,
+            };
+            pairs(rt.alloc(), files, &asked, input, out)
+        }
         Request::Check(asked) => check(rt.alloc(), files, asked, input, out),
         Request::Set(setting) => set_files(rt, files, setting, input, out),
         Request::Stream(setting) => stream(rt, files, setting, input, out),
@@ -238,6 +248,43 @@ fn list_bytes<O: Write>(
         return list_all_text(alloc, bytes, None, out);
     }
     list_file_text(alloc, bytes, None, out)
+}
+
+/// A font whose pairs are to be written.
+#[derive(Clone, Copy)]
+struct Paired<'a> {
+    /// The name of the font; `-` is standard input.
+    font: &'a str,
+    /// The size of the font; `None` means its design size.
+    size: Option<Size>,
+    /// The format of the output.
+    format: PairsFormat,
+}
+
+/// Does what `pairs` requests: writes the pairs of the font.
+#[tactic(auto, using(crate::proofs::KnownLemmas::unread_before))]
+fn pairs<F, I, O>(
+    alloc: Global,
+    files: &F,
+    asked: &Paired<'_>,
+    input: &mut I,
+    out: &mut O,
+) -> Result<u8, Failure>
+where
+    F: Opens,
+    I: Read,
+    O: Write,
+    ensures text { AfterText result (ArePairsTold (F.known files.now) (I.remaining input.old)
+        (O.contents out.old) (O.contents out.new) asked.now.font.now asked.now.size asked.now.format) }
+    ensures status { IfOk result (λ status. status ≡ 0) }
+    ensures untouched { IfErr result (λ failure. is_without_text failure ≡ true → out.new ≡ out.old) }
+    ensures unread { asked.now.font.now ≢ codes "-" → input.new ≡ input.old }
+    ensures cause { BeforeText result
+        (IsRefusedFont (font_bytes_of (F.known files.now) (I.remaining input.old) asked.now.font.now)) }
+{
+    let bytes = font_bytes(alloc, files, asked.font, input)?;
+    pairs_text(alloc, bytes.as_slice(), asked.size, asked.format, out)?;
+    Ok(0)
 }
 
 /// Writes help or the version, which `clap` returns as errors. Returns any other error as a failure.

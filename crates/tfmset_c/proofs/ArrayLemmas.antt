@@ -1,5 +1,6 @@
 -- An array is filled from its front.
-use Rattle.std.proofs.Common.{◌≡◌, ℕ, ◌+◌, ◌-◌, ◌^◌, ◌<◌, ◌≤◌, List, [], ◌∷◌, ◌++◌, length, take, drop, min, arith, refl, ap, sym, ◌∙◌, append_assoc, append-nil, length-append, set, subst}
+use Rattle.std.proofs.Common.{◌≡◌, ℕ, suc, ◌+◌, ◌-◌, ◌^◌, ◌<◌, ◌≤◌, List, [], ◌∷◌, ◌++◌, length, take, drop, min, arith, refl, ap, sym, ◌∙◌, append_assoc, append-nil, length-append, get_or, set, subst}
+use Rattle.std.proofs.Math.Seq.{drop-cons, set-append_seam}
 use Rattle.std.proofs.lemmas.Grind.{take-set_at}
 use Rattle.std.proofs.lemmas.List.{drop-drop, drop-set-lt, length-set, take-append-drop}
 use Rattle.tfmset_c.specs.Arrays.{ArePut, HasRoom, IsFilled, IsPartly}
@@ -87,3 +88,18 @@ all_put told to_come before now at partly none =
 -- at last the place is how many there are
 pub place_at_last : {T : Type 0} (told to_come before now : List T) (at : ℕ) → IsPartly told to_come at before now → to_come ≡ [] → at ≡ held (length told)
 place_at_last told to_come before now at partly none = omega (arith, partly.at_place, partly.counted, ap length none)
+
+-- ---- elements that all fit, written one by one
+
+-- if the array has the elements told at its front, and its former contents after them, it has one more element
+-- at its front once that is written after them
+pub overlaid_more : {T : Type 0} (told before now : List T) (i : ℕ) (x : T) → length told ≡ i → i < length before → now ≡ told ++ drop i before
+    → set now i x ≡ (told ++ x ∷ []) ++ drop (i + 1) before
+overlaid_more told before now i x long within is =
+    let more : suc i ≡ i + 1 = omega arith in
+    let rest = drop (suc i) before in
+    let here : drop i before ≡ get_or before i x ∷ rest = drop-cons before i x within in
+    ap (λ l. set l i x) (is ∙ ap (λ l. told ++ l) here)
+    ∙ subst (λ n. set (told ++ get_or before i x ∷ rest) n x ≡ told ++ x ∷ rest) long (set-append_seam told (get_or before i x) rest x)
+    ∙ sym (append_assoc told (x ∷ []) rest)
+    ∙ ap (λ n. (told ++ x ∷ []) ++ drop n before) more

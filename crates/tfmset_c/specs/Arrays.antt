@@ -6,6 +6,7 @@ use Rattle.tfmset_c.specs.Texts.{counts_told, held, items_told, lines_told}
 use Rattle.tfmset_c.specs.declared.lines.TfmsetCounts.{TfmsetCounts}
 use Rattle.tfmset_c.specs.declared.lines.TfmsetItem.{TfmsetItem}
 use Rattle.tfmset_c.specs.declared.lines.TfmsetLine.{TfmsetLine}
+use Rattle.tfmset_c.specs.declared.pairing.TfmsetNeighbours.{TfmsetNeighbours}
 
 -- this many elements fit into an array of this length; the count 2^64 - 1 never fits, because it may mean a
 -- larger number
@@ -47,6 +48,18 @@ pub record AreRecordsTold (told : List ℕ) (answer : ℕ) (count_before count :
   pub records : answer ≡ 0 → IsOverlaid told records_before records_after
   pub kept : answer ≢ 0 → answer ≢ 3 → count ≡ count_before
   pub untouched : (answer ≡ 1) ⊎ (answer ≡ 4) → records_after ≡ records_before
+
+-- the effect of a call that reports pairs: after 0 they are at the front of the array; after 0 and 3 the count
+-- is their number, and after 3 they don't fit; after any other code the count is unchanged, and so is the
+-- array after any code except 0
+pub record ArePairsTold (told : List TfmsetNeighbours) (answer : ℕ) (count_before count : ℕ)
+    (pairs_before pairs_after : List TfmsetNeighbours) : Type 0 where
+  pub counted : (answer ≡ 0) ⊎ (answer ≡ 3) → count ≡ length told
+  pub room : answer ≡ 0 → length told ≤ length pairs_before
+  pub no_room : answer ≡ 3 → length pairs_before < length told
+  pub pairs : answer ≡ 0 → IsOverlaid told pairs_before pairs_after
+  pub kept : answer ≢ 0 → answer ≢ 3 → count ≡ count_before
+  pub untouched : answer ≢ 0 → pairs_after ≡ pairs_before
 
 -- an array keeps its length, and has these elements at its front if they fit
 pub record IsFilled {T : Type 0} (told before after : List T) : Type 0 where

@@ -1,6 +1,9 @@
--- The action of a font's lig/kern program between two neighbours, as C gets it.
--- This project's own; the action is defined in Matching of `lig_kern`.
-use Rattle.std.specs.Prelude.{ℕ, pos, ◌==◌, Option, Some, None, if◌then◌else◌}
+-- The action of a font's lig/kern program between two neighbours, and all pairs that have one, as C gets them.
+-- This project's own; the action is defined in Matching of `lig_kern`, and the list of pairs in Pairs of
+-- `font_texts`.
+use Rattle.std.specs.Prelude.{ℕ, pos, ◌==◌, List, map, Option, Some, None, if◌then◌else◌}
+use Rattle.font_texts.specs.Pairs.{pairs_of}
+use Rattle.font_texts.specs.declared.pair.Pair.{Pair}
 use Rattle.lig_kern.specs.declared.symbol.Symbol.{Symbol}
 use Rattle.lig_kern.specs.declared.symbol.Symbol.TheVariants.{Left, Char, Right}
 use Rattle.lig_kern.specs.declared.action.Action.{Action}
@@ -9,6 +12,7 @@ use Rattle.lig_kern.specs.Matching.{action_between}
 use Rattle.tfm_tables.specs.Font.{FontValue}
 use Rattle.tfmset_c.specs.Fonts.{flag}
 use Rattle.tfmset_c.specs.declared.pair.TfmsetPair.{TfmsetPair}
+use Rattle.tfmset_c.specs.declared.pairing.TfmsetNeighbours.{TfmsetNeighbours}
 
 -- the left neighbour that C names by a number: 256 is the left boundary, any other number is a code
 unfoldable pub left_symbol : ℕ → Symbol
@@ -28,3 +32,21 @@ action_told (Some (Lig code keep_left keep_right pass)) =
 -- the action between two neighbours
 abbrev pub pair_told : FontValue → ℕ → ℕ → TfmsetPair
 pair_told font left right = action_told (action_between font (left_symbol left) (right_symbol right))
+
+-- the number by which C names a symbol: its code, or 256 for a boundary
+unfoldable pub symbol_number : Symbol → ℕ
+symbol_number Left = 256
+symbol_number (Char code) = code
+symbol_number Right = 256
+
+-- two neighbours and their action
+unfoldable pub neighbours_told : Pair → TfmsetNeighbours
+neighbours_told found = record {
+  left = symbol_number found.left;
+  right = symbol_number found.right;
+  pair = action_told (Some found.action);
+}
+
+-- the pairs of a font that have an action, in order
+unfoldable pub pairs_told : FontValue → List TfmsetNeighbours
+pairs_told font = map neighbours_told (pairs_of font)

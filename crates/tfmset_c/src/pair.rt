@@ -52,7 +52,7 @@ fn on_the_right(number: u32) -> Symbol
 
 /// Returns an action as C gets it.
 #[tactic(auto, unfolding(crate::specs::Pairs::action_told))]
-fn action_for_c(action: Option<Action>) -> TfmsetPair
+pub fn action_for_c(action: Option<Action>) -> TfmsetPair
     ensures { result ≡ action_told action }
 {
     let nothing = TfmsetPair {

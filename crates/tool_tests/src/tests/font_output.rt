@@ -5,11 +5,12 @@ use std::test::Fail;
 use test_support::FailingWriter;
 use tfm_tables::{Font, FontFault};
 use tfm_tool::{
-    Finding, ToolFault, check_text, counts_text, finding_text, list_all_text, list_text,
+    Finding, PairsFormat, ToolFault, check_text, counts_text, finding_text, list_all_text,
+    list_text, pairs_text,
 };
 use tfm_words::CountFault;
 
-/// Writes the output with this number, of five.
+/// Writes the output with this number, of six.
 fn write_output<W: Write>(
     alloc: Global,
     number: usize,
@@ -21,6 +22,7 @@ fn write_output<W: Write>(
         1 => list_text(alloc, font, out),
         2 => list_all_text(alloc, &NO_CHARACTERS, None, out),
         3 => check_text(alloc, "x", &NO_CHARACTERS, None, out).map(|_| ()),
+        4 => pairs_text(alloc, &NO_CHARACTERS, None, PairsFormat::Csv, out),
         _ => finding_text(alloc, "x", Finding::NotRead, out),
     }
 }
@@ -28,7 +30,7 @@ fn write_output<W: Write>(
 #[test]
 fn an_output_about_a_font_whose_write_fails(rt: HostRuntime) -> Result<(), Fail> {
     let font = Font::read(rt.alloc(), &NO_CHARACTERS, None)?;
-    for number in 0..5 {
+    for number in 0..6 {
         let mut whole = Vec::new(rt.alloc());
         write_output(rt.alloc(), number, &font, &mut whole)?;
         // ten bytes at a time
@@ -56,6 +58,9 @@ fn a_refused_font_has_no_output(rt: HostRuntime) -> Result<(), Fail> {
     assert!(rt; matches!(&counts, Err(ToolFault::Font(fault)) if *fault == cut));
     let listing = list_all_text(rt.alloc(), &NO_CHARACTERS[..47], None, &mut out);
     assert!(rt; matches!(&listing, Err(ToolFault::Font(fault)) if *fault == cut));
+    let text = PairsFormat::Text;
+    let pairs = pairs_text(rt.alloc(), &NO_CHARACTERS[..47], None, text, &mut out);
+    assert!(rt; matches!(&pairs, Err(ToolFault::Font(fault)) if *fault == cut));
     assert!(rt; out.as_slice() == b"before\n".as_slice());
     assert!(rt; counts_text(rt.alloc(), &NO_CHARACTERS, &mut out).is_ok());
     assert!(rt; out.strip_prefix(b"before\n") == Some(TEXT.as_bytes()));

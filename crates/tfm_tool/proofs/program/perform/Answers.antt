@@ -60,6 +60,32 @@ returns-in-List-clause-cause g c =
 pub returns-in-List-clause-refused : goal.returns-in-List-clause-refused
 returns-in-List-clause-refused g c = λ failure is. absurd (subst (λ request. IsFaultOf request failure) c.in-List.is is)
 
+pub returns-in-Pairs-clause-text : goal.returns-in-Pairs-clause-text
+returns-in-Pairs-clause-text g c =
+    let known : List ℕ → Option (List ℕ) = g.F.Opens.known c.args.files.now in
+    let input : Option (List ℕ) = g.I.Read.remaining c.args.input.now in
+    subst (λ request. AfterText c.pairs.result (IsDone known input (g.O.Write.contents c.args.out.now) (g.O.Write.contents c.pairs.new.out) request)) (sym c.in-Pairs.is)
+    c.pairs.ensures.text
+
+pub returns-in-Pairs-clause-untouched : goal.returns-in-Pairs-clause-untouched
+returns-in-Pairs-clause-untouched g c = c.pairs.ensures.untouched
+
+pub returns-in-Pairs-clause-status : goal.returns-in-Pairs-clause-status
+returns-in-Pairs-clause-status g c = zero_listed c.pairs.result c.pairs.ensures.status
+
+pub returns-in-Pairs-clause-unread : goal.returns-in-Pairs-clause-unread
+returns-in-Pairs-clause-unread g c = λ without. c.pairs.ensures.unread (subst IsWithoutInput c.in-Pairs.is without)
+
+pub returns-in-Pairs-clause-cause : goal.returns-in-Pairs-clause-cause
+returns-in-Pairs-clause-cause g c =
+    let known : List ℕ → Option (List ℕ) = g.F.Opens.known c.args.files.now in
+    let input : Option (List ℕ) = g.I.Read.remaining c.args.input.now in
+    subst (λ request. BeforeText c.pairs.result (IsCauseOf known input request)) (sym c.in-Pairs.is)
+    (before_map c.pairs.result _ _ (λ failure is. inr (λ other fault. fault, is)) c.pairs.ensures.cause)
+
+pub returns-in-Pairs-clause-refused : goal.returns-in-Pairs-clause-refused
+returns-in-Pairs-clause-refused g c = λ failure is. absurd (subst (λ request. IsFaultOf request failure) c.in-Pairs.is is)
+
 pub returns-in-Check-clause-text : goal.returns-in-Check-clause-text
 returns-in-Check-clause-text g c =
     let known : List ℕ → Option (List ℕ) = g.F.Opens.known c.args.files.now in

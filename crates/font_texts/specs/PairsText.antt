@@ -1,0 +1,70 @@
+-- The text of the pairs of a font: a line for each pair, in one of three formats.
+-- Public source: the names of the ligature operations are those of tftopl.web, section 13, and The
+-- METAFONTbook, Appendix F; JSON is RFC 8259, and CSV is RFC 4180 except that a line ends with a line feed;
+-- the rest is this project's own.
+use Rattle.std.specs.Prelude.{ℕ, Bool, List, [], ◌++◌, codes, decimal, flat_map, replicate, if◌then◌else◌}
+use Rattle.std.specs.Fmt.{signed_decimal}
+use Rattle.lig_kern.specs.declared.action.Action.{Action}
+use Rattle.lig_kern.specs.declared.action.Action.TheVariants.{Kern, Lig}
+use Rattle.lig_kern.specs.declared.symbol.Symbol.{Symbol}
+use Rattle.lig_kern.specs.declared.symbol.Symbol.TheVariants.{Left, Char, Right}
+use Rattle.tfm_tables.specs.Font.{FontValue}
+use Rattle.font_texts.specs.Pairs.{pairs_of}
+use Rattle.font_texts.specs.declared.pair.Pair.{Pair}
+use Rattle.font_texts.specs.declared.pairs_format.PairsFormat.{PairsFormat}
+use Rattle.font_texts.specs.declared.pairs_format.PairsFormat.TheVariants.{Text, Csv, Json}
+
+-- a symbol: the code of a character, or the name of a boundary
+unfoldable pub symbol_word : Symbol → List ℕ
+symbol_word Left = codes "left"
+symbol_word (Char code) = decimal code
+symbol_word Right = codes "right"
+
+-- a symbol in JSON: a number, or a string
+unfoldable pub json_symbol : Symbol → List ℕ
+json_symbol Left = codes "\"left\""
+json_symbol (Char code) = decimal code
+json_symbol Right = codes "\"right\""
+
+-- a slash for a neighbour that is kept
+abbrev pub slash_if : Bool → List ℕ
+slash_if kept = if kept then codes "/" else []
+
+-- the name of an action: `kern`, or that of a ligature operation, which has a slash on the side of each
+-- neighbour that is kept, and a `>` for each element that the cursor passes over
+unfoldable pub action_name : Action → List ℕ
+action_name (Kern amount) = codes "kern"
+action_name (Lig code keep_left keep_right pass) = slash_if keep_left ++ codes "LIG" ++ slash_if keep_right ++ replicate pass 62
+
+-- the value of an action: the amount of a kern, in scaled points (sp), or the code of a ligature character
+unfoldable pub action_value : Action → List ℕ
+action_value (Kern amount) = signed_decimal amount
+action_value (Lig code keep_left keep_right pass) = decimal code
+
+-- the line of a pair: four fields with a separator between neighbours
+abbrev pub pair_row : List ℕ → Pair → List ℕ
+pair_row separator pair =
+    symbol_word pair.left ++ separator ++ symbol_word pair.right ++ separator
+    ++ action_name pair.action ++ separator ++ action_value pair.action ++ codes "\n"
+
+-- the line of a pair in JSON: an object with the same four fields
+abbrev pub pair_object : Pair → List ℕ
+pair_object pair =
+    codes "{\"left\":" ++ json_symbol pair.left ++ codes ",\"right\":" ++ json_symbol pair.right
+    ++ codes ",\"action\":\"" ++ action_name pair.action ++ codes "\",\"value\":" ++ action_value pair.action ++ codes "}\n"
+
+-- the line of a pair in a format
+unfoldable pub pair_line : PairsFormat → Pair → List ℕ
+pair_line Text pair = pair_row (codes " ") pair
+pair_line Csv pair = pair_row (codes ",") pair
+pair_line Json pair = pair_object pair
+
+-- the line before the pairs, which only CSV has
+unfoldable pub pairs_head : PairsFormat → List ℕ
+pairs_head Text = []
+pairs_head Csv = codes "left,right,action,value\n"
+pairs_head Json = []
+
+-- the text of the pairs of a font
+unfoldable pub pairs_text_of : PairsFormat → FontValue → List ℕ
+pairs_text_of format font = pairs_head format ++ flat_map (pair_line format) (pairs_of font)

@@ -1,0 +1,32 @@
+use Rattle.std.proofs.Common.{◌≡◌, ◌∙◌, None, Some, Err, ap, refl, subst}
+use Rattle.std.specs.Io.KnownBytes.{Appends}
+use Rattle.font_texts.specs.PairsText.{pairs_text_of}
+use Rattle.tfm_tables.specs.Font.{FontValue, IsFontOf}
+use Rattle.run_texts.specs.declared.fault.ToolFault.{ToolFault}
+use Rattle.tfm_tool.specs.FontFaults.{IsRefusedFont}
+use Rattle.tfm_tool.specs.Named.{font_bytes_of}
+use Rattle.tfm_tool.specs.declared.failure.Failure.TheVariants.{Tool}
+use Rattle.tfm_tool.proofs.KnownLemmas.{of_font}
+use Rattle.tfm_tool.proofs.CauseLemmas.{font_cause, told_cause, tool_cause, unread_later}
+use Rattle.tfm_tool.proofs.program.pairs.Goals as goal
+
+pub returns-clause-text : goal.returns-clause-text
+returns-clause-text g c = (
+  of_font (font_bytes_of (g.F.Opens.known c.args.files.now) (g.I.Read.remaining c.args.input.now) c.args.asked.now.font.now) c.in_ok-bytes.bytes.items c.args.asked.now.size
+      (λ f. Appends (g.O.Write.contents c.args.out.now) (g.O.Write.contents c.pairs_text.new.out) (pairs_text_of c.args.asked.now.format f)) c.in_ok-bytes.ensures.bytes
+      (subst (λ b. (f : FontValue) × IsFontOf b c.args.asked.now.size f × Appends (g.O.Write.contents c.args.out.now) (g.O.Write.contents c.pairs_text.new.out) (pairs_text_of c.args.asked.now.format f))
+      c.as_slice.ensures.value c.in_ok-pairs_text.ensures.text),
+  refl,
+)
+
+pub returns-in_err-pairs_text-clause-cause : goal.returns-in_err-pairs_text-clause-cause
+returns-in_err-pairs_text-clause-cause g c =
+    let fault : ToolFault = c.in_err-pairs_text.field-0.0 in
+    let was : c.pairs_text.result ≡ Err fault = c.in_err-pairs_text.was in
+    told_cause c.from_residual-in_err-pairs_text.result fault _ c.from_residual-in_err-pairs_text.ensures.1 (λ before.
+    font_cause (font_bytes_of (g.F.Opens.known c.args.files.now) (g.I.Read.remaining c.args.input.now) c.args.asked.now.font.now) c.in_ok-bytes.bytes.items (Tool fault)
+    c.in_ok-bytes.ensures.bytes (subst (λ b. IsRefusedFont (Some b) (Tool fault)) c.as_slice.ensures.value
+    (tool_cause c.as_slice.result.now fault (λ f is. c.pairs_text.ensures.font f (was ∙ ap Err is)) (λ f is. absurd (c.pairs_text.ensures.run f (was ∙ ap Err is))) before)))
+
+pub returns-in_err-bytes-clause-cause : goal.returns-in_err-bytes-clause-cause
+returns-in_err-bytes-clause-cause g c = unread_later c.from_residual.result c.in_err-bytes.field-0.0 _ c.from_residual.ensures.1
