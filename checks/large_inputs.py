@@ -122,7 +122,7 @@ class Messages(Case):
             before = ["each", *[font, "9", font] * (number - 1)]
             for args, status, error in (
                     ([*before, "none", "9", font], 4, f"font {number} not read"),
-                    ([*before, cut, "9", font], 3, f"font {number} refused: 8 truncated, 88 bytes needed"),
+                    ([*before, cut, "9", font], 3, f"font {number} refused: 8 truncated, 80 bytes needed"),
                     ([*before, font, "9", "none"], 4, f"file {number} not read"),
                     ([*before, font, "x", font], 2, f"limit {number} out of range"),
                     (["set", *[font] * number, "none"], 4, f"file {number} not read"),

@@ -28,6 +28,7 @@ RUN = RULES["pages"] + [page for page in RULES["perhaps"] if list(commands(read(
 LIBRARY = "library for C"
 VARIABLES = ("PKG_CONFIG_PATH", "LD_LIBRARY_PATH", "TFMSET_LIBRARY", "PYTHONPATH")
 SAMPLES = "crates/test_support/src/fonts"
+NAMES, WORDS = sorted(name[:-4] for name in os.listdir(f"{EXAMPLES}/fonts")), RULES["words"]
 
 
 def parts(text):
@@ -192,13 +193,22 @@ class Links(Case):
         self.none(sum(wrong, []), len(wrong), 101)
 
 
+def words_of(name):
+    """The bytes of a font of the tests by its table of words."""
+    base, _, op = name.rpartition("_")
+    words = WORDS[f"{base}_OP"].replace("OP", f"{int(op):02X}") if op.isdigit() else WORDS[name]
+    counted = (word.partition("*") for word in words.split())
+    return b"".join(bytes.fromhex(word) * int(count or 1) for word, _, count in counted)
+
+
 def printer(names):
     """A program that prints the bytes of these fonts of the tests."""
     calls = []
     for name in names:
         base, _, op = name.rpartition("_")
         call = f"{base}(alloc, {op})" if op.isdigit() else f"{name}(alloc)"
-        calls.append(f'    let font = examples::{call}?;\n    println!(rt; "{name} {{font:?}}")?;\n')
+        call = f"named::{name}.file(alloc)" if name.isupper() else f"examples::{call}"
+        calls.append(f'    let font = {call}?;\n    println!(rt; "{name} {{font:?}}")?;\n')
     modules = "".join(f"mod {name[:-3]};\n" for name in sorted(os.listdir(f"{ROOT}/{SAMPLES}")))
     return read("checks/lib/print_fonts.txt").replace("MODULES", modules).replace("CALLS", "".join(calls))
 
@@ -216,11 +226,14 @@ class Fonts(Case):
         for name in written:
             self.same(name, True, read(f"{self.room}/{name}.tfm", "rb") == sample(name))
 
-    def test_fonts_are_those_of_the_tests(self):
+    def test_fonts_have_the_words_of_the_table(self):
+        for name in NAMES:
+            self.same(name, True, words_of(name) == sample(name))
+
+    def test_fonts_of_the_tests_have_the_words_of_the_table(self):
         """`rt try` runs the builders of test_support, without proofs."""
         self.need("rt")
-        names = sorted(name[:-4] for name in os.listdir(f"{EXAMPLES}/fonts"))
-        self.same("fonts that are named", set(), set(RULES["named"]) - set(names))
+        names = NAMES + [name for name in WORDS if name not in NAMES and not name.endswith("_OP")]
         crate = f"{self.room}/crates/fonts"
         for name in os.listdir(f"{ROOT}/{SAMPLES}"):
             text = read(f"{SAMPLES}/{name}")
@@ -232,11 +245,7 @@ class Fonts(Case):
         lines = dict(line.split(" ", 1) for line in out.splitlines() if re.match(r"\w+ \[", line))
         for name in names:
             built = bytes(int(byte) for byte in lines.get(name, "[]").strip("[]").split(", ") if byte)
-            self.same(f"{name} {'' if built else err[-300:]}", True, built == sample(name))
-        # One font is a literal of 48 bytes in the tests.
-        literal = re.search(r"NO_CHARACTERS: \[u8; 48\] = \[(.*?)\];", read(f"{SAMPLES}/files.rt"), re.S)[1]
-        numbers = re.findall(r"0x[0-9A-F]+|\d+", re.sub(r"//.*", "", literal))
-        self.same("no_characters", sample("no_characters"), bytes(int(one, 0) for one in numbers))
+            self.same(f"{name} {'' if built else err[-300:]}", True, built == words_of(name))
 
 
 class Scripts(Case):

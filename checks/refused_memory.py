@@ -276,9 +276,10 @@ class Failures(Case):
             self.same(f"number {number}", (5, True), (got.status, got.err in allowed))
 
 
-    @rows((f"{kind}, {what}", kind, what, numbers) for kind in ("set", "stream")
+    @rows((f"{words.split()[0]}, {what}", words, what, numbers)
+          for words in ("set font.tfm b", "each font.tfm 100 b font.tfm 100", "stream font.tfm b")
           for what, numbers in (("thread", range(1, 5)), ("memory", range(1, 400, 3))))
-    def test_endless(self, kind, what, numbers):
+    def test_endless(self, words, what, numbers):
         """The last source never ends, and a thread or all memory fails. Mutant: no thread is stopped."""
         endless = os.path.join(self.room, "endless")
         os.mkfifo(endless)
@@ -287,7 +288,7 @@ class Failures(Case):
         feeder = subprocess.Popen(["yes", "the office five"], stdout=pipe)
         self.addCleanup(feeder.wait)
         self.addCleanup(feeder.kill)
-        command = Command(f"{kind} font.tfm b {endless}", 0, "c")
+        command = Command(f"{words} {endless}", 0, "c")
         command.seconds = 20
         for number in numbers:
             got = run(command, what, number, what == "memory", errno.EAGAIN)

@@ -28,7 +28,7 @@ KERN = 128
 LISTED, UNLISTED = [0, 1, 2, 3, 5, 6, 7, 11], [4, 8, 9, 10, 12, 127]
 
 
-def font(points=10, first=A, starts=(None, None, None), widths=WIDTHS, program=(), kerns=KERNS, parameters=PARAMETERS):
+def font(points=10, first=A, starts=(None, None, None), widths=WIDTHS, program=(), kerns=(), parameters=PARAMETERS):
     """Returns the bytes of a font. Its characters have consecutive codes that start at `first`, and the
     widths 1, 2, .. of the table. `starts` has the starting address of each, or None if it has none."""
     infos = [bytes([1 + i, 0, 0 if start is None else 1, start or 0]) for i, start in enumerate(starts)]
@@ -51,7 +51,7 @@ def empty(program=(), kerns=()):
 def ligature(op):
     """Returns a font in which a and b make the ligature c by this operation; a c and c b have kerns."""
     program = [(NEXT, B, op, C), (LAST, C, KERN, 0), (LAST, B, KERN, 1)]
-    return font(starts=(0, None, 2), program=program)
+    return font(starts=(0, None, 2), program=program, kerns=KERNS)
 
 
 def endless(op):
@@ -71,11 +71,11 @@ FONTS = {
     "without_space": font(parameters=[0]),
     # After a, the boundary becomes b; after b, there is a kern before the boundary; a b has another kern.
     "right_boundary": font(starts=(1, 3, None), program=[
-        (BOUNDARY, END, 0, 0), (NEXT, END, 2, B), (LAST, B, KERN, 0), (LAST, END, KERN, 1)]),
+        (BOUNDARY, END, 0, 0), (NEXT, END, 2, B), (LAST, B, KERN, 0), (LAST, END, KERN, 1)], kerns=KERNS),
     # The code of the right boundary is that of the character b.
-    "boundary_exists": font(starts=(1, None, None), program=[(BOUNDARY, B, 0, 0), (LAST, B, KERN, 0)]),
+    "boundary_exists": font(starts=(1, None, None), program=[(BOUNDARY, B, 0, 0), (LAST, B, KERN, 0)], kerns=KERNS[:1]),
     # The left boundary's instructions: a kern before a, and the ligature c between the boundary and b.
-    "left_boundary": font(program=[(NEXT, A, KERN, 0), (LAST, B, 3, C), (BOUNDARY, 0, 0, 0)]),
+    "left_boundary": font(program=[(NEXT, A, KERN, 0), (LAST, B, 3, C), (BOUNDARY, 0, 0, 0)], kerns=KERNS[:1]),
     # The indirect start of a leads to an instruction that is itself a restart.
     "indirect": font(starts=(0, None, None), program=[(ELSEWHERE, 0, 0, 1), (ELSEWHERE, B, 0, 0)]),
     **{f"ligature_{op}": ligature(op) for op in LISTED + UNLISTED},

@@ -2,6 +2,7 @@
 //! that fail, trickle or count.
 #![tactic(auto)]
 
+mod batches;
 pub mod fonts;
 mod gates;
 pub mod items;
@@ -12,6 +13,7 @@ mod sources;
 pub mod terms;
 mod writers;
 
+pub use batches::{text_of_three, three_sources};
 pub use gates::CountingGate;
 pub use lines::{line, lines_of, lines_of_source, repeated_line};
 pub use plans::{plan, sizes, small_plan};

@@ -1,7 +1,7 @@
 //! Fonts with faults, and the fault that is named of each.
 use test_support::fonts::{
-    A_FROM_0, B, BACK, C, HALF, Info, KERN_BEFORE_B, KERN_BEFORE_C, LIGATURE, LIGATURE_C, NOTHING,
-    PLAIN, Sample,
+    A_FROM_0, AHEAD, B, BACK, C, HALF, Info, KERN_BEFORE_B, KERN_BEFORE_C, LIGATURE, LIGATURE_C,
+    NOTHING, PLAIN, QUARTER, Sample, THREE_QUARTERS,
 };
 use tfm_tables::{FontFault, Step};
 use tfm_words::Table::{Depth, Height, Italic, Kern, Param, Width};
@@ -97,7 +97,7 @@ const BEFORE_100: Step = Step {
 };
 
 /// Faults of characters and first entries, with others that come later.
-pub static CHARACTERS_AND_FIRST_ENTRIES: [(&str, Sample<'static>, FontFault); 8] = [
+pub static CHARACTERS_AND_FIRST_ENTRIES: [(&str, Sample<'static>, FontFault); 9] = [
     (
         "a program that isn't there, before an index",
         Sample {
@@ -138,9 +138,17 @@ pub static CHARACTERS_AND_FIRST_ENTRIES: [(&str, Sample<'static>, FontFault); 8]
         FontFault::LigStart(98),
     ),
     (
+        "width 0 out of range",
+        Sample {
+            width: &[0x0100_0000, HALF, QUARTER, THREE_QUARTERS],
+            ..PLAIN
+        },
+        FontFault::FirstNotZero(Width),
+    ),
+    (
         "width 0, and width 1 out of range",
         Sample {
-            width: &[0x0100_0000, 0x0100_0000, 0, 0],
+            width: &[0x0100_0000, 0x0100_0000, QUARTER, THREE_QUARTERS],
             ..PLAIN
         },
         FontFault::FirstNotZero(Width),
@@ -174,11 +182,11 @@ pub static CHARACTERS_AND_FIRST_ENTRIES: [(&str, Sample<'static>, FontFault); 8]
 ];
 
 /// Faults of measures, with others that come later.
-pub static MEASURES: [(&str, Sample<'static>, FontFault); 9] = [
+pub static MEASURES: [(&str, Sample<'static>, FontFault); 10] = [
     (
         "width 1",
         Sample {
-            width: &[0, 0x0100_0000, 0, 0],
+            width: &[0, 0x0100_0000, QUARTER, THREE_QUARTERS],
             ..PLAIN
         },
         FontFault::FixWordRange {
@@ -238,7 +246,7 @@ pub static MEASURES: [(&str, Sample<'static>, FontFault); 9] = [
         "a kern, and an instruction with a code that isn't there",
         Sample {
             program: &[BEFORE_100, KERN_BEFORE_C, KERN_BEFORE_B],
-            kerns: &[0x0100_0000, 0],
+            kerns: &[0x0100_0000, AHEAD],
             ..LIGATURE
         },
         FontFault::FixWordRange {
@@ -260,6 +268,17 @@ pub static MEASURES: [(&str, Sample<'static>, FontFault); 9] = [
     ),
     (
         "parameter 2",
+        Sample {
+            parameters: &[0, 0xFE00_0000],
+            ..PLAIN
+        },
+        FontFault::FixWordRange {
+            table: Param,
+            index: 2,
+        },
+    ),
+    (
+        "parameter 2, and a slant that may be any number",
         Sample {
             parameters: &[0x0100_0000, 0xFE00_0000],
             ..PLAIN

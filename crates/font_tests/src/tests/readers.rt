@@ -30,6 +30,12 @@ const GAP: Sample<'static> = Sample {
     ..PLAIN
 };
 
+/// The same, and the char_info word of b is four zero bytes.
+const ZERO: Sample<'static> = Sample {
+    characters: &[A, NOTHING, C],
+    ..PLAIN
+};
+
 /// One character, whose code is the smallest.
 const FIRST_CODE: Sample<'static> = Sample {
     bc: 0,
@@ -53,9 +59,10 @@ const NO_CHARACTERS_AT_THE_END: Sample<'static> = Sample {
 };
 
 /// Fonts, and the codes of their characters.
-static CHARACTERS: [(&str, Sample<'static>, &[u8]); 6] = [
+static CHARACTERS: [(&str, Sample<'static>, &[u8]); 7] = [
     ("a, b and c", PLAIN, &[97, 98, 99]),
     ("a and c", GAP, &[97, 99]),
+    ("a and c without programs", ZERO, &[97, 99]),
     ("255 alone", LAST_CODE, &[255]),
     ("0 alone", FIRST_CODE, &[0]),
     ("none", NO_CHARACTERS, &[]),

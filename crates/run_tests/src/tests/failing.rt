@@ -1,5 +1,5 @@
-//! Runs with sources that fail.
-use super::reports::reports;
+//! Runs with readers, and with sources that fail.
+use super::reports::{reports, text_of_ab};
 use line_lane::SourceFault;
 use set_line::Terms;
 use set_run::ReaderSource;
@@ -101,15 +101,15 @@ fn a_line_cut_off_by_a_fault_is_not_given(rt: HostRuntime) -> Result<(), Fail> {
     Ok(())
 }
 
-/// A run of one reader, which gives a byte at a time, has this report.
+/// A run of one reader, which gives this many bytes at a time, has this report.
 fn reads_alone<R: Threads + Wait + Abort + AllocGlobal + Sync>(
     rt: &R,
     case: &str,
-    (bytes, good_reads): (&[u8], usize),
+    (bytes, step, good_reads): (&[u8], usize, usize),
     wanted: (&str, bool),
 ) -> Result<(), Fail> {
     let plan = plan(1, 1, 1)?;
-    let reader = TricklingReader::new(bytes, 1, good_reads);
+    let reader = TricklingReader::new(bytes, step, good_reads);
     let mut sources = Vec::new(rt.alloc());
     let terms = plain_terms(rt.alloc()).ok_or("out of memory")?;
     sources.push((ReaderSource::new(rt.alloc(), reader), terms))?;
@@ -146,7 +146,7 @@ fn a_reader_fails_at_each_of_its_reads(rt: HostRuntime) -> Result<(), Fail> {
         reads_alone(
             &rt,
             &case,
-            (b"ab\nc\nb", good_reads),
+            (b"ab\nc\nb", 1, good_reads),
             (wanted, *before == 3),
         )?;
     }
@@ -158,9 +158,35 @@ fn a_reader_fails_at_each_of_its_reads(rt: HostRuntime) -> Result<(), Fail> {
 fn a_line_that_takes_too_many_reads_ends_its_lane(rt: HostRuntime) -> Result<(), Fail> {
     let mut text = vec![in rt.alloc(); b'a'; 1_048_575]?;
     let wanted = "1:1 refused too-long 1048575\n1 end complete 1\n";
-    reads_alone(&rt, "up to the end", (&text, ALL), (wanted, true))?;
+    reads_alone(&rt, "up to the end", (&text, 1, ALL), (wanted, true))?;
     text.push(b'\n')?;
-    reads_alone(&rt, "up to the line feed", (&text, ALL), (wanted, true))?;
+    reads_alone(&rt, "up to the line feed", (&text, 1, ALL), (wanted, true))?;
     text.insert(0, b'a')?;
-    reads_alone(&rt, "one more", (&text, ALL), ("1 end bound 0\n", false))
+    reads_alone(&rt, "one more", (&text, 1, ALL), ("1 end bound 0\n", false))
+}
+
+/// A text with an empty line, a refused one, spaces, and a last line without a line feed.
+const MIXED: &str = "ab\n\nabc\nad\n b\nc";
+
+const REPORT: &str = "\
+1:1 set 491520 c97=327680 c98=163840
+1:2 set 0
+1:3 set 983040 c97=327680 c98=163840 c99=491520
+1:4 refused missing 1 100
+1:5 set 382293 s218453 c98=163840
+1:6 set 491520 c99=491520
+1 end complete 6
+";
+
+/// The long text has more bytes than a read gives.
+#[test]
+fn a_text_has_the_same_report_whatever_a_read_gives(rt: HostRuntime) -> Result<(), Fail> {
+    let long = "ab\n".repeat(rt.alloc(), 1_500)?;
+    let wanted = text_of_ab(rt.alloc(), &[1_500])?;
+    for step in [1, 2, 3, 4096] {
+        let case = format!(in rt.alloc(); "step {step}")?;
+        reads_alone(&rt, &case, (MIXED.as_bytes(), step, ALL), (REPORT, true))?;
+        reads_alone(&rt, &case, (long.as_bytes(), step, ALL), (&wanted, true))?;
+    }
+    Ok(())
 }

@@ -3,7 +3,7 @@
 //! A refused one of these makes the run a fault, or it makes a setter give its lane up: then the
 //! lane's first answers are there, and all those of the other lanes. The text that is printed says
 //! which it was.
-use super::plans::three_sources;
+use super::plans::three_with_terms;
 use lig_kern::Item;
 use line_lane::LaneEnd;
 use set_line::{Answer, LineRefusal, Outcome};
@@ -74,7 +74,7 @@ fn given_up<R: Abort>(rt: &R, report: &Report<ListSource>) -> u32 {
 
 #[test]
 fn a_refused_request_of_a_run(rt: HostRuntime) -> Result<(), Fail> {
-    let Some(sources) = three_sources(rt.alloc()) else {
+    let Some(sources) = three_with_terms(rt.alloc()) else {
         return Ok(println!(rt; "refused before the run")?);
     };
     let plan = plan(1, 1, 2)?;

@@ -1,6 +1,6 @@
 //! What a run reports doesn't hang on its plan.
 use super::reports::{reports, says_ab, sources_of_ab, text_of_ab};
-use set_line::{Line, Policy, Terms};
+use set_line::{Policy, Terms};
 use set_run::{ListSource, NoGate, RunFault, run};
 use std::alloc::Global;
 use std::process::Abort;
@@ -9,58 +9,23 @@ use std::test::Fail;
 use std::thread::Threads;
 use test_support::fonts::{ENDLESS, LIGATURE, PLAIN, Sample};
 use test_support::terms::{LIMIT, plain_terms, terms_of};
-use test_support::{CountingGate, line, plan, source_of, with_terms};
+use test_support::{CountingGate, plan, source_of, text_of_three, three_sources, with_terms};
 
-/// A hundred lines; `None` if an allocation fails.
-fn hundred(alloc: Global) -> Option<ListSource> {
-    let mut lines = Vec::with_capacity(alloc, 100).ok()?;
-    for place in 1..101u32 {
-        lines.push(line_at(alloc, place)?).ok()?;
-    }
-    Some(ListSource::new(lines))
+/// The sources of the batch of three, with the plain font; `None` if an allocation fails.
+pub fn three_with_terms(alloc: Global) -> Option<Vec<(ListSource, Arc<Terms>)>> {
+    with_terms(alloc, &plain_terms(alloc)?, three_sources(alloc)?)
 }
 
-/// A line `ab`. That of number 50 has 65,536 bytes.
-fn line_at(alloc: Global, place: u32) -> Option<Line> {
-    if place == 50 {
-        Some(Line::new(Vec::from_elem(alloc, b'a', 65_536).ok()?))
-    } else {
-        line(alloc, b"ab")
-    }
-}
+const ABC: &str = "983040 c97=327680 c98=163840 c99=491520";
 
-/// A source without lines, one with one line, and one with a hundred; `None` if an allocation fails.
-pub fn three_sources(alloc: Global) -> Option<Vec<(ListSource, Arc<Terms>)>> {
-    let mut sources = Vec::with_capacity(alloc, 3).ok()?;
-    sources.push(source_of(alloc, &[])?).ok()?;
-    sources.push(source_of(alloc, &["abc"])?).ok()?;
-    sources.push(hundred(alloc)?).ok()?;
-    with_terms(alloc, &plain_terms(alloc)?, sources)
-}
-
-/// What is reported of them.
-fn text_of_three(alloc: Global) -> Result<String, Fail> {
-    let mut text = String::new(alloc);
-    text.push_str("1 end complete 0\n")?;
-    text.push_str("2:1 set 983040 c97=327680 c98=163840 c99=491520\n2 end complete 1\n")?;
-    for place in 1..101u32 {
-        let record = if place == 50 {
-            format!(in alloc; "3:50 refused too-long 65536\n")?
-        } else {
-            format!(in alloc; "3:{place} set 491520 c97=327680 c98=163840\n")?
-        };
-        text.push_str(&record)?;
-    }
-    text.push_str("3 end complete 100\n")?;
-    Ok(text)
-}
+const AB: &str = "491520 c97=327680 c98=163840";
 
 #[test]
 fn three_sources_are_reported_in_order(rt: HostRuntime) -> Result<(), Fail> {
-    let wanted = text_of_three(rt.alloc())?;
+    let wanted = text_of_three(rt.alloc(), ABC, AB)?;
     for (block, case) in [(1, "block 1"), (3, "block 3"), (8, "block 8")] {
         let plan = plan(1, block, 2)?;
-        let sources = three_sources(rt.alloc()).ok_or("out of memory")?;
+        let sources = three_with_terms(rt.alloc()).ok_or("out of memory")?;
         reports(&rt, case, sources, plan, (&wanted, true))?;
     }
     Ok(())

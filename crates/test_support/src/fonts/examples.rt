@@ -1,7 +1,6 @@
-//! The files of the folder examples/fonts, each of which has both kerns, whether it uses them or not;
-//! and a few more in that form.
+//! The files of the folder examples/fonts, and a few more in that form.
 use super::named::{
-    BOUNDARY_EXISTS, ENDLESS, INDIRECT, KERNS, LEFT_BOUNDARY, LIGATURE, NO_CHARACTERS, PLAIN,
+    BOUNDARY_EXISTS, ENDLESS, INDIRECT, LEFT_BOUNDARY, LIGATURE, NO_CHARACTERS, PLAIN,
     RIGHT_BOUNDARY, endless_program, header, header_texts, largest_program, ligature_program,
     with_program,
 };
@@ -9,41 +8,32 @@ use super::sample::Sample;
 use std::alloc::{AllocError, Global};
 use tfm_tables::Step;
 
-/// The file of a font with both kerns.
-fn file(alloc: Global, sample: &Sample<'_>) -> Result<Vec<u8>, AllocError> {
-    Sample {
-        kerns: KERNS,
-        ..*sample
-    }
-    .file(alloc)
-}
-
-/// No characters, and no kerns.
+/// No characters.
 pub fn no_characters(alloc: Global) -> Result<Vec<u8>, AllocError> {
     NO_CHARACTERS.file(alloc)
 }
 
 /// a, b and c without programs.
 pub fn plain(alloc: Global) -> Result<Vec<u8>, AllocError> {
-    file(alloc, &PLAIN)
+    PLAIN.file(alloc)
 }
 
 /// The same without the parameter that is the space, which is then 0.
 pub fn without_space(alloc: Global) -> Result<Vec<u8>, AllocError> {
-    let sample = Sample {
+    Sample {
         parameters: &[0],
         ..PLAIN
-    };
-    file(alloc, &sample)
+    }
+    .file(alloc)
 }
 
 /// The same without any parameter.
 pub fn without_parameters(alloc: Global) -> Result<Vec<u8>, AllocError> {
-    let sample = Sample {
+    Sample {
         parameters: &[],
         ..PLAIN
-    };
-    file(alloc, &sample)
+    }
+    .file(alloc)
 }
 
 /// No characters, and a header with a coding scheme, a family and a face.
@@ -79,26 +69,26 @@ pub fn right_boundary(alloc: Global) -> Result<Vec<u8>, AllocError> {
 
 /// A right boundary character that exists.
 pub fn boundary_exists(alloc: Global) -> Result<Vec<u8>, AllocError> {
-    file(alloc, &BOUNDARY_EXISTS)
+    BOUNDARY_EXISTS.file(alloc)
 }
 
 /// A left boundary's program.
 pub fn left_boundary(alloc: Global) -> Result<Vec<u8>, AllocError> {
-    file(alloc, &LEFT_BOUNDARY)
+    LEFT_BOUNDARY.file(alloc)
 }
 
 /// A program that begins elsewhere, with an instruction that itself points elsewhere.
 pub fn indirect(alloc: Global) -> Result<Vec<u8>, AllocError> {
-    file(alloc, &INDIRECT)
+    INDIRECT.file(alloc)
 }
 
 /// One more a between two of them, by this operation: some of these have no end.
 pub fn endless(alloc: Global, op: u8) -> Result<Vec<u8>, AllocError> {
-    let sample = Sample {
+    Sample {
         program: &endless_program(op),
         ..ENDLESS
-    };
-    file(alloc, &sample)
+    }
+    .file(alloc)
 }
 
 /// The largest font that the counts allow.

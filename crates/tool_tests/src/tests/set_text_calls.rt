@@ -1,11 +1,12 @@
-//! `set_text` itself: sources that fail, writers that fail, and refused memory.
+//! `set_text` itself: two sizes, sources that fail, writers that fail, and refused memory.
 use super::*;
 use set_line::{Limit, Policy, Version};
-use set_run::{NoGate, ReaderSource};
+use set_run::{LineSource, NoGate, ReaderSource};
 use std::io::Write;
 use std::test::Fail;
-use test_support::{FailingWriter, TricklingReader, small_plan};
-use tfm_tool::{FontSetting, OutputOptions, Summary, ToolFault, set_text};
+use test_support::{FailingWriter, TricklingReader, small_plan, text_of_three, three_sources};
+use tfm_tool::{FontSetting, OutputOptions, Summary, ToolFault, set_text, status};
+use tfm_words::Size;
 
 /// Two sources: one of `ab` and `c`, which fails after this many reads, and one of `a`.
 pub fn two_sources<'a>(
@@ -34,11 +35,26 @@ where
     R: Abort + Threads + Wait + Sync + AllocGlobal,
     W: Write,
 {
-    let alloc = rt.alloc();
-    let sources = two_sources(alloc, good_reads)?;
+    let sources = two_sources(rt.alloc(), good_reads)?;
+    set_all(rt, (font, None), sources, version, out)
+}
+
+/// The text of these sources, in a font at a size.
+fn set_all<R, S, W>(
+    rt: &R,
+    (bytes, size): (&[u8], Option<Size>),
+    sources: Vec<S>,
+    version: Version,
+    out: &mut W,
+) -> Result<Summary, ToolFault>
+where
+    R: Abort + Threads + Wait + Sync + AllocGlobal,
+    S: LineSource + Send + Drop,
+    W: Write,
+{
     let font = FontSetting {
-        bytes: font,
-        size: None,
+        bytes,
+        size,
         limit: Limit::new(100).expect(rt, "a limit"),
         policy: Policy::Refuse,
     };
@@ -48,6 +64,34 @@ where
         gate: &NoGate,
     };
     set_text(rt, &font, sources, &options, out)
+}
+
+/// A size in scaled points, and the width and the items of `abc` and of `ab` at this size.
+static SIZES: [(u32, &str, &str); 2] = [
+    (
+        655_360,
+        "983040 c97=327680 c98=163840 c99=491520",
+        "491520 c97=327680 c98=163840",
+    ),
+    (
+        1_310_720,
+        "1966080 c97=655360 c98=327680 c99=983040",
+        "983040 c97=655360 c98=327680",
+    ),
+];
+
+#[test]
+fn three_sources_at_two_sizes(rt: HostRuntime) -> Result<(), Fail> {
+    for (size, abc, ab) in &SIZES {
+        let sources = three_sources(rt.alloc()).ok_or("out of memory")?;
+        let font = (PLAIN.as_slice(), Size::new(*size));
+        let mut out = Vec::new(rt.alloc());
+        let summary = set_all(&rt, font, sources, Version::One, &mut out)?;
+        let text = text_of_three(rt.alloc(), abc, ab)?;
+        assert!(rt; out.as_slice() == text.as_bytes(), "{size}");
+        assert_eq!(rt; status(&summary), 1, "{size}");
+    }
+    Ok(())
 }
 
 const WHOLE: &str = "records 2\n1:1 set 491520 steps 2 c97=327680 c98=163840\n\

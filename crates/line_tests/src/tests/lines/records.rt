@@ -6,6 +6,7 @@ use std::test::Fail;
 use test_support::fonts::examples::{
     boundary_exists, endless, indirect, left_boundary, ligature, plain, right_boundary,
 };
+use test_support::fonts::{SKIPPING, TWO_KERNS};
 
 static PLAIN: [Row; 3] = [
     ("a", 327_680, 1, " c97=327680"),
@@ -27,10 +28,17 @@ static LIGATURES: [Row; 6] = [
     ("abb", 675_840, 3, " c99=491520 k20480 c98=163840"),
 ];
 
+/// The first of two instructions for the same code, and the one that comes after a skip.
+static FIRST: [Row; 1] = [("ab", 450_560, 2, " c97=327680 k-40960 c98=163840")];
+
+static AFTER_A_SKIP: [Row; 1] = [("ab", 512_000, 2, " c97=327680 k20480 c98=163840")];
+
 #[test]
 fn characters_ligatures_and_kerns(rt: HostRuntime) -> Result<(), Fail> {
     sets_each(&rt, "the plain font", &plain(rt.alloc())?, &PLAIN)?;
-    sets_each(&rt, "a ligature", &ligature(rt.alloc(), 0)?, &LIGATURES)
+    sets_each(&rt, "a ligature", &ligature(rt.alloc(), 0)?, &LIGATURES)?;
+    sets_each(&rt, "two kerns", &TWO_KERNS.file(rt.alloc())?, &FIRST)?;
+    sets_each(&rt, "a skip", &SKIPPING.file(rt.alloc())?, &AFTER_A_SKIP)
 }
 
 static INDIRECT: [Row; 1] = [("ab", 491_520, 2, " c97=327680 c98=163840")];
