@@ -12,9 +12,9 @@ _tfmset_options() {
         list) options='--all -h --help' ;;
         pairs) options='--size --format -h --help' ;;
         check) options='--size -h --help' ;;
-        set) options='--size --limit --missing --workers --capacity --block --record -h --help' ;;
-        each) options='--size --missing --workers --capacity --block --record -h --help' ;;
-        stream) options='--size --limit --missing --workers --capacity --block --record -h --help' ;;
+        set) options='--size --limit --missing --crlf --workers --capacity --block --record -h --help' ;;
+        each) options='--size --missing --crlf --workers --capacity --block --record -h --help' ;;
+        stream) options='--size --limit --missing --crlf --workers --capacity --block --record -h --help' ;;
         help) options='' ;;
         *) options='' ;;
     esac

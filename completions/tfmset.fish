@@ -70,6 +70,7 @@ complete -c tfmset -n '__tfmset_is pairs check set each stream' -l size -x -d 'F
 complete -c tfmset -n '__tfmset_is pairs' -l format -x -a 'text csv json' -d 'Output format'
 complete -c tfmset -n '__tfmset_is set stream' -l limit -x -d 'Maximum steps per line, 1 to 16777216'
 complete -c tfmset -n '__tfmset_is set each stream' -l missing -x -a 'refuse skip' -d 'On a missing character'
+complete -c tfmset -n '__tfmset_is set each stream' -l crlf -d 'Leave out one carriage return before each line feed'
 complete -c tfmset -n '__tfmset_is set each stream' -l workers -x -a '(seq 1 16)' -d 'Maximum threads that set lines'
 complete -c tfmset -n '__tfmset_is set each stream' -l capacity -x -d 'Slots per queue between threads, 1 to 65536'
 complete -c tfmset -n '__tfmset_is set each stream' -l block -x -a '(seq 1 8)' -d 'Lines per message between threads'
@@ -79,7 +80,7 @@ complete -c tfmset -n '__tfmset_is help; and test (__tfmset_count) -eq 0' -a 'co
 
 # Prints the options that have no value.
 function __tfmset_flags
-    string split ' ' -- '--all -h --help -V --version'
+    string split ' ' -- '--all --crlf -h --help -V --version'
 end
 # end generated
 

@@ -42,6 +42,10 @@ module _ (choices : AllChoices) where
   unfolding clap_on_literals
   list_all = refl
 
+  stream_crlf : read_in (codes "crlf") (codes "stream" ∷ codes "--crlf" ∷ codes "f.tfm" ∷ []) ≡ Some (Some (codes "true"))
+  unfolding clap_on_literals
+  stream_crlf = refl
+
   abbrev set : List Text
   set = codes "set" ∷ codes "--size=655360" ∷ codes "--workers" ∷ codes "4" ∷ codes "f.tfm" ∷ codes "a" ∷ codes "b" ∷ []
 
@@ -69,6 +73,10 @@ module _ (choices : AllChoices) where
   list_not_all : read_in (codes "all") (codes "list" ∷ codes "f.tfm" ∷ []) ≡ Some (Some (codes "false"))
   unfolding clap_on_literals
   list_not_all = refl
+
+  set_not_crlf : read_in (codes "crlf") set ≡ Some (Some (codes "false"))
+  unfolding clap_on_literals
+  set_not_crlf = refl
 
   set_limit : read_in (codes "limit") set ≡ Some (Some (codes "1048576"))
   unfolding clap_on_literals

@@ -89,6 +89,7 @@ module _ (rows : List Row) where
       IsSize layout.size
       × (layout.plain_size ≡ has_plain_size)
       × (first_of (codes "missing") rows ≡ Some (policy_word layout.policy))
+      × IsFlag (one_of (codes "crlf") rows) layout.crlf
       × IsPlan layout.plan
       × (first_of (codes "record") rows ≡ Some (version_word layout.version))
 

@@ -71,6 +71,7 @@ size_rule = record (new_rule (codes "size")) { long = Some (codes "size"); value
 abbrev pub run_rules : Text → Choices → List Rule
 run_rules block choices =
     with_default (codes "refuse") (choice_rule (codes "missing") choices.missing)
+    ∷ flag_rule (codes "crlf")
     ∷ with_default (codes "2") (number_rule (codes "workers") 16)
     ∷ with_default (codes "16") (number_rule (codes "capacity") 65536)
     ∷ with_default block (number_rule (codes "block") 8)

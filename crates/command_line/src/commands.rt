@@ -7,8 +7,8 @@ ghost use Rattle.command_line.specs.Commands.{AllChoices, Choices, IsArgument, I
 
 use crate::help::{
     ABOUT, AFTER_HELP, ALL_HELP, BLOCK_HELP, CAPACITY_HELP, CHECK_ABOUT, CHECK_AFTER_HELP,
-    COUNTS_ABOUT, COUNTS_AFTER_HELP, EACH_ABOUT, EACH_AFTER_HELP, FILE_HELP, FONT_HELP, FONTS_HELP,
-    FORMAT_HELP, LIMIT_HELP, LIST_ABOUT, LIST_AFTER_HELP, MISSING_HELP, PAIRS_ABOUT,
+    COUNTS_ABOUT, COUNTS_AFTER_HELP, CRLF_HELP, EACH_ABOUT, EACH_AFTER_HELP, FILE_HELP, FONT_HELP,
+    FONTS_HELP, FORMAT_HELP, LIMIT_HELP, LIST_ABOUT, LIST_AFTER_HELP, MISSING_HELP, PAIRS_ABOUT,
     PAIRS_AFTER_HELP, RECORD_HELP, SET_ABOUT, SET_AFTER_HELP, SIZE_HELP, STREAM_ABOUT,
     STREAM_AFTER_HELP, STREAM_FILE_HELP, WORDS_HELP, WORKERS_HELP,
 };
@@ -69,7 +69,7 @@ fn list_command<'a>(alloc: Global) -> Result<Command<'a>, AllocError>
     ensures { IfOk result (IsSubcommand list_shape) }
 {
     let command = subcommand(alloc, "list", LIST_ABOUT, LIST_AFTER_HELP);
-    let command = with_argument(command, all_option(alloc))?;
+    let command = with_argument(command, flag_option(alloc, "all", ALL_HELP))?;
     with_argument(command, font_argument(alloc))
 }
 
@@ -152,6 +152,7 @@ fn run_options<'a>(
         → (choices : Choices) × IsCommandOf (with_rules app (run_rules lines.now choices)) made) }
 {
     let command = with_argument(command, missing_option(alloc))?;
+    let command = with_argument(command, flag_option(alloc, "crlf", CRLF_HELP))?;
     let workers = number_option(alloc, "workers", WORKERS_HELP, 16).default_value("2");
     let command = with_argument(command, workers)?;
     let capacity = number_option(alloc, "capacity", CAPACITY_HELP, 65_536).default_value("16");
@@ -175,15 +176,6 @@ fn font_argument<'a>(alloc: Global) -> Arg<'a>
     ensures { IsArgument (needed (new_rule (codes "FONT"))) result }
 {
     Arg::new(alloc, "FONT").required(true).help(FONT_HELP)
-}
-
-fn all_option<'a>(alloc: Global) -> Arg<'a>
-    ensures { IsArgument (flag_rule (codes "all")) result }
-{
-    Arg::new(alloc, "all")
-        .long("all")
-        .help(ALL_HELP)
-        .action(ArgAction::SetTrue)
 }
 
 fn size_option<'a>(alloc: Global) -> Arg<'a>
@@ -224,6 +216,16 @@ fn many<'a>(alloc: Global, name: &'a str, help: &'a str) -> Arg<'a>
     ensures { IsArgument (words_rule name.now) result }
 {
     Arg::new(alloc, name).num_args(1..).help(help)
+}
+
+/// Builds an option without a value.
+fn flag_option<'a>(alloc: Global, name: &'a str, help: &'a str) -> Arg<'a>
+    ensures { IsArgument (flag_rule name.now) result }
+{
+    Arg::new(alloc, name)
+        .long(name)
+        .help(help)
+        .action(ArgAction::SetTrue)
 }
 
 /// Builds an option whose value is a number, 1 to `most`.

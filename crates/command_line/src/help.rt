@@ -115,8 +115,8 @@ is produced, and for large inputs, use `tfmset stream`.
 
 A FILE named - is a file of that name; /dev/stdin is standard input. Bytes are
 character codes of the font, not Unicode. Byte 32 is a space, byte 10 ends a
-line, and a carriage return (13) is a code like any other. A line has at most
-65535 bytes.
+line, and a carriage return (13) is a code like any other; with --crlf, one
+before each byte 10 is left out. A line has at most 65535 bytes.
 
 Without --size, the font is set at its design size. A size is a number directly
 followed by pt, in, pc, cm, mm, bp, dd, cc or sp, such as 10.95pt or 4mm, and
@@ -187,8 +187,9 @@ are set at --size; without it, each font is set at its own design size.
 
 Prints the same records and end lines as `tfmset set`, once every FILE is set.
 Bytes are character codes of the font, not Unicode. Byte 32 is a space, byte 10
-ends a line, and a carriage return (13) is a code like any other. A line has at
-most 65535 bytes. A size is as for `tfmset set`.
+ends a line, and a carriage return (13) is a code like any other; with --crlf,
+one before each byte 10 is left out. A line has at most 65535 bytes. A size is
+as for `tfmset set`.
 
 Exit status:
   0  Every line of every FILE was set, and the output was written.
@@ -220,6 +221,8 @@ pub(crate) const SIZE_ERROR: &str = "a size is 1 to 134217727 scaled points, or 
 pub(crate) const LIMIT_HELP: &str = "Maximum steps per line, 1 to 16777216";
 
 pub(crate) const MISSING_HELP: &str = "On a missing character: refuse or skip";
+
+pub(crate) const CRLF_HELP: &str = "Leave out one carriage return before each line feed";
 
 pub(crate) const RECORD_HELP: &str = "Record format: 1, 2 or json; 1 omits steps";
 

@@ -217,6 +217,7 @@ fn asked_layout(matches: &ArgMatches<'_>) -> Option<Layout>
         size: asked_size(matches)?,
         plain_size: asked_plain_size(matches),
         policy: asked_policy(matches)?,
+        crlf: flag(matches, "crlf"),
         plan: asked_plan(matches)?,
         version: asked_version(matches)?,
     })

@@ -48,6 +48,8 @@ pub struct Layout {
     pub plain_size: bool,
     /// The missing-character policy.
     pub policy: Policy,
+    /// Whether one carriage return before each line feed is stripped from the files with lines.
+    pub crlf: bool,
     /// The capacity and the block of each lane, and the largest number of workers.
     pub plan: Plan,
     /// The record format.

@@ -173,7 +173,7 @@ few_jobs (a ∷ b ∷ c ∷ words) = omega (arith, few_jobs words)
 -- so of lawful words there are at most 64 sources
 pub few_of_jobs : {S : Type 0} (known : List ℕ → Option (List ℕ)) (layout : Layout) (tell : S → Told) (words : List (Bor (List ℕ))) (jobs : List Job)
     (pairs : List (Bor (List ℕ) × Arc TermsValue Global)) (sources : List (S × Arc TermsValue Global)) → AreWordsOfJobs words → map job_value jobs ≡ jobs_in words
-    → AllZip (HasTermsOf known layout) jobs pairs → AllZip (IsOpenedWith known tell) pairs sources → length sources ≤ 64
+    → AllZip (HasTermsOf known layout) jobs pairs → AllZip (IsOpenedWith known layout tell) pairs sources → length sources ≤ 64
 few_of_jobs known layout tell words jobs pairs sources lawful is has opened =
     let of_words : length (map job_value jobs) ≡ length (jobs_in words) = ap length is in
     omega (
@@ -184,16 +184,16 @@ few_of_jobs known layout tell words jobs pairs sources lawful is has opened =
       of_words,
       length-map jobs job_value,
       AllZip-long (HasTermsOf known layout) jobs pairs has,
-      AllZip-long (IsOpenedWith known tell) pairs sources opened,
+      AllZip-long (IsOpenedWith known layout tell) pairs sources opened,
     )
 
 -- ---- sources, and what was done
 
 -- there are as many sources as files
-pub few_sources : {S : Type 0} (tell : S → Told × TermsValue) (known : List ℕ → Option (List ℕ)) (terms : TermsValue) (names : List (Bor (List ℕ))) (sources : List S)
-    → AllZip (IsSourceWith terms) (file_bytes_of known names) (map tell sources) → length names ≤ 64 → length sources ≤ 64
-few_sources tell known terms names sources are few =
-    let long : length (map tell sources) ≡ length (file_bytes_of known names) = AllZip-long (IsSourceWith terms) (file_bytes_of known names) (map tell sources) are in
+pub few_sources : {S : Type 0} (tell : S → Told × TermsValue) (known : List ℕ → Option (List ℕ)) (layout : Layout) (terms : TermsValue) (names : List (Bor (List ℕ))) (sources : List S)
+    → AllZip (IsSourceWith layout terms) (file_bytes_of known names) (map tell sources) → length names ≤ 64 → length sources ≤ 64
+few_sources tell known layout terms names sources are few =
+    let long : length (map tell sources) ≡ length (file_bytes_of known names) = AllZip-long (IsSourceWith layout terms) (file_bytes_of known names) (map tell sources) are in
     omega (arith, long, length-map sources tell, length-map names (λ name. known name.now), few)
 
 -- a request that was done had no fault

@@ -17,7 +17,7 @@ use Rattle.tfm_tool.specs.Jobs.{AreTermsFor, AreTermsOf, HasTermsOf, IsOpenedWit
 use Rattle.tfm_tool.specs.Kept.{HaveSameFont, kept_of}
 use Rattle.tfm_tool.specs.Named.{OfKnown, file_bytes_of}
 use Rattle.tfm_tool.specs.Requests.{IsSourceWith}
-use Rattle.tfm_tool.specs.Told.{IsSourceOf, Told}
+use Rattle.tfm_tool.specs.Told.{IsSourceOf, Told, text_in}
 use Rattle.command_line.specs.declared.request.Layout.{Layout}
 use Rattle.tfm_tool.specs.declared.jobs.Job.{Job}
 use Rattle.tfm_tool.proofs.KnownLemmas.{of_known, same_of_kept}
@@ -86,24 +86,24 @@ module _ {S : Type 0} (known : List ℕ → Option (List ℕ)) (tell : S → Tol
   -- the source of each job's file has the job's terms
   pub sources_of_jobs : {D E : Type 0} (items : D → List (S × Arc TermsValue Global)) (r : Result D E) (layout : Layout) (jobs : List Job)
       (words : List (Bor (List ℕ))) (pairs : List (Bor (List ℕ) × Arc TermsValue Global))
-      → map job_value jobs ≡ jobs_in words → AllZip (HasTermsOf known layout) jobs pairs → IfOk r (λ sources. AllZip (IsOpenedWith known tell) pairs (items sources))
+      → map job_value jobs ≡ jobs_in words → AllZip (HasTermsOf known layout) jobs pairs → IfOk r (λ sources. AllZip (IsOpenedWith known layout tell) pairs (items sources))
       → IfOk r (λ sources. AllZip (IsSourceOfJob known layout) (jobs_in words) (map (told_with_terms tell) (items sources)))
   sources_of_jobs items (Ok sources) layout jobs words pairs is has opened =
       subst (λ values. AllZip (IsSourceOfJob known layout) values (map (told_with_terms tell) (items sources))) is
-      (zipped (HasTermsOf known layout) (IsOpenedWith known tell) (IsSourceOfJob known layout) job_value (told_with_terms tell) (λ job named source h o. (
-        subst (λ name. IsSourceOf (known name.now) (tell source.0)) h.0 o.0,
+      (zipped (HasTermsOf known layout) (IsOpenedWith known layout tell) (IsSourceOfJob known layout) job_value (told_with_terms tell) (λ job named source h o. (
+        subst (λ name. IsSourceOf (text_in layout (known name.now)) (tell source.0)) h.0 o.0,
         subst (λ arc. AreTermsOf known layout (job_value job) (arc_value arc)) (sym o.1) h.1,
       )) jobs pairs (items sources) has opened)
   sources_of_jobs items (Err e) layout jobs words pairs is has opened = opened
 
   -- the source of each file has the terms that all share
-  pub sources_of_files : {D E : Type 0} (items : D → List (S × Arc TermsValue Global)) (r : Result D E) (terms : TermsValue)
+  pub sources_of_files : {D E : Type 0} (items : D → List (S × Arc TermsValue Global)) (r : Result D E) (layout : Layout) (terms : TermsValue)
       (names : List (Bor (List ℕ))) (pairs : List (Bor (List ℕ) × Arc TermsValue Global))
-      → AllZip (HasTerms terms) names pairs → IfOk r (λ sources. AllZip (IsOpenedWith known tell) pairs (items sources))
-      → IfOk r (λ sources. AllZip (IsSourceWith terms) (file_bytes_of known names) (map (told_with_terms tell) (items sources)))
-  sources_of_files items (Ok sources) terms names pairs has opened =
-      zipped (HasTerms terms) (IsOpenedWith known tell) (IsSourceWith terms) (λ name. known name.now) (told_with_terms tell) (λ name named source h o. (
-        subst (λ name. IsSourceOf (known name.now) (tell source.0)) h.0 o.0,
+      → AllZip (HasTerms terms) names pairs → IfOk r (λ sources. AllZip (IsOpenedWith known layout tell) pairs (items sources))
+      → IfOk r (λ sources. AllZip (IsSourceWith layout terms) (file_bytes_of known names) (map (told_with_terms tell) (items sources)))
+  sources_of_files items (Ok sources) layout terms names pairs has opened =
+      zipped (HasTerms terms) (IsOpenedWith known layout tell) (IsSourceWith layout terms) (λ name. known name.now) (told_with_terms tell) (λ name named source h o. (
+        subst (λ name. IsSourceOf (text_in layout (known name.now)) (tell source.0)) h.0 o.0,
         ap arc_value o.1 ∙ h.1,
       )) names pairs (items sources) has opened
-  sources_of_files items (Err e) terms names pairs has opened = opened
+  sources_of_files items (Err e) layout terms names pairs has opened = opened

@@ -11,7 +11,7 @@ use Rattle.std.specs.declared.sync.Arc.{Arc}
 use Rattle.tfm_tables.specs.Font.{IsFontOf}
 use Rattle.set_line.specs.Terms.{TermsValue}
 use Rattle.tfm_tool.specs.Named.{OfKnown}
-use Rattle.tfm_tool.specs.Told.{IsSourceOf, Told}
+use Rattle.tfm_tool.specs.Told.{IsSourceOf, Told, text_in}
 use Rattle.command_line.specs.declared.request.Layout.{Layout}
 use Rattle.tfm_tool.specs.declared.failure.Failure.{Failure}
 use Rattle.tfm_tool.specs.declared.failure.Failure.TheVariants.{NotInThrees, TooManyFiles, LimitRange}
@@ -89,7 +89,7 @@ module _ (known : List ℕ → Option (List ℕ)) where
 
   -- a source of the file of a job, by its known contents, with the settings of the job
   abbrev pub IsSourceOfJob : Layout → JobValue → Told × TermsValue → Type 0
-  IsSourceOfJob layout job source = IsSourceOf (known job.file) source.0 × AreTermsOf layout job source.1
+  IsSourceOfJob layout job source = IsSourceOf (text_in layout (known job.file)) source.0 × AreTermsOf layout job source.1
 
   -- the name of the file of a job, with the settings of the job
   abbrev pub HasTermsOf : Layout → Job → Bor (List ℕ) × Arc TermsValue Global → Type 0
@@ -100,6 +100,7 @@ module _ {S : Type 0} where
   abbrev pub told_with_terms : (S → Told) → S × Arc TermsValue Global → Told × TermsValue
   told_with_terms tell source = (tell source.0, arc_value source.1)
 
-  -- a source of the file of this name, with the same settings
-  abbrev pub IsOpenedWith : (List ℕ → Option (List ℕ)) → (S → Told) → Bor (List ℕ) × Arc TermsValue Global → S × Arc TermsValue Global → Type 0
-  IsOpenedWith known tell named source = IsSourceOf (known named.0.now) (tell source.0) × (source.1 ≡ named.1)
+  -- a source of the text in the file of this name, with the same settings
+  abbrev pub IsOpenedWith :
+      (List ℕ → Option (List ℕ)) → Layout → (S → Told) → Bor (List ℕ) × Arc TermsValue Global → S × Arc TermsValue Global → Type 0
+  IsOpenedWith known layout tell named source = IsSourceOf (text_in layout (known named.0.now)) (tell source.0) × (source.1 ≡ named.1)

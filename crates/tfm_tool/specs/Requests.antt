@@ -14,9 +14,10 @@ use Rattle.tfm_tool.specs.Checking.{AreChecked}
 use Rattle.tfm_tool.specs.Named.{OfKnown, file_bytes_of, font_bytes_of, stream_bytes_of}
 use Rattle.tfm_tool.specs.Jobs.{AreTermsFor, IsSourceOfJob, jobs_in}
 use Rattle.tfm_tool.specs.Runs.{IsPrinted}
-use Rattle.tfm_tool.specs.Told.{IsSourceOf, Told}
+use Rattle.tfm_tool.specs.Told.{IsSourceOf, Told, text_in}
 use Rattle.tfm_tool.specs.declared.delivery.Delivery.{Delivery}
 use Rattle.tfm_tool.specs.declared.delivery.Delivery.TheVariants.{AtTheEnd, AsTheyCome}
+use Rattle.command_line.specs.declared.request.Layout.{Layout}
 use Rattle.command_line.specs.declared.request.Request.{Request}
 use Rattle.command_line.specs.declared.request.Request.TheVariants.{Counts, List as ListFont, Pairs, Check, Set, Stream, Each}
 use Rattle.command_line.specs.declared.request.Jobs.{Jobs}
@@ -27,17 +28,17 @@ abbrev pub list_text_of : Bool → FontValue → List ℕ
 list_text_of true font = all_listing_of font
 list_text_of false font = listing_of font
 
--- a source of these bytes, by its known contents, with these settings
-abbrev pub IsSourceWith : TermsValue → Option (List ℕ) → Told × TermsValue → Type 0
-IsSourceWith terms bytes source = IsSourceOf bytes source.0 × (source.1 ≡ terms)
+-- a source of the text in these bytes for a layout, by its known contents, with these settings
+abbrev pub IsSourceWith : Layout → TermsValue → Option (List ℕ) → Told × TermsValue → Type 0
+IsSourceWith layout terms bytes source = IsSourceOf (text_in layout bytes) source.0 × (source.1 ≡ terms)
 
 module _ (known : List ℕ → Option (List ℕ)) (input : Option (List ℕ)) where
-  -- sources of these bytes, in order, all with the settings of a request of `set` or `stream`
+  -- sources of the text in these bytes, in order, all with the settings of a request of `set` or `stream`
   abbrev pub AreSetSources : Setting → List (Option (List ℕ)) → List (Told × TermsValue) → Type 0
   AreSetSources setting bytes sources =
       (terms : TermsValue)
       × AreTermsFor (font_bytes_of known input setting.font.now) setting.layout setting.limit terms
-      × AllZip (IsSourceWith terms) bytes sources
+      × AllZip (IsSourceWith setting.layout terms) bytes sources
 
 -- ---- the cases
 -- The parameters of each case: the known contents of a file, by its name, and of standard input; the contents

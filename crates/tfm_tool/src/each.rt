@@ -11,11 +11,11 @@ ghost use Rattle.tfm_tool.specs.Told.{told_by};
 use crate::Opens;
 use crate::delivery::{Delivery, set_sources};
 use crate::failure::Failure;
-use crate::files::open_each;
+use crate::files::{TextSource, open_each};
 use crate::jobs::{all_terms, jobs};
 use command_line::Jobs;
 use set_line::Terms;
-use set_run::{LineSource, ReaderSource};
+use set_run::LineSource;
 use std::alloc::Global;
 use std::io::Write;
 use std::sync::{Arc, Wait};
@@ -27,11 +27,11 @@ fn job_sources<F: Opens>(
     alloc: Global,
     files: &F,
     asked: &Jobs<'_>,
-) -> Result<Vec<(ReaderSource<F::File>, Arc<Terms>)>, Failure>
+) -> Result<Vec<(TextSource<F::File>, Arc<Terms>)>, Failure>
     ensures sources { IfOk result (λ sources. AllZip (IsSourceOfJob (F.known files.now) asked.now.layout)
         (jobs_in asked.now.words.items)
-        (map (told_with_terms (told_by ⟦<ReaderSource<F::File> as LineSource>⟧.to_come
-        ⟦<ReaderSource<F::File> as LineSource>⟧.failed)) sources.items)) }
+        (map (told_with_terms (told_by ⟦<TextSource<F::File> as LineSource>⟧.to_come
+        ⟦<TextSource<F::File> as LineSource>⟧.failed)) sources.items)) }
     ensures fault { IfErr result (λ failure. is_after_text failure ≡ false) }
     ensures cause { BeforeText result (λ failure. IsFaultOfWords asked.now.words.items failure
         ⊎ IsFirstRefused (F.known files.now) asked.now.layout (jobs_in asked.now.words.items) failure) }
@@ -41,7 +41,7 @@ fn job_sources<F: Opens>(
 {
     let given = jobs(alloc, asked.words.as_slice())?;
     let with_terms = all_terms(alloc, files, given.as_slice(), &asked.layout)?;
-    open_each(alloc, files, with_terms)
+    open_each(alloc, files, with_terms, &asked.layout)
 }
 
 /// Does what `each` requests: reads the fonts, opens the files, sets the lines of each file with the font and

@@ -6,10 +6,12 @@ ghost use Rattle.tfm_tool.specs.Jobs.{IsOpenedWith};
 ghost use Rattle.tfm_tool.specs.Kept.{HaveSameFont, kept_of};
 ghost use Rattle.tfm_tool.specs.Named.{font_bytes_of};
 ghost use Rattle.tfm_tool.specs.Status.{is_after_text, is_refusal};
-ghost use Rattle.tfm_tool.specs.Told.{IsSourceOf, told_by};
+ghost use Rattle.tfm_tool.specs.Told.{IsSourceOf, text_in, told_by};
 
 use crate::failure::Failure;
 use crate::{Opens, ToolFault};
+use command_line::Layout;
+use line_endings::CrlfReader;
 use set_line::Terms;
 use set_run::{LineSource, ReaderSource};
 use std::alloc::{AllocError, Global};
@@ -112,21 +114,34 @@ fn opened<F: Opens>(files: &F, name: &str) -> Result<F::File, ReadFault>
     })
 }
 
+/// A source of the lines of a reader, from which carriage returns may be stripped.
+pub(crate) type TextSource<R> = ReaderSource<CrlfReader<R>>;
+
+/// Returns a source of the lines of this reader. With `crlf` in the layout, one carriage return before each
+/// line feed is stripped.
+pub(crate) fn text_source<R: Read>(alloc: Global, reader: R, layout: &Layout) -> TextSource<R>
+    ensures { IsSourceOf (text_in layout.now (R.remaining reader))
+        (told_by ⟦<TextSource<R> as LineSource>⟧.to_come ⟦<TextSource<R> as LineSource>⟧.failed result) }
+{
+    ReaderSource::new(alloc, CrlfReader::new(reader, layout.crlf))
+}
+
 /// Opens the file of this name as a source of lines. `number` is the number of the file in the error.
 fn open_file<F: Opens>(
     alloc: Global,
     files: &F,
     number: usize,
     name: &str,
-) -> Result<ReaderSource<F::File>, Failure>
-    ensures source { IfOk result (λ source. IsSourceOf (F.known files.now name.now)
-        (told_by ⟦<ReaderSource<F::File> as LineSource>⟧.to_come
-        ⟦<ReaderSource<F::File> as LineSource>⟧.failed source)) }
+    layout: &Layout,
+) -> Result<TextSource<F::File>, Failure>
+    ensures source { IfOk result (λ source. IsSourceOf (text_in layout.now (F.known files.now name.now))
+        (told_by ⟦<TextSource<F::File> as LineSource>⟧.to_come
+        ⟦<TextSource<F::File> as LineSource>⟧.failed source)) }
     ensures fault { IfErr result (λ failure. is_after_text failure ≡ false) }
     ensures later { IfErr result (λ failure. is_refusal failure ≡ false) }
 {
     match opened(files, name) {
-        Ok(file) => Ok(ReaderSource::new(alloc, file)),
+        Ok(file) => Ok(text_source(alloc, file, layout)),
         Err(ReadFault::NotRead) => Err(Failure::FileNotOpened(number)),
         Err(ReadFault::OutOfMemory) => Err(Failure::Tool(ToolFault::OutOfMemory)),
     }
@@ -138,16 +153,17 @@ pub(crate) fn open_each<F: Opens>(
     alloc: Global,
     files: &F,
     jobs: Vec<(&str, Arc<Terms>)>,
-) -> Result<Vec<(ReaderSource<F::File>, Arc<Terms>)>, Failure>
-    ensures sources { IfOk result (λ sources. AllZip (IsOpenedWith (F.known files.now)
-        (told_by ⟦<ReaderSource<F::File> as LineSource>⟧.to_come
-        ⟦<ReaderSource<F::File> as LineSource>⟧.failed)) jobs.entry.items sources.items) }
+    layout: &Layout,
+) -> Result<Vec<(TextSource<F::File>, Arc<Terms>)>, Failure>
+    ensures sources { IfOk result (λ sources. AllZip (IsOpenedWith (F.known files.now) layout.now
+        (told_by ⟦<TextSource<F::File> as LineSource>⟧.to_come
+        ⟦<TextSource<F::File> as LineSource>⟧.failed)) jobs.entry.items sources.items) }
     ensures fault { IfErr result (λ failure. is_after_text failure ≡ false) }
     ensures later { IfErr result (λ failure. is_refusal failure ≡ false) }
 {
     let mut sources = Vec::new(alloc);
     for (name, terms) in jobs {
-        let source = open_file(alloc, files, sources.len() + 1, name)?;
+        let source = open_file(alloc, files, sources.len() + 1, name, layout)?;
         sources
             .push((source, terms))
             .map_err(|_| Failure::Tool(ToolFault::OutOfMemory))?;

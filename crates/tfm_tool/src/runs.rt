@@ -17,11 +17,11 @@ ghost use Rattle.tfm_tool.specs.Status.{AfterText, BeforeText, is_after_text, is
 use crate::Opens;
 use crate::delivery::{Delivery, set_sources};
 use crate::failure::Failure;
-use crate::files::{font_bytes, open_each};
-use command_line::Setting;
+use crate::files::{TextSource, font_bytes, open_each, text_source};
+use command_line::{Layout, Setting};
 use run_texts::{FontSetting, ToolFault, terms_of, with_terms};
 use set_line::Terms;
-use set_run::{LineSource, MOST_SOURCES, ReaderSource};
+use set_run::{LineSource, MOST_SOURCES};
 use std::alloc::{AllocError, Global};
 use std::io::{Read, Write};
 use std::sync::{Arc, Wait};
@@ -64,14 +64,14 @@ fn font_and_files<F, I>(
     files: &F,
     setting: &Setting<'_>,
     input: &mut I,
-) -> Result<Vec<(ReaderSource<F::File>, Arc<Terms>)>, Failure>
+) -> Result<Vec<(TextSource<F::File>, Arc<Terms>)>, Failure>
 where
     F: Opens,
     I: Read,
     ensures sources { IfOk result (λ sources. AreSetSources (F.known files.now) (I.remaining input.old)
         setting.now (file_bytes_of (F.known files.now) setting.now.files.items)
-        (map (told_with_terms (told_by ⟦<ReaderSource<F::File> as LineSource>⟧.to_come
-        ⟦<ReaderSource<F::File> as LineSource>⟧.failed)) sources.items)) }
+        (map (told_with_terms (told_by ⟦<TextSource<F::File> as LineSource>⟧.to_come
+        ⟦<TextSource<F::File> as LineSource>⟧.failed)) sources.items)) }
     ensures fault { IfErr result (λ failure. is_after_text failure ≡ false) }
     ensures cause { BeforeText result (λ failure. IsFaultOfSet setting.now failure
         ⊎ IsRefusedFont (font_bytes_of (F.known files.now) (I.remaining input.old) setting.now.font.now)
@@ -84,7 +84,7 @@ where
         return Err(Failure::TooManyFiles);
     }
     let terms = setting_terms(alloc, files, setting, input)?;
-    open_all(alloc, files, setting.files.as_slice(), &terms)
+    open_all(alloc, files, setting, &terms)
 }
 
 /// Returns these names in order, each paired with the settings. Fails if an allocation fails.
@@ -99,22 +99,22 @@ fn with_shared<'a>(
     with_terms(alloc, names, terms)
 }
 
-/// Opens the files of these names in order, and returns them as sources with these settings.
+/// Opens the files of a request in order, and returns them as sources with these settings.
 fn open_all<F: Opens>(
     alloc: Global,
     files: &F,
-    names: &[&str],
+    setting: &Setting<'_>,
     terms: &Arc<Terms>,
-) -> Result<Vec<(ReaderSource<F::File>, Arc<Terms>)>, Failure>
-    ensures sources { IfOk result (λ sources. AllZip (IsSourceWith (arc_value terms.now))
-        (file_bytes_of (F.known files.now) names.now)
-        (map (told_with_terms (told_by ⟦<ReaderSource<F::File> as LineSource>⟧.to_come
-        ⟦<ReaderSource<F::File> as LineSource>⟧.failed)) sources.items)) }
+) -> Result<Vec<(TextSource<F::File>, Arc<Terms>)>, Failure>
+    ensures sources { IfOk result (λ sources. AllZip (IsSourceWith setting.now.layout (arc_value terms.now))
+        (file_bytes_of (F.known files.now) setting.now.files.items)
+        (map (told_with_terms (told_by ⟦<TextSource<F::File> as LineSource>⟧.to_come
+        ⟦<TextSource<F::File> as LineSource>⟧.failed)) sources.items)) }
     ensures fault { IfErr result (λ failure. is_after_text failure ≡ false) }
     ensures later { IfErr result (λ failure. is_refusal failure ≡ false) }
 {
-    match with_shared(alloc, names, terms) {
-        Ok(named) => open_each(alloc, files, named),
+    match with_shared(alloc, setting.files.as_slice(), terms) {
+        Ok(named) => open_each(alloc, files, named, &setting.layout),
         Err(_) => Err(Failure::Tool(ToolFault::OutOfMemory)),
     }
 }
@@ -191,18 +191,19 @@ fn input_source<'a, I: Read>(
     alloc: Global,
     input: &'a mut I,
     terms: Arc<Terms>,
-) -> Result<Vec<(ReaderSource<&'a mut I>, Arc<Terms>)>, Failure>
-    ensures source { IfOk result (λ sources. AllZip (IsSourceWith (arc_value terms))
+    layout: &Layout,
+) -> Result<Vec<(TextSource<&'a mut I>, Arc<Terms>)>, Failure>
+    ensures source { IfOk result (λ sources. AllZip (IsSourceWith layout.now (arc_value terms))
         (I.remaining input.old ∷ [])
-        (map (told_with_terms (told_by ⟦<ReaderSource<&'a mut I> as LineSource>⟧.to_come
-        ⟦<ReaderSource<&'a mut I> as LineSource>⟧.failed)) sources.items)) }
+        (map (told_with_terms (told_by ⟦<TextSource<&'a mut I> as LineSource>⟧.to_come
+        ⟦<TextSource<&'a mut I> as LineSource>⟧.failed)) sources.items)) }
     ensures fault { IfErr result (λ failure. is_after_text failure ≡ false) }
     ensures few { IfOk result (λ sources. length sources.items ≤ 64) }
     ensures status { IfErr result (λ failure. is_refusal failure ≡ false) }
 {
     let mut sources = Vec::new(alloc);
     sources
-        .push((ReaderSource::new(alloc, input), terms))
+        .push((text_source(alloc, input, layout), terms))
         .map_err(|_| Failure::Tool(ToolFault::OutOfMemory))?;
     Ok(sources)
 }
@@ -236,6 +237,6 @@ where
         return Err(Failure::FontAndText);
     }
     let terms = setting_terms(rt.alloc(), files, setting, input)?;
-    let sources = input_source(rt.alloc(), input, terms)?;
+    let sources = input_source(rt.alloc(), input, terms, &setting.layout)?;
     set_sources(rt, sources, &setting.layout, Delivery::AsTheyCome, out)
 }

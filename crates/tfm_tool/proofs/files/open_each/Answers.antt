@@ -12,7 +12,7 @@ pub loop-name-preserved : goal.loop-name-preserved
 loop-name-preserved g c =
     let source : _ × Arc TermsValue Global = (c.in_ok-source.source, c.in-Some.terms) in
     let more : c.push.new.self.items ≡ c.loop-name.sources.items ++ source ∷ [] = search rules in
-    subst (λ all. AllZip (IsOpenedWith (g.F.Opens.known c.args.files.now) (reader_told g.F.File.Read.remaining))
+    subst (λ all. AllZip (IsOpenedWith (g.F.Opens.known c.args.files.now) c.args.layout.now (reader_told g.F.File.Read.remaining))
     (c.loop-name.yielded ++ (c.in-Some.name, c.in-Some.terms) ∷ []) all) (sym more)
-    (all_zipped_more (IsOpenedWith (g.F.Opens.known c.args.files.now) (reader_told g.F.File.Read.remaining)) c.loop-name.yielded c.loop-name.sources.items
+    (all_zipped_more (IsOpenedWith (g.F.Opens.known c.args.files.now) c.args.layout.now (reader_told g.F.File.Read.remaining)) c.loop-name.yielded c.loop-name.sources.items
     (c.in-Some.name, c.in-Some.terms) source c.loop-name.invariant (c.in_ok-source.ensures.source, refl))

@@ -5,4 +5,4 @@ use Rattle.tfm_tool.proofs.ReaderLemmas.{reader_told}
 use Rattle.tfm_tool.proofs.files.open_each.Given as goal
 
 abbrev pub invariant-loop-name : goal.invariant-loop-name
-invariant-loop-name g l = AllZip (IsOpenedWith (g.F.Opens.known l.files) (reader_told g.F.File.Read.remaining)) l.yielded l.sources.items
+invariant-loop-name g l = AllZip (IsOpenedWith (g.F.Opens.known l.files) l.layout (reader_told g.F.File.Read.remaining)) l.yielded l.sources.items

@@ -1,4 +1,7 @@
+use Rattle.std.proofs.Common.{subst}
 use Rattle.std.specs.Arc.{arc_value}
+use Rattle.std.specs.List.{AllZip}
+use Rattle.run_texts.specs.Setting.{HasTerms}
 use Rattle.tfm_tool.proofs.EachLemmas.{sources_of_files}
 use Rattle.tfm_tool.proofs.ReaderLemmas.{reader_told}
 use Rattle.tfm_tool.proofs.runs.open_all.Goals as goal
@@ -6,4 +9,5 @@ use Rattle.tfm_tool.proofs.runs.open_all.Goals as goal
 pub returns-in-Ok-clause-sources : goal.returns-in-Ok-clause-sources
 returns-in-Ok-clause-sources g c =
     sources_of_files (g.F.Opens.known c.args.files.now) (reader_told g.F.File.Read.remaining) (λ sources. sources.items) c.open_each.result
-    (arc_value c.args.terms.now) c.args.names.now c.in-Ok.named.items c.in-Ok.ensures c.open_each.ensures.sources
+    c.args.setting.now.layout (arc_value c.args.terms.now) c.args.setting.now.files.items c.in-Ok.named.items
+    (subst (λ names. AllZip (HasTerms (arc_value c.args.terms.now)) names c.in-Ok.named.items) c.as_slice.ensures.value c.in-Ok.ensures) c.open_each.ensures.sources

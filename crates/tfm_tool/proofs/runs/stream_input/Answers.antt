@@ -12,7 +12,7 @@ pub returns-clause-text : goal.returns-clause-text
 returns-clause-text g c =
     let unread : c.setting_terms.new.input ≡ c.args.input.now = search rules in
     let told = map (told_with_terms (reader_told (λ input. g.I.Read.remaining input.now))) c.in_ok-sources.sources.items in
-    let are = subst (λ remaining. AllZip (IsSourceWith (arc_value c.in_ok-terms.terms)) (remaining ∷ []) told) (ap g.I.Read.remaining unread)
+    let are = subst (λ remaining. AllZip (IsSourceWith c.args.setting.now.layout (arc_value c.in_ok-terms.terms)) (remaining ∷ []) told) (ap g.I.Read.remaining unread)
     c.in_ok-sources.ensures.source in
     after_map c.set_sources.result _ _ (λ status printed. (told, (arc_value c.in_ok-terms.terms, c.in_ok-terms.ensures.terms, are), printed)) c.set_sources.ensures.text
 

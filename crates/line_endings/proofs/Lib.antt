@@ -1,0 +1,3 @@
+pub mod ReturnLemmas
+pub mod BufferLemmas
+pub mod ReaderLemmas

@@ -1,0 +1,10 @@
+//! Line endings: reads a text whose lines end with a carriage return and a line feed as if they ended with a
+//! line feed.
+#![tactic(auto)]
+
+pub use crlf_reader::CrlfReader;
+pub use laws::strip_before_feeds;
+
+mod crlf_reader;
+mod laws;
+mod stripping;
