@@ -9,7 +9,7 @@ import unicodedata
 from lib.base import PROGRAM, ROOT, Case, bash, execute, read, rows, table, write
 from lib.tfm import sample
 
-GROUPS = "counts list pairs check unread_fonts unread_files set stream before_a_stream each".split()
+GROUPS = "counts list pairs check unread_fonts unread_files set stream before_a_stream each crlf".split()
 COMMANDS = ("counts", "list", "pairs", "check", "set", "each", "stream")
 HELP = os.path.join(ROOT, "checks", "help")
 
@@ -47,6 +47,32 @@ for group in GROUPS:
     # A group for each table.
     globals()[group] = type(group, (Case,), {"__doc__": table("program/" + group)["title"],
                                              "test": rows(cases_of(group))(compare)})
+
+
+class CarriageReturns(Case):
+    """Carriage returns that --crlf leaves out"""
+
+    def seen(self, text, *options):
+        """The output of `set` and of `stream` for a text."""
+        font, path = self.file("font", content("@plain")), self.file("text", text)
+        found = run(["set", *options, font, path])[1]
+        self.same("stream", found, run(["stream", *options, font], text)[1])
+        return found
+
+    # Mutants of line_endings: a carriage return at the end of a read is lost, given twice, or given too early.
+    @rows((f"{size} bytes a line", size) for size in (1, 2, 62, 63, 64, 126, 1022, 1023, 1024, 2047, 4094, 4095))
+    def test_ends_of_reads(self, size):
+        """Lines of a size give the same records with CR LF as with LF, wherever a read of 4,096 bytes ends."""
+        lines = [b"abc"[turn % 3:turn % 3 + 1] * size for turn in range(40000 // size)]
+        self.same("records", True, self.seen(b"\r\n".join(lines), "--crlf") == self.seen(b"\n".join(lines)))
+
+    def test_lengths(self):
+        """A carriage return that is left out isn't counted, and one at the end of a last line is."""
+        a, many = b"a" * 65535, b"a" * 65536
+        wanted = ["1:1 set 21474508800", "1:2 refused too-long 65536", "1:3 refused too-long 65537",
+                  "1:4 refused too-long 65536", "1 end complete 4"]
+        found = self.seen(b"\r\n".join((a, many, many + b"\r", a + b"\r")), "--crlf", "--missing", "skip")
+        self.same("records", wanted, [line.partition(" c97=")[0] for line in found.splitlines()])
 
 
 class FontErrors(Case):

@@ -100,6 +100,21 @@ class Pipes(Case):
             self.same("record", b"1:%d set" % number, record[:record.find(b"set") + 3])
         self.ends(child, lines)
 
+    @rows(BLOCKS)
+    def test_crlf_one_by_one(self, options):
+        """With --crlf, the record of a line with CR LF is printed before the next line is sent."""
+        child = self.start("--crlf", *options, DEMO)
+        for number in range(1, LINES + 1):
+            # Its carriage return comes with the line, alone, or with the line feed.
+            for part in ((b"five\r\n",), (b"five\r", b"\n"), (b"five", b"\r", b"\n"), (b"five", b"\r\n"))[number % 4]:
+                child.stdin.write(part)
+                time.sleep(0.002)
+            self.same("record", [b"1:%d" % number, b"set", b"986315"], read_line(child.stdout).split()[:3])
+        child.stdin.write(b"five\r")
+        child.stdin.close()
+        self.same("last record", b"1:%d refused missing 4 13\n" % (LINES + 1), read_line(child.stdout))
+        self.same("end", (b"1 end complete %d\n" % (LINES + 1), 1), (read_line(child.stdout), child.wait(SECONDS)))
+
     @rows((f"--block {block} --workers {workers}", block, workers) for block in "18" for workers in (1, 16))
     def test_latency(self, block, workers):
         """A record is printed soon after its line was sent. Mutant: the worker isn't woken."""

@@ -7,6 +7,7 @@ use std::thread::Threads;
 use test_support::fonts::files::{NO_CHARACTERS, PLAIN};
 use tfm_tool::tool;
 
+mod carriage_returns;
 mod checks;
 mod failing_streams;
 mod font_output;
