@@ -1,0 +1,27 @@
+-- Encoded lines: which of their parts has characters without codes.
+use Rattle.std.proofs.Common.{◌≡◌, ℕ, ◌<◌, true, false, List, [], ◌∷◌, ◌++◌, ◌||◌, not, nat_eq, length, map, arith, refl, ap, ◌∙◌}
+use Rattle.std.proofs.lemmas.Bool.Decides.{nat_tests}
+use Rattle.std.proofs.lemmas.List.Folds.{list_any-append}
+use Rattle.encodings.specs.declared.coded.Coded.{Coded}
+use Rattle.encodings.specs.declared.coded.Coded.TheVariants.{Code, Uncoded}
+use Rattle.encodings.specs.Lines.{has_uncoded, is_uncoded}
+use Rattle.encodings.specs.Encoded.{begins_uncoded, joined}
+
+codes_alone : (codes : List ℕ) → has_uncoded (map Code codes) ≡ false
+codes_alone [] = refl
+codes_alone (code ∷ codes) = codes_alone codes
+
+rest_alone : (rest : List Coded) → begins_uncoded rest ≡ true → has_uncoded rest ≡ not (nat_eq (length rest) 0)
+rest_alone [] begins = refl
+rest_alone (Code code ∷ rest) begins = cc
+rest_alone (Uncoded character ∷ rest) begins = grind (arith, nat_tests)
+
+-- a kept line has characters without codes if its second part isn't empty
+pub in_second : (codes : List ℕ) (rest : List Coded) → begins_uncoded rest ≡ true → has_uncoded (joined codes rest) ≡ not (nat_eq (length rest) 0)
+in_second codes rest begins =
+    list_any-append is_uncoded (map Code codes) rest ∙ ap (λ b. b || has_uncoded rest) (codes_alone codes) ∙ rest_alone rest begins
+
+-- more elements after the first one don't change how a list begins
+pub begins_more : (elements more : List Coded) → 0 < length elements → begins_uncoded (elements ++ more) ≡ begins_uncoded elements
+begins_more [] more some = absurd (omega arith)
+begins_more (element ∷ elements) more some = refl

@@ -1,0 +1,218 @@
+-- The laws of the tables. What they state of single characters is computed for every character that has codes.
+use Rattle.std.proofs.Common.{◌≡◌, ◌≢◌, ◌⊎◌, inl, inr, ℕ, suc, ◌+◌, ◌<◌, ◌≤◌, Bool, true, false, List, [], ◌∷◌, ◌++◌, ◌&&◌, ◌||◌, not, length, length-append, map, flat_map, Option, Some, None, arith, refl, ap, sym, ◌∙◌}
+use Rattle.std.specs.Prelude.{◌==◌, nat_eq, nat_le, cond}
+use Rattle.std.specs.Char.{encode_utf8, is_ascii_alphanumeric, len_utf8}
+use Rattle.std.specs.Str.{chars, encode_utf8_all, IsUtf8}
+use Rattle.std.specs.List.{list_all, list_any, range_with_len, position, position_or_len}
+use Rattle.std.specs.Option.{is_some, option_map_or}
+use Rattle.std.proofs.lemmas.Bool.Decides.{nat_tests}
+use Rattle.std.proofs.lemmas.Bool.{eqb-true, lt-ltb, leb-true}
+use Rattle.std.proofs.lemmas.List.{length-map}
+use Rattle.std.proofs.lemmas.List.Folds.{list_any-append}
+use Rattle.std.proofs.lemmas.Str.{encodes-chars, len_utf8_bounds, length-encode}
+use Rattle.std.proofs.lemmas.List.Quantifiers.{position-Some}
+use Rattle.encodings.specs.declared.encoding.Encoding.{Encoding}
+use Rattle.encodings.specs.declared.encoding.Encoding.TheVariants.{Bytes, Ot1, T1, Ly1, Latin1}
+use Rattle.encodings.specs.Tables.{no, ot1_characters, t1_characters, ly1_characters, shared_others, ot1_others, t1_others, ly1_others}
+use Rattle.encodings.specs.Codes.{codes_of, codes_beside, characters_of, others_of}
+use Rattle.encodings.specs.declared.coded.Coded.TheVariants.{Code, Uncoded}
+use Rattle.encodings.specs.Lines.{coded_of, places_from, places_of, without_mark}
+use Rattle.encodings.specs.Decoding.{coded_text}
+use Rattle.encodings.specs.Laws.{character_at, IsOwn, ComesFromItsCharacter, text_codes, characters_at, ComesBack, IsItself, KeepsFeed, KeepsSpace, HasFewCodes}
+use Rattle.encodings.proofs.PlaceLemmas.{characters_from, characters_in}
+use Rattle.encodings.proofs.TableLemmas.{at_member, in_range, no_row, no_own_code, neither, same, same_is}
+
+-- ---- characters that have codes are in the tables
+
+-- the characters in the tables
+abbrev keys : Encoding → List ℕ
+keys encoding = map (λ row. row.0) (others_of encoding) ++ characters_of encoding
+
+no_codes : (encoding : Encoding) (c : ℕ) → list_any (λ x. nat_eq x c) (keys encoding) ≡ false → codes_of encoding c ≡ None
+unfolding codes_of
+no_codes encoding c none =
+    let parts = neither _ _ (sym (list_any-append (λ x. nat_eq x c) (map (λ (row : ℕ × List ℕ). row.0) (others_of encoding)) (characters_of encoding)) ∙ none) in
+    rw (no_row (others_of encoding) c parts.0, no_own_code (characters_of encoding) c parts.1) refl
+
+-- what holds of each character in the tables holds of each character that has codes
+of_keys : (encoding : Encoding) (p : ℕ → Bool) (c : ℕ) (codes : List ℕ) → list_all p (keys encoding) ≡ true → codes_of encoding c ≡ Some codes → p c ≡ true
+of_keys encoding p c codes all is = by (list_any (λ x. nat_eq x c) (keys encoding)) refl
+  where
+    by : (b : Bool) → list_any (λ x. nat_eq x c) (keys encoding) ≡ b → p c ≡ true
+    by true member = at_member p c (keys encoding) all member
+    by false member = cc (no_codes encoding c member)
+
+-- ---- few codes
+
+abbrev few_at : Encoding → ℕ → Bool
+few_at encoding c = option_map_or (λ codes. nat_le (length codes) (len_utf8 c)) (codes_of encoding c) true
+
+few : (encoding : Encoding) → list_all (few_at encoding) (keys encoding) ≡ true
+unfolding codes_of characters_of others_of ot1_characters t1_characters ly1_characters shared_others ot1_others t1_others ly1_others
+few Bytes = refl
+few Ot1 = refl
+few T1 = refl
+few Ly1 = refl
+few Latin1 = refl
+
+other_than : (c : ℕ) → c < no → (b : Bool) → nat_eq c no || b ≡ true → b ≡ true
+other_than c below b is = by (nat_eq c no) refl is
+  where
+    by : (q : Bool) → nat_eq c no ≡ q → q || b ≡ true → b ≡ true
+    by true same at = absurd (omega (arith, eqb-true c no same))
+    by false same at = at
+
+pub few_codes : (encoding : Encoding) (c : ℕ) (codes : List ℕ) → HasFewCodes encoding c codes
+few_codes encoding c codes is =
+    let at = of_keys encoding (few_at encoding) c codes (few encoding) is in
+    leb-true (length codes) (len_utf8 c) (rw is at at)
+
+-- ---- the line feed and the space
+
+abbrev has : List ℕ → ℕ → Bool
+has codes code = list_any (λ each. each == code) codes
+
+abbrev reserved_of : ℕ → List ℕ → Bool
+reserved_of c codes = (not (has codes 10) || nat_eq c 10) && (not (has codes 32) || (nat_eq c 32 || nat_eq c 0xA0))
+
+abbrev reserved_at : Encoding → ℕ → Bool
+reserved_at encoding c = nat_eq c no || option_map_or (reserved_of c) (codes_of encoding c) true
+
+reserved : (encoding : Encoding) → list_all (reserved_at encoding) (keys encoding) ≡ true
+unfolding codes_of characters_of others_of ot1_characters t1_characters ly1_characters shared_others ot1_others t1_others ly1_others
+reserved Bytes = refl
+reserved Ot1 = refl
+reserved T1 = refl
+reserved Ly1 = refl
+reserved Latin1 = refl
+
+feed_kept : (h b more : Bool) → (not h || b) && more ≡ true → h ≡ true → b ≡ true
+feed_kept true true more is at = refl
+feed_kept true false more is at = cc
+feed_kept false b more is at = cc
+
+space_kept : (h s n more : Bool) → more && (not h || (s || n)) ≡ true → h ≡ true → (s ≡ true) ⊎ (n ≡ true)
+space_kept true true n more is at = inl refl
+space_kept true false true more is at = inr refl
+space_kept true false false true is at = cc
+space_kept true false false false is at = cc
+space_kept false s n more is at = cc
+
+reserved_here : (encoding : Encoding) (c : ℕ) (codes : List ℕ) → c < no → codes_of encoding c ≡ Some codes → reserved_of c codes ≡ true
+reserved_here encoding c codes below is =
+    let at = other_than c below _ (of_keys encoding (reserved_at encoding) c codes (reserved encoding) is) in rw is at at
+
+pub feed_code : (encoding : Encoding) (c : ℕ) (codes : List ℕ) → KeepsFeed encoding c codes
+feed_code encoding c codes below is ten = eqb-true c 10 (feed_kept _ _ _ (reserved_here encoding c codes below is) ten)
+
+pub space_code : (encoding : Encoding) (c : ℕ) (codes : List ℕ) → KeepsSpace encoding c codes
+space_code encoding c codes below is space =
+    elim (space_kept _ _ _ _ (reserved_here encoding c codes below is) space) [ inl s ↦ inl (eqb-true c 32 s) | inr n ↦ inr (eqb-true c 0xA0 n) ]
+
+-- ---- ASCII letters and digits
+
+alphanumeric_below : (c : ℕ) → is_ascii_alphanumeric c ≡ true → c < 128
+alphanumeric_below c is = grind (arith, nat_tests)
+
+abbrev itself_at : Encoding → ℕ → Bool
+itself_at encoding c = not (is_ascii_alphanumeric c) || same (codes_of encoding c) (Some (c ∷ []))
+
+itself : (encoding : Encoding) → encoding ≢ Bytes → list_all (itself_at encoding) (range_with_len 0 128) ≡ true
+unfolding codes_of characters_of others_of ot1_characters t1_characters ly1_characters shared_others ot1_others t1_others ly1_others
+itself Bytes other = absurd (other refl)
+itself Ot1 other = refl
+itself T1 other = refl
+itself Ly1 other = refl
+itself Latin1 other = refl
+
+pub is_itself : (encoding : Encoding) (c : ℕ) → IsItself encoding c
+is_itself encoding c other is =
+    let at = at_member (itself_at encoding) c (range_with_len 0 128) (itself encoding other) (in_range c 0 128 (omega arith) (alphanumeric_below c is)) in
+    same_is _ _ (rw is at at)
+
+-- ---- codes and their characters
+
+-- the code of a character that is at this code, and isn't listed with other codes
+own_at : Encoding → ℕ → ℕ → Bool
+own_at encoding c code = nat_eq c no || (is_some (codes_beside (others_of encoding) c) || same (codes_of encoding c) (Some (code ∷ [])))
+
+owns : (encoding : Encoding) → list_all (λ code. own_at encoding (character_at encoding code) code) (range_with_len 0 (length (characters_of encoding))) ≡ true
+unfolding own_at codes_of characters_of others_of ot1_characters t1_characters ly1_characters shared_others ot1_others t1_others ly1_others
+owns Bytes = refl
+owns Ot1 = refl
+owns T1 = refl
+owns Ly1 = refl
+owns Latin1 = refl
+
+pub comes_from : (encoding : Encoding) (code : ℕ) → ComesFromItsCharacter encoding code
+unfolding own_at
+comes_from encoding code within own =
+    let at = at_member (λ k. own_at encoding (character_at encoding k) k) code (range_with_len 0 (length (characters_of encoding))) (owns encoding) (in_range code 0 (length (characters_of encoding)) (omega arith) (omega arith)) in
+    here (nat_eq (character_at encoding code) no) refl at
+  where
+    here : (b : Bool) → nat_eq (character_at encoding code) no ≡ b → b || (is_some (codes_beside (others_of encoding) (character_at encoding code)) || same (codes_of encoding (character_at encoding code)) (Some (code ∷ []))) ≡ true
+        → codes_of encoding (character_at encoding code) ≡ Some (code ∷ [])
+    here true equal at = absurd (own.is_character (eqb-true _ _ equal))
+    here false other at = same_is _ _ (rw own.not_other at at)
+
+found_before : (p : ℕ → Bool) (xs : List ℕ) → list_any p xs ≡ true → position_or_len p xs < length xs
+found_before p [] any = cc
+found_before p (x ∷ xs) any = by (found_before p xs) (p x) any
+  where
+    by : (list_any p xs ≡ true → position_or_len p xs < length xs) → (b : Bool) → b || list_any p xs ≡ true → cond (not b) (1 + position_or_len p xs) 0 < suc (length xs)
+    by rest true any = omega arith
+    by rest false any = omega (arith, rest any)
+
+-- a character that is set by its own code, with this code
+own_code_is : (encoding : Encoding) (c : ℕ) → IsOwn encoding c → (code : ℕ) × (codes_of encoding c ≡ Some (code ∷ [])) × (character_at encoding code ≡ c)
+unfolding codes_of
+own_code_is encoding c own =
+    let p = λ (each : ℕ). nat_eq each c in
+    let at = position_or_len p (characters_of encoding) in
+    let within : at < length (characters_of encoding) = found_before p (characters_of encoding) own.at_code in
+    let found : position p (characters_of encoding) ≡ Some at = rw (lt-ltb at (length (characters_of encoding)) within) refl in
+    (at, rw (own.not_other, found) refl, eqb-true _ _ (position-Some p (characters_of encoding) at no found).1)
+
+one_back : (encoding : Encoding) (c code : ℕ) (text : List ℕ) → codes_of encoding c ≡ Some (code ∷ []) → character_at encoding code ≡ c
+    → characters_at encoding (text_codes encoding text) ≡ text → characters_at encoding (text_codes encoding (c ∷ text)) ≡ c ∷ text
+one_back encoding c code text codes at rest = rw codes (rw at (rw rest refl))
+
+pub comes_back : (encoding : Encoding) (text : List ℕ) → ComesBack encoding text
+comes_back encoding [] all = refl
+comes_back encoding (c ∷ text) all =
+    let own = own_code_is encoding c (all 0 c (omega arith)) in
+    one_back encoding c own.0 text own.1 own.2 (comes_back encoding text (λ k d h. all (suc k) d (omega arith)))
+
+pub ruleset laws = (few_codes, feed_code, space_code, is_itself, comes_from, comes_back)
+
+-- ---- the number of elements
+
+coded_few : (encoding : Encoding) (c : ℕ) → length (coded_of encoding c) ≤ len_utf8 c
+unfolding coded_of
+coded_few encoding c = by (codes_of encoding c) refl
+  where
+    by : (o : Option (List ℕ)) → codes_of encoding c ≡ o → length (option_map_or (map Code) o (Uncoded c ∷ [])) ≤ len_utf8 c
+    by None is = (len_utf8_bounds c).0
+    by (Some codes) is = omega (arith, length-map codes Code, few_codes encoding c codes is)
+
+text_few : (encoding : Encoding) (cs : List ℕ) → length (flat_map (coded_of encoding) cs) ≤ length (encode_utf8_all cs)
+text_few encoding [] = omega arith
+text_few encoding (c ∷ cs) =
+    omega (arith, length-append (coded_of encoding c) (flat_map (coded_of encoding) cs), length-append (encode_utf8 c) (encode_utf8_all cs), length-encode c, coded_few encoding c, text_few encoding cs)
+
+unmarked_few : (first : Bool) (cs : List ℕ) → length (encode_utf8_all (characters_in (without_mark first (places_from 0 cs)))) ≤ length (encode_utf8_all cs)
+unmarked_few first [] = omega arith
+unmarked_few first (c ∷ cs) = by (first && nat_eq c 0xFEFF)
+  where
+    by : (b : Bool) → length (encode_utf8_all (characters_in (cond b (places_from (0 + len_utf8 c) cs) (places_from 0 (c ∷ cs))))) ≤ length (encode_utf8_all (c ∷ cs))
+    by true = omega (arith, ap (λ l. length (encode_utf8_all l)) (characters_from (0 + len_utf8 c) cs), length-append (encode_utf8 c) (encode_utf8_all cs))
+    by false = omega (arith, ap (λ l. length (encode_utf8_all l)) (characters_from 0 (c ∷ cs)))
+
+-- a line has at most as many elements as bytes
+pub elements_few : (encoding : Encoding) (first : Bool) (line unmarked : List ℕ) → IsUtf8 line → chars unmarked ≡ characters_in (places_of first line) → length (coded_text encoding unmarked) ≤ length line
+unfolding places_of
+elements_few encoding first line unmarked utf8 is =
+    let few_here : length (flat_map (coded_of encoding) (chars unmarked)) ≤ length (encode_utf8_all (chars unmarked)) = text_few encoding (chars unmarked) in
+    let shown : length (encode_utf8_all (chars unmarked)) ≤ length (encode_utf8_all (chars line)) = rw is (unmarked_few first (chars line)) in
+    let whole : length (encode_utf8_all (chars line)) ≡ length line = ap length (encodes-chars line utf8) in
+    omega arith

@@ -1,0 +1,89 @@
+-- The elements of a whole line, and of a text that is cut at the characters that aren't plain.
+use Rattle.std.proofs.Common.{◌≡◌, ◌≢◌, ℕ, Bool, List, [], ◌∷◌, ◌++◌, length, map, flat_map, Some, None, arith, refl, ap, sym, ◌∙◌, append-nil}
+use Rattle.std.specs.Str.{chars, IsUtf8}
+use Rattle.std.specs.Str.Lossy.{utf8_valid_len}
+use Rattle.std.proofs.lemmas.List.{map-append}
+use Rattle.std.proofs.lemmas.Str.{is_utf8-from_IsUtf8}
+use Rattle.encodings.specs.declared.encoding.Encoding.{Encoding}
+use Rattle.encodings.specs.declared.encoding.Encoding.TheVariants.{Bytes, Ot1, T1, Ly1, Latin1}
+use Rattle.encodings.specs.declared.coded.Coded.{Coded}
+use Rattle.encodings.specs.declared.coded.Coded.TheVariants.{Code}
+use Rattle.encodings.specs.declared.places.Place.{Place}
+use Rattle.encodings.specs.Lines.{Element, places_of, coded_of, elements_at, elements_of, encoded, fault_in}
+use Rattle.encodings.specs.Decoding.{coded_text}
+pub use Rattle.encodings.proofs.LawLemmas.{elements_few}
+use Rattle.encodings.proofs.PlaceLemmas.{characters_in, not_utf8}
+
+-- ---- cutting at characters that aren't plain
+
+-- a text that is plain to its end
+pub all_plain : (encoding : Encoding) (text plain more : List ℕ) → text ≡ plain ++ more → chars more ≡ [] → length more ≡ 0 → coded_text encoding text ≡ map Code plain ++ coded_text encoding more → coded_text encoding text ≡ map Code text
+all_plain encoding text plain [] is none empty coded =
+    coded ∙ ap (λ cs. map Code plain ++ flat_map (coded_of encoding) cs) none ∙ append-nil (map Code plain) ∙ ap (map Code) (sym (is ∙ append-nil plain))
+all_plain encoding text plain (c ∷ more) is none empty coded = absurd (omega arith)
+
+-- the text after the first character that isn't plain
+pub one_cut : (encoding : Encoding) (c : ℕ) (text plain more rest : List ℕ) → chars more ≡ c ∷ chars rest → coded_text encoding text ≡ map Code plain ++ coded_text encoding more
+    → coded_text encoding text ≡ map Code plain ++ (coded_of encoding c ++ coded_text encoding rest)
+one_cut encoding c text plain more rest is coded = coded ∙ ap (λ cs. map Code plain ++ flat_map (coded_of encoding) cs) is
+
+pub ruleset cuts = (all_plain, one_cut)
+
+-- ---- whole lines
+
+coded_back : (offset : ℕ) (elements : List Coded) → map (λ element. element.coded) (map (λ coded. let element : Element = record { offset = offset; coded = coded } in element) elements) ≡ elements
+coded_back offset [] = refl
+coded_back offset (element ∷ elements) = ap (λ l. element ∷ l) (coded_back offset elements)
+
+forgotten : (encoding : Encoding) (places : List Place) → flat_map (coded_of encoding) (characters_in places) ≡ map (λ element. element.coded) (flat_map (elements_at encoding) places)
+forgotten encoding [] = refl
+forgotten encoding (place ∷ places) =
+    ap (λ l. l ++ flat_map (coded_of encoding) (characters_in places)) (sym (coded_back place.offset (coded_of encoding place.character)))
+    ∙ ap (λ l. map (λ element. element.coded) (elements_at encoding place) ++ l) (forgotten encoding places)
+    ∙ sym (map-append (λ (element : Element). element.coded) (elements_at encoding place) (flat_map (elements_at encoding) places))
+
+-- the elements of a text in UTF-8
+pub text_encoded : (encoding : Encoding) (first : Bool) (text unmarked : List ℕ) → encoding ≢ Bytes → chars unmarked ≡ characters_in (places_of first text) → coded_text encoding unmarked ≡ encoded encoding first text
+unfolding encoded elements_of
+text_encoded Bytes first text unmarked other is = absurd (other refl)
+text_encoded Ot1 first text unmarked other is = ap (flat_map (coded_of Ot1)) is ∙ forgotten Ot1 (places_of first text)
+text_encoded T1 first text unmarked other is = ap (flat_map (coded_of T1)) is ∙ forgotten T1 (places_of first text)
+text_encoded Ly1 first text unmarked other is = ap (flat_map (coded_of Ly1)) is ∙ forgotten Ly1 (places_of first text)
+text_encoded Latin1 first text unmarked other is = ap (flat_map (coded_of Latin1)) is ∙ forgotten Latin1 (places_of first text)
+
+-- bytes that are codes
+pub bytes_encoded : (encoding : Encoding) (first : Bool) (line : List ℕ) → encoding ≡ Bytes → map Code line ≡ encoded encoding first line
+unfolding encoded
+bytes_encoded Bytes first line is = refl
+bytes_encoded Ot1 first line is = cc
+bytes_encoded T1 first line is = cc
+bytes_encoded Ly1 first line is = cc
+bytes_encoded Latin1 first line is = cc
+
+-- a text in UTF-8 can be decoded
+pub no_fault : (encoding : Encoding) (line : List ℕ) → IsUtf8 line → fault_in encoding line ≡ None
+unfolding fault_in
+no_fault Bytes line utf8 = refl
+no_fault Ot1 line utf8 = rw (is_utf8-from_IsUtf8 line utf8) refl
+no_fault T1 line utf8 = rw (is_utf8-from_IsUtf8 line utf8) refl
+no_fault Ly1 line utf8 = rw (is_utf8-from_IsUtf8 line utf8) refl
+no_fault Latin1 line utf8 = rw (is_utf8-from_IsUtf8 line utf8) refl
+
+pub no_fault_in_bytes : (encoding : Encoding) (line : List ℕ) → encoding ≡ Bytes → fault_in encoding line ≡ None
+unfolding fault_in
+no_fault_in_bytes Bytes line is = refl
+no_fault_in_bytes Ot1 line is = cc
+no_fault_in_bytes T1 line is = cc
+no_fault_in_bytes Ly1 line is = cc
+no_fault_in_bytes Latin1 line is = cc
+
+-- the offset at which a line stops being UTF-8
+pub fault_found : (encoding : Encoding) (line : List ℕ) (offset : ℕ) → encoding ≢ Bytes → ¬ (IsUtf8 line) → offset ≡ utf8_valid_len line → fault_in encoding line ≡ Some offset
+unfolding fault_in
+fault_found Bytes line offset other bad is = absurd (other refl)
+fault_found Ot1 line offset other bad is = rw (not_utf8 line bad) (ap Some (sym is))
+fault_found T1 line offset other bad is = rw (not_utf8 line bad) (ap Some (sym is))
+fault_found Ly1 line offset other bad is = rw (not_utf8 line bad) (ap Some (sym is))
+fault_found Latin1 line offset other bad is = rw (not_utf8 line bad) (ap Some (sym is))
+
+pub ruleset whole = (elements_few, text_encoded, bytes_encoded, no_fault, no_fault_in_bytes, fault_found)

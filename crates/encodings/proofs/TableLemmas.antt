@@ -1,0 +1,157 @@
+-- The tables by character and the tables by code give the same codes, which is computed for every character in
+-- either of them.
+use Rattle.std.proofs.Common.{◌≡◌, ◌≢◌, ℕ, zero, suc, ◌<◌, ◌≤◌, ◌+◌, Bool, true, false, List, [], ◌∷◌, ◌++◌, ◌||◌, ◌&&◌, Option, Some, None, length, get_or, take, drop, arith, refl, ap, sym, ◌∙◌}
+use Rattle.std.specs.Prelude.{not, nat_eq, nat_lt, map, bytes_eq, cond}
+use Rattle.std.specs.List.{list_all, list_any, range_with_len, position_or_len}
+use Rattle.std.specs.Option.{option_or}
+use Rattle.std.proofs.lemmas.Bool.Decides.{nat_tests}
+use Rattle.std.proofs.lemmas.Bool.{eqb-true, eq-eqb, ltb-true, ltb-false, lt-ltb, le-ltb}
+use Rattle.std.proofs.lemmas.Slice.Eq.{bytes_eq-Decides}
+use Rattle.std.proofs.lemmas.List.{get_or_past}
+use Rattle.std.proofs.lemmas.List.Folds.{list_any-append}
+use Rattle.encodings.specs.declared.encoding.Encoding.{Encoding}
+use Rattle.encodings.specs.declared.encoding.Encoding.TheVariants.{Bytes, Ot1, T1, Ly1, Latin1}
+use Rattle.encodings.specs.declared.lookup.TheConstants.{CODES}
+use Rattle.encodings.specs.Tables.{no, ot1_characters, t1_characters, ly1_characters, shared_others, ot1_others, t1_others, ly1_others}
+use Rattle.encodings.specs.Codes.{codes_of, codes_beside, own_code, characters_of, others_of}
+use Rattle.encodings.specs.Lookup.{rows_of, looked_up, singles_in, others_in}
+
+-- what all members of a list pass, each of them passes
+pub at_member : (p : ℕ → Bool) (c : ℕ) (xs : List ℕ) → list_all p xs ≡ true → list_any (λ x. nat_eq x c) xs ≡ true → p c ≡ true
+at_member p c [] all any = cc
+at_member p c (x ∷ xs) all any = by (at_member p c xs) (nat_eq x c) refl (p x) refl all any
+  where
+    by : (list_all p xs ≡ true → list_any (λ y. nat_eq y c) xs ≡ true → p c ≡ true) → (b : Bool) → nat_eq x c ≡ b → (q : Bool) → p x ≡ q → q && list_all p xs ≡ true → b || list_any (λ y. nat_eq y c) xs ≡ true → p c ≡ true
+    by rest true is true at all any = ap p (sym (eqb-true x c is)) ∙ at
+    by rest true is false at all any = cc
+    by rest false is true at all any = rest all any
+    by rest false is false at all any = cc
+
+-- a number below another is in the range up to it
+pub in_range : (c from n : ℕ) → from ≤ c → c < from + n → list_any (λ x. nat_eq x c) (range_with_len from n) ≡ true
+in_range c from zero low high = absurd (omega arith)
+in_range c from (suc n) low high = by (in_range c (from + 1) n) (nat_eq from c) refl
+  where
+    by : (from + 1 ≤ c → c < from + 1 + n → list_any (λ x. nat_eq x c) (range_with_len (from + 1) n) ≡ true) → (b : Bool) → nat_eq from c ≡ b → b || list_any (λ x. nat_eq x c) (range_with_len (from + 1) n) ≡ true
+    by rest true is = refl
+    by rest false is = let other : from ≢ c = λ same. cc (eq-eqb from c same) in rest (omega arith) (omega arith)
+
+-- ---- characters that no table has
+
+pub no_row : (rows : List (ℕ × List ℕ)) (c : ℕ) → list_any (λ x. nat_eq x c) (map (λ r. r.0) rows) ≡ false → codes_beside rows c ≡ None
+no_row [] c none = refl
+no_row (row ∷ rows) c none = by (no_row rows c) (nat_eq row.0 c) none
+  where
+    by : (list_any (λ x. nat_eq x c) (map (λ r. r.0) rows) ≡ false → codes_beside rows c ≡ None) → (b : Bool) → b || list_any (λ x. nat_eq x c) (map (λ r. r.0) rows) ≡ false → cond b (Some row.1) (codes_beside rows c) ≡ None
+    by rest true none = cc
+    by rest false none = rest none
+
+all_before : (p : ℕ → Bool) (xs : List ℕ) → list_any p xs ≡ false → position_or_len p xs ≡ length xs
+all_before p [] none = refl
+all_before p (x ∷ xs) none = by (all_before p xs) (p x) none
+  where
+    by : (list_any p xs ≡ false → position_or_len p xs ≡ length xs) → (b : Bool) → b || list_any p xs ≡ false → cond (not b) (1 + position_or_len p xs) 0 ≡ suc (length xs)
+    by rest true none = cc
+    by rest false none = omega (arith, rest none)
+
+pub no_own_code : (xs : List ℕ) (c : ℕ) → list_any (λ x. nat_eq x c) xs ≡ false → own_code xs c ≡ None
+no_own_code xs c none = grind (arith, nat_tests, all_before (λ x. nat_eq x c) xs none)
+
+-- ---- a code alone
+
+all_alone : list_all (λ c. bytes_eq (take 1 (drop c CODES)) (c ∷ [])) (range_with_len 0 256) ≡ true
+all_alone = refl
+
+-- the part of the list of codes at a code
+pub code_alone : (c : ℕ) → c < 256 → take 1 (drop c CODES) ≡ c ∷ []
+code_alone c below = (bytes_eq-Decides (take 1 (drop c CODES)) (c ∷ [])).0 (at_member (λ k. bytes_eq (take 1 (drop k CODES)) (k ∷ [])) c (range_with_len 0 256) all_alone (in_range c 0 256 (omega arith) (omega arith)))
+
+-- ---- both tables
+
+-- whether two results are the same
+abbrev pub same : Option (List ℕ) → Option (List ℕ) → Bool
+same None None = true
+same None (Some b) = false
+same (Some a) None = false
+same (Some a) (Some b) = bytes_eq a b
+
+pub same_is : (a b : Option (List ℕ)) → same a b ≡ true → a ≡ b
+same_is None None is = refl
+same_is None (Some b) is = cc
+same_is (Some a) None is = cc
+same_is (Some a) (Some b) is = ap Some ((bytes_eq-Decides a b).0 is)
+
+-- whether both tables give a character the same codes
+abbrev agree_at : Encoding → ℕ → Bool
+agree_at encoding c = nat_eq c no || same (looked_up (singles_in encoding) (rows_of (others_in encoding)) c) (codes_of encoding c)
+
+-- the characters in either table
+abbrev all_in : Encoding → List ℕ
+all_in encoding = range_with_len 0 384 ++ (map (λ r. r.0) (rows_of (others_in encoding)) ++ (map (λ r. r.0) (others_of encoding) ++ characters_of encoding))
+
+agrees : (encoding : Encoding) → list_all (agree_at encoding) (all_in encoding) ≡ true
+unfolding codes_of characters_of others_of ot1_characters t1_characters ly1_characters shared_others ot1_others t1_others ly1_others singles_in others_in
+agrees Bytes = refl
+agrees Ot1 = refl
+agrees T1 = refl
+agrees Ly1 = refl
+agrees Latin1 = refl
+
+singles_end : (encoding : Encoding) → length (singles_in encoding) ≡ 384
+unfolding singles_in
+singles_end Bytes = refl
+singles_end Ot1 = refl
+singles_end T1 = refl
+singles_end Ly1 = refl
+singles_end Latin1 = refl
+
+pub neither : (a b : Bool) → a || b ≡ false → (a ≡ false) × (b ≡ false)
+neither true b is = cc
+neither false b is = (refl, is)
+
+no_single : (encoding : Encoding) (c : ℕ) → list_any (λ x. nat_eq x c) (range_with_len 0 384) ≡ false → get_or (singles_in encoding) c 256 ≡ 256
+no_single encoding c none = by (nat_lt c 384) refl
+  where
+    by : (b : Bool) → nat_lt c 384 ≡ b → get_or (singles_in encoding) c 256 ≡ 256
+    by true is = cc (in_range c 0 384 (omega arith) (ltb-true c 384 is))
+    by false is = get_or_past (singles_in encoding) c 256 (omega (arith, singles_end encoding, ltb-false c 384 is))
+
+nothing : (singles : List ℕ) (rows others : List (ℕ × List ℕ)) (characters : List ℕ) (c : ℕ) → get_or singles c 256 ≡ 256 → codes_beside rows c ≡ None
+    → codes_beside others c ≡ None → own_code characters c ≡ None → looked_up singles rows c ≡ option_or (codes_beside others c) (own_code characters c)
+nothing singles rows others characters c single row other own = rw (single, row, other, own)
+
+-- a character in neither table has no codes in either
+agree_outside : (encoding : Encoding) (c : ℕ) → list_any (λ x. nat_eq x c) (all_in encoding) ≡ false → looked_up (singles_in encoding) (rows_of (others_in encoding)) c ≡ codes_of encoding c
+unfolding codes_of
+agree_outside encoding c none =
+    let p = λ (x : ℕ). nat_eq x c in
+    let rows = map (λ (r : ℕ × List ℕ). r.0) (rows_of (others_in encoding)) in
+    let others = map (λ (r : ℕ × List ℕ). r.0) (others_of encoding) in
+    let first = neither _ _ (sym (list_any-append p (range_with_len 0 384) (rows ++ (others ++ characters_of encoding))) ∙ none) in
+    let second = neither _ _ (sym (list_any-append p rows (others ++ characters_of encoding)) ∙ first.1) in
+    let third = neither _ _ (sym (list_any-append p others (characters_of encoding)) ∙ second.1) in
+    nothing _ _ _ _ c (no_single encoding c first.0) (no_row (rows_of (others_in encoding)) c second.0) (no_row (others_of encoding) c third.0) (no_own_code (characters_of encoding) c third.1)
+
+-- both tables give each character the same codes
+tables_agree : (encoding : Encoding) (c : ℕ) → c ≢ no → looked_up (singles_in encoding) (rows_of (others_in encoding)) c ≡ codes_of encoding c
+tables_agree encoding c character = by (list_any (λ x. nat_eq x c) (all_in encoding)) refl
+  where
+    by : (b : Bool) → list_any (λ x. nat_eq x c) (all_in encoding) ≡ b → looked_up (singles_in encoding) (rows_of (others_in encoding)) c ≡ codes_of encoding c
+    by true is = here (nat_eq c no) refl (at_member (agree_at encoding) c (all_in encoding) (agrees encoding) is)
+      where
+        here : (b : Bool) → nat_eq c no ≡ b → b || same (looked_up (singles_in encoding) (rows_of (others_in encoding)) c) (codes_of encoding c) ≡ true → looked_up (singles_in encoding) (rows_of (others_in encoding)) c ≡ codes_of encoding c
+        here true is it = absurd (character (eqb-true c no is))
+        here false is it = same_is _ _ it
+    by false is = agree_outside encoding c is
+
+-- the codes of a character that has a single code in its table
+pub single_is : (encoding : Encoding) (c code : ℕ) → c < 0x110000 → get_or (singles_in encoding) c 256 ≡ code → code < 256 → codes_of encoding c ≡ Some (code ∷ [])
+single_is encoding c code character is below =
+    sym (tables_agree encoding c (λ same. absurd (omega (arith, same)))) ∙ rw is (rw (lt-ltb code 256 below) refl)
+
+-- the codes of a character that has none there
+pub other_is : (encoding : Encoding) (c : ℕ) → c < 0x110000 → 256 ≤ get_or (singles_in encoding) c 256 → codes_of encoding c ≡ codes_beside (rows_of (others_in encoding)) c
+other_is encoding c character above =
+    sym (tables_agree encoding c (λ same. absurd (omega (arith, same)))) ∙ rw (le-ltb (get_or (singles_in encoding) c 256) 256 above) refl
+
+pub ruleset found = (single_is, other_is)

@@ -1,0 +1,42 @@
+-- The codes of a character in an encoding.
+-- Public source: the guide to LaTeX's encodings (encguide) for OT1, T1 and LY1, and ISO/IEC 8859-1 for Latin 1.
+-- What becomes of the no-break space and of the soft hyphen is that of LaTeX's package inputenc, in a line that
+-- isn't broken.
+use Rattle.std.specs.Prelude.{ℕ, List, [], ◌∷◌, ◌++◌, Option, Some, None, cond, nat_eq}
+use Rattle.std.specs.List.{position, range_with_len}
+use Rattle.std.specs.Option.{option_map, option_or}
+use Rattle.encodings.specs.declared.encoding.Encoding.{Encoding}
+use Rattle.encodings.specs.declared.encoding.Encoding.TheVariants.{Bytes, Ot1, T1, Ly1, Latin1}
+use Rattle.encodings.specs.Tables.{ot1_characters, t1_characters, ly1_characters, shared_others, ot1_others, t1_others, ly1_others}
+
+-- the characters of an encoding by code; a line of bytes isn't decoded, and therefore `bytes` has none
+unfoldable pub characters_of : Encoding → List ℕ
+characters_of Bytes = []
+characters_of Ot1 = ot1_characters
+characters_of T1 = t1_characters
+characters_of Ly1 = ly1_characters
+characters_of Latin1 = range_with_len 0 256
+
+-- the characters that have other codes than their own, with these codes: in Latin 1 the no-break space and
+-- the soft hyphen
+unfoldable pub others_of : Encoding → List (ℕ × List ℕ)
+others_of Bytes = []
+others_of Ot1 = shared_others ++ ot1_others
+others_of T1 = shared_others ++ t1_others
+others_of Ly1 = shared_others ++ ly1_others
+others_of Latin1 = (0xA0, 32 ∷ []) ∷ (0xAD, []) ∷ []
+
+-- the codes beside a character in a list
+abbrev pub codes_beside : List (ℕ × List ℕ) → ℕ → Option (List ℕ)
+codes_beside [] character = None
+codes_beside (row ∷ rows) character = cond (nat_eq row.0 character) (Some row.1) (codes_beside rows character)
+
+-- the code at which a character stands in a list by code
+abbrev pub own_code : List ℕ → ℕ → Option (List ℕ)
+own_code characters character =
+    option_map (λ code. code ∷ []) (position (λ each. nat_eq each character) characters)
+
+-- the codes of a character, if it has any: other ones, or its own
+unfoldable pub codes_of : Encoding → ℕ → Option (List ℕ)
+codes_of encoding character =
+    option_or (codes_beside (others_of encoding) character) (own_code (characters_of encoding) character)

@@ -1,0 +1,39 @@
+-- The codes of a character as they are looked up.
+-- This project's own representation; Codes defines them.
+use Rattle.std.specs.Prelude.{ℕ, List, [], ◌∷◌, Option, Some, cond, nat_lt, get_or, take, min}
+use Rattle.encodings.specs.declared.encoding.Encoding.{Encoding}
+use Rattle.encodings.specs.declared.encoding.Encoding.TheVariants.{Bytes, Ot1, T1, Ly1, Latin1}
+use Rattle.encodings.specs.declared.tables.TheConstants.{NO_SINGLE}
+use Rattle.encodings.specs.declared.tables.ot1.TheConstants.{OT1_SINGLE, OT1_OTHERS}
+use Rattle.encodings.specs.declared.tables.t1.TheConstants.{T1_SINGLE, T1_OTHERS}
+use Rattle.encodings.specs.declared.tables.ly1.TheConstants.{LY1_SINGLE, LY1_OTHERS}
+use Rattle.encodings.specs.declared.tables.latin1.TheConstants.{LATIN1_SINGLE, LATIN1_OTHERS}
+use Rattle.encodings.specs.Codes.{codes_beside}
+
+-- the single codes by character, in the tables of the code
+unfoldable pub singles_in : Encoding → List ℕ
+singles_in Bytes = NO_SINGLE
+singles_in Ot1 = OT1_SINGLE
+singles_in T1 = T1_SINGLE
+singles_in Ly1 = LY1_SINGLE
+singles_in Latin1 = LATIN1_SINGLE
+
+-- the rows of the other characters there: each a character, the number of its codes, and these codes with
+-- zeros after them
+unfoldable pub others_in : Encoding → List (ℕ × ℕ × List ℕ)
+others_in Bytes = []
+others_in Ot1 = OT1_OTHERS
+others_in T1 = T1_OTHERS
+others_in Ly1 = LY1_OTHERS
+others_in Latin1 = LATIN1_OTHERS
+
+-- the characters of rows, with their codes
+abbrev pub rows_of : List (ℕ × ℕ × List ℕ) → List (ℕ × List ℕ)
+rows_of [] = []
+rows_of (row ∷ rows) = (row.0, take (min row.1 3) row.2) ∷ rows_of rows
+
+-- the single code of a character, or the codes in its row; 256 stands for no single code
+abbrev pub looked_up : List ℕ → List (ℕ × List ℕ) → ℕ → Option (List ℕ)
+looked_up singles rows character =
+    let code = get_or singles character 256 in
+    cond (nat_lt code 256) (Some (code ∷ [])) (codes_beside rows character)

@@ -1,0 +1,22 @@
+-- The names of the encodings.
+-- This project's own; those of OT1, T1 and LY1 are LaTeX's, in lower case.
+use Rattle.std.specs.Prelude.{ℕ, List, [], ◌∷◌, Option, bytes_eq, codes}
+use Rattle.std.specs.List.{find}
+use Rattle.encodings.specs.declared.encoding.Encoding.{Encoding}
+use Rattle.encodings.specs.declared.encoding.Encoding.TheVariants.{Bytes, Ot1, T1, Ly1, Latin1}
+
+-- the name of an encoding
+abbrev pub name_of : Encoding → List ℕ
+name_of Bytes = codes "bytes"
+name_of Ot1 = codes "ot1"
+name_of T1 = codes "t1"
+name_of Ly1 = codes "ly1"
+name_of Latin1 = codes "latin1"
+
+-- the encodings
+abbrev pub encodings : List Encoding
+encodings = Bytes ∷ Ot1 ∷ T1 ∷ Ly1 ∷ Latin1 ∷ []
+
+-- the encoding of a name, if there is one
+abbrev pub encoding_named : List ℕ → Option Encoding
+encoding_named name = find (λ encoding. bytes_eq name (name_of encoding)) encodings

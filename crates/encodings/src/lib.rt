@@ -1,0 +1,20 @@
+//! Encodings of TeX's fonts.
+#![tactic(auto)]
+
+pub use coded::Coded;
+pub use encoded_line::EncodedLine;
+pub use encoding::Encoding;
+pub use laws::{codes_come_back, codes_of_characters};
+pub use lines::{EncodeFault, encode_line};
+pub use lookup::codes_of;
+pub use places::{Place, Places, first_uncoded};
+
+mod coded;
+mod cutting;
+mod encoded_line;
+mod encoding;
+mod laws;
+mod lines;
+mod lookup;
+mod places;
+mod tables;

@@ -1,0 +1,126 @@
+//! The characters of a line, with their places.
+ghost use Rattle.std.specs.Prelude.{◌≡◌, ◌&&◌, true, false, nat_eq, map, MatchOption};
+ghost use Rattle.std.specs.Option.{is_none};
+ghost use Rattle.std.specs.Str.{chars, is_utf8};
+ghost use Rattle.encodings.specs.Codes.{codes_of as codes_in};
+ghost use Rattle.encodings.specs.Lines.{first_uncoded as first_uncoded_in, places_of};
+
+use crate::cutting::split_first;
+use crate::{Encoding, codes_of};
+use std::marker::Model;
+use std::str;
+
+/// A character of a line.
+#[derive(Clone, Copy, Debug, PartialEq, Eq, Hash)]
+pub struct Place {
+    /// The byte offset at which it begins, starting at 0.
+    pub offset: usize,
+    /// The character.
+    pub character: char,
+}
+
+/// The characters of a line in UTF-8 that are still to come, in order.
+#[derive(Drop)]
+pub struct Places<'a> {
+    rest: &'a str,
+    offset: usize,
+}
+
+impl<'a> Model for Places<'a> {
+    ghost use Rattle.std.specs.Prelude.{◌≤◌, ◌+◌, ◌^◌, List, length};
+    ghost use Rattle.std.specs.Str.{chars};
+    ghost use Rattle.encodings.specs.declared.places.Place.{Place};
+    ghost use Rattle.encodings.specs.Lines.{places_from};
+
+    ghost Value = { List Place };
+
+    ghost view = { λ p. places_from p.offset (chars p.rest.now) };
+
+    ghost invariant = { λ p. p.offset + length p.rest.now ≤ 2 ^ 63 };
+}
+
+/// Returns whether a character at the front of a line is a byte order mark, and not a part of the text.
+fn is_mark(first: bool, character: char) -> bool
+    ensures { result ≡ (first && nat_eq character 0xFEFF) }
+{
+    first && character == '\u{FEFF}'
+}
+
+impl<'a> Places<'a> {
+    /// Returns the characters of a line in UTF-8, as [`of_line`](Places::of_line) does.
+    #[tactic(auto, using(crate::proofs::PlaceLemmas::marks))]
+    pub(crate) fn of_text(first: bool, text: &'a str) -> Self
+        ensures { result ≡ places_of first text.now }
+    {
+        let whole = Places {
+            rest: text,
+            offset: 0,
+        };
+        let Some((character, rest)) = split_first(text) else {
+            return whole;
+        };
+        if is_mark(first, character) {
+            let offset = character.len_utf8();
+            return Places { rest, offset };
+        }
+        whole
+    }
+
+    /// Returns the characters of a line. `first` states that it is the first line of its source: a byte order
+    /// mark at its front is then left out. Returns `None` if the line isn't UTF-8.
+    #[tactic(auto, using(crate::proofs::PlaceLemmas::decoded))]
+    pub fn of_line(first: bool, line: &'a [u8]) -> Option<Self>
+        ensures { MatchOption result (is_utf8 line.now ≡ false)
+            (λ places. (is_utf8 line.now ≡ true) × (places ≡ places_of first line.now)) }
+    {
+        match str::from_utf8(line) {
+            Ok(text) => Some(Places::of_text(first, text)),
+            Err(_) => None,
+        }
+    }
+
+    /// Returns the characters as a text.
+    #[tactic(auto, using(crate::proofs::PlaceLemmas::characters_from))]
+    pub(crate) fn text(&self) -> &'a str
+        ensures { map (λ place. place.character) self.now ≡ chars result.now }
+    {
+        self.rest
+    }
+}
+
+impl<'a> Iterator for Places<'a> {
+    ghost use Rattle.std.specs.Iterator.{YieldsFirst, item_count};
+
+    type Item = Place;
+
+    ghost next_gives = { YieldsFirst (λ rest. rest) };
+
+    ghost remaining = { item_count (λ rest. rest) };
+
+    fn next(&mut self) -> Option<Place> {
+        let (character, rest) = split_first(self.rest)?;
+        let offset = self.offset;
+        self.rest = rest;
+        self.offset = offset + character.len_utf8();
+        Some(Place { offset, character })
+    }
+}
+
+/// Returns whether a character has no codes in an encoding.
+fn is_uncoded(encoding: Encoding, character: char) -> bool
+    ensures { result ≡ is_none (codes_in encoding character) }
+{
+    codes_of(encoding, character).is_none()
+}
+
+/// Returns the first of these characters that has no codes in an encoding, or `None` if all have codes.
+pub fn first_uncoded(encoding: Encoding, places: Places<'_>) -> Option<Place>
+    ensures { result ≡ first_uncoded_in encoding places.entry }
+{
+    for place in places {
+        if is_uncoded(encoding, place.character) {
+            return Some(place);
+        }
+    }
+    None
+}
