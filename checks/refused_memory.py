@@ -8,14 +8,14 @@ the first ones of an undisturbed execution, each once and in order, and the end 
 of `check` before the failure are printed. If only one allocation failed, at most one lane is abandoned. Reads
 and writes that transfer only a few bytes change nothing.
 """
-import collections
 import errno
 import os
 import re
 import subprocess
-import tempfile
 
-from lib.base import DEMO, PROGRAM, ROOT, Case, output, read, rows, shared, table, write
+from lib import refuse
+from lib.base import DEMO, PROGRAM, Case, output, read, rows, shared, table, write
+from lib.refuse import Got
 
 WEIGHT = 5
 SECONDS = 100  # for one execution
@@ -23,7 +23,6 @@ ENOUGH = 12  # executions that nothing affects, after which no more are made
 MOST = 2000  # requests; no command makes so many
 CASES = table("refused_memory")
 MESSAGES = CASES["messages"]
-Got = collections.namedtuple("Got", "status out err told")
 
 
 class Wrong(Exception):
@@ -44,29 +43,19 @@ COMMANDS, LONG = ([Command(*row) for row in CASES[name]] for name in ("commands"
 
 
 def make_files(room):
-    """A font, texts with set and refused lines, one of several buffers, and the library."""
+    """A font, texts with set and refused lines, and one of several buffers."""
     font, long = read(DEMO, "rb"), "the office after all of it affable five\n" * 1500
     for name, text in {"font.tfm": font, "other.tfm": font, "cut.tfm": font[:100], "long": long,
                        **CASES["texts"]}.items():
         write(os.path.join(room, name), text)
-    output("cc", "-O1", "-shared", "-fPIC", "-o", room + "/refuse.so", ROOT + "/checks/lib/refuse.c", "-ldl")
 
 
-def run(command, what="nothing", number=0, on=False, error=errno.ENOMEM, out=subprocess.PIPE):
+def run(command, *failing, out=subprocess.PIPE):
     """Executes a command with the library."""
     room = shared("refused_memory", make_files)
-    with tempfile.TemporaryFile() as told, open(os.path.join(room, command.given or "c"), "rb") as given:
-        env = {**os.environ, "REFUSE": f"{what} {number} {int(on)} {error} {told.fileno()}",
-               "LD_PRELOAD": room + "/refuse.so"}
-        try:
-            ran = subprocess.run([PROGRAM, *command.words], cwd=room, stdin=given, stdout=out,
-                                 stderr=subprocess.PIPE, check=False, pass_fds=[told.fileno()], env=env,
-                                 timeout=command.seconds)
-        except subprocess.TimeoutExpired:
-            return Got(f"no end in {command.seconds} seconds", "", "", ["time"])
-        told.seek(0)
-        names = told.read().decode().splitlines()
-    return Got(ran.returncode, (ran.stdout or b"").decode("latin-1"), ran.stderr.decode("latin-1"), names)
+    with open(os.path.join(room, command.given or "c"), "rb") as given:
+        return refuse.execute([PROGRAM, *command.words], *failing, cwd=room, stdin=given, stdout=out,
+                              timeout=command.seconds)
 
 
 def sources_of(text, command):

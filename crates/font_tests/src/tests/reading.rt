@@ -1,8 +1,8 @@
 use super::faults::is_truncated;
 use std::process::Abort;
 use std::test::Fail;
-use test_support::fonts::{RIGHT_BOUNDARY, largest, largest_program};
-use tfm_tables::{Font, FontFault, LeftSide, Step};
+use test_support::fonts::{largest, largest_program};
+use tfm_tables::{Font, LeftSide, Step};
 
 /// The font has this instruction at an address.
 fn has_step<R: Abort>(rt: &R, font: &Font, i: usize, step: Step) {
@@ -38,25 +38,4 @@ fn the_largest_file(rt: HostRuntime) -> Result<(), Fail> {
     file.truncate(131_067);
     is_truncated(&rt, &file, 131_068);
     Ok(())
-}
-
-/// With memory enough the font is read. The kit's option `--fail-alloc` refuses one request: the
-/// first one makes the file, and the next ones are the reading's own. A refused one of these is told
-/// as refused memory, and the text that is printed says which it was.
-#[test]
-fn refused_memory(rt: HostRuntime) -> Result<(), Fail> {
-    let Ok(file) = RIGHT_BOUNDARY.file(rt.alloc()) else {
-        return Ok(println!(rt; "refused before the reading")?);
-    };
-    let told = match Font::read(rt.alloc(), &file, None) {
-        Ok(font) => {
-            assert!(rt; font.exists(97));
-            "read"
-        }
-        Err(fault) => {
-            assert_eq!(rt; fault, FontFault::OutOfMemory);
-            "out of memory"
-        }
-    };
-    Ok(println!(rt; "{told}")?)
 }

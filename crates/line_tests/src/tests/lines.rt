@@ -4,7 +4,6 @@ mod hostile;
 mod long_fonts;
 mod long_lines;
 mod long_texts;
-mod memory;
 mod numbers;
 mod objects;
 mod readers;

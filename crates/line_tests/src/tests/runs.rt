@@ -1,5 +1,4 @@
 mod matches;
-mod memory;
 mod rewriting;
 mod slow;
 mod words;
