@@ -70,6 +70,7 @@ plain_boundary encoding text zero utf8 within all = IsCharBoundary-start text ut
 plain_boundary encoding text (suc m) utf8 within all =
     let below : m < suc m = omega arith in
     let last : get_or text m 0 < 128 = rw get_or-take at (plain_ascii encoding (take (suc m) text) all m) in
-    rw (← add-one) (IsCharBoundary-after_ascii text m utf8 (omega arith) last)
+    let one : m + 1 ≡ suc m = omega arith in
+    rw (← one) (IsCharBoundary-after_ascii text m utf8 (omega arith) last)
 
 pub ruleset plain_front = (plain_then, plain_boundary, take-append-drop)

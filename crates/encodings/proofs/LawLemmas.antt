@@ -216,3 +216,10 @@ elements_few encoding first line unmarked utf8 is =
     let shown : length (encode_utf8_all (chars unmarked)) ≤ length (encode_utf8_all (chars line)) = rw is (unmarked_few first (chars line)) in
     let whole : length (encode_utf8_all (chars line)) ≡ length line = ap length (encodes-chars line utf8) in
     omega arith
+
+-- the same of its characters, with or without a byte order mark before them
+pub places_few : (encoding : Encoding) (first : Bool) (line : List ℕ) → IsUtf8 line → length (flat_map (coded_of encoding) (characters_in (places_of first line))) ≤ length line
+unfolding places_of
+places_few encoding first line utf8 =
+    let whole : length (encode_utf8_all (chars line)) ≡ length line = ap length (encodes-chars line utf8) in
+    omega (arith, whole, text_few encoding (characters_in (without_mark first (places_from 0 (chars line)))), unmarked_few first (chars line))

@@ -1,5 +1,5 @@
 -- The elements of a whole line, and of a text that is cut at the characters that aren't plain.
-use Rattle.std.proofs.Common.{◌≡◌, ◌≢◌, ℕ, Bool, List, [], ◌∷◌, ◌++◌, length, map, flat_map, Some, None, arith, refl, ap, sym, ◌∙◌, append-nil}
+use Rattle.std.proofs.Common.{◌≡◌, ◌≢◌, ℕ, ◌≤◌, Bool, List, [], ◌∷◌, ◌++◌, length, map, flat_map, Some, None, arith, refl, ap, sym, ◌∙◌, append-nil}
 use Rattle.std.specs.Str.{chars, IsUtf8}
 use Rattle.std.specs.Str.Lossy.{utf8_valid_len}
 use Rattle.std.proofs.lemmas.List.{map-append}
@@ -12,6 +12,7 @@ use Rattle.encodings.specs.declared.places.Place.{Place}
 use Rattle.encodings.specs.Lines.{Element, places_of, coded_of, elements_at, elements_of, encoded, fault_in}
 use Rattle.encodings.specs.Decoding.{coded_text}
 pub use Rattle.encodings.proofs.LawLemmas.{elements_few}
+use Rattle.encodings.proofs.LawLemmas.{places_few}
 use Rattle.encodings.proofs.PlaceLemmas.{characters_in, not_utf8}
 
 -- ---- cutting at characters that aren't plain
@@ -50,6 +51,15 @@ text_encoded Ot1 first text unmarked other is = ap (flat_map (coded_of Ot1)) is 
 text_encoded T1 first text unmarked other is = ap (flat_map (coded_of T1)) is ∙ forgotten T1 (places_of first text)
 text_encoded Ly1 first text unmarked other is = ap (flat_map (coded_of Ly1)) is ∙ forgotten Ly1 (places_of first text)
 text_encoded Latin1 first text unmarked other is = ap (flat_map (coded_of Latin1)) is ∙ forgotten Latin1 (places_of first text)
+
+-- so a line has at most as many elements as bytes
+pub encoded_few : (encoding : Encoding) (first : Bool) (line : List ℕ) → encoding ≢ Bytes → IsUtf8 line → length (encoded encoding first line) ≤ length line
+unfolding encoded elements_of
+encoded_few Bytes first line other utf8 = absurd (other refl)
+encoded_few Ot1 first line other utf8 = rw (← forgotten Ot1 (places_of first line)) (places_few Ot1 first line utf8)
+encoded_few T1 first line other utf8 = rw (← forgotten T1 (places_of first line)) (places_few T1 first line utf8)
+encoded_few Ly1 first line other utf8 = rw (← forgotten Ly1 (places_of first line)) (places_few Ly1 first line utf8)
+encoded_few Latin1 first line other utf8 = rw (← forgotten Latin1 (places_of first line)) (places_few Latin1 first line utf8)
 
 -- bytes that are codes
 pub bytes_encoded : (encoding : Encoding) (first : Bool) (line : List ℕ) → encoding ≡ Bytes → map Code line ≡ encoded encoding first line

@@ -1,4 +1,4 @@
-ghost use Rattle.std.specs.Prelude.{◌≡◌, ◌<◌, true, false, ◌++◌, ◌∷◌, [], length, map, OnOk};
+ghost use Rattle.std.specs.Prelude.{◌≡◌, ◌<◌, true, false, ◌++◌, ◌∷◌, [], length, map, IfOk, OnOk};
 ghost use Rattle.encodings.specs.declared.coded.Coded.TheVariants.{Code, Uncoded};
 ghost use Rattle.encodings.specs.Lines.{has_uncoded};
 ghost use Rattle.encodings.specs.Encoded.{begins_uncoded, joined};
@@ -76,17 +76,19 @@ impl EncodedLine {
 
     /// Returns the codes before the first character that has no codes.
     pub fn codes(&self) -> &[u8]
-        ensures all { has_uncoded self.now ≡ false → map Code result.now ≡ self.now }
+        ensures { has_uncoded self.now ≡ false → map Code result.now ≡ self.now }
     {
         self.codes.as_slice()
     }
 
-    /// Returns the codes before the first character that has no codes, and all elements from this character
-    /// on.
-    pub fn parts(&self) -> (&[u8], &[Coded])
-        ensures { joined result.0.now result.1.now ≡ self.now }
+    /// Returns all elements as a list.
+    pub fn to_vec(&self, alloc: Global) -> Result<Vec<Coded>, AllocError>
+        ensures { IfOk result (λ elements. elements.items ≡ self.now) }
     {
-        (self.codes.as_slice(), self.rest.as_slice())
+        let mut elements = Vec::new(alloc);
+        push_each(&mut elements, &self.codes)?;
+        elements.extend_from_slice(&self.rest)?;
+        Ok(elements)
     }
 }
 

@@ -1,4 +1,4 @@
-ghost use Rattle.std.specs.Prelude.{◌≡◌, ◌-◌, ◌<◌, ◌≤◌, ◌^◌, length, IfOk, IfErr, IfSome, Ok, Some, true};
+ghost use Rattle.std.specs.Prelude.{◌≡◌, ℕ, ◌-◌, ◌<◌, ◌≤◌, ◌^◌, length, IfOk, IfErr, IfSome, Ok, Some, true};
 ghost use Rattle.std.specs.Option.{option_map};
 ghost use Rattle.tfm_words.specs.Counts.{AreCountsOf};
 ghost use Rattle.tfm_words.specs.DesignSize.{design_size_of};
@@ -121,6 +121,14 @@ impl FontMetrics {
         ensures { result ≡ exists_in self.now.words code }
     {
         self.character(code).tag.is_some()
+    }
+
+    /// States that the code of each character of the font is at most 255.
+    pub fn codes_are_bytes(&self)
+        ensures { (code : ℕ) → exists_in self.now.words code ≡ true → code ≤ 255 }
+    {
+        // For the proof: this use of the counts states the invariant of the fields.
+        let _last = self.counts.ec();
     }
 
     /// Returns the dimensions of a character in sp, or `None` if it doesn't exist. Each dimension is
