@@ -201,7 +201,7 @@ class Linking(LibraryCase):
 
     def test_the_libraries_define_the_functions_of_the_header_only(self):
         functions = sorted(re.findall(r"^uint32_t (\w+)\(", read(self.prefix + "/include/tfmset.h"), re.M))
-        self.same("functions", 10, len(functions))
+        self.same("functions", 12, len(functions))
         for file, option in (("libtfmset.a", "-g"), ("libtfmset.so", "-D")):
             lines = output("nm", option, "--defined-only", os.path.join(self.lib, file)).splitlines()
             self.same(file, functions, sorted(line.split()[2] for line in lines if len(line.split()) == 3))

@@ -10,13 +10,14 @@ import json
 import re
 
 from lib.base import DEMO, PROGRAM, execute, has, output, read
+from lib.clib import encode
 from lib.docs import font_errors
 from lib.tfm import BOUNDARY, NAMES, Font, changed, make, sample, scaled
 from library import between
 from library_lines import LinesCase
 
 WEIGHT = 5
-STRUCTS = {"_Fault": "fault", "_About": "font", "_Metrics": "metrics", "_Pair": "pair",
+STRUCTS = {"_Encoded": "encoded", "_Fault": "fault", "_About": "font", "_Metrics": "metrics", "_Pair": "pair",
            "_Neighbours": "neighbours", "_Counts": "counts", "_Line": "line", "Item": "item"}
 PARAMETERS = "slant space stretch shrink x_height quad extra_space".split()
 TABLES = "header char_info width height depth italic lig_kern kern exten param".split()
@@ -129,6 +130,8 @@ class Fields(LinesCase):
             "FONT_REFUSED": library.tfmset_check(data, 9, 0, out), "REFUSE": policies[1], "SKIP": policies[0],
             "BOUNDARY": max(code for code in range(300) if not library.tfmset_pair(*font, code, 97, out)),
             "MOST_STEPS": max(limit for limit in range((1 << 24) - 1, (1 << 24) + 2) if not widths(limit)[0]),
+            "NOT_UTF8": encode(self.prefix, "t1", b"\xff", 1)[0],
+            "UNCODED": encode(self.prefix, "t1", "€".encode(), 3)[0],
             "JSON": next(n for n in (1, 2, 3) if self.tfmset.Font(data).records(b"o", version=n)[:1] == b"{")}
         # test_attributes, library_lines.c and library.py compare the others.
         others = {*KINDS.values(), *REFUSALS.values(), "OUT_OF_MEMORY", "VERSION"}
@@ -193,8 +196,13 @@ class Fields(LinesCase):
             with self.assertRaises(self.tfmset.FontRefused) as raised:
                 self.tfmset.Font(content)
             self.has(fault(message), raised.exception)
+        with self.assertRaises(self.tfmset.EncodingError) as raised:
+            self.tfmset.encode("ß\n\u20ac", "ot1")
+        fields = {"encoding": "ot1", "place": 2, "character": "\u20ac"}
+        self.has({"args": ("ot1", 2, "\u20ac"), **fields}, raised.exception)
         found = {name: getattr(self.tfmset, name) for name in self.tfmset.__all__}
         wanted = {name: self.constants[name] for name in ("BOUNDARY", *KINDS.values())}
-        wanted.update({"POINT": 65536, "__version__": output(PROGRAM, "--version").split()[1]})
+        wanted.update({"ENCODINGS": ("ot1", "t1", "ly1", "latin1"), "POINT": 65536,
+                       "__version__": output(PROGRAM, "--version").split()[1]})
         self.same("constants", wanted, {name: value for name, value in found.items() if not callable(value)})
-        self.same("names", set(found), {*wanted, *self.classes, "version"} - {"NoneType"})
+        self.same("names", set(found), {*wanted, *self.classes, "encode", "version"} - {"NoneType"})

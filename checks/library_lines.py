@@ -179,7 +179,7 @@ class Records(LinesCase):
     def test_failed_allocations_and_threads_in_c(self):
         errors = self.in_c(Job("demo.tfm", read("examples/demo.txt", "rb"), missing="skip"), "more")
         counts = [int(field) for field in errors.split() if field.isdigit()]
-        self.same("failed allocations", (16, True, 1), (len(counts), all(counts), errors.count("\n")))
+        self.same("failed allocations", (20, True, 1), (len(counts), all(counts), errors.count("\n")))
         print(f"allocations that failed: {sum(counts)}")
 
     @rows((kinds, kinds) for kinds in ("address,undefined", "thread"))
@@ -285,7 +285,8 @@ class Module(LinesCase):
     def test_a_failed_allocation(self):
         source = "unsigned tfmset_version(void) { return 1000; }\n" + "".join(
             f"unsigned tfmset_{name}(void) {{ return 2; }}\n"
-            for name in ("size", "check", "font", "metrics", "pair", "pairs", "set", "widths", "records"))
+            for name in ("size", "encode", "check", "font", "metrics", "pair", "pairs", "set", "widths", "records",
+                         "encoded_records"))
         out = os.path.join(self.room, "out_of_memory.so")
         output("cc", "-shared", "-fPIC", "-x", "c", "-", "-o", out, given=source.encode())
         seen = execute(sys.executable, "-B", "-c", 'import tfmset; tfmset.Font(b"")',
@@ -299,21 +300,27 @@ class Module(LinesCase):
     def test_arguments_out_of_range(self):
         """A number out of its range, or a refused font, leaves the arrays and the last argument unchanged."""
         data, most = sample("demo"), (1 << 64) - 1
-        for name, *numbers in (("set",), ("widths",), ("records", 1, U64(1), U64(1))):
+        for name, *numbers in (("set",), ("widths",), ("records", 1, U64(1), U64(1)),
+                               ("encoded_records", 1, U64(1), U64(1))):
             for settings in CASES["out_of_range"]["settings"]:
                 self.call((RANGE, True), name, data, settings, numbers)
             self.call((REFUSED, True), name, data[:100], (0, 9, 0), numbers)
             self.call((DONE, False), name, data, (0, 9, 0), numbers)
-        for version, first in ((0, 1), (4, 1), (1, most), (1, most - 4)):
-            self.call((RANGE, True), "records", data, (0, 9, 0), (version, U64(most), U64(first)))
-        for first in (0, most - 5):
-            self.call((DONE, False), "records", data, (0, 9, 0), (1, U64(most), U64(first)))
+        for name in ("records", "encoded_records"):
+            for version, first in ((0, 1), (4, 1), (1, most), (1, most - 4)):
+                self.call((RANGE, True), name, data, (0, 9, 0), (version, U64(most), U64(first)))
+            for first in (0, most - 5):
+                self.call((DONE, False), name, data, (0, 9, 0), (1, U64(most), U64(first)))
+        for encoding in (b"", b"T1", b"t1\0", b"utf-8", b"\xff"):
+            self.call((RANGE, True), "encoded_records", data, (0, 9, 0), (1, U64(1), U64(1)), encoding=encoding)
 
-    def call(self, wanted, name, data, settings, numbers, text=b"ox\nab"):
+    def call(self, wanted, name, data, settings, numbers, text=b"ox\nab", encoding=b"latin1"):
         """Compares the return code of a call, and whether its arrays and its last argument are unchanged."""
         nines = b"\x09" * 8192
         memory = [ctypes.create_string_buffer(nines, 8192) for _ in range(3 if name == "set" else 2)]
-        given = [ctypes.c_char_p(data), SIZE(len(data)), *map(U32, settings), text, SIZE(len(text)), *numbers]
+        given = [ctypes.c_char_p(data), SIZE(len(data)), *map(U32, settings)]
+        given += [encoding, SIZE(len(encoding))] if name == "encoded_records" else []
+        given += [text, SIZE(len(text)), *numbers]
         for array in memory[:-1]:
             given += [array, SIZE(8192 // 48)]
         code = getattr(ctypes.CDLL(self.lib + "/libtfmset.so"), "tfmset_" + name)(*given, memory[-1])

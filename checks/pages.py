@@ -6,6 +6,9 @@ may be printed on standard error, and no file may be left in the repository: a b
 them into "$tmp". A ```c or ```python block is saved under the name in the comment on its first line, and the
 blocks after it can use it. PREFIX is set, and so are those of the variables of VARIABLES that the page names.
 A command whose tool is missing is skipped.
+
+All of this is done in each of LOCALES. A locale that isn't installed is compiled into a temporary directory,
+which LOCPATH names.
 """
 import os
 import re
@@ -14,8 +17,8 @@ import sys
 import unicodedata
 import unittest
 
-from lib.base import (EXAMPLES, PROGRAM, ROOT, Case, bash, environment, execute, files, has, read, rows,
-                      script, table, write)
+from lib.base import (EXAMPLES, PROGRAM, ROOT, Case, bash, environment, execute, files, has, output, read,
+                      rows, script, shared, table, write)
 from lib.clib import LibraryCase
 from lib.docs import commands, font_errors, record_of, text_of, worked_examples
 from lib.tfm import path_of, sample, samples
@@ -27,6 +30,7 @@ ENCODINGS = script("examples/font_encodings.py").ENCODINGS
 RUN = RULES["pages"] + [page for page in RULES["perhaps"] if list(commands(read(page)))]
 LIBRARY = "library for C"
 VARIABLES = ("PKG_CONFIG_PATH", "LD_LIBRARY_PATH", "TFMSET_LIBRARY", "PYTHONPATH")
+LOCALES = ("C", "C.UTF-8", "de_DE.UTF-8")
 SAMPLES = "crates/test_support/src/fonts"
 NAMES, WORDS = sorted(name[:-4] for name in os.listdir(f"{EXAMPLES}/fonts")), RULES["words"]
 
@@ -51,12 +55,13 @@ class Commands(LibraryCase):
         except unittest.SkipTest:
             self.lacks, self.prefix, self.env = {LIBRARY}, "", {}
 
-    @rows((page, page) for page in RUN)
-    def test(self, page):
+    @rows((f"{page} in {name}", page, name) for page in RUN for name in LOCALES)
+    def test(self, page, name):
         self.link_repository()
+        in_locale = self.locale(name)
         count, missing, sources, text = 0, set(), {}, read(page)
         tmp = self.other_room()
-        env = {**os.environ, "tmp": tmp, "TMPDIR": tmp, "PREFIX": self.prefix}
+        env = {**os.environ, **in_locale, "tmp": tmp, "TMPDIR": tmp, "PREFIX": self.prefix}
         env |= {name: self.env[name] for name in VARIABLES if name in text and name in self.env}
         self.before = self.files()
         for kind, first, second in parts(text):
@@ -74,6 +79,19 @@ class Commands(LibraryCase):
         self.none([], count, int(page in RULES["pages"] and not missing))
         for need in sorted(missing)[:1] if not self.wrong else ():
             self.lack(need)
+
+    def locale(self, name):
+        """The variables that choose a locale. One that can't be had is skipped."""
+        chosen = {"LC_ALL": name}
+        if name.replace("UTF-8", "utf8") in output("locale", "-a").split():
+            return chosen
+        language, _, encoding = name.partition(".")
+        found = shared("locales", lambda path: execute(
+            "localedef", "-i", language, "-f", encoding, os.path.join(path, name), timeout=100)
+            if has("localedef") and not os.makedirs(path) else None)
+        if not os.path.exists(os.path.join(found, name)):
+            self.lack(f"locale {name}")
+        return {**chosen, "LOCPATH": found}
 
     def files(self):
         return set(files(self.room, ("crates", "__pycache__")))
@@ -321,10 +339,19 @@ class Scripts(Case):
     def test_message(self, row):
         """A script ends with one line on standard error and an exit status."""
         self.file("listing", execute(PROGRAM, "list", f"{EXAMPLES}/demo.tfm")[1])
-        shutil.copy(f"{EXAMPLES}/demo.txt", self.room)
+        for name in ("demo.txt", "demo.tfm"):
+            shutil.copy(f"{EXAMPLES}/{name}", self.room)
         status, out, err = self.script(row["script"], *row["arguments"], given=row["given"].encode())
         self.same("result", (row["status"], "", 1), (status, out, err.count("\n")))
         self.assertIn(row["message"], err)
+
+    @rows((name, name, given, message) for name, given, message in (
+        ("JSON", '{"source":1}\n', "JSON is not read"), ("format 2", "records 2\n", "format 2 is not read"),
+        ("a part that is cut", "1:1 set 5\n1:3 set 5\n", "part 1 is incomplete: 1:3 set 5")))
+    def test_renumber(self, name, given, message):
+        status, out, err = execute(f"{ROOT}/scripts/renumber", given=given.encode())
+        self.same(name, (4, 1), (status, err.count("\n")))
+        self.assertIn(message, err)
 
     @rows((name, name) for name in ("letters", "encode"))
     def test_closed_pipe(self, name):

@@ -4,12 +4,13 @@ The cases are the tables of checks/cases/program. A font in a table is `@NAME CH
 docs/ERRORS.md; other contents are written as they are. `checks/run --update` writes the files of checks/help.
 """
 import os
+import re
 import unicodedata
 
 from lib.base import PROGRAM, ROOT, Case, bash, execute, read, rows, table, write
 from lib.tfm import sample
 
-GROUPS = "counts list pairs check unread_fonts unread_files set stream before_a_stream each crlf".split()
+GROUPS = "counts list pairs check unread_fonts unread_files set stream before_a_stream each crlf verbose".split()
 COMMANDS = ("counts", "list", "pairs", "check", "set", "each", "stream")
 HELP = os.path.join(ROOT, "checks", "help")
 
@@ -47,6 +48,52 @@ for group in GROUPS:
     # A group for each table.
     globals()[group] = type(group, (Case,), {"__doc__": table("program/" + group)["title"],
                                              "test": rows(cases_of(group))(compare)})
+
+
+class Verbose(Case):
+    """The cases of all tables, with --verbose"""
+
+    @rows((title, case, files) for group in GROUPS if group != "verbose" for title, case, files in cases_of(group))
+    def test_same(self, case, files):
+        """Standard output and the exit status are the same, and so are the lines on standard error in their
+        order, of which the last one is the last. With the option, other lines may be between them."""
+        for name, text in files.items():
+            self.file(name, content(text))
+        command, *others = arguments(case["args"])
+        for option in ("-v", "--verbose"):
+            status, out, err = run([command, option, *others], content(case.get("stdin", "")), self.room)
+            self.same(option, (case.get("status", 0), case.get("out", "")), (status, out))
+            lines, wanted = err.splitlines(), case.get("err", "").splitlines()
+            left = iter(lines)
+            self.same(f"{option}: {err!r}", True, all(line in left for line in wanted))
+            if wanted and not wanted[-1].startswith("tfmset: size "):
+                self.same(f"{option}: the last line", wanted[-1], lines[-1])
+
+    def test_reasons_and_ends_of_writes(self):
+        """Many lines of each kind, in each format: the counts are those of the records."""
+        font, text = self.file("font", content("@plain")), b""
+        for turn in range(3000):
+            text += (b"a" * 9 + b"\n", b"ad\n", b"\n", b"abc" * 30 + b"\n", b"b" * 70000 + b"\n")[
+                4 if turn % 997 == 0 else turn % 4]
+        for command in (["set", "--record", "1", font, "/dev/stdin"], ["stream", "--record", "2", font],
+                        ["stream", "--block", "1", "--record", "json", font]):
+            _, out, err = run([command[0], "-v", "--limit", "50", *command[1:]], text)
+            counts = [len(re.findall(form, out)) for form in (
+                r"^\d+:\d+ set |\"width\":", r"refused\W+too-long", r"refused\W+missing", r"refused\W+steps")]
+            wanted = "tfmset: {} lines set, {} refused: {} too-long, {} missing, {} steps\n".format(
+                len(re.findall(r"(?m)^\d+:\d+ set |\"width\":", out)), sum(counts[1:]), *counts[1:])
+            self.same(command[:3], (wanted, 3000), (err, len(re.findall("(?m)^.*(?: set |refused|width)", out))))
+
+
+class Causes(Case):
+    """Causes of errors that depend on the system, with --verbose"""
+
+    @rows((case["command"], case) for case in table("program/verbose")["system"])
+    def test(self, case):
+        self.file("T", content("@plain"))
+        self.file("F", b"abc\n" * 50000)
+        status, _, err = bash(case["command"].replace("tfmset", f"'{PROGRAM}'"), self.room)
+        self.same("standard error", (case.get("status", 0), case["err"]), (status, err))
 
 
 class CarriageReturns(Case):

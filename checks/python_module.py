@@ -44,6 +44,19 @@ print()
 """, "786432 717619 717619 789381 745871 655360 2368143 size is ''; size is '0pt'; size is '12'; size is '+12'; size is '12PT'; "
      "size is '-1pt'; size is '2048pt'; size is '1em'; size is '1e1pt'; size is '12\\xa0pt'; "
      "size is '12pt\\x00'; \n"),
+    # Mutants: `_refusal` returns the offset of the code; `_Source` counts characters without codes.
+    ("The place in a refusal of a str is the index of a character", """
+print(font.set("fox\\nﬁg Q", encoding="t1")[1], font.widths("\\ufeffo\\xadﬁ¡Q", encoding="ot1"))
+""", "Refusal(reason='missing', place=3, code=81) [Refusal(reason='missing', place=4, code=33)]\n"),
+    # Mutants: `_utf8` calls the method `encode`, or `_Source` the method `split`, of a subclass.
+    ("A subclass of str counts as the characters that it has", """
+class Text(str):
+    encode = lambda *_: b"\\xff"
+    split = lambda *_: []
+print(tfmset.encode(Text("oß"), "t1"), font.widths(Text("ox\\nß"), encoding="t1"))
+print(font.records(Text("oß"), encoding="t1"))
+""", "b'o\\xff' [665189, Refusal(reason='missing', place=0, code=255)]\n"
+     "b'1:1 refused missing 1 255\\n'\n"),
     # Mutant: `Line.items` shares the memory of the result.
     ("Writing to the items of a line changes no line", """
 lines = font.set(b"ox\\nox")
@@ -78,7 +91,8 @@ class Module(LibraryCase):
 class Version(LibraryCase):
     """The version of the library"""
 
-    names = ("size", "check", "font", "metrics", "pair", "pairs", "set", "widths", "records")
+    names = ("size", "encode", "check", "font", "metrics", "pair", "pairs", "set", "widths", "records",
+             "encoded_records")
 
     def imported(self, number):
         """Imports the module with a library that has this version, and returns what Python prints."""

@@ -8,13 +8,13 @@ _tfmset_commands='counts list pairs check set each stream help'
 _tfmset_options() {
     case $1 in
         '') options='-h --help -V --version' ;;
-        counts) options='-h --help' ;;
-        list) options='--all -h --help' ;;
-        pairs) options='--size --format -h --help' ;;
-        check) options='--size -h --help' ;;
-        set) options='--size --limit --missing --crlf --workers --capacity --block --record -h --help' ;;
-        each) options='--size --missing --crlf --workers --capacity --block --record -h --help' ;;
-        stream) options='--size --limit --missing --crlf --workers --capacity --block --record -h --help' ;;
+        counts) options='-v --verbose -h --help' ;;
+        list) options='--all -v --verbose -h --help' ;;
+        pairs) options='--size --format -v --verbose -h --help' ;;
+        check) options='-v --verbose -h --help' ;;
+        set) options='--size --limit --missing --crlf --workers --capacity --block --record -v --verbose -h --help' ;;
+        each) options='--size --missing --crlf --workers --capacity --block --record -v --verbose -h --help' ;;
+        stream) options='--size --limit --missing --crlf --workers --capacity --block --record -v --verbose -h --help' ;;
         help) options='' ;;
         *) options='' ;;
     esac

@@ -5,6 +5,7 @@
  *
  *     tfmset_version   returns the version of the library
  *     tfmset_size      reads a size, such as "12pt", from a text
+ *     tfmset_encode    turns a text in UTF-8 into the codes of a font
  *     tfmset_check     returns whether a font is accepted, or its first error
  *     tfmset_font      returns the sizes, boundaries and parameters of a font
  *     tfmset_metrics   returns the dimensions and the tag of a character
@@ -13,6 +14,8 @@
  *     tfmset_set       sets the lines of a text: their widths and their items
  *     tfmset_widths    sets the lines of a text: their widths
  *     tfmset_records   sets the lines of a text: their records, as the program prints them
+ *     tfmset_encoded_records
+ *                      sets the lines of a text in UTF-8: their records
  *
  * Example:
  *
@@ -38,6 +41,7 @@
  * for an array that is known to be long enough, is undefined behaviour.
  *
  * Memory: functions allocate memory with malloc and realloc, and free all of it before they return.
+ * tfmset_version, tfmset_size and tfmset_encode allocate none.
  *
  * Threads: any thread may call any function at any time. Don't call the library from a signal handler, or in
  * the child process after a fork of a process that has several threads.
@@ -45,14 +49,18 @@
  * Time: a font's lig/kern program may run until a line has taken `limit` steps. The time of a call therefore
  * grows with the number of lines times `limit`. For fonts from strangers choose a small limit.
  *
- * Return value: each function except tfmset_version returns one of the five TFMSET_ codes below. The last
+ * Encoding: the bytes of a line are codes of the font, and not Unicode. tfmset_encode turns a text in UTF-8
+ * into such bytes.
+ *
+ * Return value: each function except tfmset_version returns one of the seven TFMSET_ codes below. The last
  * argument is written to as follows; after any other code it is unchanged:
  *
  *     tfmset_check                                  after TFMSET_FONT_REFUSED
+ *     tfmset_encode                                 after each code except TFMSET_OUT_OF_RANGE
  *     tfmset_size                                   after TFMSET_DONE
  *     tfmset_font, tfmset_metrics, tfmset_pair      after TFMSET_DONE
  *     tfmset_pairs, tfmset_set, tfmset_widths,
- *     tfmset_records                                after TFMSET_DONE and TFMSET_NO_ROOM
+ *     tfmset_records, tfmset_encoded_records        after TFMSET_DONE and TFMSET_NO_ROOM
  *
  * C++: the structs tfmset_font, tfmset_metrics and tfmset_pair have the names of functions. C++ therefore
  * needs the keyword, as C does: `struct tfmset_font about;`.
@@ -80,8 +88,13 @@ extern "C" {
 /* An array is too short. The last argument contains the lengths that are needed, and the contents of the
  * arrays are unspecified, except with tfmset_pairs, which leaves its array unchanged. */
 #define TFMSET_NO_ROOM 3u
-/* A number is out of its range, or a text isn't a size. No font was read. */
+/* A number is out of its range, a text isn't a size, or a name isn't that of an encoding. No font was
+ * read. */
 #define TFMSET_OUT_OF_RANGE 4u
+/* tfmset_encode: the text isn't UTF-8. */
+#define TFMSET_NOT_UTF8 5u
+/* tfmset_encode: a character of the text has no codes in the encoding. */
+#define TFMSET_UNCODED 6u
 
 /* Returns the version of the library: for version X.Y.Z it is 1,000,000 * X + 1,000 * Y + Z.
  * TFMSET_VERSION is the version of this header. */
@@ -95,6 +108,36 @@ uint32_t tfmset_version(void);
  * ignored. Signs and spaces aren't allowed, except for a plus sign before a whole number without a unit.
  * Returns TFMSET_DONE, or TFMSET_OUT_OF_RANGE if the text isn't a size from 1 to 134,217,727 scaled points. */
 uint32_t tfmset_size(const uint8_t *text, size_t text_length, uint32_t *size);
+
+/* The result of tfmset_encode. */
+struct tfmset_encoded {
+    /* TFMSET_DONE, TFMSET_NO_ROOM: the number of codes. Otherwise 0. */
+    size_t count;
+    /* TFMSET_NOT_UTF8: the offset of the byte in the text at which no character begins, from 0.
+     * TFMSET_UNCODED: the offset of the first byte of the first character that has no codes. Otherwise 0. */
+    size_t offset;
+    /* TFMSET_UNCODED: the number of this character in Unicode. Otherwise 0. */
+    uint32_t character;
+};
+
+/* Turns a text in UTF-8 into the codes of a font, which are the text for tfmset_set, tfmset_widths and
+ * tfmset_records. `encoding` is the name of the font's encoding, which needs no zero byte at its end: "ot1"
+ * (that of cmr10), "t1" (ecrm1000), "ly1", "latin1", or "bytes", with which the text may be any bytes, and is
+ * copied. The codes of a character are those that LaTeX sets for it. Most characters have one code, some have
+ * two or three, and the soft hyphen has none. A character that LaTeX puts together from an accent and a
+ * letter has no codes. Line feeds are kept. A byte order mark at the front of the text is left out.
+ *
+ * `codes` has `codes_length` bytes, and is always long enough if it is as long as the text. Returns
+ *
+ * TFMSET_DONE: the first `encoded->count` bytes of `codes` are the codes. The other bytes are unchanged.
+ * TFMSET_NO_ROOM: `codes` is too short, and its contents are unspecified. `encoded->count` is the length that
+ *     is needed.
+ * TFMSET_OUT_OF_RANGE: no encoding has this name. `codes` and `encoded` are unchanged.
+ * TFMSET_NOT_UTF8: the text isn't UTF-8. `codes` is unchanged.
+ * TFMSET_UNCODED: the text is UTF-8, but a character has no codes. `codes` is unchanged. */
+uint32_t tfmset_encode(const uint8_t *encoding, size_t encoding_length, const uint8_t *text,
+                       size_t text_length, uint8_t *codes, size_t codes_length,
+                       struct tfmset_encoded *encoded);
 
 /* The first error of a font. docs/ERRORS.md in the sources describes each error, with an example. */
 struct tfmset_fault {
@@ -320,6 +363,28 @@ uint32_t tfmset_records(const uint8_t *font, size_t font_length, uint32_t size, 
                         uint64_t source, uint64_t first, uint8_t *records, size_t records_length,
                         size_t *length);
 
+/* Sets the lines of a text in UTF-8, and writes their records as tfmset_records does. `encoding` is the name
+ * of the font's encoding, as for tfmset_encode. The records are those of tfmset_records, except that:
+ *
+ * - A line is too long if it has more than 65,535 bytes in UTF-8. Lengths and offsets count bytes of the line
+ *   in UTF-8, and codes are those of the font.
+ * - `refused encoding OFFSET`: the line isn't UTF-8, and no character begins at the offset. In JSON the
+ *   members are "refused":"encoding" and "offset".
+ * - `refused uncoded OFFSET U+XXXX`: the character at the offset has no codes, and the policy is
+ *   TFMSET_REFUSE. In JSON the members are "refused":"uncoded", "offset" and "character".
+ * - The item `uXXXX` is a character without codes that was skipped. In JSON it is ["u",CHARACTER].
+ *
+ * XXXX is the number of a character in Unicode: at least four hexadecimal digits, in capitals. CHARACTER and
+ * the member "character" are this number in decimal. A line has the first refusal that applies: too long, not
+ * UTF-8, a character without codes, a missing character, too many steps. A byte order mark at the front of
+ * the text is left out. TFMSET_OUT_OF_RANGE is also returned if no encoding has this name. Otherwise the
+ * return values are those of tfmset_records. */
+uint32_t tfmset_encoded_records(const uint8_t *font, size_t font_length, uint32_t size, uint32_t limit,
+                                uint32_t policy, const uint8_t *encoding, size_t encoding_length,
+                                const uint8_t *text, size_t text_length, uint32_t version,
+                                uint64_t source, uint64_t first, uint8_t *records, size_t records_length,
+                                size_t *length);
+
 /* The library was compiled for structs of this layout: their sizes, and the offsets of their last fields. */
 #if defined(__cplusplus) && __cplusplus >= 201103L
 #define TFMSET_ASSERT(fact) static_assert(fact, "the layout of a struct isn't that of libtfmset")
@@ -330,6 +395,7 @@ uint32_t tfmset_records(const uint8_t *font, size_t font_length, uint32_t size, 
 #endif
 #define TFMSET_LAYOUT(name, size, last, offset) \
     TFMSET_ASSERT(sizeof(struct name) == (size) && offsetof(struct name, last) == (offset))
+TFMSET_LAYOUT(tfmset_encoded, 24, character, 16);
 TFMSET_LAYOUT(tfmset_fault, 16, named, 12);
 TFMSET_LAYOUT(tfmset_font, 72, extra_space, 68);
 TFMSET_LAYOUT(tfmset_metrics, 28, remainder, 24);

@@ -2,8 +2,9 @@
 """Sets lines of text with a TeX font metric (TFM) file, by calling the C library libtfmset.
 
 A `Font` is made from the bytes of a TFM file, and is read at its design size or at another size. Text is
-bytes: each byte is a character code of the font, byte 32 is a space, and byte 10 ends a line. All dimensions
-are in scaled points (sp); 65,536 sp are one TeX point, and 72.27 TeX points are one inch.
+bytes: each byte is a character code of the font, byte 32 is a space, and byte 10 ends a line. Or it is a str,
+with the encoding of the font: `font.set("Straße", encoding="t1")`. All dimensions are in scaled points (sp);
+65,536 sp are one TeX point, and 72.27 TeX points are one inch.
 
     >>> import tfmset
     >>> font = tfmset.Font.from_file("examples/demo.tfm")
@@ -16,6 +17,8 @@ are in scaled points (sp); 65,536 sp are one TeX point, and 72.27 TeX points are
     Refusal(reason='missing', place=7, code=65)
     >>> font.widths(b"office\\nbox")
     [1468004, 1025637]
+
+`encode` turns a str into the codes of a font. `ENCODINGS` are the names of the encodings.
 
 `POINT` is the number of sp in a point. `CHARACTER`, `KERN`, `SPACE` and `SKIPPED` are the kinds of items.
 `BOUNDARY` stands for a boundary in `Font.pair` and `Font.pairs`.
@@ -45,8 +48,9 @@ import os
 import struct
 from typing import List, NamedTuple, Optional, Sequence, Tuple, Union, overload
 
-__all__ = ["BOUNDARY", "CHARACTER", "KERN", "POINT", "SKIPPED", "SPACE", "Font", "FontRefused", "Item",
-           "Kern", "Ligature", "Line", "Lines", "Metrics", "Refusal", "__version__", "version"]
+__all__ = ["BOUNDARY", "CHARACTER", "ENCODINGS", "KERN", "POINT", "SKIPPED", "SPACE", "EncodingError", "Font",
+           "FontRefused", "Item", "Kern", "Ligature", "Line", "Lines", "Metrics", "Refusal", "__version__",
+           "encode", "version"]
 
 __version__ = "0.1.0"
 
@@ -59,12 +63,19 @@ CHARACTER, KERN, SPACE, SKIPPED = range(4)
 BOUNDARY = 256
 """In `Font.pair` and `Font.pairs`: the left boundary on the left, the right boundary on the right."""
 
+ENCODINGS = ("ot1", "t1", "ly1", "latin1")
+"""The names of the encodings: OT1 is that of cmr10, T1 that of ecrm1000, and Latin 1 is ISO 8859-1."""
+
 Size = Union[None, int, str]
 Text = Union[bytes, bytearray, memoryview]
 
-_DONE, _FONT_REFUSED, _OUT_OF_MEMORY, _NO_ROOM = range(4)
+_DONE, _FONT_REFUSED, _OUT_OF_MEMORY, _NO_ROOM, _OUT_OF_RANGE, _NOT_UTF8, _UNCODED = range(7)
 _LARGEST_SIZE, _LARGEST_LIMIT = 134_217_727, 16_777_216
 _u32, _i32, _u64, _size_t = ctypes.c_uint32, ctypes.c_int32, ctypes.c_uint64, ctypes.c_size_t
+
+
+class _Encoded(ctypes.Structure):
+    _fields_ = [("count", _size_t), ("offset", _size_t), ("character", _u32)]
 
 
 class _Fault(ctypes.Structure):
@@ -141,6 +152,7 @@ def _load() -> ctypes.CDLL:
     functions = {
         "version": [],
         "size": text + out,
+        "encode": text + text + array + out,
         "check": font + out,
         "font": font + out,
         "metrics": font + [_u32] + out,
@@ -149,6 +161,7 @@ def _load() -> ctypes.CDLL:
         "set": font + settings + text + array + array + out,
         "widths": font + settings + text + array + out,
         "records": font + settings + text + [_u32, _u64, _u64] + array + out,
+        "encoded_records": font + settings + text + text + [_u32, _u64, _u64] + array + out,
     }
     path = _path()
     try:
@@ -186,6 +199,74 @@ def version() -> Tuple[int, int, int]:
     True
     """
     return _version(_library)
+
+
+class EncodingError(ValueError):
+    """Raised for a character that has no codes in an encoding.
+
+    `encoding` is the name of the encoding, `place` the index of the character in the text, and `character`
+    the character.
+
+    >>> encode("5 €", "t1")
+    Traceback (most recent call last):
+    tfmset.EncodingError: no code in t1 for U+20AC at index 2
+    """
+
+    def __init__(self, encoding: str, place: int, character: str) -> None:
+        super().__init__(encoding, place, character)
+        self.encoding, self.place, self.character = encoding, place, character
+
+    def __str__(self) -> str:
+        return f"no code in {self.encoding} for U+{ord(self.character):04X} at index {self.place}"
+
+
+def _utf8(text: str, encoding: str) -> bytes:
+    """Returns a text in UTF-8. Raises TypeError if it isn't a str, and EncodingError for a lone surrogate."""
+    if not isinstance(text, str):
+        raise TypeError("text must be a str, since an encoding is given")
+    try:
+        return str.encode(text, "utf-8")
+    except UnicodeEncodeError as error:
+        raise EncodingError(encoding, error.start, text[error.start]) from None
+
+
+def _named(encoding: str) -> bytes:
+    """Returns the name of an encoding as the library expects it."""
+    if not isinstance(encoding, str):
+        raise TypeError("encoding must be a str")
+    if encoding not in ENCODINGS:
+        raise ValueError(f"encoding is {encoding!r}, but must be one of {', '.join(map(repr, ENCODINGS))}")
+    return encoding.encode("ascii")
+
+
+def encode(text: str, encoding: str) -> bytes:
+    """Returns the codes that the characters of a text have in a font, as LaTeX sets them.
+
+    `encoding` is one of ENCODINGS. Most characters have one code, some have two or three, and the soft hyphen
+    has none. Line feeds are kept, and a byte order mark (U+FEFF) at the front of the text is left out.
+
+    Raises EncodingError if a character has no codes: one that isn't in the encoding, or that LaTeX puts
+    together from an accent and a letter. Raises ValueError for any other name of an encoding, and TypeError
+    if an argument isn't a str.
+
+    >>> encode("Straße – “naïve”", "t1")
+    b'Stra\\xffe \\x15 \\x10na\\xefve\\x11'
+    >>> encode("¿“Qué?”", "latin1")
+    Traceback (most recent call last):
+    tfmset.EncodingError: no code in latin1 for U+201C at index 1
+    """
+    name = _named(encoding)
+    content = _utf8(text, encoding)
+    # A character has at most as many codes as bytes, and therefore the array is always long enough.
+    length, encoded = len(content), _Encoded()
+    array = ctypes.create_string_buffer(max(length, 1))
+    code = _library.tfmset_encode(name, len(name), content, length, array, length, ctypes.byref(encoded))
+    if code == _UNCODED:
+        place = len(content[:encoded.offset].decode("utf-8"))
+        raise EncodingError(encoding, place, chr(encoded.character))
+    if code != _DONE:
+        raise ValueError("an argument is out of range")
+    return _front(array, encoded.count)
 
 
 class FontRefused(ValueError):
@@ -281,8 +362,9 @@ class Refusal(NamedTuple):
     """A line that is refused, with the reason. `place` and `code` depend on `reason`:
 
     - 'missing': the byte at the offset `place` (from 0) of the line is `code`, and the font has no such
-      character
-    - 'too-long': the line has `place` bytes, which are more than 65,535; `code` is 0
+      character. In a str, `place` is the index in the line of the character that has this code.
+    - 'too-long': the line has `place` bytes, which are more than 65,535; `code` is 0. In a str, `place` is
+      the number of its codes.
     - 'steps': the line takes more steps than the limit; `place` and `code` are 0
     """
 
@@ -292,6 +374,32 @@ class Refusal(NamedTuple):
 
 
 _REASONS = ("", "missing", "too-long", "steps")
+
+
+class _Source:
+    """A text of the caller, from which indices of characters are computed."""
+
+    def __init__(self, text: str, encoding: str) -> None:
+        self._text, self._encoding, self._lines = text, encoding, None
+
+    def index(self, number: int, offset: int) -> int:
+        """Returns the index in the line `number` (from 0) of the character that has the code at an offset."""
+        if self._lines is None:
+            self._lines = str.split(self._text, "\n")
+        codes = 0
+        for index, character in enumerate(self._lines[number]):
+            # Alone, a byte order mark is at the front of a text, and the text has it nowhere else.
+            codes += len(encode(character, self._encoding))
+            if codes > offset:
+                return index
+        raise IndexError("offset out of range")
+
+
+def _refusal(refusal: int, place: int, code: int, number: int, source: Optional[_Source]) -> Refusal:
+    """Returns the refusal of the line `number` (from 0)."""
+    if source is not None and _REASONS[refusal] == "missing":
+        place = source.index(number, place)
+    return Refusal(_REASONS[refusal], place, code)
 
 
 @functools.lru_cache(maxsize=1024)
@@ -340,8 +448,10 @@ Outcome = Union[Line, Refusal]
 class Lines(Sequence[Outcome]):
     """The results of the lines of a text, in order: each is a `Line`, or a `Refusal` for a refused line."""
 
-    def __init__(self, lines: ctypes.Array[_Line], items: ctypes.Array[Item], counts: _Counts) -> None:
+    def __init__(self, lines: ctypes.Array[_Line], items: ctypes.Array[Item], counts: _Counts,
+                 source: Optional[_Source]) -> None:
         self._lines, self._items, self._count, self._item_count = lines, items, counts.lines, counts.items
+        self._source = source
 
     @property
     def items(self) -> ctypes.Array[Item]:
@@ -369,7 +479,7 @@ class Lines(Sequence[Outcome]):
             raise IndexError("line index out of range")
         line = self._lines[index]
         if line.refusal:
-            return Refusal(_REASONS[line.refusal], line.place, line.code)
+            return _refusal(line.refusal, line.place, line.code, index, self._source)
         return Line(line, self._items)
 
     def __repr__(self) -> str:
@@ -406,7 +516,8 @@ def _bytes(name: str, content: Text) -> bytes:
     """Returns the contents of a buffer as an object of the type bytes itself. A subclass could report another
     length than that of its memory."""
     if isinstance(content, str):
-        raise TypeError(f"{name} must be bytes: encode the string first, for example by .encode('latin-1')")
+        raise TypeError(f"{name} must be bytes" + (": a str needs the encoding of the font, as encoding='t1'"
+                                                    if name == "text" else ""))
     return content if type(content) is bytes else bytes(memoryview(content))
 
 
@@ -553,15 +664,25 @@ class Font:
                 return [(each.left, each.right, _action(each.pair)) for each in array[:count.value]]
             room = count.value
 
-    def _call(self, text: Text, limit: int, missing: str) -> tuple:
+    def _settings(self, limit: int, missing: str) -> tuple:
         """Returns the first arguments of the functions that set lines."""
         if missing not in ("refuse", "skip"):
             raise ValueError(f"missing is {missing!r}, but must be 'refuse' or 'skip'")
-        content = _bytes("text", text)
-        limit = _number("limit", limit, 1, _LARGEST_LIMIT)
-        return *self._font, limit, int(missing == "skip"), content, len(content)
+        return *self._font, _number("limit", limit, 1, _LARGEST_LIMIT), int(missing == "skip")
 
-    def set(self, text: Text, limit: int = 1_048_576, missing: str = "refuse") -> Lines:
+    def _call(self, text: Union[Text, str], limit: int, missing: str, encoding: Optional[str]) -> tuple:
+        """Returns the first arguments of the functions that set lines, with the codes of the text."""
+        settings = self._settings(limit, missing)
+        content = _bytes("text", text) if encoding is None else encode(text, encoding)
+        return *settings, content, len(content)
+
+    @overload
+    def set(self, text: Text, limit: int = 1_048_576, missing: str = "refuse") -> Lines: ...
+
+    @overload
+    def set(self, text: str, limit: int = 1_048_576, missing: str = "refuse", *, encoding: str) -> Lines: ...
+
+    def set(self, text, limit=1_048_576, missing="refuse", *, encoding=None):
         """Sets the lines of a text and returns their results, with the items of each line.
 
         A line that takes more than `limit` steps is refused; `limit` is from 1 to 16,777,216. A missing
@@ -569,14 +690,22 @@ class Font:
         line with a missing character is refused. With `missing="skip"` the byte is skipped, and is an item of
         kind SKIPPED.
 
-        Raises ValueError if `limit` or `missing` has any other value, and TypeError if `limit` isn't an int
-        or `text` isn't bytes, a bytearray or a memoryview.
+        `text` is bytes, which are codes of the font; or a str, with `encoding`, the encoding of the font: one
+        of ENCODINGS. Its codes are then those that `encode` returns. A character without codes raises
+        EncodingError, also with `missing="skip"`. In a refusal of a line of a str, `place` counts characters.
+
+        Raises ValueError if `limit`, `missing` or `encoding` has any other value; EncodingError; and
+        TypeError if `limit` isn't an int, or if `text` isn't bytes, a bytearray or a memoryview, or with
+        `encoding` a str.
 
         >>> lines = Font.from_file("examples/demo.tfm").set(b"fox Q", missing="skip")
         >>> [(item.kind, item.code) for item in lines[0].items]
         [(0, 102), (0, 111), (1, 0), (0, 120), (2, 0), (3, 81)]
+        >>> Font.from_file("examples/demo.tfm").set("fox\\nﬁg “”", encoding="ot1")[1]
+        Refusal(reason='missing', place=3, code=92)
         """
-        call, counts = self._call(text, limit, missing), _Counts()
+        call, counts = self._call(text, limit, missing, encoding), _Counts()
+        source = None if encoding is None else _Source(text, encoding)
         content, length = call[-2:]
         # The text has at most this many lines. The number of items is an estimate.
         lines, items = content.count(b"\n") + 1, length + length // 8 + 16
@@ -586,11 +715,18 @@ class Font:
             code = _library.tfmset_set(*call, line_array, lines, item_array, items, ctypes.byref(counts))
             if code != _NO_ROOM:
                 self._raise(code)
-                return Lines(line_array, item_array, counts)
+                return Lines(line_array, item_array, counts, source)
             items = counts.items
 
+    @overload
     def widths(self, text: Text, limit: int = 1_048_576,
-               missing: str = "refuse") -> List[Union[int, Refusal]]:
+               missing: str = "refuse") -> List[Union[int, Refusal]]: ...
+
+    @overload
+    def widths(self, text: str, limit: int = 1_048_576, missing: str = "refuse", *,
+               encoding: str) -> List[Union[int, Refusal]]: ...
+
+    def widths(self, text, limit=1_048_576, missing="refuse", *, encoding=None):
         """Sets the lines of a text and returns the width of each line in sp, or a Refusal.
 
         The arguments and the exceptions are those of `set`.
@@ -598,18 +734,27 @@ class Font:
         >>> Font.from_file("examples/demo.tfm").widths(b"box\\nBox")
         [1025637, Refusal(reason='missing', place=0, code=66)]
         """
-        call, counts = self._call(text, limit, missing), _Counts()
+        call, counts = self._call(text, limit, missing, encoding), _Counts()
+        source = None if encoding is None else _Source(text, encoding)
         # The text has at most this many lines, and therefore the array is always long enough.
         lines = call[-2].count(b"\n") + 1
         array = (_Line * lines)()
         self._raise(_library.tfmset_widths(*call, array, lines, ctypes.byref(counts)))
         # The lines are read as numbers, since making an object for each takes longer than setting it.
         numbers = struct.iter_unpack("qNNNIII0q", memoryview(array)[:counts.lines])
-        return [Refusal(_REASONS[refusal], place, code) if refusal else width
-                for width, _, _, place, _, refusal, code in numbers]
+        return [_refusal(refusal, place, code, number, source) if refusal else width
+                for number, (width, _, _, place, _, refusal, code) in enumerate(numbers)]
 
+    @overload
     def records(self, text: Text, limit: int = 1_048_576, missing: str = "refuse", *, version: int = 1,
-                source: int = 1, first_line: int = 1) -> bytes:
+                source: int = 1, first_line: int = 1) -> bytes: ...
+
+    @overload
+    def records(self, text: str, limit: int = 1_048_576, missing: str = "refuse", *, version: int = 1,
+                source: int = 1, first_line: int = 1, encoding: str) -> bytes: ...
+
+    def records(self, text, limit=1_048_576, missing="refuse", *, version=1, source=1, first_line=1,
+                encoding=None):
         """Sets the lines of a text and returns their records, as the program prints them.
 
         `version` is the record format: 1, 2, or 3 for JSON (`--record json` on the command line). `source`,
@@ -617,18 +762,31 @@ class Font:
         first line; `first_line` plus the length of the text must be below 2^64. The result has neither the
         line `records 2`, with which the output of the program begins in format 2, nor an end line.
 
+        With `encoding`, `text` is a str. Offsets and lengths in the records then count bytes of the line in
+        UTF-8. A character without codes doesn't raise EncodingError: it refuses the line, as in
+        `1:1 refused uncoded 3 U+20AC`, or with `missing="skip"` it is skipped, and is an item such as
+        `u20AC`. Only a lone surrogate, which UTF-8 doesn't have, raises EncodingError.
+
         The other arguments and the exceptions are those of `set`.
 
         >>> print(Font.from_file("examples/demo.tfm").records(b"ox", version=2).decode(), end="")
         1:1 set 665189 steps 3 c111=334233 k-16384 c120=347340
+        >>> Font.from_file("examples/demo.tfm").records("ox €", missing="skip", encoding="t1")
+        b'1:1 set 874904 c111=334233 k-16384 c120=347340 s209715 u20AC\\n'
         """
-        call, count = self._call(text, limit, missing), _size_t()
-        call += (_number("version", version, 1, 3), _number("source", source, 0, 2**64 - 1),
-                 _number("first_line", first_line, 0, 2**64 - 1 - len(call[5])))
-        length = 16 * len(call[5]) + 32 * (call[5].count(b"\n") + 2)
+        call, count = self._settings(limit, missing), _size_t()
+        if encoding is None:
+            content, function = _bytes("text", text), _library.tfmset_records
+        else:
+            name, function = _named(encoding), _library.tfmset_encoded_records
+            content, call = _utf8(text, encoding), (*call, name, len(name))
+        call += (content, len(content), _number("version", version, 1, 3),
+                 _number("source", source, 0, 2**64 - 1),
+                 _number("first_line", first_line, 0, 2**64 - 1 - len(content)))
+        length = 16 * len(content) + 32 * (content.count(b"\n") + 2)
         while True:
             array = ctypes.create_string_buffer(length)
-            code = _library.tfmset_records(*call, array, length, ctypes.byref(count))
+            code = function(*call, array, length, ctypes.byref(count))
             if code != _NO_ROOM:
                 self._raise(code)
                 return _front(array, count.value)

@@ -25,6 +25,7 @@ Metrics = struct((U32, "exists"), (I32, "width height depth italic"), (U32, "tag
 Pair = struct((U32, "action"), (I32, "kern"), (U32, "code keep_left keep_right pass"))
 
 Neighbours = struct((U32, "left right"), (Pair, "pair"))
+Encoded = struct((SIZE, "count offset"), (U32, "character"))
 
 
 def values(record):
@@ -41,6 +42,17 @@ def call(prefix, name, data, *numbers, result):
     return getattr(loaded(prefix), "tfmset_" + name)(data, len(data), *numbers, ctypes.byref(result)), result
 
 
+def encode(prefix, name, text, room):
+    """The return code of tfmset_encode, the codes after code 0, or None, and the fields of its last argument.
+    No other byte of the array may change; after a code other than 0 and 3 none."""
+    array, encoded = ctypes.create_string_buffer(b"\t" * (room + 1)), Encoded(9, 9, 9)
+    name, function = name.encode("latin-1"), loaded(prefix).tfmset_encode
+    status = function(name, len(name), text, len(text), array, room, ctypes.byref(encoded))
+    count = encoded.count if status == DONE else room if status == NO_ROOM else 0
+    assert array.raw[count:] == b"\t" * (room + 1 - count) + b"\0", "bytes after the codes"
+    return status, array.raw[:count] if status == DONE else None, values(encoded)
+
+
 @functools.lru_cache(maxsize=None)
 def loaded(prefix):
     """The shared library, with the types of the functions that read a font, and of tfmset_size."""
@@ -49,6 +61,8 @@ def loaded(prefix):
         function = getattr(library, "tfmset_" + name)
         function.argtypes = [ctypes.c_char_p, SIZE] + [U32] * numbers + [ctypes.c_void_p]
         function.restype = U32
+    library.tfmset_encode.argtypes = [ctypes.c_char_p, SIZE] * 2 + [ctypes.c_void_p, SIZE, ctypes.c_void_p]
+    library.tfmset_encode.restype = U32
     library.tfmset_pairs.argtypes = [ctypes.c_char_p, SIZE, U32, ctypes.c_void_p, SIZE, ctypes.c_void_p]
     library.tfmset_pairs.restype = U32
     return library

@@ -196,6 +196,18 @@ static struct output records_with(uint32_t version, size_t length)
     return output;
 }
 
+/* With the encoding `bytes` the records are those of tfmset_records. */
+static struct output encoded_records_with(uint32_t version, size_t length)
+{
+    struct output output;
+    output.bytes = array_of(length);
+    output.length = 77;
+    output.code = CALLED(encoded_records, (font.bytes, font.length, size, limit, policy,
+                                           (const uint8_t *)"bytes", 5, text.bytes, text.length, version, 1, 1,
+                                           output.bytes.at, length, &output.length));
+    return output;
+}
+
 static void unmap_set(struct set *set)
 {
     unmap(&set->lines);
@@ -249,15 +261,20 @@ static void check_widths(const struct set *whole, size_t lines)
     unmap_set(&set);
 }
 
-static void check_records(uint32_t version, const struct output *whole, size_t length)
+static void check_output(struct output output, const struct output *whole, size_t length)
 {
-    struct output output = records_with(version, length);
     int fits = length >= whole->length;
     must(output.code == (fits ? TFMSET_DONE : TFMSET_NO_ROOM), "code of records");
     must(output.length == whole->length, "length of records");
     must(is_kept(&output.bytes, output.length), "other bytes after records");
     must(!fits || memcmp(output.bytes.at, whole->bytes.at, whole->length) == 0, "records are the same");
     unmap(&output.bytes);
+}
+
+static void check_records(uint32_t version, const struct output *whole, size_t length)
+{
+    check_output(records_with(version, length), whole, length);
+    check_output(encoded_records_with(version, length), whole, length);
 }
 
 /* Sets the lines into arrays of exactly the lengths that are returned for arrays of length 0. */
@@ -367,6 +384,43 @@ static int records_reports_failure(const struct expected *expected)
     return reported;
 }
 
+static int encoded_records_reports_failure(const struct expected *expected)
+{
+    const struct output *whole = &expected->records[1];
+    struct output output = encoded_records_with(2, whole->length);
+    int reported = output.code == TFMSET_OUT_OF_MEMORY && output.length == 77;
+    must(reported || memcmp(output.bytes.at, whole->bytes.at, whole->length) == 0,
+         "encoded_records is complete, or reports a failed allocation");
+    unmap(&output.bytes);
+    return reported;
+}
+
+static int has_text(const uint8_t *at, size_t length, const char *wanted)
+{
+    size_t i, count = strlen(wanted);
+    for (i = 0; i + count <= length; i++)
+        if (memcmp(at + i, wanted, count) == 0)
+            return 1;
+    return 0;
+}
+
+/* Lines with a character without codes, which is skipped, and with one that vanishes. */
+static int uncoded_reports_failure(const struct expected *expected)
+{
+    static const uint8_t lines[] = "af\342\202\254fi x\nsoft\302\255ly\n";
+    struct array array = array_of(1024);
+    size_t length = 77;
+    uint32_t code = CALLED(encoded_records, (font.bytes, font.length, size, limit, TFMSET_SKIP,
+                                             (const uint8_t *)"t1", 2, lines, sizeof lines - 1, 1, 1, 1,
+                                             array.at, 1024, &length));
+    (void)expected;
+    must(code == TFMSET_DONE || (code == TFMSET_OUT_OF_MEMORY && length == 77),
+         "encoded_records is complete, or reports a failed allocation of a line with a skipped character");
+    must(code != TFMSET_DONE || has_text(array.at, length, " u20AC c"), "the character is skipped");
+    unmap(&array);
+    return code == TFMSET_OUT_OF_MEMORY;
+}
+
 static int font_reports_failure(const struct expected *expected)
 {
     struct tfmset_font about;
@@ -408,11 +462,17 @@ static int pairs_reports_failure(const struct expected *expected)
 static void check_memory(const struct expected *expected)
 {
     static int (*const calls[])(const struct expected *) = {
-        set_reports_failure, widths_reports_failure, records_reports_failure, font_reports_failure,
-        check_reports_failure, metrics_reports_failure, pair_reports_failure, pairs_reports_failure};
+        set_reports_failure, widths_reports_failure, records_reports_failure, encoded_records_reports_failure,
+        uncoded_reports_failure, font_reports_failure, check_reports_failure, metrics_reports_failure,
+        pair_reports_failure, pairs_reports_failure};
+    const uint8_t *name = (const uint8_t *)"t1", *accented = (const uint8_t *)"\303\244a";
+    struct tfmset_encoded encoded;
     uint32_t points = 0;
+    uint8_t codes[3];
     size_t call;
     must(CALLED(size, ((const uint8_t *)"12pt", 4, &points)) == TFMSET_DONE && points == 786432, "a size is read");
+    must(CALLED(encode, (name, 2, accented, 3, codes, 3, &encoded)) == TFMSET_DONE && encoded.count == 2
+         && codes[0] == 228 && codes[1] == 'a', "a text is encoded");
     for (call = 0; call < sizeof calls / sizeof *calls; call++) {
         for (all_fail = 0; all_fail < 2; all_fail++) {
             long turn, reported;

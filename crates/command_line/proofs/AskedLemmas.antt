@@ -51,9 +51,9 @@ AreFontFormat rows found = (first_of (codes "FONT") rows ≡ Some found.0.now) �
 
 -- `pairs` states no request without a font and a format
 no_pairs : (rows : List Row) → ((any : Bor Text × PairsFormat) → ¬ AreFontFormat rows any) → (any : Request) → ¬ AsksFor rows (codes "pairs") any
-no_pairs rows none (Pairs font size format) asks = none (font, format) (asks.1, asks.3)
-no_pairs rows none (Counts font) asks = let is = asks.0 in absurd (search rules)
-no_pairs rows none (ListFont font all) asks = let is = asks.0 in absurd (search rules)
+no_pairs rows none (Pairs font size format verbose) asks = none (font, format) (asks.1, asks.3)
+no_pairs rows none (Counts font verbose) asks = let is = asks.0 in absurd (search rules)
+no_pairs rows none (ListFont font all verbose) asks = let is = asks.0 in absurd (search rules)
 no_pairs rows none (Check asked) asks = let is = asks.0 in absurd (search rules)
 no_pairs rows none (Set asked) asks = let is = asks.0 in absurd (search rules)
 no_pairs rows none (Stream asked) asks = let is = asks.0 in absurd (search rules)

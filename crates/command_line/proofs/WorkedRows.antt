@@ -46,6 +46,14 @@ module _ (choices : AllChoices) where
   unfolding clap_on_literals
   stream_crlf = refl
 
+  check_verbose : read_in (codes "verbose") (codes "check" ∷ codes "-v" ∷ codes "f.tfm" ∷ []) ≡ Some (Some (codes "true"))
+  unfolding clap_on_literals
+  check_verbose = refl
+
+  each_verbose : read_in (codes "verbose") (codes "each" ∷ codes "f.tfm" ∷ codes "100" ∷ codes "a" ∷ codes "--verbose" ∷ []) ≡ Some (Some (codes "true"))
+  unfolding clap_on_literals
+  each_verbose = refl
+
   abbrev set : List Text
   set = codes "set" ∷ codes "--size=655360" ∷ codes "--workers" ∷ codes "4" ∷ codes "f.tfm" ∷ codes "a" ∷ codes "b" ∷ []
 
@@ -77,6 +85,10 @@ module _ (choices : AllChoices) where
   set_not_crlf : read_in (codes "crlf") set ≡ Some (Some (codes "false"))
   unfolding clap_on_literals
   set_not_crlf = refl
+
+  set_not_verbose : read_in (codes "verbose") set ≡ Some (Some (codes "false"))
+  unfolding clap_on_literals
+  set_not_verbose = refl
 
   set_limit : read_in (codes "limit") set ≡ Some (Some (codes "1048576"))
   unfolding clap_on_literals

@@ -83,6 +83,10 @@ module _ (rows : List Row) where
       × IsNumberIn 1 8 (one_of (codes "block") rows) plan.block
       × IsNumberIn 1 16 (one_of (codes "workers") rows) plan.workers
 
+  -- whether `--verbose` is given
+  abbrev pub IsVerbose : Bool → Type 0
+  IsVerbose verbose = IsFlag (one_of (codes "verbose") rows) verbose
+
   -- the values of the options that `set`, `stream` and `each` have in common
   abbrev pub IsLayout : Layout → Type 0
   IsLayout layout =
@@ -92,10 +96,14 @@ module _ (rows : List Row) where
       × IsFlag (one_of (codes "crlf") rows) layout.crlf
       × IsPlan layout.plan
       × (first_of (codes "record") rows ≡ Some (version_word layout.version))
+      × IsVerbose layout.verbose
 
-  -- the fonts of `check`, in order, and their size
+  -- the fonts of `check`, in order, their size, and whether `--verbose` is given
   abbrev pub IsChecking : Checking → Type 0
-  IsChecking asked = (all_of (codes "FONT") rows ≡ Some (texts asked.fonts.items)) × IsSize asked.size
+  IsChecking asked =
+      (all_of (codes "FONT") rows ≡ Some (texts asked.fonts.items))
+      × IsSize asked.size
+      × IsVerbose asked.verbose
 
   -- the values of `set` or `stream`: the font, the limit, the files in order, and the layout
   abbrev pub IsSetting : Setting → Type 0
@@ -111,14 +119,19 @@ module _ (rows : List Row) where
 
   -- the subcommand of this name and its values state this request
   abbrev pub AsksFor : Text → Request → Type 0
-  AsksFor name (Counts font) = (name ≡ codes "counts") × (first_of (codes "FONT") rows ≡ Some font.now)
-  AsksFor name (ListFont font all) =
-      (name ≡ codes "list") × (first_of (codes "FONT") rows ≡ Some font.now) × IsFlag (one_of (codes "all") rows) all
-  AsksFor name (Pairs font size format) =
+  AsksFor name (Counts font verbose) =
+      (name ≡ codes "counts") × (first_of (codes "FONT") rows ≡ Some font.now) × IsVerbose verbose
+  AsksFor name (ListFont font all verbose) =
+      (name ≡ codes "list")
+      × (first_of (codes "FONT") rows ≡ Some font.now)
+      × IsFlag (one_of (codes "all") rows) all
+      × IsVerbose verbose
+  AsksFor name (Pairs font size format verbose) =
       (name ≡ codes "pairs")
       × (first_of (codes "FONT") rows ≡ Some font.now)
       × IsSize size
       × (first_of (codes "format") rows ≡ Some (format_word format))
+      × IsVerbose verbose
   AsksFor name (Check asked) = (name ≡ codes "check") × IsChecking asked
   AsksFor name (Set asked) = (name ≡ codes "set") × IsSetting asked
   AsksFor name (Stream asked) = (name ≡ codes "stream") × IsSetting asked

@@ -37,6 +37,10 @@ choice_rule name choices = record (new_rule name) { long = Some name; value_name
 abbrev pub flag_rule : Text → Rule
 flag_rule name = record (new_rule name) { long = Some name; action = Some SetTrue }
 
+-- the option `--verbose`, which has no value; its short form is `-v`
+abbrev pub verbose_rule : Rule
+verbose_rule = record (flag_rule (codes "verbose")) { short = Some 118 }
+
 -- the parser accepts these values and no other
 abbrev pub TakesWords : List Text → ValueParser → Type 0
 TakesWords words (parser.Names names) = map (λ (word : Bor Text). word.now) names.now ≡ words
@@ -76,6 +80,7 @@ run_rules block choices =
     ∷ with_default (codes "16") (number_rule (codes "capacity") 65536)
     ∷ with_default block (number_rule (codes "block") 8)
     ∷ with_default (codes "1") (choice_rule (codes "record") choices.records)
+    ∷ verbose_rule
     ∷ []
 
 -- the options of `set` and `stream`, with this default for `--block`, and the argument FONT
@@ -89,23 +94,23 @@ setting_rules block choices =
 abbrev pub subcommand_with : Text → List Rule → Shape
 subcommand_with name rules = record (new_app name).top { rules = rules }
 
--- `counts` takes one font
+-- `counts` takes the flag `--verbose` and one font
 abbrev pub counts_shape : Shape
-counts_shape = subcommand_with (codes "counts") (needed (new_rule (codes "FONT")) ∷ [])
+counts_shape = subcommand_with (codes "counts") (verbose_rule ∷ needed (new_rule (codes "FONT")) ∷ [])
 
--- `list` takes the flag `--all` and one font
+-- `list` takes the flags `--all` and `--verbose`, and one font
 abbrev pub list_shape : Shape
-list_shape = subcommand_with (codes "list") (flag_rule (codes "all") ∷ needed (new_rule (codes "FONT")) ∷ [])
+list_shape = subcommand_with (codes "list") (flag_rule (codes "all") ∷ verbose_rule ∷ needed (new_rule (codes "FONT")) ∷ [])
 
--- `pairs` takes `--size`, `--format` with this parser, and one font
+-- `pairs` takes `--size`, `--format` with this parser, the flag `--verbose`, and one font
 abbrev pub pairs_shape : ValueParser → Shape
 pairs_shape formats =
     subcommand_with (codes "pairs")
-    (size_rule ∷ with_default (codes "text") (choice_rule (codes "format") formats) ∷ needed (new_rule (codes "FONT")) ∷ [])
+    (size_rule ∷ with_default (codes "text") (choice_rule (codes "format") formats) ∷ verbose_rule ∷ needed (new_rule (codes "FONT")) ∷ [])
 
--- `check` takes `--size` and one or more fonts
+-- `check` takes `--size`, the flag `--verbose`, and one or more fonts
 abbrev pub check_shape : Shape
-check_shape = subcommand_with (codes "check") (size_rule ∷ needed (words_rule (codes "FONT")) ∷ [])
+check_shape = subcommand_with (codes "check") (size_rule ∷ verbose_rule ∷ needed (words_rule (codes "FONT")) ∷ [])
 
 -- `set` takes its options, a font, and one or more files; a block has one line by default
 abbrev pub set_shape : Choices → Shape

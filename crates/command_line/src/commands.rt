@@ -3,14 +3,14 @@ ghost use Rattle.std.specs.Prelude.{codes, IfOk, IsOkAnd};
 ghost use Rattle.clap.specs.declared.builder.value_parser.ValueParser.{ValueParser};
 ghost use Rattle.clap.specs.declared.builder.value_parser.ValueParser.TheVariants.{Names};
 ghost use Rattle.clap.specs.Words.{App, Rule, Shape, new_app, new_rule, with_rule, with_subcommand};
-ghost use Rattle.command_line.specs.Commands.{AllChoices, Choices, IsArgument, IsCommandOf, IsSubcommand, TakesWords, bare_app, check_shape, choice_rule, counts_shape, each_shape, flag_rule, format_words, list_shape, missing_words, needed, number_rule, pairs_shape, record_words, run_rules, set_shape, setting_rules, size_rule, stream_shape, tfmset_app, with_default, with_rules, words_rule};
+ghost use Rattle.command_line.specs.Commands.{AllChoices, Choices, IsArgument, IsCommandOf, IsSubcommand, TakesWords, bare_app, check_shape, choice_rule, counts_shape, each_shape, flag_rule, format_words, list_shape, missing_words, needed, number_rule, pairs_shape, record_words, run_rules, set_shape, setting_rules, size_rule, stream_shape, tfmset_app, verbose_rule, with_default, with_rules, words_rule};
 
 use crate::help::{
-    ABOUT, AFTER_HELP, ALL_HELP, BLOCK_HELP, CAPACITY_HELP, CHECK_ABOUT, CHECK_AFTER_HELP,
-    COUNTS_ABOUT, COUNTS_AFTER_HELP, CRLF_HELP, EACH_ABOUT, EACH_AFTER_HELP, FILE_HELP, FONT_HELP,
-    FONTS_HELP, FORMAT_HELP, LIMIT_HELP, LIST_ABOUT, LIST_AFTER_HELP, MISSING_HELP, PAIRS_ABOUT,
-    PAIRS_AFTER_HELP, RECORD_HELP, SET_ABOUT, SET_AFTER_HELP, SIZE_HELP, STREAM_ABOUT,
-    STREAM_AFTER_HELP, STREAM_FILE_HELP, WORDS_HELP, WORKERS_HELP,
+    ABOUT, AFTER_HELP, ALL_HELP, BLOCK_HELP, CAPACITY_HELP, CAUSES_HELP, CHECK_ABOUT,
+    CHECK_AFTER_HELP, COUNTS_ABOUT, COUNTS_AFTER_HELP, CRLF_HELP, EACH_ABOUT, EACH_AFTER_HELP,
+    FILE_HELP, FONT_HELP, FONTS_HELP, FORMAT_HELP, LIMIT_HELP, LIST_ABOUT, LIST_AFTER_HELP,
+    MISSING_HELP, PAIRS_ABOUT, PAIRS_AFTER_HELP, RECORD_HELP, SET_ABOUT, SET_AFTER_HELP, SIZE_HELP,
+    STREAM_ABOUT, STREAM_AFTER_HELP, STREAM_FILE_HELP, VERBOSE_HELP, WORDS_HELP, WORKERS_HELP,
 };
 use clap::{Arg, ArgAction, Command, value_parser};
 use std::alloc::{AllocError, Global};
@@ -62,6 +62,7 @@ fn counts_command<'a>(alloc: Global) -> Result<Command<'a>, AllocError>
     ensures { IfOk result (IsSubcommand counts_shape) }
 {
     let command = subcommand(alloc, "counts", COUNTS_ABOUT, COUNTS_AFTER_HELP);
+    let command = with_argument(command, verbose_option(alloc, CAUSES_HELP))?;
     with_argument(command, font_argument(alloc))
 }
 
@@ -70,6 +71,7 @@ fn list_command<'a>(alloc: Global) -> Result<Command<'a>, AllocError>
 {
     let command = subcommand(alloc, "list", LIST_ABOUT, LIST_AFTER_HELP);
     let command = with_argument(command, flag_option(alloc, "all", ALL_HELP))?;
+    let command = with_argument(command, verbose_option(alloc, CAUSES_HELP))?;
     with_argument(command, font_argument(alloc))
 }
 
@@ -80,6 +82,7 @@ fn pairs_command<'a>(alloc: Global) -> Result<Command<'a>, AllocError>
     let command = subcommand(alloc, "pairs", PAIRS_ABOUT, PAIRS_AFTER_HELP);
     let command = with_argument(command, size_option(alloc))?;
     let command = with_argument(command, format_option(alloc))?;
+    let command = with_argument(command, verbose_option(alloc, CAUSES_HELP))?;
     with_argument(command, font_argument(alloc))
 }
 
@@ -87,7 +90,8 @@ fn check_command<'a>(alloc: Global) -> Result<Command<'a>, AllocError>
     ensures { IfOk result (IsSubcommand check_shape) }
 {
     let command = subcommand(alloc, "check", CHECK_ABOUT, CHECK_AFTER_HELP);
-    let command = with_argument(command, size_option(alloc))?;
+    let command = with_argument(command, size_option(alloc).hide(true))?;
+    let command = with_argument(command, verbose_option(alloc, CAUSES_HELP))?;
     with_argument(command, many(alloc, "FONT", FONTS_HELP).required(true))
 }
 
@@ -159,7 +163,8 @@ fn run_options<'a>(
     let command = with_argument(command, capacity)?;
     let block = number_option(alloc, "block", BLOCK_HELP, 8).default_value(lines);
     let command = with_argument(command, block)?;
-    with_argument(command, record_option(alloc))
+    let command = with_argument(command, record_option(alloc))?;
+    with_argument(command, verbose_option(alloc, VERBOSE_HELP))
 }
 
 /// Adds an argument. For the proof: every argument is added by this function, since adding one is slow to
@@ -226,6 +231,12 @@ fn flag_option<'a>(alloc: Global, name: &'a str, help: &'a str) -> Arg<'a>
         .long(name)
         .help(help)
         .action(ArgAction::SetTrue)
+}
+
+fn verbose_option<'a>(alloc: Global, help: &'a str) -> Arg<'a>
+    ensures { IsArgument verbose_rule result }
+{
+    flag_option(alloc, "verbose", help).short('v')
 }
 
 /// Builds an option whose value is a number, 1 to `most`.

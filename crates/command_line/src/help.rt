@@ -2,7 +2,10 @@
 
 pub(crate) const ABOUT: &str = "Reads TeX font metric (TFM) files and sets lines of text with them";
 
-pub(crate) const AFTER_HELP: &str = "Examples, in the directory examples of the sources:
+pub(crate) const AFTER_HELP: &str = "Example, with a font of TeX, whose path `kpsewhich` prints:
+  echo office | tfmset stream --size 12pt \"$(kpsewhich cmr10.tfm)\"
+
+Examples, in the directory examples of the sources:
   tfmset counts demo.tfm    print the twelve counts and the design size
   tfmset list demo.tfm      print the contents of a font
   tfmset pairs demo.tfm     print the pairs that have a kern or a ligature
@@ -14,7 +17,9 @@ pub(crate) const AFTER_HELP: &str = "Examples, in the directory examples of the 
   tfmset each demo.tfm 100 lines.txt demo.tfm 1048576 demo.txt
                             set each file with its own font and step limit
 
-All sizes and widths are printed in scaled points (sp): 65536 sp = 1pt.
+All sizes and widths are printed in scaled points (sp): 65536 sp = 1pt. Errors
+are reported by one short line; with --verbose (-v), each command also prints
+their causes, with the names of files.
 
 Exit status:
   0  Success. Help and version output also end with 0.
@@ -82,13 +87,19 @@ Exit status:
 pub(crate) const CHECK_ABOUT: &str =
     "Checks whether fonts are accepted, and prints one line for each";
 
-pub(crate) const CHECK_AFTER_HELP: &str = "Example, in the directory of the sources:
-  tfmset check examples/demo.tfm
+pub(crate) const CHECK_AFTER_HELP: &str = "Examples, in the directory examples of the sources:
+  tfmset check \"$(kpsewhich cmr10.tfm)\"
+  tfmset check demo.tfm fonts/plain.tfm fonts/ligature_0.tfm
 
 Reads the FONTs in order and prints one line for each: `NAME: accepted`,
 `NAME: refused: ` and the first error of the font, or `NAME: not read`. A font
-that isn't accepted doesn't stop the check. The result is the same at every
---size, which is as for `tfmset set`.
+that isn't accepted doesn't stop the check. With --verbose, the cause for each
+font that was not read is printed on standard error.
+
+TeX may refuse to load a font that is accepted here: two of its rules are not
+checked. A character with the tag `list` must lead to existing characters and
+not back to itself, and a character with the tag `ext` must have an extensible
+recipe whose pieces exist. `tftopl` reports both.
 
 Exit status:
   0  Every FONT is accepted.
@@ -126,8 +137,17 @@ points: 10pt is 655360. A size is 1 to 134217727 scaled points.
 A line that needs more steps than --limit is refused; this stops lig/kern
 programs that never end. A missing character is a byte, other than the space,
 for which the font has no character. Record format 2 adds the number of steps
-to each record; json prints the same data as one JSON object per line. A larger
---block takes less processor time.
+to each record; json prints the same data as one JSON object per line.
+
+--workers is for several FILEs: each FILE is set by one thread, and a larger
+number sets more FILEs at the same time. --block is the number of lines that
+threads pass on together: 8 takes the least processor time, and delays nothing,
+since the output is printed at the end.
+
+With --verbose, the causes of errors are printed on standard error, with names,
+and the numbers of lines that were set and refused, for each reason. There is
+also a warning for a --size below 1pt without a unit, and for carriage returns
+at the ends of lines.
 
 Exit status:
   0  Every line of every FILE was set, and the output was written.
@@ -161,8 +181,13 @@ A size is as for `tfmset set`. If it has no unit and is below 65536, which is
 less than 1pt, a warning is printed on standard error.
 
 A larger --block takes less processor time. A record doesn't wait for input
-that hasn't arrived, however large the block is. If the reader of a pipe closes
-it, `stream` ends at its next write, with exit status 5.
+that hasn't arrived, however large the block is. --workers is for several
+FILEs: each FILE is set by one thread. If the reader of a pipe closes it,
+`stream` ends at its next write, with exit status 5 (--verbose: broken pipe).
+
+With --verbose, the causes of errors are printed on standard error, with names,
+and the numbers of lines that were set and refused, for each reason, and of
+lines that end with a carriage return.
 
 Exit status:
   0  Every line was set, and the output was written.
@@ -189,7 +214,7 @@ Prints the same records and end lines as `tfmset set`, once every FILE is set.
 Bytes are character codes of the font, not Unicode. Byte 32 is a space, byte 10
 ends a line, and a carriage return (13) is a code like any other; with --crlf,
 one before each byte 10 is left out. A line has at most 65535 bytes. A size is
-as for `tfmset set`.
+as for `tfmset set`, and so are --workers, --block and --verbose.
 
 Exit status:
   0  Every line of every FILE was set, and the output was written.
@@ -200,11 +225,11 @@ Exit status:
   5  Memory allocation, a thread start or writing the output failed.
 With 2 and 3, the output is empty.";
 
-pub(crate) const WORKERS_HELP: &str = "Maximum threads that set lines, 1 to 16";
+pub(crate) const WORKERS_HELP: &str = "Maximum threads, 1 to 16; a file uses one";
 
 pub(crate) const CAPACITY_HELP: &str = "Slots per queue between threads, 1 to 65536";
 
-pub(crate) const BLOCK_HELP: &str = "Lines per message between threads, 1 to 8";
+pub(crate) const BLOCK_HELP: &str = "Lines per message, 1 to 8; 8 is fastest";
 
 pub(crate) const WORDS_HELP: &str = "FONT LIMIT FILE, repeated for each file";
 
@@ -229,6 +254,10 @@ pub(crate) const RECORD_HELP: &str = "Record format: 1, 2 or json; 1 omits steps
 pub(crate) const FORMAT_HELP: &str = "Output format: text, csv or json";
 
 pub(crate) const ALL_HELP: &str = "Also print the counts, the extensible recipes and all words";
+
+pub(crate) const CAUSES_HELP: &str = "Print causes of errors on standard error";
+
+pub(crate) const VERBOSE_HELP: &str = "Print causes of errors and a summary on standard error";
 
 pub(crate) const FONT_HELP: &str = "TFM file, or - for standard input";
 

@@ -2,7 +2,7 @@
 ghost use Rattle.std.specs.Prelude.{◌≡◌, [], map, IfErr, IfOk, Some, codes, option_map, unwrap_or};
 ghost use Rattle.clap.specs.Words.{all_of, first_of, found_of, kind_of, one_of, rows_of, subcommand_rows_of};
 ghost use Rattle.command_line.specs.Commands.{AllChoices, IsCommandOf, tfmset_app};
-ghost use Rattle.command_line.specs.Asked.{AreJobs, AsksFor, Finds, format_word, has_plain_size, IsAskedBy, IsAskedOf, IsAskedWith, IsChecking, IsFlag, IsLayout, IsNumberIn, IsPlan, IsRefusedBy, IsRefusedWith, IsSetting, IsSize, kind_without_request, misstates_size, policy_word, texts, version_word};
+ghost use Rattle.command_line.specs.Asked.{AreJobs, AsksFor, Finds, format_word, has_plain_size, IsAskedBy, IsAskedOf, IsAskedWith, IsChecking, IsFlag, IsLayout, IsNumberIn, IsPlan, IsRefusedBy, IsRefusedWith, IsSetting, IsSize, IsVerbose, kind_without_request, misstates_size, policy_word, texts, version_word};
 
 use crate::commands::tfmset_command;
 use crate::help::SIZE_ERROR;
@@ -103,10 +103,13 @@ fn asked_by<'a>(
     ensures { IfOk result (Finds (AsksFor (rows_of (found_of matches.now)) name.now)) }
 {
     match name {
-        "counts" => Ok(text(matches, "FONT").map(|font| Request::Counts { font })),
+        "counts" => {
+            let verbose = asked_verbose(matches);
+            Ok(text(matches, "FONT").map(|font| Request::Counts { font, verbose }))
+        }
         "list" => {
-            let all = flag(matches, "all");
-            Ok(text(matches, "FONT").map(|font| Request::List { font, all }))
+            let (all, verbose) = (flag(matches, "all"), asked_verbose(matches));
+            Ok(text(matches, "FONT").map(|font| Request::List { font, all, verbose }))
         }
         "pairs" => Ok(asked_pairs(matches)),
         "check" => Ok(asked_fonts(alloc, matches)?.map(Request::Check)),
@@ -123,7 +126,13 @@ fn asked_pairs<'a>(matches: &ArgMatches<'a>) -> Option<Request<'a>>
 {
     let (font, format) = font_format(matches)?;
     let size = asked_size(matches)?;
-    Some(Request::Pairs { font, size, format })
+    let verbose = asked_verbose(matches);
+    Some(Request::Pairs {
+        font,
+        size,
+        format,
+        verbose,
+    })
 }
 
 /// Returns the font and the format of `pairs`.
@@ -149,7 +158,12 @@ fn asked_fonts<'a>(
         return Ok(None);
     };
     let fonts = Vec::from_slice(alloc, fonts)?;
-    Ok(Some(Checking { fonts, size }))
+    let verbose = asked_verbose(matches);
+    Ok(Some(Checking {
+        fonts,
+        size,
+        verbose,
+    }))
 }
 
 /// Returns the font, the limit, the files and the layout of `set` or `stream`.
@@ -220,7 +234,14 @@ fn asked_layout(matches: &ArgMatches<'_>) -> Option<Layout>
         crlf: flag(matches, "crlf"),
         plan: asked_plan(matches)?,
         version: asked_version(matches)?,
+        verbose: asked_verbose(matches),
     })
+}
+
+fn asked_verbose(matches: &ArgMatches<'_>) -> bool
+    ensures { IsVerbose (rows_of (found_of matches.now)) result }
+{
+    flag(matches, "verbose")
 }
 
 fn asked_policy(matches: &ArgMatches<'_>) -> Option<Policy>

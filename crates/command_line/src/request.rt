@@ -11,6 +11,8 @@ pub enum Request<'a> {
     Counts {
         /// The name of the font; `-` is standard input.
         font: &'a str,
+        /// Whether the causes of errors are printed on standard error.
+        verbose: bool,
     },
     /// Prints the contents of a font at its design size.
     List {
@@ -18,6 +20,8 @@ pub enum Request<'a> {
         font: &'a str,
         /// Whether the counts, the extensible recipes and all words of the file are printed, too.
         all: bool,
+        /// Whether the causes of errors are printed on standard error.
+        verbose: bool,
     },
     /// Prints the pairs of a font for which its lig/kern program has an action.
     Pairs {
@@ -27,6 +31,8 @@ pub enum Request<'a> {
         size: Option<Size>,
         /// The format of the output.
         format: PairsFormat,
+        /// Whether the causes of errors are printed on standard error.
+        verbose: bool,
     },
     /// Checks whether fonts are accepted, and prints one line for each.
     Check(Checking<'a>),
@@ -54,6 +60,8 @@ pub struct Layout {
     pub plan: Plan,
     /// The record format.
     pub version: Version,
+    /// Whether the causes of errors, and a summary, are printed on standard error.
+    pub verbose: bool,
 }
 
 /// The fonts that `check` reads.
@@ -64,6 +72,8 @@ pub struct Checking<'a> {
     pub fonts: Vec<&'a str>,
     /// The size of all fonts, in sp; `None` means the design size of each font.
     pub size: Option<Size>,
+    /// Whether the causes of errors are printed on standard error.
+    pub verbose: bool,
 }
 
 /// The arguments of `set` or `stream`: a font, and files with lines.

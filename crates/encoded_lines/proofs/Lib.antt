@@ -3,6 +3,7 @@ pub mod CutLemmas
 pub mod PartLemmas
 pub mod PartedLemmas
 pub mod ProgressLemmas
+pub mod RecordLemmas
 pub mod RefusalLemmas
 pub mod SettingLemmas
 pub mod WidthLemmas

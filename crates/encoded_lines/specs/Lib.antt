@@ -1,3 +1,4 @@
 pub mod Answer
 pub mod Items
+pub mod Record
 pub mod Progress

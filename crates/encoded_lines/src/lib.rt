@@ -2,8 +2,10 @@
 #![tactic(auto)]
 
 pub use items::{EncodedItem, EncodedItems};
-pub use laws::results_of_bytes;
+pub use laws::{records_of_bytes, results_of_bytes};
 pub use outcome::EncodedOutcome;
+pub use records::line_record::{RecordSettings, SourceLine, encoded_record};
+pub use records::record_text::record_encoded;
 pub use room::EncodedRoom;
 pub use setting::set_encoded;
 
@@ -11,6 +13,7 @@ mod items;
 mod laws;
 mod outcome;
 mod parting;
+mod records;
 mod refusing;
 mod room;
 mod setting;

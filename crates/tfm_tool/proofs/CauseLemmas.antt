@@ -221,9 +221,9 @@ module _ (known : List ℕ → Option (List ℕ)) (input : Option (List ℕ)) wh
 
   -- no failure is both
   not_of_font : (request : Request) (failure : Failure) → IsFaultOf request failure → IsFontFaultOf known input request failure → ⊥
-  not_of_font (Counts font) failure fault is = fault
-  not_of_font (ListFont font all) failure fault is = fault
-  not_of_font (Pairs font size format) failure fault is = fault
+  not_of_font (Counts font verbose) failure fault is = fault
+  not_of_font (ListFont font all verbose) failure fault is = fault
+  not_of_font (Pairs font size format verbose) failure fault is = fault
   not_of_font (Check asked) failure fault is = is
   not_of_font (Set setting) failure fault is = not_of_font_set setting (font_bytes_of known input setting.font.now) failure fault is
   not_of_font (Stream setting) failure fault is = not_of_font_stream setting (font_bytes_of known input setting.font.now) failure fault is
@@ -231,9 +231,9 @@ module _ (known : List ℕ → Option (List ℕ)) (input : Option (List ℕ)) wh
 
   -- refused memory is no fault of a font
   memory_not_of_font : (request : Request) → IsFontFaultOf known input request (Tool OutOfMemory) → ⊥
-  memory_not_of_font (Counts font) is = is
-  memory_not_of_font (ListFont font all) is = is
-  memory_not_of_font (Pairs font size format) is = is
+  memory_not_of_font (Counts font verbose) is = is
+  memory_not_of_font (ListFont font all verbose) is = is
+  memory_not_of_font (Pairs font size format verbose) is = is
   memory_not_of_font (Check asked) is = is
   memory_not_of_font (Set setting) is = is
   memory_not_of_font (Stream setting) is = is

@@ -12,3 +12,4 @@ pub mod WordLemmas
 pub mod CauseLemmas
 pub mod WorkedRows
 pub mod WarningLemmas
+pub mod VerboseLemmas

@@ -1,5 +1,5 @@
 -- Words, fonts and files, and what the definitions alone make of them.
-use Rattle.std.proofs.Common.{arith, ◌≡◌, ℕ, ◌<◌, ◌≤◌, List, [], ◌∷◌, length, Option, Some, Bor, codes, refl, sym, subst}
+use Rattle.std.proofs.Common.{false, arith, ◌≡◌, ℕ, ◌<◌, ◌≤◌, List, [], ◌∷◌, length, Option, Some, Bor, codes, refl, sym, subst}
 use Rattle.std.proofs.lemmas.Bool.{true≢false}
 use Rattle.tfm_words.specs.CountFaults.{faults_within}
 use Rattle.tfm_words.specs.declared.count_fault.CountFault.TheVariants.{Truncated}
@@ -69,7 +69,7 @@ too_many_files setting is = (omega (arith, is), omega (arith, is))
 -- ---- fonts
 
 -- nothing on standard input is a font without its 24 bytes of counts
-no_font : (known : List ℕ → Option (List ℕ)) → IsFontFaultOf known (Some []) (Counts (word (codes "-"))) (Tool (Font (InCounts (Truncated 24))))
+no_font : (known : List ℕ → Option (List ℕ)) → IsFontFaultOf known (Some []) (Counts (word (codes "-")) false) (Tool (Font (InCounts (Truncated 24))))
 unfolding faults_within
 no_font known = refl
 

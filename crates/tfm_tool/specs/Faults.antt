@@ -31,9 +31,9 @@ IsFaultOfStream setting failure = IsFaultOfSet setting failure
 
 -- a usage error of a request; `counts`, `list` and `pairs` have none
 abbrev pub IsFaultOf : Request → Failure → Type 0
-IsFaultOf (Counts _) failure = ⊥
-IsFaultOf (ListFont _ _) failure = ⊥
-IsFaultOf (Pairs _ _ _) failure = ⊥
+IsFaultOf (Counts _ _) failure = ⊥
+IsFaultOf (ListFont _ _ _) failure = ⊥
+IsFaultOf (Pairs _ _ _ _) failure = ⊥
 IsFaultOf (Check asked) failure = IsFaultOfCheck asked failure
 IsFaultOf (Set setting) failure = IsFaultOfSet setting failure
 IsFaultOf (Stream setting) failure = IsFaultOfStream setting failure
@@ -51,9 +51,9 @@ module _ (known : List ℕ → Option (List ℕ)) (input : Option (List ℕ)) wh
   -- the failure for a font error of a request, with these known contents of a file, by its name, and of
   -- standard input; with `check` a refused font isn't a failure
   abbrev pub IsFontFaultOf : Request → Failure → Type 0
-  IsFontFaultOf (Counts font) failure = IsRefusedHead (font_bytes_of known input font.now) failure
-  IsFontFaultOf (ListFont font _) failure = IsRefusedFont (font_bytes_of known input font.now) failure
-  IsFontFaultOf (Pairs font _ _) failure = IsRefusedFont (font_bytes_of known input font.now) failure
+  IsFontFaultOf (Counts font _) failure = IsRefusedHead (font_bytes_of known input font.now) failure
+  IsFontFaultOf (ListFont font _ _) failure = IsRefusedFont (font_bytes_of known input font.now) failure
+  IsFontFaultOf (Pairs font _ _ _) failure = IsRefusedFont (font_bytes_of known input font.now) failure
   IsFontFaultOf (Check _) failure = ⊥
   IsFontFaultOf (Set setting) failure = IsRefusedFont (font_bytes_of known input setting.font.now) failure
   IsFontFaultOf (Stream setting) failure = IsRefusedFont (font_bytes_of known input setting.font.now) failure
@@ -65,9 +65,9 @@ module _ (known : List ℕ → Option (List ℕ)) (input : Option (List ℕ)) wh
 
 -- a request doesn't use standard input
 abbrev pub IsWithoutInput : Request → Type 0
-IsWithoutInput (Counts font) = font.now ≢ codes "-"
-IsWithoutInput (ListFont font _) = font.now ≢ codes "-"
-IsWithoutInput (Pairs font _ _) = font.now ≢ codes "-"
+IsWithoutInput (Counts font _) = font.now ≢ codes "-"
+IsWithoutInput (ListFont font _ _) = font.now ≢ codes "-"
+IsWithoutInput (Pairs font _ _ _) = font.now ≢ codes "-"
 IsWithoutInput (Check asked) = dashes_in asked.fonts.items ≡ 0
 IsWithoutInput (Set setting) = setting.font.now ≢ codes "-"
 IsWithoutInput (Stream setting) = (setting.font.now ≢ codes "-") × (setting.files.items ≢ [])

@@ -10,4 +10,5 @@ pub mod FontFaults
 pub mod Faults
 pub mod Served
 pub mod FailureTexts
+pub mod Verbose
 pub mod Warnings

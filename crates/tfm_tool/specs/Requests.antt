@@ -86,9 +86,9 @@ module _ (known : List ℕ → Option (List ℕ)) (before after : Option (List �
 module _ (known : List ℕ → Option (List ℕ)) (input before after : Option (List ℕ)) where
   -- the output of a request was written, and this is its exit status
   abbrev pub IsDone : Request → ℕ → Type 0
-  IsDone (Counts font) status = CountsAreTold known input before after font.now status
-  IsDone (ListFont font all_of_it) status = IsListed known input before after font.now all_of_it status
-  IsDone (Pairs font size format) status = ArePairsTold known input before after font.now size format status
+  IsDone (Counts font _) status = CountsAreTold known input before after font.now status
+  IsDone (ListFont font all_of_it _) status = IsListed known input before after font.now all_of_it status
+  IsDone (Pairs font size format _) status = ArePairsTold known input before after font.now size format status
   IsDone (Check asked) status = AreChecked known input asked.fonts.items before after status
   IsDone (Set setting) status = IsSetFrom known input before after AtTheEnd (file_bytes_of known setting.files.items) setting status
   IsDone (Stream setting) status =

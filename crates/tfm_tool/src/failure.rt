@@ -11,8 +11,8 @@ use std::fmt;
 use tfm_tables::FontFault;
 use thiserror::Error;
 
-/// The reason why the program ends with an exit status from 2 to 5. `Display` writes everything that the
-/// program prints on standard error.
+/// The reason why the program ends with an exit status from 2 to 5. `Display` writes the message of the program
+/// on standard error. The program replaces one tip in that of `Usage`.
 #[derive(Debug, Drop, Error)]
 pub enum Failure {
     /// The arguments are invalid.

@@ -8,6 +8,7 @@ pub use font_output::{
     check_text, counts_text, finding_text, list_all_text, list_text, pairs_text,
 };
 pub use font_texts::{Finding, PairsFormat};
+pub use laws::verbose_changes_no_output;
 pub use opening::{Disk, InMemory, Opens};
 pub use program::{perform, tool, words_refused};
 pub use run_texts::{
@@ -22,7 +23,14 @@ mod failure;
 mod files;
 mod font_output;
 mod jobs;
+mod laws;
+mod notes;
 mod opening;
 mod program;
 mod runs;
+mod summary;
+mod tally;
+mod usage_text;
+mod verbose;
 mod warning;
+mod watched;

@@ -13,6 +13,7 @@ ghost use Rattle.tfm_tool.specs.Named.{font_bytes_of};
 ghost use Rattle.tfm_tool.specs.Requests.{ArePairsTold, CountsAreTold, IsDone, IsListed, list_text_of};
 ghost use Rattle.tfm_tool.specs.Served.{IsServed, IsTurnedDown, IsTurnedDownBy, is_answer, is_usage};
 ghost use Rattle.tfm_tool.specs.declared.failure.Failure.TheVariants.{Usage};
+ghost use Rattle.tfm_tool.specs.Verbose.{IsVerbose};
 ghost use Rattle.tfm_tool.specs.Warnings.{IsWarned};
 ghost use Rattle.tfm_tool.specs.Status.{AfterText, BeforeText, is_refusal, is_without_text, status_of};
 
@@ -22,8 +23,10 @@ use crate::failure::Failure;
 use crate::files::font_bytes;
 use crate::font_output::list_file_text;
 use crate::runs::{set_files, stream};
+use crate::usage_text::say_usage;
+use crate::verbose::carry_out;
 use crate::warning::warn;
-use crate::{Disk, Opens, counts_text, list_all_text, pairs_text};
+use crate::{Opens, counts_text, list_all_text, pairs_text};
 use clap::error::ErrorKind as WordsKind;
 use command_line::{Request, requested};
 use font_texts::PairsFormat;
@@ -44,8 +47,9 @@ use tfm_words::Size;
 /// The exit status is 0 or 1 after the whole output: 1 if a line was refused or `check` refused a font;
 /// otherwise, and after help or the version, 0. It is 2 to 5 after a failure, as the failure determines; the
 /// text of the failure is written to `err`: one line, or the text of `clap` if the arguments are invalid. If
-/// `err` fails, its error is ignored. If `stream` has a size below 65,536 without a unit, a warning is written
-/// to `err` before the font is read.
+/// `err` fails, its error is ignored. If `stream`, or `set` or `each` with `--verbose`, has a size below 65,536
+/// without a unit, a warning is written to `err` before the font is read. With `--verbose`, the causes of
+/// errors and a summary of the lines are written to `err` after the output, before the text of a failure.
 pub fn tool<R, S, I, O, E>(rt: &R, words: &[S], input: &mut I, out: &mut O, err: &mut E) -> u8
 where
     R: Files + AllocGlobal + Threads + Wait + Sync,
@@ -55,7 +59,8 @@ where
     O: Write,
     E: Write,
     ensures statuses { Contains (0 ∷ 1 ∷ 2 ∷ 3 ∷ 4 ∷ 5 ∷ []) result }
-    ensures silent { result < 2 → ¬ (IsWarned (map S.text words.now)) → err.new ≡ err.old }
+    ensures silent { result < 2 → ¬ (IsWarned (map S.text words.now))
+        → ¬ (IsVerbose (map S.text words.now)) → err.new ≡ err.old }
     ensures served { result < 2 → (written : Option (List ℕ)) × Keeps written (O.contents out.new)
         × IsServed (map S.text words.now) (I.remaining input.old) (O.contents out.old) written result }
     ensures usage { result ≡ 2 → Keeps (O.contents out.old) (O.contents out.new) }
@@ -87,7 +92,7 @@ pub fn words_refused<E: Write>(error: &io::Error, err: &mut E) -> u8
 }
 
 /// Does what the arguments request, with the files of the file system, or writes help or the version. Returns
-/// the exit status, 0 or 1. A warning is written to `err`, whose errors are ignored.
+/// the exit status, 0 or 1. A warning, and what `--verbose` adds, are written to `err`, whose errors are ignored.
 fn answer<R, S, I, O, E>(
     rt: &R,
     words: &[S],
@@ -102,7 +107,8 @@ where
     I: Read + Send,
     O: Write,
     E: Write,
-    ensures silent { ¬ (IsWarned (map S.text words.now)) → err.new ≡ err.old }
+    ensures silent { ¬ (IsWarned (map S.text words.now))
+        → ¬ (IsVerbose (map S.text words.now)) → err.new ≡ err.old }
     ensures served { IfOk result (IsServed (map S.text words.now) (I.remaining input.old)
         (O.contents out.old) (O.contents out.new)) }
     ensures status { IfOk result (λ status. Contains (0 ∷ 1 ∷ []) status) }
@@ -112,7 +118,7 @@ where
     match requested(rt.alloc(), words) {
         Ok(request) => {
             warn(&request, err);
-            perform(rt, &Disk::new(rt), &request, input, out)
+            carry_out(rt, &request, input, out, err)
         }
         Err(error) => {
             show(error, out)?;
@@ -150,12 +156,17 @@ where
         → IsRefused (IsFaultOf request.now) result × (out.new ≡ out.old) }
 {
     match request {
-        Request::Counts { font } => counts(rt.alloc(), files, font, input, out),
-        Request::List { font, all } => {
+        Request::Counts { font, .. } => counts(rt.alloc(), files, font, input, out),
+        Request::List { font, all, .. } => {
             let listed = Listed { font, all: *all };
             list(rt.alloc(), files, &listed, input, out)
         }
-        Request::Pairs { font, size, format } => {
+        Request::Pairs {
+            font,
+            size,
+            format,
+            ..
+        } => {
             let asked = Paired {
                 font,
                 size: *size,
@@ -312,9 +323,13 @@ fn fail<E: Write>(failure: Failure, err: &mut E) -> u8
 }
 
 /// Writes the text of a failure.
+#[tactic(auto, unfolding(crate::specs::FailureTexts::failure_text))]
 fn say<E: Write>(failure: &Failure, err: &mut E) -> io::Result<()>
     ensures { IfSome (failure_text failure.now)
         (λ text. OnOk result (Appends (E.contents err.old) (E.contents err.new) text)) }
 {
-    write!(err, "{failure}")
+    match failure {
+        Failure::Usage(error) => say_usage(error, err),
+        _ => write!(err, "{failure}"),
+    }
 }

@@ -1,7 +1,7 @@
 //! The warning for a size of less than one point that was given without a unit.
 ghost use Rattle.std.specs.Prelude.{◌≡◌, None, OnOk};
 ghost use Rattle.std.specs.Io.KnownBytes.{Appends};
-ghost use Rattle.tfm_tool.specs.Warnings.{small_size, warned_size as warned_size_of, warning_text};
+ghost use Rattle.tfm_tool.specs.Warnings.{small_size, small_size_of_verbose, warned_size as warned_size_of, warning_text};
 
 use command_line::{Layout, Request};
 use std::io;
@@ -23,8 +23,17 @@ fn warned_size(request: &Request<'_>) -> Option<u32>
 {
     match request {
         Request::Stream(setting) => small(&setting.layout),
+        Request::Set(setting) => small_if_verbose(&setting.layout),
+        Request::Each(jobs) => small_if_verbose(&jobs.layout),
         _ => None,
     }
+}
+
+/// Returns the size in sp, if it was given without a unit and is below one point, and `--verbose` is given.
+fn small_if_verbose(layout: &Layout) -> Option<u32>
+    ensures { result ≡ small_size_of_verbose layout.now }
+{
+    if layout.verbose { small(layout) } else { None }
 }
 
 /// Returns the size in sp, if it was given without a unit and is below one point.

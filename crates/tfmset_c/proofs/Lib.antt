@@ -1,3 +1,4 @@
 pub mod ReadingLemmas
 pub mod ArrayLemmas
 pub mod TextLemmas
+pub mod EncodedLemmas

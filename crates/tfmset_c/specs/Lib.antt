@@ -6,3 +6,4 @@ pub mod Characters
 pub mod Pairs
 pub mod Texts
 pub mod Arrays
+pub mod Encoded

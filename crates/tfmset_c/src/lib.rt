@@ -3,6 +3,8 @@
 #![tactic(auto)]
 
 pub use check::{TfmsetFault, tfmset_check};
+pub use encode::{TfmsetEncoded, tfmset_encode};
+pub use encoded_records::tfmset_encoded_records;
 pub use font::{TfmsetFont, tfmset_font};
 pub use lines::{TfmsetCounts, TfmsetItem, TfmsetLine};
 pub use metrics::{TfmsetMetrics, tfmset_metrics};
@@ -15,6 +17,8 @@ pub use version::tfmset_version;
 
 mod arrays;
 mod check;
+mod encode;
+mod encoded_records;
 mod font;
 mod lines;
 mod metrics;

@@ -42,14 +42,16 @@ const FEW_BYTES: usize = 2_048;
 
 /// The format of the records of a text, and the number of the first one.
 #[derive(Clone, Copy)]
-struct Format {
-    version: Version,
-    first: RecordNumber,
+pub struct Format {
+    /// The format of the records.
+    pub version: Version,
+    /// The numbers of the first record.
+    pub first: RecordNumber,
 }
 
 /// Returns the record format with this number: 1, 2, or 3 for JSON. Returns `None` for any other number.
 #[tactic(auto, unfolding(crate::specs::Texts::version_of))]
-fn version_numbered(version: u32) -> Option<Version>
+pub fn version_numbered(version: u32) -> Option<Version>
     ensures { MatchOption result (IsNoVersion version)
         (λ v. (v ≡ version_of version) × (IsNoVersion version → ⊥)) }
 {
@@ -62,7 +64,7 @@ fn version_numbered(version: u32) -> Option<Version>
 }
 
 /// Returns item texts that are made beforehand, if the text is long enough. Records in JSON don't use them.
-fn texts_for(text: Text, version: Version) -> Option<RecordTexts> {
+pub fn texts_for(text: Text, version: Version) -> Option<RecordTexts> {
     if version == Version::Json || text.bytes.len() <= FEW_BYTES {
         return None;
     }

@@ -18,6 +18,7 @@ mod set_each_calls;
 mod set_text_calls;
 mod settings;
 mod stream_text_calls;
+mod verbose_lines;
 mod words_given;
 
 const TEXT: &str =

@@ -7,5 +7,6 @@ returns c =
     let format = c.format_option.ensures in
     let with_size = c.in_ok-command.ensures _ _ c.subcommand-command.ensures c.size_option.ensures in
     let with_format = c.in_ok-command-2.ensures _ _ with_size format.2 in
-    IfOk-weaker c.with_argument-3.result _ _ (λ made more.
-    (format.0, format.1, as_subcommand _ made (more _ _ with_format c.font_argument.ensures))) c.with_argument-3.ensures
+    let with_verbose = c.in_ok-command-3.ensures _ _ with_format c.verbose_option.ensures in
+    IfOk-weaker c.with_argument-4.result _ _ (λ made more.
+    (format.0, format.1, as_subcommand _ made (more _ _ with_verbose c.font_argument.ensures))) c.with_argument-4.ensures

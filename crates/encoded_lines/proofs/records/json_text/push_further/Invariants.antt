@@ -1,0 +1,13 @@
+-- the items so far are in the text, each after a comma
+use Rattle.std.proofs.Common.{◌≡◌, ◌≤◌, ◌++◌, take, flat_map}
+use Rattle.std.specs.Prelude.{codes, vec_capacity}
+use Rattle.encoded_lines.specs.Record.{encoded_json_item}
+use Rattle.tfm_words.specs.Appending.{StaysInFront}
+use Rattle.encoded_lines.proofs.records.json_text.push_further.Given as goal
+
+abbrev pub invariant-loop-item : goal.invariant-loop-item
+invariant-loop-item l = record {
+  front : StaysInFront l.fn.text.items l.text.items;
+  grows : vec_capacity l.fn.text ≤ vec_capacity l.text;
+  pushed : l.text.items ≡ l.fn.text.items ++ flat_map (λ item. codes "," ++ encoded_json_item item) (take l.item-index l.items);
+}

@@ -1,0 +1,5 @@
+mod codes;
+mod fonts;
+mod records;
+mod rows;
+mod same;

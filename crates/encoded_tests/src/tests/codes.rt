@@ -1,0 +1,82 @@
+//! Codes of texts.
+use encodings::{EncodeFault, EncodedLine, Encoding, Place, Places, encode_line, first_uncoded};
+use std::process::Abort;
+use std::test::Fail;
+
+/// An encoding, a text, and its codes, which are those that LaTeX sets.
+static CODED: [(Encoding, &str, &[u8]); 6] = [
+    (Encoding::T1, "Straße", b"Stra\xFFe"),
+    (
+        Encoding::T1,
+        "„Žluťoučký kůň“",
+        b"\x12\x9Alu\xB4ou\xA3k\xFD k\xB7\xAC\x10",
+    ),
+    (
+        Encoding::T1,
+        "l'œuvre – 5\u{A0}‰",
+        b"l'\xF7uvre \x15 5 %\x18",
+    ),
+    (Encoding::Ot1, "‘Œuvre’ ¡ﬁ—“!", b"`\x1Euvre' !`fi|\\!"),
+    (Encoding::Ly1, "5 € “ŽÝ”", b"5 \x01 \x93\x8D\xDD\x94"),
+    (Encoding::Latin1, "Señor\u{A0}Ýÿ\n", b"Se\xF1or \xDD\xFF\n"),
+];
+
+#[test]
+fn texts_with_codes(rt: HostRuntime) -> Result<(), Fail> {
+    let mut line = EncodedLine::new(rt.alloc());
+    for (encoding, text, codes) in &CODED {
+        let encoded = encode_line(*encoding, false, text.as_bytes(), &mut line);
+        assert!(rt; encoded == Ok(()), "{text}");
+        assert!(rt; line.codes() == *codes, "{text}");
+        assert!(rt; !line.has_uncoded(), "{text}");
+    }
+    Ok(())
+}
+
+/// An encoding, a text, and its first character without codes.
+static UNCODED: [(Encoding, &str, usize, char); 6] = [
+    (Encoding::T1, "Ž€", 2, '€'),
+    (Encoding::T1, "a\nb", 1, '\n'),
+    (Encoding::Ot1, "“naïf”", 5, 'ï'),
+    (Encoding::Ot1, "a\\b<c", 1, '\\'),
+    (Encoding::Ly1, "č", 0, 'č'),
+    (Encoding::Latin1, "5 €", 2, '€'),
+];
+
+#[test]
+fn texts_without_codes(rt: HostRuntime) -> Result<(), Fail> {
+    for (encoding, text, offset, character) in &UNCODED {
+        let places = Places::of_line(false, text.as_bytes()).ok_or("not UTF-8")?;
+        let wanted = Place {
+            offset: *offset,
+            character: *character,
+        };
+        assert!(rt; first_uncoded(*encoding, places) == Some(wanted), "{text}");
+        let mut line = EncodedLine::new(rt.alloc());
+        let encoded = encode_line(*encoding, false, text.as_bytes(), &mut line);
+        assert!(rt; encoded == Ok(()) && line.has_uncoded(), "{text}");
+    }
+    Ok(())
+}
+
+#[test]
+fn bytes_and_faults(rt: HostRuntime) -> Result<(), Fail> {
+    let mut line = EncodedLine::new(rt.alloc());
+    let bytes = b"a\xFF\xC3";
+    assert!(rt; encode_line(Encoding::Bytes, true, bytes, &mut line) == Ok(()));
+    assert!(rt; line.codes() == bytes.as_slice());
+    let fault = encode_line(Encoding::T1, true, bytes, &mut line);
+    assert!(rt; fault == Err(EncodeFault::NotUtf8(1)));
+    Ok(())
+}
+
+#[test]
+fn names_of_encodings(rt: HostRuntime) -> Result<(), Fail> {
+    for encoding in Encoding::ALL {
+        assert!(rt; Encoding::from_name(encoding.name()) == Some(encoding));
+    }
+    for name in ["", "T1", "ot", "utf-8", "latin-1"] {
+        assert!(rt; Encoding::from_name(name).is_none(), "{name}");
+    }
+    Ok(())
+}

@@ -1,0 +1,99 @@
+//! What `--verbose` adds on standard error: the causes of errors, with names, and a summary of a batch.
+use font_texts::push_escaped_text;
+use std::alloc::Global;
+use std::io;
+use std::io::{ErrorKind, Write};
+use std::sync::atomic::{AtomicU64, Ordering};
+use std::sync::{Mutex, Wait};
+
+/// The notes of a request, which the threads that read files share. Without `--verbose` nothing is noted.
+#[derive(Drop)]
+pub(crate) struct Notes {
+    alloc: Global,
+    /// Whether the request has `--verbose`.
+    verbose: bool,
+    /// Whether lines that end with a carriage return are counted.
+    returns_counted: bool,
+    /// The lines about errors of files, complete.
+    causes: Mutex<Vec<u8>>,
+    /// The number of lines that end with a carriage return.
+    returns: AtomicU64,
+}
+
+impl Notes {
+    /// Returns the notes of a request before it is carried out. With `--verbose` and without `--crlf`, lines
+    /// that end with a carriage return are counted.
+    pub fn new(alloc: Global, verbose: bool, crlf: bool) -> Self {
+        Notes {
+            alloc,
+            verbose,
+            returns_counted: verbose && !crlf,
+            causes: Mutex::new(Vec::new(alloc)),
+            returns: AtomicU64::new(0),
+        }
+    }
+
+    /// Returns whether the request has `--verbose`.
+    pub fn is_on(&self) -> bool {
+        self.verbose
+    }
+
+    /// Returns whether lines that end with a carriage return are counted.
+    pub fn counts_returns(&self) -> bool {
+        self.returns_counted
+    }
+
+    /// Returns a copy of a name for later notes. It is empty if there will be none, or if an allocation fails.
+    pub fn name(&self, name: &str) -> Vec<u8> {
+        let mut copy = Vec::new(self.alloc);
+        if self.verbose {
+            let _ = copy.extend_from_slice(name.as_bytes());
+        }
+        copy
+    }
+
+    /// Notes an error of the file of this name. An interrupted call isn't noted, since it is made again. If an
+    /// allocation fails, nothing is noted.
+    pub fn note<R: Wait>(&self, rt: &R, name: &[u8], error: &io::Error) {
+        if self.verbose && error.kind() != ErrorKind::Interrupted {
+            let mut line = Vec::new(self.alloc);
+            if push_line(&mut line, name, error).is_ok() {
+                let _ = self.causes.lock(rt).extend_from_slice(line.as_slice());
+            }
+        }
+    }
+
+    /// Notes that a FILE has the name `-` and wasn't opened, since users expect it to be standard input.
+    pub fn note_dash<R: Wait>(&self, rt: &R) {
+        if self.verbose {
+            let hint = b"tfmset: -: this is the name of a file; /dev/stdin is standard input\n";
+            let _ = self.causes.lock(rt).extend_from_slice(hint);
+        }
+    }
+
+    /// Counts lines that end with a carriage return.
+    pub fn count_returns(&self, count: u64) {
+        if count > 0 {
+            self.returns.fetch_add(count, Ordering::Relaxed);
+        }
+    }
+
+    /// Returns the lines about errors of files, and the number of lines that end with a carriage return.
+    pub fn into_parts(self) -> (Vec<u8>, u64) {
+        let Notes {
+            alloc: _,
+            verbose: _,
+            returns_counted: _,
+            causes,
+            returns,
+        } = self;
+        (causes.into_inner(), returns.into_inner())
+    }
+}
+
+/// Appends a line with a name and an error.
+fn push_line(line: &mut Vec<u8>, name: &[u8], error: &io::Error) -> io::Result<()> {
+    line.extend_from_slice(b"tfmset: ")?;
+    push_escaped_text(line, name)?;
+    writeln!(line, ": {error}")
+}

@@ -1,0 +1,46 @@
+//! The lines that `--verbose` prints after a request.
+use crate::notes::Notes;
+use crate::tally::Tally;
+use std::io;
+use std::io::Write;
+
+/// Writes the causes of errors, one line each: those of files, with their names, and that of standard output.
+/// Then writes how many lines end with a carriage return, if there are any.
+pub(crate) fn say_causes<E: Write>(
+    notes: Notes,
+    output: Option<io::Error>,
+    err: &mut E,
+) -> io::Result<()> {
+    let (causes, returns) = notes.into_parts();
+    err.write_all(causes.as_slice())?;
+    if let Some(error) = output {
+        writeln!(err, "tfmset: standard output: {error}")?;
+    }
+    if returns > 0 {
+        let verb = if returns == 1 {
+            "line ends"
+        } else {
+            "lines end"
+        };
+        writeln!(
+            err,
+            "tfmset: {returns} {verb} with a carriage return: see --crlf"
+        )?;
+    }
+    Ok(())
+}
+
+/// Writes one line with the numbers of lines that were set and refused, and of each reason that occurred.
+pub(crate) fn say_summary<E: Write>(tally: &Tally, err: &mut E) -> io::Result<()> {
+    let lines = if tally.set == 1 { "line" } else { "lines" };
+    let refused = tally.refused();
+    write!(err, "tfmset: {} {lines} set, {refused} refused", tally.set)?;
+    let mut before = ": ";
+    for (count, reason) in &tally.reasons() {
+        if *count > 0 {
+            write!(err, "{before}{count} {reason}")?;
+            before = ", ";
+        }
+    }
+    err.write_all(b"\n")
+}

@@ -1,0 +1,128 @@
+//! Counts the records of a batch by their results, from the output as it is written.
+
+/// The number of bytes of a line that are kept. The result of a record begins within them, in every format.
+const HEAD: usize = 80;
+
+/// The result of a record.
+#[derive(Clone, Copy)]
+enum Kind {
+    Set,
+    TooLong,
+    Missing,
+    Steps,
+}
+
+/// The number of records of each kind in the output so far.
+#[derive(Clone, Copy)]
+pub(crate) struct Tally {
+    /// The number of records of lines that were set.
+    pub set: u64,
+    too_long: u64,
+    missing: u64,
+    steps: u64,
+    /// The first bytes of the line that isn't complete yet, and their number.
+    head: [u8; HEAD],
+    length: usize,
+}
+
+impl Tally {
+    /// Returns the counts of an empty output.
+    pub fn new() -> Self {
+        Tally {
+            set: 0,
+            too_long: 0,
+            missing: 0,
+            steps: 0,
+            head: [0; HEAD],
+            length: 0,
+        }
+    }
+
+    /// Returns the number of refused lines.
+    pub fn refused(&self) -> u64 {
+        self.too_long
+            .saturating_add(self.missing)
+            .saturating_add(self.steps)
+    }
+
+    /// Returns the number of records.
+    pub fn records(&self) -> u64 {
+        self.set.saturating_add(self.refused())
+    }
+
+    /// Returns the number of refused lines for each reason, with its word in a record.
+    pub fn reasons(&self) -> [(u64, &'static str); 3] {
+        [
+            (self.too_long, "too-long"),
+            (self.missing, "missing"),
+            (self.steps, "steps"),
+        ]
+    }
+
+    /// Counts the records that these further bytes of the output complete.
+    pub fn take(&mut self, bytes: &[u8]) {
+        for byte in bytes {
+            self.push(*byte);
+        }
+    }
+
+    /// Takes the next byte of the output.
+    fn push(&mut self, byte: u8) {
+        if byte == b'\n' {
+            self.end_line();
+        } else if self.length < HEAD {
+            self.head[self.length] = byte;
+            self.length += 1;
+        }
+    }
+
+    /// Counts the line that is complete, if it is a record.
+    fn end_line(&mut self) {
+        let kind = match self.head.get(..self.length) {
+            Some(head) => kind_of(head),
+            None => None,
+        };
+        self.length = 0;
+        match kind {
+            Some(Kind::Set) => self.set = self.set.saturating_add(1),
+            Some(Kind::TooLong) => self.too_long = self.too_long.saturating_add(1),
+            Some(Kind::Missing) => self.missing = self.missing.saturating_add(1),
+            Some(Kind::Steps) => self.steps = self.steps.saturating_add(1),
+            None => (),
+        }
+    }
+}
+
+/// Returns the kind of the record that begins with these bytes, or `None` for any other line.
+fn kind_of(head: &[u8]) -> Option<Kind> {
+    for at in 0..head.len() {
+        if let Some(kind) = kind_at(&head[at..]) {
+            return Some(kind);
+        }
+    }
+    None
+}
+
+/// Returns the kind of a record whose result begins with these bytes.
+fn kind_at(head: &[u8]) -> Option<Kind> {
+    if head.starts_with(b" set ") || head.starts_with(b"\"width\":") {
+        return Some(Kind::Set);
+    }
+    if let Some(reason) = head.strip_prefix(b" refused ") {
+        return refused_for(reason);
+    }
+    refused_for(head.strip_prefix(b"\"refused\":\"")?)
+}
+
+/// Returns the kind of a refused line whose reason begins with these bytes.
+fn refused_for(reason: &[u8]) -> Option<Kind> {
+    if reason.starts_with(b"too-long") {
+        Some(Kind::TooLong)
+    } else if reason.starts_with(b"missing") {
+        Some(Kind::Missing)
+    } else if reason.starts_with(b"steps") {
+        Some(Kind::Steps)
+    } else {
+        None
+    }
+}

@@ -1,0 +1,149 @@
+//! Carries out a request with the files of the file system, and prints what `--verbose` adds.
+ghost use Rattle.std.specs.Prelude.{◌≡◌, true, false, [], ◌∷◌, Contains, None, IfErr, IfOk};
+ghost use Rattle.tfm_tool.specs.Faults.{IsCauseOf, IsFaultOf, IsRefused};
+ghost use Rattle.tfm_tool.specs.Requests.{IsDone};
+ghost use Rattle.tfm_tool.specs.Status.{AfterText, BeforeText, is_without_text};
+ghost use Rattle.tfm_tool.specs.Verbose.{is_verbose as is_verbose_request};
+
+use crate::Disk;
+use crate::failure::Failure;
+use crate::notes::Notes;
+use crate::program::perform;
+use crate::summary::{say_causes, say_summary};
+use crate::tally::Tally;
+use crate::watched::{Called, WatchedFiles, WatchedReader, WatchedWriter, Written};
+use command_line::Request;
+use std::io::{Read, Write};
+use std::marker::Brand;
+use std::rt::Files;
+use std::sync::Wait;
+use std::thread::Threads;
+
+/// Returns whether a request has `--verbose`.
+fn is_verbose(request: &Request<'_>) -> bool
+    ensures { result ≡ is_verbose_request request.now }
+{
+    match request {
+        Request::Counts { verbose, .. } => *verbose,
+        Request::List { verbose, .. } => *verbose,
+        Request::Pairs { verbose, .. } => *verbose,
+        Request::Check(asked) => asked.verbose,
+        Request::Set(setting) => setting.layout.verbose,
+        Request::Stream(setting) => setting.layout.verbose,
+        Request::Each(jobs) => jobs.layout.verbose,
+    }
+}
+
+/// Returns whether a request sets lines, and if so, whether it has `--crlf`.
+fn crlf_of(request: &Request<'_>) -> Option<bool> {
+    match request {
+        Request::Set(setting) | Request::Stream(setting) => Some(setting.layout.crlf),
+        Request::Each(jobs) => Some(jobs.layout.crlf),
+        _ => None,
+    }
+}
+
+/// Returns the number of files that a request opens as fonts before its files with lines, 0 if it has none.
+fn fonts_of(request: &Request<'_>) -> u64 {
+    match request {
+        Request::Set(setting) | Request::Stream(setting) if setting.font == "-" => 0,
+        Request::Set(_) | Request::Stream(_) => 1,
+        Request::Each(jobs) => (jobs.words.len() / 3) as u64,
+        _ => 0,
+    }
+}
+
+/// Returns whether a request reads lines from standard input.
+fn reads_lines(request: &Request<'_>) -> bool {
+    match request {
+        Request::Stream(setting) => setting.files.is_empty(),
+        _ => false,
+    }
+}
+
+/// Returns whether the whole output was written.
+fn is_whole(done: &Result<u8, Failure>) -> bool {
+    matches!(done, Ok(_) | Err(Failure::FileNotEnded))
+}
+
+/// Carries out a request as `perform` does, with the files of the file system. With `--verbose` it then prints
+/// on `err`, whose errors are ignored, the causes of errors and a summary.
+pub(crate) fn carry_out<R, I, O, E>(
+    rt: &R,
+    request: &Request<'_>,
+    input: &mut I,
+    out: &mut O,
+    err: &mut E,
+) -> Result<u8, Failure>
+where
+    R: Files + AllocGlobal + Threads + Wait + Sync,
+    R::File: Send,
+    I: Read + Send,
+    O: Write,
+    E: Write,
+    ensures silent { is_verbose_request request.now ≡ false → err.new ≡ err.old }
+    ensures text { AfterText result (IsDone (λ _. None) (I.remaining input.old)
+        (O.contents out.old) (O.contents out.new) request.now) }
+    ensures status { IfOk result (λ status. Contains (0 ∷ 1 ∷ []) status) }
+    ensures untouched { IfErr result (λ failure. is_without_text failure ≡ true → out.new ≡ out.old) }
+    ensures cause { BeforeText result (IsCauseOf (λ _. None) (I.remaining input.old) request.now) }
+    ensures refused { (fault : Failure) → IsFaultOf request.now fault
+        → IsRefused (IsFaultOf request.now) result × (out.new ≡ out.old) }
+{
+    let verbose = is_verbose(request);
+    let crlf = crlf_of(request);
+    let notes = Notes::new(rt.alloc(), verbose, crlf.unwrap_or(true));
+    let written = Written {
+        out,
+        tally: Tally::new(),
+        error: None,
+    };
+    let (written, done) = perform_watched::<R, I, O, Brand>(rt, &notes, request, input, written);
+    let Written {
+        out: writer,
+        tally,
+        error,
+    } = written;
+    // For the proof: this use of `writer` shows what `out` holds.
+    let _ = &*writer;
+    if verbose {
+        let _ = say_causes(notes, error, err);
+        if crlf.is_some() && (is_whole(&done) || tally.records() > 0) {
+            let _ = say_summary(&tally, err);
+        }
+        let _ = err.flush();
+    }
+    done
+}
+
+/// Carries out a request as `perform` does, with the files of the file system, and notes errors and counts.
+fn perform_watched<'a, R, I, O, K>(
+    rt: &R,
+    notes: &Notes,
+    request: &Request<'_>,
+    input: &mut I,
+    written: Written<'a, O>,
+) -> (Written<'a, O>, Result<u8, Failure>)
+where
+    R: Files + AllocGlobal + Threads + Wait + Sync,
+    R::File: Send,
+    I: Read + Send,
+    O: Write,
+    K: Called,
+    requires { written.out.ghost_name ≡ K.name }
+    ensures same_reference { result.0.out.ghost_name ≡ written.entry.out.ghost_name }
+    ensures text { AfterText result.1 (IsDone (λ _. None) (I.remaining input.old)
+        (O.contents written.entry.out.now) (O.contents result.0.out.now) request.now) }
+    ensures status { IfOk result.1 (λ status. Contains (0 ∷ 1 ∷ []) status) }
+    ensures untouched { IfErr result.1 (λ failure. is_without_text failure ≡ true
+        → result.0.out.now ≡ written.entry.out.now) }
+    ensures cause { BeforeText result.1 (IsCauseOf (λ _. None) (I.remaining input.old) request.now) }
+    ensures refused { (fault : Failure) → IsFaultOf request.now fault
+        → IsRefused (IsFaultOf request.now) result.1 × (result.0.out.now ≡ written.entry.out.now) }
+{
+    let files = WatchedFiles::new(rt, Disk::new(rt), notes, fonts_of(request));
+    let mut input = WatchedReader::new(rt, notes, input, "standard input", reads_lines(request));
+    let mut out: WatchedWriter<'a, O, K> = WatchedWriter::new(written, notes.is_on());
+    let done = perform(rt, &files, request, &mut input, &mut out);
+    (out.into_written(), done)
+}
