@@ -4,6 +4,7 @@ Counts, listings, pairs, findings of `check`, and the records of `set`, `each` a
 with their exit statuses. The seed is fixed. With `checks/run --minutes N` it is a new one, which is printed,
 and `--seed SEED` repeats a round that failed. A failure becomes a case of checks/cases.
 """
+import itertools
 import os
 import random
 import time
@@ -16,6 +17,7 @@ PARTS, ROUNDS = 8, 90
 MINUTES = float(os.environ.get("CHECKS_MINUTES", 0))
 SEED = os.environ.get("CHECKS_SEED") or (str(random.SystemRandom().randrange(10**9)) if MINUTES else "tfmset")
 ONE = SEED.count("-") == 2  # a single round
+PLANS = list(itertools.product((1, 2, 3, 16), ("1", "3", "8", None), (1, 16)))  # workers, lines of a block, slots
 
 
 class Round:
@@ -32,12 +34,12 @@ class Round:
         font = slow.random_font(self.chance) if self.chance.randrange(3) == 0 else slow.rich_font(self.chance)
         return slow.damage(font, self.chance) if self.chance.randrange(3) == 0 else font
 
-    def text(self, font):
-        """Lines of characters of a font, spaces and other bytes."""
+    def text(self, font, count=None):
+        """Lines of characters of a font, spaces and other bytes: so many, or a few."""
         codes = slow.Font(font).codes if not slow.font_error(font) else []
         codes = [code for code in codes if code != 10] or [97]
         lines = []
-        for _ in range(self.chance.randrange(5)):
+        for _ in range(self.chance.randrange(5) if count is None else count):
             line = [self.chance.choice(codes) for _ in range(self.chance.randrange(12))]
             for _ in range(self.chance.choice([0, 0, 1, 3])):
                 line.insert(self.chance.randrange(len(line) + 1), self.chance.choice([32, 32, self.chance.randrange(256)]))
@@ -136,3 +138,35 @@ class Differential(Case):
                 break
         if MINUTES:
             print(f"{number} rounds")
+
+
+class Plans(Case):
+    """Long texts, with each number of workers, of lines in a block and of slots"""
+
+    def fonts_and_texts(self, one):
+        """Two fonts with the letter a, and three texts: many lines, none, and some that are long or too long."""
+        fonts = []
+        while len(fonts) < 2:
+            font = slow.rich_font(one.chance)
+            fonts += [font] if not slow.font_error(font) and 97 in slow.Font(font).codes else []
+        long = b"\n".join(b"a" * one.chance.choice((9, 999, 5000, 65535, 65536, 150000)) for _ in range(12))
+        return fonts, [one.text(fonts[0], 700) + b"\n", b"", one.text(fonts[1], 90) + b"\n" + long + b"\n\nlast"]
+
+    # Mutants of dealt_lanes and line_blocks: a block is dealt to the next lane, or taken from it; a lane is dealt
+    # two blocks in a row; the last block is lost; the first line number of a block is too small by one.
+    @rows((f"record format {form}", form) for form in ("1", "2", "json"))
+    def test_many_lines(self, form):
+        one = Round(self, f"plans {form}")
+        fonts, texts = self.fonts_and_texts(one)
+        for name, content in zip("ABxyz", fonts + texts):
+            self.file(name, content)
+        same = [(fonts[0], 20, text) for text in texts]
+        own = [(fonts[0], 20, texts[0]), (fonts[1], 5, texts[2]), (fonts[0], 1, texts[1]), (fonts[1], 99, texts[0])]
+        wanted, alone, each = (one.batch(triples, None, False, form) for triples in (same, same[2:], own))
+        for workers, block, slots in PLANS:
+            words = ["--record", form, "--workers", str(workers), "--capacity", str(slots)]
+            words += ["--block", block] if block else []
+            one.compare(wanted, "set", *words, "--limit", "20", "A", *"xyz")
+            one.compare(wanted, "stream", *words, "--limit", "20", "A", *"xyz", in_order=False)
+            one.compare(alone, "stream", *words, "--limit", "20", "A", given=texts[2])
+            one.compare(each, "each", *words, *"A 20 x B 5 z A 1 y B 99 x".split())

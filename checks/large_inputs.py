@@ -5,10 +5,12 @@ does so only for some inputs, by a request for an absurd amount of memory, is pr
 tables and texts have each size up to the limits of the formats here, and fonts have errors at each code,
 entry and instruction.
 """
+import contextlib
 import ctypes
 import os
+import threading
 
-from lib.base import PROGRAM, Case, execute, rows, write
+from lib.base import PROGRAM, Case, bash, execute, rows, write
 from lib.clib import DONE, SIZE, U32, U64, LibraryCase
 from lib.tfm import make, sample, scaled
 
@@ -18,10 +20,46 @@ SIZES = sorted({2 ** i + more for i in range(22) for more in (-1, 0, 1)} | set(r
 ITEMS = [(b"a", 327680, " c97=327680"), (b" ", 218453, " s218453"), (b"d", 0, " m100")]
 ENTRIES = {"width": 256, "height": 16, "depth": 16, "italic": 64}  # the largest tables of dimensions
 TEN_POINTS, SIXTEEN = 655360, 16 << 20  # a size in scaled points, a fix_word that is out of range
+MB = 1 << 20
+LONG_LINE, MOST_SPACE = 600 * MB, 300000  # bytes of a line, KB of address space
 
 
 def run(*args, given=b"", room=None):
     return execute(PROGRAM, *args, given=given, cwd=room)
+
+
+def send(pipe):
+    """Writes a long line and two short ones to a pipe, unless its reader ends before."""
+    with contextlib.suppress(BrokenPipeError), open(pipe, "wb") as file:
+        for _ in range(LONG_LINE // MB):
+            file.write(b"a" * MB)
+        file.write(b"\na\naa\n")
+
+
+class LongLine(Case):
+    """A line that is longer than the memory"""
+
+    @rows((args, args) for args in ("stream font", "stream --crlf font", "set font lines"))
+    def test(self, args):
+        """A line of 600 MB is refused with its length in 300 MB of address space, and later ones are set.
+
+        It comes through a pipe or from a file. Mutant: a `ReaderSource` has the `next_cut` of its trait.
+        """
+        self.file("font", sample("plain"))
+        with open(self.file("lines", b""), "wb") as file:
+            file.seek(LONG_LINE)  # the bytes before are zeros, which take no space on the disk
+            file.write(b"\na\naa")
+        unread, unwritten = os.pipe()
+        sender = threading.Thread(target=send, args=(unwritten,))
+        sender.start()
+        try:
+            seen = bash(f"ulimit -v {MOST_SPACE}; exec '{PROGRAM}' {args}", self.room, given=None, stdin=unread)
+        finally:
+            os.close(unread)
+            sender.join()
+        wanted = (f"1:1 refused too-long {LONG_LINE}\n1:2 set 327680 c97=327680\n"
+                  "1:3 set 655360 c97=327680 c97=327680\n1 end complete 3\n")
+        self.same(args, (1, wanted, ""), seen)
 
 
 class Sizes(Case):

@@ -3,6 +3,7 @@
 The cases are the tables of checks/cases/program. A font in a table is `@NAME CHANGES`, with the changes of
 docs/ERRORS.md; other contents are written as they are. `checks/run --update` writes the files of checks/help.
 """
+import itertools
 import os
 import re
 import unicodedata
@@ -83,6 +84,25 @@ class Verbose(Case):
             wanted = "tfmset: {} lines set, {} refused: {} too-long, {} missing, {} steps\n".format(
                 len(re.findall(r"(?m)^\d+:\d+ set |\"width\":", out)), sum(counts[1:]), *counts[1:])
             self.same(command[:3], (wanted, 3000), (err, len(re.findall("(?m)^.*(?: set |refused|width)", out))))
+
+
+PLANS = tuple(itertools.product(("1", "2", "3", "16"), ("1", "3", "8", None), ("1", "16")))
+
+
+class Plans(Case):
+    """The cases of `set`, `each` and `stream`, with other numbers of workers, of lines in a block and of slots"""
+
+    @rows((title, case, files) for group in ("set", "stream", "each", "crlf", "unread_files")
+          for title, case, files in cases_of(group) if not re.search("--(workers|block|capacity)", title))
+    def test_same(self, case, files):
+        """The exit status and both outputs don't depend on the numbers."""
+        for name, text in files.items():
+            self.file(name, content(text))
+        command, *others = arguments(case["args"])
+        wanted = case.get("status", 0), case.get("out", ""), case.get("err", "")
+        for workers, block, slots in PLANS:
+            options = ["--workers", workers, "--capacity", slots] + (["--block", block] if block else [])
+            self.same(options, wanted, run([command, *options, *others], content(case.get("stdin", "")), self.room))
 
 
 class Causes(Case):

@@ -33,6 +33,7 @@ PIECE = b"".join(b" ".join(WORDS[(line * 7 + i * 3) % 10] for i in range(line % 
                  for line in range(21259))
 MOST_GROWTH = 2 * 1024  # KB
 MOST_MEMORY = 24 * 1024  # KB
+BUSY = 10_000_000  # nanoseconds of processor time of a thread that sets a fourth of ten megabytes; about 80,000,000
 BLOCKS = [("--block 1", ["--block", "1"]), ("--block 8", ["--block", "8"]), ("the default", [])]
 
 
@@ -182,27 +183,34 @@ class Pipes(Case):
             time.sleep(0.02)
         return seen()
 
-    # Mutants of `deliver` in tfm_tool: the plan has one worker, or 16.
-    @rows((f"{command} --workers {workers}: {threads} threads", command, workers, threads)
-          for command in ("set", "each", "stream") for workers, threads in ((1, 5), (2, 6), (3, 7), (16, 7)))
-    def test_threads(self, command, workers, threads):
-        """Three sources have a thread each, one thread collects, and at most three threads set lines."""
-        child, pipes = self.start_with_fifos(command, 3, "--workers", str(workers))
-        count = self.wait_for(threads, lambda: len(os.listdir(f"/proc/{child.pid}/task")))
+    # Mutants of `deliver` in tfm_tool: the plan has one worker, or 16. Of `options` in run_texts: one lane a source.
+    @rows((f"{command} --workers {workers}, {count} files: {threads} threads", command, workers, count, threads)
+          for command in ("set", "each", "stream")
+          for workers, count, threads in ((1, 3, 5), (2, 3, 6), (3, 3, 7), (16, 3, 20), (1, 1, 3), (16, 1, 18),
+                                          (16, 40, 57)))
+    def test_threads(self, command, workers, count, threads):
+        """Each file has a thread, one thread collects, and so many threads set lines as `--workers` states."""
+        child, pipes = self.start_with_fifos(command, count, "--workers", str(workers))
+        seen = self.wait_for(threads, lambda: len(os.listdir(f"/proc/{child.pid}/task")))
         for pipe in pipes:
             pipe.close()
-        self.same("threads and exit status", (threads, 0), (count, child.wait(SECONDS)))
+        self.same("threads and exit status", (threads, 0), (seen, child.wait(SECONDS)))
 
-    # Mutants of `deliver` in tfm_tool: the plan has 16 slots, or blocks of one line, or of eight.
-    @rows((f"{command} --capacity {capacity} --block {block}: {reads} reads", command, capacity, block, reads)
-          for command in ("set", "each", "stream")
-          for capacity, block, reads in ((40, 1, 2), (40, 4, 6), (40, 8, 11), (10, 8, 3)))
-    def test_lines_ahead(self, command, capacity, block, reads):
-        """While all other threads are stopped, a source is read until it has filled a ring and a block."""
-        # These are (capacity + 1) * block lines. A read returns 32 lines of 128 bytes.
-        child, (pipe,) = self.start_with_fifos(command, 1, "--capacity", str(capacity), "--block", str(block))
+    # Mutants of `deliver` in tfm_tool: the plan has 16 slots, or blocks of one line, or of eight; blocks of `set` have
+    # the lines of a read, or those of `stream` don't.
+    @rows((f"{command} --workers {workers} --capacity {slots} --block {block}: {reads} reads",
+           command, workers, slots, block, reads) for command, workers, slots, block, reads in (
+               ("set", 1, 40, None, 2), ("each", 1, 40, None, 2), ("stream", 1, 3, None, 4), ("stream", 3, 2, None, 7),
+               *((command, *row) for command in ("set", "each", "stream") for row in (
+                   (1, 40, 1, 2), (1, 40, 4, 6), (1, 40, 8, 11), (1, 10, 8, 3), (3, 10, 8, 8), (16, 1, 8, 5)))))
+    def test_lines_ahead(self, command, workers, slots, block, reads):
+        """While all other threads are stopped, a source is read until it has filled a ring for each worker, and a
+        block."""
+        # These are workers * slots + 1 blocks. A read returns 32 lines of 128 bytes.
+        options = ["--workers", str(workers), "--capacity", str(slots)] + (["--block", str(block)] if block else [])
+        child, (pipe,) = self.start_with_fifos(command, 1, *options)
         text = (b"five " * 25 + b"ox\n") * 512
-        with self.others_stopped(child):
+        with self.others_stopped(child, 1 + workers):
             self.assertEqual(len(text), pipe.write(text))
 
             def done():
@@ -217,16 +225,16 @@ class Pipes(Case):
         self.same("lines", (513, b"1 end complete 512", 0), (len(lines), lines[-1], child.returncode))
 
     @contextlib.contextmanager
-    def others_stopped(self, child):
-        """Stops the two threads of a batch that don't read its source, when that waits for input."""
+    def others_stopped(self, child, count):
+        """Stops the threads of a batch that don't read its source, so many, when that waits for input."""
         tasks = f"/proc/{child.pid}/task"
 
         def others():
             calls = {thread: read(f"{tasks}/{thread}/syscall").split()[0] for thread in os.listdir(tasks)}
-            return [int(thread) for thread, call in calls.items() if call != "0"] if len(calls) == 3 else []
+            return [int(thread) for thread, call in calls.items() if call != "0"] if len(calls) == 1 + count else []
 
         try:
-            self.assertEqual(2, self.wait_for(2, lambda: len(others())))
+            self.assertEqual(count, self.wait_for(count, lambda: len(others())))
         except OSError:
             self.lack("/proc/PID/task/TID/syscall")
         threads = others()
@@ -245,9 +253,10 @@ class Pipes(Case):
         self.assertLess(abs(peaks[1] - peaks[0]), MOST_GROWTH)
         self.assertLess(max(peaks), MOST_MEMORY)
 
-    def peak_of(self, times):
-        """The most memory, in KB, of a stream that gets a megabyte of text so many times."""
-        child, lines = self.start("--block", "8", DEMO), times * PIECE.count(b"\n")
+    def after(self, times, see, *options):
+        """What a function of the process returns, when a stream has printed all records of a megabyte of text, sent
+        so many times, and its source waits for more."""
+        child, lines = self.start(*options, DEMO), times * PIECE.count(b"\n")
 
         def feed():
             with contextlib.suppress(BrokenPipeError):
@@ -263,12 +272,33 @@ class Pipes(Case):
             if not more:
                 break
         self.assertEqual(count, lines)
-        # The source waits for more: the memory for all records was allocated before.
-        with open(f"/proc/{child.pid}/status", encoding="ascii") as status:
-            peak = next(int(line.split()[1]) for line in status if line.startswith("VmHWM:"))
+        seen = see(child)
         feeder.join()
         self.ends(child, lines)
-        return peak
+        return seen
+
+    def peak_of(self, times):
+        """The most memory, in KB, of a stream that gets a megabyte of text so many times."""
+        def peak(child):
+            with open(f"/proc/{child.pid}/status", encoding="ascii") as status:
+                return next(int(line.split()[1]) for line in status if line.startswith("VmHWM:"))
+
+        return self.after(times, peak, "--block", "8")
+
+    # Mutant of `options` in run_texts: a source has one lane.
+    def test_all_workers_set_the_lines_of_one_source(self):
+        """Four of the six threads set lines. Another one reads, and the last one writes."""
+        def threads(child):
+            tasks = f"/proc/{child.pid}/task"
+            times = [int(read(f"{tasks}/{thread}/schedstat").split()[0]) for thread in os.listdir(tasks)]
+            return len(times), sum(time > BUSY for time in times)
+
+        try:
+            count, busy = self.after(10, threads, "--workers", "4")
+        except OSError:
+            self.lack("/proc/PID/task/TID/schedstat")
+        self.assertEqual(count, 6)
+        self.assertGreaterEqual(busy, 4)
 
     def test_a_closed_pipe_ends_the_stream_with_status_5(self):
         child = self.start(DEMO, stderr=subprocess.PIPE)

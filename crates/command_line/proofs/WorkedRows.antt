@@ -102,7 +102,7 @@ module _ (choices : AllChoices) where
   unfolding clap_on_literals
   set_block = refl
 
-  stream_block : read_in (codes "block") (codes "stream" ∷ codes "f.tfm" ∷ []) ≡ Some (Some (codes "8"))
+  stream_block : read_in (codes "block") (codes "stream" ∷ codes "f.tfm" ∷ []) ≡ Some None
   unfolding clap_on_literals
   stream_block = refl
 

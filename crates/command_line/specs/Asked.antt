@@ -43,6 +43,12 @@ Writes text number = IsNumeral 10 (without_leading_plus text) × (digits_value 1
 abbrev pub IsNumberIn : ℕ → ℕ → Option Text → ℕ → Type 0
 IsNumberIn least most text number = IsSomeAnd text (λ t. Writes t number) × (least ≤ number) × (number ≤ most)
 
+-- the number of lines in a block, from the first value of `--block`, if it has one, and from its only value; 8
+-- if it has none
+abbrev pub IsBlock : Option Text → Option Text → ℕ → Type 0
+IsBlock None only lines = lines ≡ 8
+IsBlock (Some first) only lines = IsNumberIn 1 8 only lines
+
 -- the value of `--missing` for a policy
 abbrev pub policy_word : Policy → Text
 policy_word Refuse = codes "refuse"
@@ -76,11 +82,15 @@ module _ (rows : List Row) where
   abbrev pub has_plain_size : Bool
   has_plain_size = option_map_or is_plain (first_of (codes "size") rows) false
 
+  -- whether `--block` isn't given and has no default
+  abbrev pub has_no_block : Bool
+  has_no_block = is_none (first_of (codes "block") rows)
+
   -- the numbers of `--capacity`, `--block` and `--workers`
   abbrev pub IsPlan : Plan → Type 0
   IsPlan plan =
       IsNumberIn 1 65536 (one_of (codes "capacity") rows) plan.capacity
-      × IsNumberIn 1 8 (one_of (codes "block") rows) plan.block
+      × IsBlock (first_of (codes "block") rows) (one_of (codes "block") rows) plan.block
       × IsNumberIn 1 16 (one_of (codes "workers") rows) plan.workers
 
   -- whether `--verbose` is given
@@ -95,6 +105,7 @@ module _ (rows : List Row) where
       × (first_of (codes "missing") rows ≡ Some (policy_word layout.policy))
       × IsFlag (one_of (codes "crlf") rows) layout.crlf
       × IsPlan layout.plan
+      × (layout.whole_reads ≡ has_no_block)
       × (first_of (codes "record") rows ≡ Some (version_word layout.version))
       × IsVerbose layout.verbose
 

@@ -71,20 +71,24 @@ pub record Choices : Type 0 where
 abbrev pub size_rule : Rule
 size_rule = record (new_rule (codes "size")) { long = Some (codes "size"); value_names = 1 }
 
--- the options of `set`, `stream` and `each`, except `--size`, with this default for `--block`
-abbrev pub run_rules : Text → Choices → List Rule
+-- the option `--block`
+abbrev pub block_rule : Rule
+block_rule = number_rule (codes "block") 8
+
+-- the options of `set`, `stream` and `each`, except `--size`, with this one for `--block`
+abbrev pub run_rules : Rule → Choices → List Rule
 run_rules block choices =
     with_default (codes "refuse") (choice_rule (codes "missing") choices.missing)
     ∷ flag_rule (codes "crlf")
     ∷ with_default (codes "2") (number_rule (codes "workers") 16)
     ∷ with_default (codes "16") (number_rule (codes "capacity") 65536)
-    ∷ with_default block (number_rule (codes "block") 8)
+    ∷ block
     ∷ with_default (codes "1") (choice_rule (codes "record") choices.records)
     ∷ verbose_rule
     ∷ []
 
--- the options of `set` and `stream`, with this default for `--block`, and the argument FONT
-abbrev pub setting_rules : Text → Choices → List Rule
+-- the options of `set` and `stream`, with this one for `--block`, and the argument FONT
+abbrev pub setting_rules : Rule → Choices → List Rule
 setting_rules block choices =
     size_rule ∷ with_default (codes "1048576") (number_rule (codes "limit") 16777216) ∷ run_rules block choices ++ needed (new_rule (codes "FONT")) ∷ []
 
@@ -114,15 +118,15 @@ check_shape = subcommand_with (codes "check") (size_rule ∷ verbose_rule ∷ ne
 
 -- `set` takes its options, a font, and one or more files; a block has one line by default
 abbrev pub set_shape : Choices → Shape
-set_shape choices = subcommand_with (codes "set") (setting_rules (codes "1") choices ++ needed (words_rule (codes "FILE")) ∷ [])
+set_shape choices = subcommand_with (codes "set") (setting_rules (with_default (codes "1") block_rule) choices ++ needed (words_rule (codes "FILE")) ∷ [])
 
--- `stream` takes its options, a font, and any number of files; a block has eight lines by default
+-- `stream` takes its options, a font, and any number of files; `--block` has no default
 abbrev pub stream_shape : Choices → Shape
-stream_shape choices = subcommand_with (codes "stream") (setting_rules (codes "8") choices ++ words_rule (codes "FILE") ∷ [])
+stream_shape choices = subcommand_with (codes "stream") (setting_rules block_rule choices ++ words_rule (codes "FILE") ∷ [])
 
 -- `each` takes its options, and one or more other arguments; a block has one line by default
 abbrev pub each_shape : Choices → Shape
-each_shape choices = subcommand_with (codes "each") (size_rule ∷ run_rules (codes "1") choices ++ needed (words_rule (codes "WORD")) ∷ [])
+each_shape choices = subcommand_with (codes "each") (size_rule ∷ run_rules (with_default (codes "1") block_rule) choices ++ needed (words_rule (codes "WORD")) ∷ [])
 
 -- ---- the command
 

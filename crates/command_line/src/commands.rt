@@ -3,14 +3,15 @@ ghost use Rattle.std.specs.Prelude.{codes, IfOk, IsOkAnd};
 ghost use Rattle.clap.specs.declared.builder.value_parser.ValueParser.{ValueParser};
 ghost use Rattle.clap.specs.declared.builder.value_parser.ValueParser.TheVariants.{Names};
 ghost use Rattle.clap.specs.Words.{App, Rule, Shape, new_app, new_rule, with_rule, with_subcommand};
-ghost use Rattle.command_line.specs.Commands.{AllChoices, Choices, IsArgument, IsCommandOf, IsSubcommand, TakesWords, bare_app, check_shape, choice_rule, counts_shape, each_shape, flag_rule, format_words, list_shape, missing_words, needed, number_rule, pairs_shape, record_words, run_rules, set_shape, setting_rules, size_rule, stream_shape, tfmset_app, verbose_rule, with_default, with_rules, words_rule};
+ghost use Rattle.command_line.specs.Commands.{AllChoices, Choices, IsArgument, IsCommandOf, IsSubcommand, TakesWords, bare_app, block_rule, check_shape, choice_rule, counts_shape, each_shape, flag_rule, format_words, list_shape, missing_words, needed, number_rule, pairs_shape, record_words, run_rules, set_shape, setting_rules, size_rule, stream_shape, tfmset_app, verbose_rule, with_default, with_rules, words_rule};
 
 use crate::help::{
     ABOUT, AFTER_HELP, ALL_HELP, BLOCK_HELP, CAPACITY_HELP, CAUSES_HELP, CHECK_ABOUT,
     CHECK_AFTER_HELP, COUNTS_ABOUT, COUNTS_AFTER_HELP, CRLF_HELP, EACH_ABOUT, EACH_AFTER_HELP,
     FILE_HELP, FONT_HELP, FONTS_HELP, FORMAT_HELP, LIMIT_HELP, LIST_ABOUT, LIST_AFTER_HELP,
     MISSING_HELP, PAIRS_ABOUT, PAIRS_AFTER_HELP, RECORD_HELP, SET_ABOUT, SET_AFTER_HELP, SIZE_HELP,
-    STREAM_ABOUT, STREAM_AFTER_HELP, STREAM_FILE_HELP, VERBOSE_HELP, WORDS_HELP, WORKERS_HELP,
+    STREAM_ABOUT, STREAM_AFTER_HELP, STREAM_BLOCK_HELP, STREAM_FILE_HELP, VERBOSE_HELP, WORDS_HELP,
+    WORKERS_HELP,
 };
 use clap::{Arg, ArgAction, Command, value_parser};
 use std::alloc::{AllocError, Global};
@@ -99,7 +100,8 @@ fn set_command<'a>(alloc: Global) -> Result<Command<'a>, AllocError>
     ensures { IfOk result (λ made. (choices : Choices) × IsSubcommand (set_shape choices) made) }
 {
     let command = subcommand(alloc, "set", SET_ABOUT, SET_AFTER_HELP);
-    let command = setting_options(alloc, command, "1")?;
+    let block = block_option(alloc, BLOCK_HELP).default_value("1");
+    let command = setting_options(alloc, command, block)?;
     with_argument(command, many(alloc, "FILE", FILE_HELP).required(true))
 }
 
@@ -107,7 +109,7 @@ fn stream_command<'a>(alloc: Global) -> Result<Command<'a>, AllocError>
     ensures { IfOk result (λ made. (choices : Choices) × IsSubcommand (stream_shape choices) made) }
 {
     let command = subcommand(alloc, "stream", STREAM_ABOUT, STREAM_AFTER_HELP);
-    let command = setting_options(alloc, command, "8")?;
+    let command = setting_options(alloc, command, block_option(alloc, STREAM_BLOCK_HELP))?;
     with_argument(command, many(alloc, "FILE", STREAM_FILE_HELP))
 }
 
@@ -116,7 +118,8 @@ fn each_command<'a>(alloc: Global) -> Result<Command<'a>, AllocError>
 {
     let command = subcommand(alloc, "each", EACH_ABOUT, EACH_AFTER_HELP);
     let command = with_argument(command, size_option(alloc))?;
-    let command = run_options(alloc, command, "1")?;
+    let block = block_option(alloc, BLOCK_HELP).default_value("1");
+    let command = run_options(alloc, command, block)?;
     with_argument(command, many(alloc, "WORD", WORDS_HELP).required(true))
 }
 
@@ -129,31 +132,33 @@ fn subcommand<'a>(alloc: Global, name: &'a str, about: &'a str, after_help: &'a 
         .after_help(after_help)
 }
 
-/// Adds the options of `set` and `stream`, and the argument FONT. A block has `lines` lines by default.
+/// Adds the options of `set` and `stream`, with this one for `--block`, and the argument FONT.
 fn setting_options<'a>(
     alloc: Global,
     command: Command<'a>,
-    lines: &'a str,
+    block: Arg<'a>,
 ) -> Result<Command<'a>, AllocError>
-    ensures { IfOk result (λ made. (app : App) → IsCommandOf app command.entry
-        → (choices : Choices) × IsCommandOf (with_rules app (setting_rules lines.now choices)) made) }
+    ensures { IfOk result (λ made. (app : App) (rule : Rule) → IsCommandOf app command.entry
+        → IsArgument rule block.entry
+        → (choices : Choices) × IsCommandOf (with_rules app (setting_rules rule choices)) made) }
 {
     let command = with_argument(command, size_option(alloc))?;
     let limit = number_option(alloc, "limit", LIMIT_HELP, 16_777_216).default_value("1048576");
     let command = with_argument(command, limit)?;
-    let command = run_options(alloc, command, lines)?;
+    let command = run_options(alloc, command, block)?;
     with_argument(command, font_argument(alloc))
 }
 
-/// Adds the options that `set`, `stream` and `each` have in common, except `--size`. A block has `lines`
-/// lines by default.
+/// Adds the options that `set`, `stream` and `each` have in common, except `--size`, with this one for
+/// `--block`.
 fn run_options<'a>(
     alloc: Global,
     command: Command<'a>,
-    lines: &'a str,
+    block: Arg<'a>,
 ) -> Result<Command<'a>, AllocError>
-    ensures { IfOk result (λ made. (app : App) → IsCommandOf app command.entry
-        → (choices : Choices) × IsCommandOf (with_rules app (run_rules lines.now choices)) made) }
+    ensures { IfOk result (λ made. (app : App) (rule : Rule) → IsCommandOf app command.entry
+        → IsArgument rule block.entry
+        → (choices : Choices) × IsCommandOf (with_rules app (run_rules rule choices)) made) }
 {
     let command = with_argument(command, missing_option(alloc))?;
     let command = with_argument(command, flag_option(alloc, "crlf", CRLF_HELP))?;
@@ -161,7 +166,6 @@ fn run_options<'a>(
     let command = with_argument(command, workers)?;
     let capacity = number_option(alloc, "capacity", CAPACITY_HELP, 65_536).default_value("16");
     let command = with_argument(command, capacity)?;
-    let block = number_option(alloc, "block", BLOCK_HELP, 8).default_value(lines);
     let command = with_argument(command, block)?;
     let command = with_argument(command, record_option(alloc))?;
     with_argument(command, verbose_option(alloc, VERBOSE_HELP))
@@ -248,6 +252,12 @@ fn number_option<'a>(alloc: Global, name: &'a str, help: &'a str, most: u32) -> 
         .value_name("N")
         .help(help)
         .value_parser(value_parser!(u32).range(1..=i64::from(most)))
+}
+
+fn block_option<'a>(alloc: Global, help: &'a str) -> Arg<'a>
+    ensures { IsArgument block_rule result }
+{
+    number_option(alloc, "block", help, 8)
 }
 
 /// Builds an option whose value is one of `words`.

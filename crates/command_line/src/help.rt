@@ -139,10 +139,11 @@ programs that never end. A missing character is a byte, other than the space,
 for which the font has no character. Record format 2 adds the number of steps
 to each record; json prints the same data as one JSON object per line.
 
---workers is for several FILEs: each FILE is set by one thread, and a larger
-number sets more FILEs at the same time. --block is the number of lines that
-threads pass on together: 8 takes the least processor time, and delays nothing,
-since the output is printed at the end.
+--workers is the largest number of threads that set lines. The lines of a FILE
+are dealt to all of them in turn; of more than four FILEs, each may have fewer.
+The output doesn't depend on this number. --block is the largest number of
+lines that threads pass on together: 8 takes the least processor time, and
+delays nothing, since the output is printed at the end.
 
 With --verbose, the causes of errors are printed on standard error, with names,
 and the numbers of lines that were set and refused, for each reason. There is
@@ -163,7 +164,7 @@ pub(crate) const STREAM_ABOUT: &str =
 
 pub(crate) const STREAM_AFTER_HELP: &str = "Examples, in the directory examples of the sources:
   echo five | tfmset stream --size 12pt demo.tfm
-  tfmset stream --workers 4 --block 8 demo.tfm lines.txt demo.txt
+  tfmset stream --workers 4 demo.tfm lines.txt demo.txt
 
 Reads FONT and sets the lines of up to 64 FILEs concurrently, or, without a
 FILE, those of standard input; FONT can't be - then. Prints the same records
@@ -180,10 +181,13 @@ could not all be read and set, its end line states the reason.
 A size is as for `tfmset set`. If it has no unit and is below 65536, which is
 less than 1pt, a warning is printed on standard error.
 
-A larger --block takes less processor time. A record doesn't wait for input
-that hasn't arrived, however large the block is. --workers is for several
-FILEs: each FILE is set by one thread. If the reader of a pipe closes it,
-`stream` ends at its next write, with exit status 5 (--verbose: broken pipe).
+--block is the largest number of lines that threads pass on together. Without
+it, they pass on the lines of each read together, which takes the least time. A
+record doesn't wait for input that hasn't arrived, however large the block is.
+--workers is the largest number of threads that set lines: those of one FILE
+are dealt to all of them in turn, as for `tfmset set`. If the reader of a pipe
+closes it, `stream` ends at its next write, with exit status 5 (--verbose:
+broken pipe).
 
 With --verbose, the causes of errors are printed on standard error, with names,
 and the numbers of lines that were set and refused, for each reason, and of
@@ -225,11 +229,14 @@ Exit status:
   5  Memory allocation, a thread start or writing the output failed.
 With 2 and 3, the output is empty.";
 
-pub(crate) const WORKERS_HELP: &str = "Maximum threads, 1 to 16; a file uses one";
+pub(crate) const WORKERS_HELP: &str = "Maximum threads that set lines, 1 to 16";
 
 pub(crate) const CAPACITY_HELP: &str = "Slots per queue between threads, 1 to 65536";
 
 pub(crate) const BLOCK_HELP: &str = "Lines per message, 1 to 8; 8 is fastest";
+
+pub(crate) const STREAM_BLOCK_HELP: &str =
+    "Lines per message, 1 to 8; by default those of one read";
 
 pub(crate) const WORDS_HELP: &str = "FONT LIMIT FILE, repeated for each file";
 

@@ -2,7 +2,7 @@
 ghost use Rattle.std.specs.Prelude.{◌≡◌, [], map, IfErr, IfOk, Some, codes, option_map, unwrap_or};
 ghost use Rattle.clap.specs.Words.{all_of, first_of, found_of, kind_of, one_of, rows_of, subcommand_rows_of};
 ghost use Rattle.command_line.specs.Commands.{AllChoices, IsCommandOf, tfmset_app};
-ghost use Rattle.command_line.specs.Asked.{AreJobs, AsksFor, Finds, format_word, has_plain_size, IsAskedBy, IsAskedOf, IsAskedWith, IsChecking, IsFlag, IsLayout, IsNumberIn, IsPlan, IsRefusedBy, IsRefusedWith, IsSetting, IsSize, IsVerbose, kind_without_request, misstates_size, policy_word, texts, version_word};
+ghost use Rattle.command_line.specs.Asked.{AreJobs, AsksFor, Finds, format_word, has_no_block, has_plain_size, IsAskedBy, IsAskedOf, IsAskedWith, IsBlock, IsChecking, IsFlag, IsLayout, IsNumberIn, IsPlan, IsRefusedBy, IsRefusedWith, IsSetting, IsSize, IsVerbose, kind_without_request, misstates_size, policy_word, texts, version_word};
 
 use crate::commands::tfmset_command;
 use crate::help::SIZE_ERROR;
@@ -65,7 +65,7 @@ fn without_request<'a>(
 fn misstated(matches: &ArgMatches<'_>) -> bool
     ensures { result ≡ misstates_size (rows_of (found_of matches.now)) }
 {
-    match given_size(matches) {
+    match value_of(matches, "size") {
         Some(text) => read_size(text.as_bytes()).is_none(),
         None => false,
     }
@@ -79,7 +79,7 @@ fn wrong_size<'a>(
 ) -> Result<Error, AllocError>
     ensures { IfOk result (λ error. kind_of error ≡ ErrorKind.ValueValidation) }
 {
-    let value = given_size(matches).unwrap_or("");
+    let value = value_of(matches, "size").unwrap_or("");
     let message = format!(in alloc; "invalid value '{value}' for '--size <N>': {SIZE_ERROR}")?;
     command.error(ErrorKind::ValueValidation, message.as_str())
 }
@@ -233,6 +233,7 @@ fn asked_layout(matches: &ArgMatches<'_>) -> Option<Layout>
         policy: asked_policy(matches)?,
         crlf: flag(matches, "crlf"),
         plan: asked_plan(matches)?,
+        whole_reads: asked_whole_reads(matches),
         version: asked_version(matches)?,
         verbose: asked_verbose(matches),
     })
@@ -292,23 +293,23 @@ fn asked_plan(matches: &ArgMatches<'_>) -> Option<Plan>
 fn asked_size(matches: &ArgMatches<'_>) -> Option<Option<Size>>
     ensures { Finds (IsSize (rows_of (found_of matches.now))) result }
 {
-    match given_size(matches) {
+    match value_of(matches, "size") {
         Some(text) => Some(Some(read_size(text.as_bytes())?)),
         None => Some(None),
     }
 }
 
-/// Returns the value of `--size`.
-fn given_size<'a>(matches: &ArgMatches<'a>) -> Option<&'a str>
-    ensures { option_map (λ text. text.now) result ≡ first_of (codes "size") (rows_of (found_of matches.now)) }
+/// Returns the first value of this argument.
+fn value_of<'a>(matches: &ArgMatches<'a>, name: &str) -> Option<&'a str>
+    ensures { option_map (λ text. text.now) result ≡ first_of name.now (rows_of (found_of matches.now)) }
 {
-    matches.get_str("size")
+    matches.get_str(name)
 }
 
 fn asked_plain_size(matches: &ArgMatches<'_>) -> bool
     ensures { result ≡ has_plain_size (rows_of (found_of matches.now)) }
 {
-    match given_size(matches) {
+    match value_of(matches, "size") {
         Some(text) => is_plain(text.as_bytes()),
         None => false,
     }
@@ -326,10 +327,24 @@ fn asked_capacity(matches: &ArgMatches<'_>) -> Option<Capacity>
     Capacity::new(number(matches, "capacity")? as usize)
 }
 
+/// Returns the number of lines in a block; 8, the largest, if `--block` has no value.
 fn asked_block(matches: &ArgMatches<'_>) -> Option<Block>
-    ensures { Finds (IsNumberIn 1 8 (one_of (codes "block") (rows_of (found_of matches.now)))) result }
+    ensures { Finds (IsBlock (first_of (codes "block") (rows_of (found_of matches.now)))
+        (one_of (codes "block") (rows_of (found_of matches.now)))) result }
 {
+    if asked_whole_reads(matches) {
+        return Block::new(8);
+    }
     Block::new(number(matches, "block")? as usize)
+}
+
+fn asked_whole_reads(matches: &ArgMatches<'_>) -> bool
+    ensures { result ≡ has_no_block (rows_of (found_of matches.now)) }
+{
+    match value_of(matches, "block") {
+        Some(_) => false,
+        None => true,
+    }
 }
 
 fn asked_workers(matches: &ArgMatches<'_>) -> Option<Workers>

@@ -58,6 +58,9 @@ pub struct Layout {
     pub crlf: bool,
     /// The capacity and the block of each lane, and the largest number of workers.
     pub plan: Plan,
+    /// Whether a block has the whole lines of one read, and not the plan's number of lines: `stream` without
+    /// `--block`.
+    pub whole_reads: bool,
     /// The record format.
     pub version: Version,
     /// Whether the causes of errors, and a summary, are printed on standard error.

@@ -1,5 +1,5 @@
 -- Messages that came one after the other.
-use Rattle.std.proofs.Common.{arith, ◌≡◌, true, List, [], ◌∷◌, ◌++◌, Option, Some, None, refl, ap, sym, ◌∙◌, append-nil}
+use Rattle.std.proofs.Common.{arith, ◌≡◌, true, false, List, [], ◌∷◌, ◌++◌, Option, Some, None, ◌<◌, ◌≤◌, length, refl, ap, sym, ◌∙◌, append-nil}
 use Rattle.std.specs.Prelude.{is_some}
 use Rattle.line_lane.specs.Messages.{MessageValue, IsFilled, first_end, items_of, end_of, are_none, stand_behind, ends_last}
 
@@ -9,9 +9,22 @@ module _ {E : Type 0} where
   ends_none None later none = (refl, none)
   ends_none (Some end) later none = absurd (grind (arith, none))
 
+  pub none_of : (end : Option E) → is_some end ≡ false → end ≡ None
+  none_of None none = refl
+  none_of (Some end) none = absurd (grind (arith, none))
+
   pub first_end-none : (first : Option E) → first_end first None ≡ first
   first_end-none None = refl
   first_end-none (Some end) = refl
+
+module _ {T : Type 0} where
+  pub some_left : (items : List T) → 0 < length items → are_none items ≡ false
+  some_left [] some = absurd (omega (arith, some))
+  some_left (item ∷ items) some = refl
+
+  pub none_left : (items : List T) → length items ≤ 0 → items ≡ []
+  none_left [] none = refl
+  none_left (item ∷ items) none = absurd (omega (arith, none))
 
 module _ {T E : Type 0} where
   -- a message that got an item is filled

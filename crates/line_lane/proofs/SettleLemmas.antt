@@ -1,14 +1,12 @@
 -- The lists of a lane's ends, once these have met.
-use Rattle.std.proofs.Common.{arith, ◌≡◌, ℕ, Bool, true, false, List, [], ◌∷◌, ◌++◌, length, take, drop, Option, Some, None, refl, ap, sym, subst, ◌∙◌, append_assoc, append-nil, take-append-drop}
+use Rattle.std.proofs.Common.{arith, ◌≡◌, Bool, true, false, List, [], ◌∷◌, ◌++◌, length, take, drop, Option, Some, None, refl, ap, sym, subst, ◌∙◌, append_assoc, append-nil, take-append-drop}
 use Rattle.std.proofs.lemmas.Bool.{true≢false}
 use Rattle.std.proofs.lemmas.List.{map-append, take-map}
 use Rattle.std.proofs.lemmas.Option.{none-some}
 use Rattle.std.proofs.Math.Seq.{take-append_seam}
-use Rattle.std.specs.Prelude.{◌&&◌, not, is_some, if◌then◌else◌}
+use Rattle.std.specs.Prelude.{◌&&◌, not, is_some, map, MatchOption, if◌then◌else◌}
 use Rattle.std.specs.Option.{option_map}
-use Rattle.set_line.specs.Terms.{TermsValue}
-use Rattle.set_line.specs.Answer.{AnswerValue, answer_of}
-use Rattle.line_lane.specs.Lane.{answers_of, pipeline, lane_end_of}
+use Rattle.line_lane.specs.Lane.{pipeline, lane_end_of}
 use Rattle.line_lane.specs.Messages.{first_end}
 use Rattle.line_lane.specs.Rings.{IsFirstOf, items_sent, items_received, end_sent}
 use Rattle.line_lane.specs.Ends.{fed, open_lines, feeder_end, state_of, hands_of, taken, taker_end}
@@ -20,6 +18,7 @@ use Rattle.line_lane.specs.Turns.{SetterState, IsOrderly, is_done, is_given_up, 
 use Rattle.line_lane.specs.declared.ending.SourceEnd.{SourceEnd}
 use Rattle.line_lane.specs.declared.ending.LaneEnd.{LaneEnd}
 use Rattle.line_lane.specs.declared.ending.LaneEnd.TheVariants.{Complete, SourceFailed, GaveUp}
+use Rattle.line_lane.specs.declared.making.Making.{Ghosts}
 
 -- a list in front of another
 abbrev IsFront : {T : Type 0} → List T → List T → Type 0
@@ -32,34 +31,36 @@ first-front front all e =
 front-front : {T : Type 0} (a b c : List T) → IsFront a b → IsFront b c → IsFront a c
 front-front a b c (r, e) (q, f) = (r ++ q, sym (append_assoc a r q) ∙ ap (λ x. x ++ q) e ∙ f)
 
-front-answers : (terms : TermsValue) (front all : List (List ℕ)) → IsFront front all → IsFront (answers_of terms front) (answers_of terms all)
-front-answers terms front all (r, e) = (answers_of terms r, sym (map-append (answer_of terms) front r) ∙ ap (answers_of terms) e)
+module _ {I O : Type 0} where
+  front-answers : (makes : I → O) (front all : List I) → IsFront front all → IsFront (map makes front) (map makes all)
+  front-answers makes front all (r, e) = (map makes r, sym (map-append makes front r) ∙ ap (map makes) e)
 
-front-pipeline : (terms : TermsValue) (taken : List AnswerValue) (fed : List (List ℕ)) → IsFront taken (answers_of terms fed) → pipeline terms fed taken
-front-pipeline terms taken fed (r, e) =
-    sym (take-append_seam taken r) ∙ ap (take (length taken)) e ∙ take-map (answer_of terms) (length taken) fed
+  front-pipeline : (makes : I → O) (taken : List O) (fed : List I) → IsFront taken (map makes fed) → pipeline makes fed taken
+  front-pipeline makes taken fed (r, e) =
+      sym (take-append_seam taken r) ∙ ap (take (length taken)) e ∙ take-map makes (length taken) fed
 
--- whatever an end still holds, what was taken are the answers of the first of the lines that were fed
-pub pipeline_holds : (s : SetterState) (taken held received : List AnswerValue) (sent lines : List (List ℕ)) → IsOrderly s
-    → taken ++ held ≡ received → IsFirstOf received s.given → IsFirstOf s.seen sent → pipeline s.terms (sent ++ lines) taken
-pipeline_holds s taken held received sent lines orderly whole first seen =
-    let done : List AnswerValue = s.given ++ s.answers in
-    let of_received : IsFront taken received = (held, whole) in
-    let of_given = front-front taken received s.given of_received (first-front received s.given first) in
-    let of_done : IsFront taken done = front-front taken s.given done of_given (s.answers, refl) in
-    let of_answers : IsFront taken (answers_of s.terms (take (length done) s.seen)) = subst (IsFront taken) orderly.0 of_done in
-    let of_seen = front-front taken (answers_of s.terms (take (length done) s.seen)) (answers_of s.terms s.seen) of_answers
-    (front-answers s.terms (take (length done) s.seen) s.seen (drop (length done) s.seen, take-append-drop (length done) s.seen)) in
-    let fed_front = front-front s.seen sent (sent ++ lines) (first-front s.seen sent seen) (lines, refl) in
-    front-pipeline s.terms taken (sent ++ lines)
-    (front-front taken (answers_of s.terms s.seen) (answers_of s.terms (sent ++ lines)) of_seen (front-answers s.terms s.seen (sent ++ lines) fed_front))
+  -- whatever an end still holds, what was taken are the answers of the first of the lines that were fed
+  pub pipeline_holds : (s : SetterState I O) (taken held received : List O) (sent lines : List I) → IsOrderly s
+      → taken ++ held ≡ received → IsFirstOf received s.given → IsFirstOf s.seen sent → pipeline s.makes (sent ++ lines) taken
+  pipeline_holds s taken held received sent lines orderly whole first seen =
+      let done : List O = s.given ++ s.answers in
+      let of_received : IsFront taken received = (held, whole) in
+      let of_given = front-front taken received s.given of_received (first-front received s.given first) in
+      let of_done : IsFront taken done = front-front taken s.given done of_given (s.answers, refl) in
+      let of_answers : IsFront taken (map s.makes (take (length done) s.seen)) = subst (IsFront taken) orderly.0 of_done in
+      let of_seen = front-front taken (map s.makes (take (length done) s.seen)) (map s.makes s.seen) of_answers
+      (front-answers s.makes (take (length done) s.seen) s.seen (drop (length done) s.seen, take-append-drop (length done) s.seen)) in
+      let fed_front = front-front s.seen sent (sent ++ lines) (first-front s.seen sent seen) (lines, refl) in
+      front-pipeline s.makes taken (sent ++ lines)
+      (front-front taken (map s.makes s.seen) (map s.makes (sent ++ lines)) of_seen (front-answers s.makes s.seen (sent ++ lines) fed_front))
 
--- what the setter saw are the first of the lines that were fed
-pub seen_of : (f : Feeder) (s : Setter) (t : Taker) → HaveMet f s t → IsFirstOf (state_of s).seen (fed f)
-seen_of f s t met =
-    let seen = (state_of s).seen in
-    let (rest, is) = front-front seen (items_sent f.sender) (fed f) (first-front seen (items_sent f.sender) met.first_lines) (open_lines f, refl) in
-    sym (take-append_seam seen rest) ∙ ap (take (length seen)) is
+module _ {M I O IS OS : Type 0} {ghosts : Ghosts M I O IS OS} where
+  -- what the setter saw are the first of the lines that were fed
+  pub seen_of : (f : Feeder I IS) (s : Setter M I O IS OS ghosts) (t : Taker O OS) → HaveMet f s t → IsFirstOf (state_of s).seen (fed f)
+  seen_of f s t met =
+      let seen = (state_of s).seen in
+      let (rest, is) = front-front seen (items_sent f.sender) (fed f) (first-front seen (items_sent f.sender) met.first_lines) (open_lines f, refl) in
+      sym (take-append_seam seen rest) ∙ ap (take (length seen)) is
 
 -- ---- a setter that is done
 
@@ -71,49 +72,50 @@ both-second : (a b : Bool) → a && b ≡ true → b ≡ true
 both-second true b e = e
 both-second false b e = absurd (true≢false (sym e))
 
-pub done-source : (s : SetterState) → is_done s ≡ true → is_some s.source ≡ true
-done-source s done = both-first (is_some s.source) (is_some s.made && not s.ready) done
+module _ {I O : Type 0} where
+  pub done-source : (s : SetterState I O) → is_done s ≡ true → is_some s.source ≡ true
+  done-source s done = both-first (is_some s.source) (is_some s.made && not s.ready) done
 
-pub done-made : (s : SetterState) → is_done s ≡ true → is_some s.made ≡ true
-done-made s done = by (is_some s.source) (is_some s.made) done
-  where
-    by : (source made : Bool) → source && (made && not s.ready) ≡ true → made ≡ true
-    by true true e = refl
-    by true false e = e
-    by false made e = absurd (true≢false (sym e))
+  pub done-made : (s : SetterState I O) → is_done s ≡ true → is_some s.made ≡ true
+  done-made s done = by (is_some s.source) (is_some s.made) done
+    where
+      by : (source made : Bool) → source && (made && not s.ready) ≡ true → made ≡ true
+      by true true e = refl
+      by true false e = e
+      by false made e = absurd (true≢false (sym e))
 
-pub done-unready : (s : SetterState) → is_done s ≡ true → s.ready ≡ false
-done-unready s done = by (is_some s.source) (is_some s.made) s.ready done
-  where
-    by : (source made ready : Bool) → source && (made && not ready) ≡ true → ready ≡ false
-    by source made false e = refl
-    by true true true e = sym e
-    by true false true e = sym e
-    by false made true e = sym e
+  pub done-unready : (s : SetterState I O) → is_done s ≡ true → s.ready ≡ false
+  done-unready s done = by (is_some s.source) (is_some s.made) s.ready done
+    where
+      by : (source made ready : Bool) → source && (made && not ready) ≡ true → ready ≡ false
+      by source made false e = refl
+      by true true true e = sym e
+      by true false true e = sym e
+      by false made true e = sym e
 
--- one that is done and didn't give up has no line in hand
-done-no_lines : (s : SetterState) → is_done s ≡ true → is_given_up s.made ≡ false → IsOrderly s → s.lines ≡ []
-done-no_lines s done going orderly = by s.lines (sym (orderly.2 going)) (done-made s done)
-  where
-    by : (lines : List (List ℕ)) → end_with lines s.source ≡ s.made → is_some s.made ≡ true → lines ≡ []
-    by [] e made = refl
-    by (line ∷ lines) e made = absurd (true≢false (sym made ∙ ap is_some (sym e)))
+  -- one that is done and didn't give up has no line in hand
+  done-no_lines : (s : SetterState I O) → is_done s ≡ true → is_given_up s.made ≡ false → IsOrderly s → s.lines ≡ []
+  done-no_lines s done going orderly = by s.lines (sym (orderly.2 going)) (done-made s done)
+    where
+      by : (lines : List I) → end_with lines s.source ≡ s.made → is_some s.made ≡ true → lines ≡ []
+      by [] e made = refl
+      by (line ∷ lines) e made = absurd (true≢false (sym made ∙ ap is_some (sym e)))
 
--- its end is that of the source
-pub done-end : (s : SetterState) → is_done s ≡ true → is_given_up s.made ≡ false → IsOrderly s → s.made ≡ option_map lane_end_of s.source
-done-end s done going orderly =
-    orderly.2 going ∙ ap (λ l. end_with l s.source) (done-no_lines s done going orderly)
+  -- its end is that of the source
+  pub done-end : (s : SetterState I O) → is_done s ≡ true → is_given_up s.made ≡ false → IsOrderly s → s.made ≡ option_map lane_end_of s.source
+  done-end s done going orderly =
+      orderly.2 going ∙ ap (λ l. end_with l s.source) (done-no_lines s done going orderly)
 
--- it has given the answers of all lines it saw
-pub done-given : (s : SetterState) → is_done s ≡ true → is_given_up s.made ≡ false → IsOrderly s → s.given ≡ answers_of s.terms s.seen
-done-given s done going orderly =
-    let lines = done-no_lines s done going orderly in
-    let answers : s.answers ≡ [] = orderly.4 (done-unready s done) lines in
-    let all : List AnswerValue = s.given ++ s.answers in
-    let none : drop (length all) s.seen ≡ [] = sym (orderly.1 going) ∙ lines in
-    let whole : take (length all) s.seen ≡ s.seen =
-    sym (append-nil (take (length all) s.seen)) ∙ ap (λ r. take (length all) s.seen ++ r) (sym none) ∙ take-append-drop (length all) s.seen in
-    sym (append-nil s.given) ∙ ap (λ a. s.given ++ a) (sym answers) ∙ orderly.0 ∙ ap (answers_of s.terms) whole
+  -- it has given the answers of all lines it saw
+  pub done-given : (s : SetterState I O) → is_done s ≡ true → is_given_up s.made ≡ false → IsOrderly s → s.given ≡ map s.makes s.seen
+  done-given s done going orderly =
+      let lines = done-no_lines s done going orderly in
+      let answers : s.answers ≡ [] = orderly.4 (done-unready s done) lines in
+      let all : List O = s.given ++ s.answers in
+      let none : drop (length all) s.seen ≡ [] = sym (orderly.1 going) ∙ lines in
+      let whole : take (length all) s.seen ≡ s.seen =
+      sym (append-nil (take (length all) s.seen)) ∙ ap (λ r. take (length all) s.seen ++ r) (sym none) ∙ take-append-drop (length all) s.seen in
+      sym (append-nil s.given) ∙ ap (λ a. s.given ++ a) (sym answers) ∙ orderly.0 ∙ ap (map s.makes) whole
 
 -- an end that was given up
 pub given_up-end : (made : Option LaneEnd) (end : LaneEnd) → is_given_up made ≡ true → made ≡ Some end → end ≡ GaveUp
@@ -124,36 +126,38 @@ given_up-end (Some GaveUp) end up e = grind (arith, e)
 
 -- ---- the three ends
 
-pub pipeline_of : (f : Feeder) (s : Setter) (t : Taker) → HaveMet f s t → pipeline (state_of s).terms (fed f) (taken t)
-pipeline_of f s t met =
-    pipeline_holds (state_of s) (taken t) t.receiver.hand.items (items_received t.receiver) (items_sent f.sender) (open_lines f) s.orderly t.all.0 met.first_answers met.first_lines
+module _ {M I O IS OS : Type 0} {ghosts : Ghosts M I O IS OS} where
+  pub pipeline_of : (f : Feeder I IS) (s : Setter M I O IS OS ghosts) (t : Taker O OS) → HaveMet f s t → pipeline (state_of s).makes (fed f) (taken t)
+  pipeline_of f s t met =
+      pipeline_holds (state_of s) (taken t) t.receiver.hand.items (items_received t.receiver) (items_sent f.sender) (open_lines f) s.orderly t.all.0 met.first_answers met.first_lines
 
 -- the end that was taken is the one that was received
 ended-ending : (ended : Bool) (ending : Option LaneEnd) (end : LaneEnd) → (if ended then ending else None) ≡ Some end → ending ≡ Some end
 ended-ending true ending end e = e
 ended-ending false ending end e = absurd (none-some end e)
 
-pub settled_of : (f : Feeder) (s : Setter) (t : Taker) (end : LaneEnd) → HaveMet f s t → is_over f s t ≡ true → taker_end t ≡ Some end
-    → IsSettled f s t end
-settled_of f s t end met over ending =
-    let closed : is_some (feeder_end f) ≡ true = both-first (is_some (feeder_end f)) (is_done (state_of s) && t.ended) over in
-    let rest = both-second (is_some (feeder_end f)) (is_done (state_of s) && t.ended) over in
-    let done : is_done (state_of s) ≡ true = both-first (is_done (state_of s)) t.ended rest in
-    let ended : t.ended ≡ true = both-second (is_done (state_of s)) t.ended rest in
-    let came : (hands_of t).ending ≡ Some end = ended-ending t.ended (hands_of t).ending end ending in
-    let some : is_some (hands_of t).ending ≡ true = ap is_some came in
-    let sent : end_sent s.sender ≡ Some end = sym (met.ending some) ∙ came in
-    let made : (state_of s).made ≡ Some end = ap (λ e. first_end e s.sender.hand.ending) sent in
-    let source : is_some (state_of s).source ≡ true = done-source (state_of s) done in
-    let held : t.receiver.hand.items ≡ [] = t.all.1 ended in
-    let whole : taken t ≡ (state_of s).given = sym (append-nil (taken t)) ∙ ap (λ h. taken t ++ h) (sym held) ∙ t.all.0 ∙ met.all_answers some in
-    let all : (state_of s).seen ≡ fed f = met.all_lines source ∙ sym (append-nil (items_sent f.sender)) ∙ ap (λ l. items_sent f.sender ++ l) (sym (f.closed closed)) in (
-      over,
-      ending,
-      (λ up. given_up-end (state_of s).made end up made),
-      (λ going. ap (option_map lane_end_of) (sym (met.source source)) ∙ sym (done-end (state_of s) done going s.orderly) ∙ made),
-      (λ going. whole ∙ done-given (state_of s) done going s.orderly ∙ ap (answers_of (state_of s).terms) all),
-    )
+module _ {M I O IS OS : Type 0} {ghosts : Ghosts M I O IS OS} where
+  pub settled_of : (f : Feeder I IS) (s : Setter M I O IS OS ghosts) (t : Taker O OS) (end : LaneEnd) → HaveMet f s t → is_over f s t ≡ true → taker_end t ≡ Some end
+      → IsSettled f s t end
+  settled_of f s t end met over ending =
+      let closed : is_some (feeder_end f) ≡ true = both-first (is_some (feeder_end f)) (is_done (state_of s) && t.ended) over in
+      let rest = both-second (is_some (feeder_end f)) (is_done (state_of s) && t.ended) over in
+      let done : is_done (state_of s) ≡ true = both-first (is_done (state_of s)) t.ended rest in
+      let ended : t.ended ≡ true = both-second (is_done (state_of s)) t.ended rest in
+      let came : (hands_of t).ending ≡ Some end = ended-ending t.ended (hands_of t).ending end ending in
+      let some : is_some (hands_of t).ending ≡ true = ap is_some came in
+      let sent : end_sent s.sender ≡ Some end = sym (met.ending some) ∙ came in
+      let made : (state_of s).made ≡ Some end = ap (λ e. first_end e s.sender.hand.ending) sent in
+      let source : is_some (state_of s).source ≡ true = done-source (state_of s) done in
+      let held : t.receiver.hand.items ≡ [] = t.all.1 ended in
+      let whole : taken t ≡ (state_of s).given = sym (append-nil (taken t)) ∙ ap (λ h. taken t ++ h) (sym held) ∙ t.all.0 ∙ met.all_answers some in
+      let all : (state_of s).seen ≡ fed f = met.all_lines source ∙ sym (append-nil (items_sent f.sender)) ∙ ap (λ l. items_sent f.sender ++ l) (sym (f.closed closed)) in (
+        over,
+        ending,
+        (λ up. given_up-end (state_of s).made end up made),
+        (λ going. ap (option_map lane_end_of) (sym (met.source source)) ∙ sym (done-end (state_of s) done going s.orderly) ∙ made),
+        (λ going. whole ∙ done-given (state_of s) done going s.orderly ∙ ap (map (state_of s).makes) all),
+      )
 
 -- ---- an end that was given out
 
@@ -164,11 +168,12 @@ not_given_up (Some Complete) end made other = refl
 not_given_up (Some (SourceFailed fault)) end made other = refl
 not_given_up (Some GaveUp) end made other = absurd (other (given_up-end (Some GaveUp) end refl made))
 
--- it is made only after that of the source
-end_with-source : (lines : List (List ℕ)) (source : Option SourceEnd) (end : LaneEnd) → end_with lines source ≡ Some end → is_some source ≡ true
-end_with-source [] (Some source) end e = refl
-end_with-source [] None end e = absurd (none-some end e)
-end_with-source (line ∷ lines) source end e = absurd (none-some end e)
+module _ {I : Type 0} where
+  -- it is made only after that of the source
+  end_with-source : (lines : List I) (source : Option SourceEnd) (end : LaneEnd) → end_with lines source ≡ Some end → is_some source ≡ true
+  end_with-source [] (Some source) end e = refl
+  end_with-source [] None end e = absurd (none-some end e)
+  end_with-source (line ∷ lines) source end e = absurd (none-some end e)
 
 -- it was sent, so the message that had it isn't ready any more
 sent-unready : (ready : Bool) (sent : Option LaneEnd) (end : LaneEnd) → (ready ≡ true → sent ≡ None) → sent ≡ Some end → ready ≡ false
@@ -182,35 +187,46 @@ ended-true false ending end e = absurd (none-some end e)
 all_true : (a b c : Bool) → a ≡ true → b ≡ true → c ≡ true → a && (b && c) ≡ true
 all_true a b c e f g = rw (e, f, g) refl
 
--- it comes only from a lane that is over
-pub settled_by_end : (f : Feeder) (s : Setter) (t : Taker) (end : LaneEnd) → HaveMet f s t → taker_end t ≡ Some end → (end ≡ GaveUp → ⊥)
-    → IsSettled f s t end
-settled_by_end f s t end met ending other =
-    let ended : t.ended ≡ true = ended-true t.ended (hands_of t).ending end ending in
-    let came : (hands_of t).ending ≡ Some end = ended-ending t.ended (hands_of t).ending end ending in
-    let sent : end_sent s.sender ≡ Some end = sym (met.ending (ap is_some came)) ∙ came in
-    let made : (state_of s).made ≡ Some end = ap (λ e. first_end e s.sender.hand.ending) sent in
-    let going : is_given_up (state_of s).made ≡ false = not_given_up (state_of s).made end made other in
-    let source : is_some (state_of s).source ≡ true = end_with-source (state_of s).lines (state_of s).source end (sym (s.orderly.2 going) ∙ made) in
-    let unready : s.ready ≡ false = sent-unready s.ready (end_sent s.sender) end s.in_hand.2 sent in
-    let done : is_done (state_of s) ≡ true =
-    all_true (is_some (state_of s).source) (is_some (state_of s).made) (not s.ready) source (ap is_some made) (ap not unready) in
-    let closed : is_some (feeder_end f) ≡ true = ap is_some (sym (met.source source)) ∙ source in
-    settled_of f s t end met (all_true (is_some (feeder_end f)) (is_done (state_of s)) t.ended closed done ended) ending
+module _ {M I O IS OS : Type 0} {ghosts : Ghosts M I O IS OS} where
+  -- it comes only from a lane that is over
+  pub settled_by_end : (f : Feeder I IS) (s : Setter M I O IS OS ghosts) (t : Taker O OS) (end : LaneEnd) → HaveMet f s t → taker_end t ≡ Some end → (end ≡ GaveUp → ⊥)
+      → IsSettled f s t end
+  settled_by_end f s t end met ending other =
+      let ended : t.ended ≡ true = ended-true t.ended (hands_of t).ending end ending in
+      let came : (hands_of t).ending ≡ Some end = ended-ending t.ended (hands_of t).ending end ending in
+      let sent : end_sent s.sender ≡ Some end = sym (met.ending (ap is_some came)) ∙ came in
+      let made : (state_of s).made ≡ Some end = ap (λ e. first_end e s.sender.hand.ending) sent in
+      let going : is_given_up (state_of s).made ≡ false = not_given_up (state_of s).made end made other in
+      let source : is_some (state_of s).source ≡ true = end_with-source (state_of s).lines (state_of s).source end (sym (s.orderly.2 going) ∙ made) in
+      let unready : s.ready ≡ false = sent-unready s.ready (end_sent s.sender) end s.in_hand.2 sent in
+      let done : is_done (state_of s) ≡ true =
+      all_true (is_some (state_of s).source) (is_some (state_of s).made) (not s.ready) source (ap is_some made) (ap not unready) in
+      let closed : is_some (feeder_end f) ≡ true = ap is_some (sym (met.source source)) ∙ source in
+      settled_of f s t end met (all_true (is_some (feeder_end f)) (is_done (state_of s)) t.ended closed done ended) ending
 
--- that of a lane given up comes only from a setter that gave up
-pub gave_up_of : (f : Feeder) (s : Setter) (t : Taker) → HaveMet f s t → taker_end t ≡ Some GaveUp → is_given_up (state_of s).made ≡ true
-gave_up_of f s t met ending =
-    let came : (hands_of t).ending ≡ Some GaveUp = ended-ending t.ended (hands_of t).ending GaveUp ending in
-    let sent : end_sent s.sender ≡ Some GaveUp = sym (met.ending (ap is_some came)) ∙ came in
-    ap (λ e. is_given_up (first_end e s.sender.hand.ending)) sent
+  -- that of a lane given up comes only from a setter that gave up
+  pub gave_up_of : (f : Feeder I IS) (s : Setter M I O IS OS ghosts) (t : Taker O OS) → HaveMet f s t → taker_end t ≡ Some GaveUp → is_given_up (state_of s).made ≡ true
+  gave_up_of f s t met ending =
+      let came : (hands_of t).ending ≡ Some GaveUp = ended-ending t.ended (hands_of t).ending GaveUp ending in
+      let sent : end_sent s.sender ≡ Some GaveUp = sym (met.ending (ap is_some came)) ∙ came in
+      ap (λ e. is_given_up (first_end e s.sender.hand.ending)) sent
 
-pub over_same : (f g : Feeder) (s u : Setter) (t v : Taker) → feeder_end g ≡ feeder_end f → state_of u ≡ state_of s → hands_of v ≡ hands_of t
-    → is_over g u v ≡ is_over f s t
-over_same f g s u t v e st hands =
-    ap (λ x. is_some x && (is_done (state_of u) && (hands_of v).ended)) e
-    ∙ ap (λ x. is_some (feeder_end f) && (is_done x && (hands_of v).ended)) st
-    ∙ ap (λ x. is_some (feeder_end f) && (is_done (state_of s) && x.ended)) hands
+  pub over_same : (f g : Feeder I IS) (s u : Setter M I O IS OS ghosts) (t v : Taker O OS) → feeder_end g ≡ feeder_end f → state_of u ≡ state_of s → hands_of v ≡ hands_of t
+      → is_over g u v ≡ is_over f s t
+  over_same f g s u t v e st hands =
+      ap (λ x. is_some x && (is_done (state_of u) && (hands_of v).ended)) e
+      ∙ ap (λ x. is_some (feeder_end f) && (is_done x && (hands_of v).ended)) st
+      ∙ ap (λ x. is_some (feeder_end f) && (is_done (state_of s) && x.ended)) hands
 
-pub taker_end_same : (t v : Taker) → hands_of v ≡ hands_of t → taker_end v ≡ taker_end t
-taker_end_same t v hands = ap (λ x. if x.ended then x.ending else None) hands
+module _ {M I O IS OS : Type 0} {ghosts : Ghosts M I O IS OS} where
+  -- the end of a lane whose ends are closed, done and ended
+  pub over_ending : (f : Feeder I IS) (s : Setter M I O IS OS ghosts) (t : Taker O OS) (ending : Option LaneEnd) → is_some (feeder_end f) ≡ true
+      → is_done (state_of s) ≡ true → t.ended ≡ true → ending ≡ (hands_of t).ending
+      → MatchOption ending (is_over f s t ≡ false) (λ end. (is_over f s t ≡ true) × (taker_end t ≡ Some end))
+  over_ending f s t None closed done ended is = absurd (true≢false (sym (t.all.2 ended) ∙ ap is_some (sym is)))
+  over_ending f s t (Some end) closed done ended is =
+      (all_true (is_some (feeder_end f)) (is_done (state_of s)) t.ended closed done ended, rw ended (sym is))
+
+module _ {O OS : Type 0} where
+  pub taker_end_same : (t v : Taker O OS) → hands_of v ≡ hands_of t → taker_end v ≡ taker_end t
+  taker_end_same t v hands = ap (λ x. if x.ended then x.ending else None) hands

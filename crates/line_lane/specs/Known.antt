@@ -15,6 +15,7 @@ use Rattle.line_lane.specs.declared.turn.Turn.{Turn}
 use Rattle.line_lane.specs.declared.turn.Turn.TheVariants.{Idle, Moved, Blocked, Done}
 use Rattle.line_lane.specs.declared.took.Took.{Took}
 use Rattle.line_lane.specs.declared.took.Took.TheVariants.{Nothing, Answer, End}
+use Rattle.line_lane.specs.declared.making.Making.{Ghosts}
 
 -- the number of free slots that a sending end knows about and the number of messages that it has sent; or the
 -- number of messages that a receiving end knows about and the number that it has received
@@ -42,52 +43,57 @@ IsAllKnown places messages q n = IsKept places q × IsKept messages n × (n.used
 
 -- ---- the ends of a ring
 
-module _ {T E : Type 0} where
+module _ {T E TS : Type 0} where
   -- the free slots that a sending end knows about
-  abbrev pub places : Sender T E → Stock
+  abbrev pub places : Sender T E TS → Stock
   places o = record { known = known_free o.producer; used = messages_sent o }
 
   -- the messages that a receiving end knows about
-  abbrev pub messages : Receiver T E → Stock
+  abbrev pub messages : Receiver T E TS → Stock
   messages i = record { known = length (known_items i.consumer); used = messages_received i }
 
 -- ---- the endpoints of a lane
 
--- the free slots of the ring of lines
-abbrev pub line_places : Feeder → Stock
-line_places f = places f.sender
+module _ {I IS : Type 0} where
+  -- the free slots of the ring of items
+  abbrev pub line_places : Feeder I IS → Stock
+  line_places f = places f.sender
 
--- the messages in the ring of lines
-abbrev pub line_messages : Setter → Stock
-line_messages s = messages s.receiver
+module _ {M I O IS OS : Type 0} {ghosts : Ghosts M I O IS OS} where
+  -- the messages in the ring of items
+  abbrev pub line_messages : Setter M I O IS OS ghosts → Stock
+  line_messages s = messages s.receiver
 
--- the free slots of the ring of results
-abbrev pub answer_places : Setter → Stock
-answer_places s = places s.sender
+  -- the free slots of the ring of results
+  abbrev pub answer_places : Setter M I O IS OS ghosts → Stock
+  answer_places s = places s.sender
 
--- the messages in the ring of results
-abbrev pub answer_messages : Taker → Stock
-answer_messages t = messages t.receiver
+module _ {O OS : Type 0} where
+  -- the messages in the ring of results
+  abbrev pub answer_messages : Taker O OS → Stock
+  answer_messages t = messages t.receiver
 
--- on each ring this number of free slots and no message is known, and nothing was sent or received
-abbrev pub AreUnused : ℕ → Feeder → Setter → Taker → Type 0
-AreUnused places f s t =
-    (line_places f ≡ unused places) × (line_messages s ≡ unused 0)
-    × (answer_places s ≡ unused places) × (answer_messages t ≡ unused 0)
+module _ {M I O IS OS : Type 0} {ghosts : Ghosts M I O IS OS} where
+  -- on each ring this number of free slots and no message is known, and nothing was sent or received
+  abbrev pub AreUnused : ℕ → Feeder I IS → Setter M I O IS OS ghosts → Taker O OS → Type 0
+  AreUnused places f s t =
+      (line_places f ≡ unused places) × (line_messages s ≡ unused 0)
+      × (answer_places s ≡ unused places) × (answer_messages t ≡ unused 0)
 
--- `IsAllKnown` for both rings, before and after the three endpoints of a lane met
-abbrev pub AreAllKnown : Feeder → Setter → Taker → Feeder → Setter → Taker → Type 0
-AreAllKnown f s t g u v =
-    IsAllKnown (line_places f) (line_messages s) (line_places g) (line_messages u)
-    × IsAllKnown (answer_places s) (answer_messages t) (answer_places u) (answer_messages v)
+  -- `IsAllKnown` for both rings, before and after the three endpoints of a lane met
+  abbrev pub AreAllKnown : Feeder I IS → Setter M I O IS OS ghosts → Taker O OS → Feeder I IS → Setter M I O IS OS ghosts → Taker O OS → Type 0
+  AreAllKnown f s t g u v =
+      IsAllKnown (line_places f) (line_messages s) (line_places g) (line_messages u)
+      × IsAllKnown (answer_places s) (answer_messages t) (answer_places u) (answer_messages v)
 
 -- ---- calls that did nothing
 
--- whether a line was returned because no slot was free
-abbrev pub lacks_room : Result (Unit {0}) OfferFault → Bool
-lacks_room (Ok done) = false
-lacks_room (Err (Closed line)) = false
-lacks_room (Err (NoRoom line)) = true
+module _ {I : Type 0} where
+  -- whether an item was returned because no slot was free
+  abbrev pub lacks_room : Result (Unit {0}) (OfferFault I) → Bool
+  lacks_room (Ok done) = false
+  lacks_room (Err (Closed line)) = false
+  lacks_room (Err (NoRoom line)) = true
 
 -- whether a turn was blocked, since the ring of results had no free slot
 abbrev pub is_blocked : Turn → Bool
@@ -96,26 +102,28 @@ is_blocked Idle = false
 is_blocked Moved = false
 is_blocked Done = false
 
--- whether a turn was idle, since the ring of lines had no message
+-- whether a turn was idle, since the ring of items had no message
 abbrev pub is_idle : Turn → Bool
 is_idle Idle = true
 is_idle Blocked = false
 is_idle Moved = false
 is_idle Done = false
 
--- whether a take returned neither a result nor an end
-abbrev pub is_nothing : Took → Bool
-is_nothing Nothing = true
-is_nothing (Answer answer) = false
-is_nothing (End end) = false
+module _ {O : Type 0} where
+  -- whether a take returned neither a result nor an end
+  abbrev pub is_nothing : Took O → Bool
+  is_nothing Nothing = true
+  is_nothing (Answer answer) = false
+  is_nothing (End end) = false
 
--- what a setter knows after a turn: it was blocked only if no free slot was known, and idle only if no
--- message was known
-abbrev pub KnowsAfter : Turn → Setter → Setter → Type 0
-KnowsAfter turn s t =
-    HasNoneIf (is_blocked turn) (answer_places s) (answer_places t)
-    × HasNoneIf (is_idle turn) (line_messages s) (line_messages t)
+module _ {M I O IS OS : Type 0} {ghosts : Ghosts M I O IS OS} where
+  -- what a setter knows after a turn: it was blocked only if no free slot was known, and idle only if no
+  -- message was known
+  abbrev pub KnowsAfter : Turn → Setter M I O IS OS ghosts → Setter M I O IS OS ghosts → Type 0
+  KnowsAfter turn s t =
+      HasNoneIf (is_blocked turn) (answer_places s) (answer_places t)
+      × HasNoneIf (is_idle turn) (line_messages s) (line_messages t)
 
--- what a setter knows is unchanged, and it has sent and received nothing
-abbrev pub KnowsTheSame : Setter → Setter → Type 0
-KnowsTheSame s t = (answer_places t ≡ answer_places s) × (line_messages t ≡ line_messages s)
+  -- what a setter knows is unchanged, and it has sent and received nothing
+  abbrev pub KnowsTheSame : Setter M I O IS OS ghosts → Setter M I O IS OS ghosts → Type 0
+  KnowsTheSame s t = (answer_places t ≡ answer_places s) × (line_messages t ≡ line_messages s)

@@ -1,4 +1,4 @@
--- The results of lines, and the end of a lane.
+-- The results of a lane, and its end.
 -- This project's own.
 use Rattle.std.specs.Prelude.{◌≡◌, ℕ, List, length, map, take}
 use Rattle.set_line.specs.Terms.{TermsValue}
@@ -13,9 +13,10 @@ use Rattle.line_lane.specs.declared.ending.LaneEnd.TheVariants.{Complete, Source
 abbrev pub answers_of : TermsValue → List (List ℕ) → List AnswerValue
 answers_of terms lines = map (answer_of terms) lines
 
--- the results taken are those of the first lines that were fed
-abbrev pub pipeline : TermsValue → List (List ℕ) → List AnswerValue → Type 0
-pipeline terms fed taken = taken ≡ answers_of terms (take (length taken) fed)
+module _ {I O : Type 0} where
+  -- the results taken are those that are made of the first items that were fed
+  abbrev pub pipeline : (I → O) → List I → List O → Type 0
+  pipeline makes fed taken = taken ≡ map makes (take (length taken) fed)
 
 -- the end of a lane that isn't abandoned, from the end of its source
 abbrev pub lane_end_of : SourceEnd → LaneEnd

@@ -1,7 +1,6 @@
 -- The state of a taker, and how each call of `take` changes it.
 -- This project's own.
 use Rattle.std.specs.Prelude.{◌≡◌, ◌<◌, length, Bool, true, false, List, [], ◌∷◌, ◌++◌, Option, Some, None}
-use Rattle.set_line.specs.Answer.{AnswerValue, IsRight}
 use Rattle.line_lane.specs.Messages.{first_end}
 use Rattle.line_lane.specs.declared.ending.LaneEnd.{LaneEnd}
 use Rattle.line_lane.specs.declared.took.Took.{Took}
@@ -9,40 +8,41 @@ use Rattle.line_lane.specs.declared.took.Took.TheVariants.{Nothing, Answer, End}
 
 -- the results taken, those still buffered, the end after them if it was received, and whether the end was
 -- taken
-pub record TakerState : Type 0 where
-  pub taken : List AnswerValue
-  pub held : List AnswerValue
+pub record TakerState (O : Type 0) : Type 0 where
+  pub taken : List O
+  pub held : List O
   pub ending : Option LaneEnd
   pub ended : Bool
 
--- a taker that has received nothing
-abbrev pub empty_handed : TakerState
-empty_handed = record { taken = []; held = []; ending = None; ended = false }
+module _ {O : Type 0} where
+  -- a taker that has received nothing
+  abbrev pub empty_handed : TakerState O
+  empty_handed = record { taken = []; held = []; ending = None; ended = false }
 
--- the result taken is the first buffered one; if none is buffered, it is from a message, which is received
--- only if no end was received before
-abbrev pub TakesFrom : List AnswerValue → AnswerValue → TakerState → TakerState → Type 0
-TakesFrom (first ∷ rest) answer s t = (answer ≡ first) × (t.held ≡ rest) × (t.ending ≡ s.ending)
-TakesFrom [] answer s t = (s.ending ≡ None) × (length t.held < 8)
+  -- the result taken is the first buffered one; if none is buffered, it is from a message, which is received
+  -- only if no end was received before
+  abbrev pub TakesFrom : List O → O → TakerState O → TakerState O → Type 0
+  TakesFrom (first ∷ rest) answer s t = (answer ≡ first) × (t.held ≡ rest) × (t.ending ≡ s.ending)
+  TakesFrom [] answer s t = (s.ending ≡ None) × (length t.held < 8)
 
--- an end is taken if no result is buffered: the one that was received before, if any. Taking it again changes
--- nothing
-abbrev pub TakesEnd : LaneEnd → TakerState → TakerState → Type 0
-TakesEnd end s t =
-    (s.held ≡ [])
-    × (first_end s.ending (Some end) ≡ Some end)
-    × (t ≡ record { taken = s.taken; held = []; ending = Some end; ended = true })
-    × (s.ended ≡ true → t ≡ s)
+  -- an end is taken if no result is buffered: the one that was received before, if any. Taking it again changes
+  -- nothing
+  abbrev pub TakesEnd : LaneEnd → TakerState O → TakerState O → Type 0
+  TakesEnd end s t =
+      (s.held ≡ [])
+      × (first_end s.ending (Some end) ≡ Some end)
+      × (t ≡ record { taken = s.taken; held = []; ending = Some end; ended = true })
+      × (s.ended ≡ true → t ≡ s)
 
--- the return value of `take`: nothing, only if no result and no end was buffered; the next result, which is
--- the defined one for its line and settings; or the end
-abbrev pub Takes : TakerState → Took → TakerState → Type 0
-Takes s Nothing t = (t ≡ s) × (s.held ≡ []) × (s.ending ≡ None) × (s.ended ≡ false)
-Takes s (Answer answer) t =
-    IsRight answer × (s.ended ≡ false) × (t.ended ≡ false) × (t.taken ≡ s.taken ++ answer ∷ []) × TakesFrom s.held answer s t
-Takes s (End end) t = TakesEnd end s t
+  -- the return value of `take`: nothing, only if no result and no end was buffered; the next result, which is
+  -- right; or the end
+  abbrev pub Takes : (O → Type 0) → TakerState O → Took O → TakerState O → Type 0
+  Takes right s Nothing t = (t ≡ s) × (s.held ≡ []) × (s.ending ≡ None) × (s.ended ≡ false)
+  Takes right s (Answer answer) t =
+      right answer × (s.ended ≡ false) × (t.ended ≡ false) × (t.taken ≡ s.taken ++ answer ∷ []) × TakesFrom s.held answer s t
+  Takes right s (End end) t = TakesEnd end s t
 
--- the next buffered result or the end was taken; or nothing is buffered, and nothing changes
-abbrev pub IsTakenFromHand : TakerState → Option Took → TakerState → Type 0
-IsTakenFromHand s None t = (t ≡ s) × (s.held ≡ []) × (s.ending ≡ None) × (s.ended ≡ false)
-IsTakenFromHand s (Some took) t = Takes s took t × ((took ≡ Nothing) → ⊥)
+  -- the next buffered result or the end was taken; or nothing is buffered, and nothing changes
+  abbrev pub IsTakenFromHand : (O → Type 0) → TakerState O → Option (Took O) → TakerState O → Type 0
+  IsTakenFromHand right s None t = (t ≡ s) × (s.held ≡ []) × (s.ending ≡ None) × (s.ended ≡ false)
+  IsTakenFromHand right s (Some took) t = Takes right s took t × ((took ≡ Nothing) → ⊥)

@@ -4,21 +4,21 @@ ghost use Rattle.std.proofs.Props.{props};
 ghost use Rattle.line_lane.specs.Rings.{end_sent};
 
 use crate::sender::Sender;
-use crate::{Block, OfferFault, SourceEnd};
+use crate::{Block, OfferFault, SourceEnd, Stored};
 use set_line::Line;
 
-/// The endpoint of a lane where lines are fed. It collects them in an open block, and sends a full block to
+/// The endpoint of a lane where items are fed. It collects them in an open block, and sends a full block to
 /// the setter as one message.
 #[derive(Drop)]
-pub struct Feeder {
-    pub(crate) sender: Sender<Line, SourceEnd>,
+pub struct Feeder<I: Stored = Line> {
+    pub(crate) sender: Sender<I, SourceEnd>,
     pub(crate) block: Block,
     ghost short: { length sender.hand.items < block },
     ghost plain: { sender.hand.ending ≡ None } by { Prim.hlevel props },
     ghost closed: { is_some (end_sent sender) ≡ true → sender.hand.items ≡ [] } by { Prim.hlevel props },
 }
 
-impl Feeder {
+impl<I: Stored> Feeder<I> {
     ghost use Rattle.std.specs.Prelude.{IsTrue, IsFalse, OnOk, IfErr, not};
     ghost use Rattle.line_lane.specs.Ends.{IsAsFed, IsClosedWith, IsFed, IsFlushed, IsRefused, SameFeeder, block_of, fed, feeder_end, open_lines};
     ghost use Rattle.line_lane.specs.Known.{HasNoneIf, lacks_room, line_places};
@@ -29,32 +29,32 @@ impl Feeder {
         self.sender.ended.is_some()
     }
 
-    /// Feeds a line: appends it to the open block, and sends this block if it is full then.
+    /// Feeds an item: appends it to the open block, and sends this block if it is full then.
     ///
-    /// The error is `Closed` if the feeder is closed, and `NoRoom` if the line would fill the open block and
-    /// no free slot was found for the block. Both return the line, and nothing is fed: the open block is
+    /// The error is `Closed` if the feeder is closed, and `NoRoom` if the item would fill the open block and
+    /// no free slot was found for the block. Both return the item, and nothing is fed: the open block is
     /// unchanged.
-    pub fn offer(&mut self, line: Line) -> Result<(), OfferFault>
+    pub fn offer(&mut self, item: I) -> Result<(), OfferFault<I>>
         ensures lane { SameFeeder self.old self.new }
         ensures end { feeder_end self.new ≡ feeder_end self.old }
         ensures short { length (open_lines self.new) < block_of self.new }
-        ensures fed { OnOk result (IsFed self.old line self.new) }
+        ensures fed { OnOk result (IsFed self.old item self.new) }
         ensures refused { IfErr result (λ fault. IsAsFed self.old self.new
-            × IsRefused self.old line fault) }
+            × IsRefused self.old item fault) }
         ensures room { HasNoneIf (lacks_room result)
             (line_places self.old) (line_places self.new) }
     {
         if self.is_closed() {
-            return Err(OfferFault::Closed(line));
+            return Err(OfferFault::Closed(item));
         }
         if self.sender.hand.len() + 1 < self.block.get() {
-            self.sender.hand.push(line);
+            self.sender.hand.push(item);
             return Ok(());
         }
         if !self.sender.has_room() {
-            return Err(OfferFault::NoRoom(line));
+            return Err(OfferFault::NoRoom(item));
         }
-        self.sender.hand.push(line);
+        self.sender.hand.push(item);
         self.sender.send();
         Ok(())
     }
@@ -80,7 +80,7 @@ impl Feeder {
         true
     }
 
-    /// Closes the feeder: sends the open block as one message, with this end after its lines. Returns false,
+    /// Closes the feeder: sends the open block as one message, with this end after its items. Returns false,
     /// with the open block unchanged, if no free slot was found for it. A feeder that is closed keeps its
     /// first end, and the return value is true.
     pub fn close(&mut self, end: SourceEnd) -> bool

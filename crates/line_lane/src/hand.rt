@@ -2,6 +2,7 @@
 ghost use Rattle.std.specs.Prelude.{◌≡◌, ◌≤◌, ◌<◌, [], ◌∷◌, length, MatchOption};
 ghost use Rattle.line_lane.specs.Messages.{nothing};
 
+use crate::Stored;
 use crate::message::Message;
 use std::alloc::Global;
 use std::marker::Model;
@@ -9,11 +10,11 @@ use std::marker::Model;
 /// A received message. Its items are stored in reverse order: the first item is the last one of the list, so
 /// that removing it and putting it back moves no other item.
 #[derive(Drop)]
-pub(crate) struct Hand<T, E> {
+pub(crate) struct Hand<T: Stored, E> {
     reversed: Message<T, E>,
 }
 
-impl<T, E> Model for Hand<T, E> {
+impl<T: Stored, E> Model for Hand<T, E> {
     ghost use Rattle.std.specs.Prelude.{reverse};
     ghost use Rattle.line_lane.specs.Messages.{MessageValue, message_code};
 
@@ -24,7 +25,7 @@ impl<T, E> Model for Hand<T, E> {
     ghost view = { λ h. record { items = reverse h.reversed.items; ending = h.reversed.ending } };
 }
 
-impl<T: Drop, E: Copy> Hand<T, E> {
+impl<T: Stored, E: Copy> Hand<T, E> {
     /// Returns a hand without items and without an end. This allocates no memory.
     pub fn new(alloc: Global) -> Self
         ensures { result ≡ nothing }

@@ -1,16 +1,24 @@
-//! The lane of one source: lines are fed to a [`Feeder`], a [`Setter`] sets them, and a [`Taker`] returns
-//! their results in order. A ring, which is a bounded queue with one producer and one consumer, connects each
+//! The lane of one source: items are fed to a [`Feeder`], a [`Setter`] makes their results, and a [`Taker`]
+//! returns these in order. A ring, which is a bounded queue with one producer and one consumer, connects each
 //! of these endpoints with the next, so that each may be in a thread of its own.
+//!
+//! The maker of a lane, a [`Making`], states what an item is and which result is made of it. Every type has
+//! the lane of lines as its default: an item is a `Line`, its result an `Answer`, and the maker an `Arc` of
+//! the settings.
 #![tactic(auto)]
 
 pub use ending::{LaneEnd, SourceEnd};
 pub use fault::SourceFault;
 pub use feeder::Feeder;
+pub use made::Made;
+pub use making::Making;
 pub use offer_fault::OfferFault;
 pub use opening::open;
 pub use run_plan::{Block, Capacity};
 pub use setter::Setter;
 pub use settling::{Open, settle};
+pub use slots::{InlineSlots, Slots, Stored};
+pub use stored::{AnswerSlots, LineSlots};
 pub use taker::Taker;
 pub use took::Took;
 pub use turn::Turn;
@@ -19,6 +27,8 @@ mod ending;
 mod fault;
 mod feeder;
 mod hand;
+mod made;
+mod making;
 mod meeting;
 mod message;
 mod offer_fault;
@@ -27,6 +37,8 @@ mod receiver;
 mod sender;
 mod setter;
 mod settling;
+mod slots;
+mod stored;
 mod taker;
 mod took;
 mod turn;

@@ -1,50 +1,46 @@
-//! A message of a ring: up to eight items, stored inline, and an optional end after them.
+//! A message of a ring: up to eight items, stored inside it, and an optional end after them.
 ghost use Rattle.std.specs.Prelude.{◌≡◌, ◌≤◌, ◌<◌, [], ◌∷◌, ◌++◌, length, reverse, Some, MatchOption};
 ghost use Rattle.line_lane.specs.Messages.{nothing};
 
+use crate::{Slots, Stored};
 use rtrb::Protocol;
-use smallvec::SmallVec;
 use std::alloc::Global;
 use std::marker::Model;
 
-/// Up to eight items, and an optional end after them. Each item is in an `Option`, since unused slots of the
-/// list contain a blank value. The list never grows beyond its eight inline slots.
+/// Up to eight items, and an optional end after them.
 #[derive(Drop)]
-pub(crate) struct Message<T, E> {
-    slots: SmallVec<Option<T>, 8>,
+pub(crate) struct Message<T: Stored, E> {
+    slots: T::Slots,
     ending: Option<E>,
 }
 
-impl<T, E> Model for Message<T, E> {
-    ghost use Rattle.line_lane.specs.Held.{held, IsInline};
+impl<T: Stored, E> Model for Message<T, E> {
     ghost use Rattle.line_lane.specs.Messages.{MessageValue, message_code};
 
     ghost Value = { MessageValue T E };
 
     ghost coded = { message_code T.code E.code };
 
-    ghost view = { λ m. record { items = held m.slots.items; ending = m.ending } };
-
-    ghost invariant = { λ m. IsInline m.slots };
+    ghost view = { λ m. record { items = T.Slots.items m.slots; ending = m.ending } };
 }
 
 /// The protocol of a ring: each message has an item or an end.
 #[derive(Clone, Copy)]
 pub(crate) struct Filled;
 
-impl<T, E> Protocol<Message<T, E>> for Filled {
+impl<T: Stored, E> Protocol<Message<T, E>> for Filled {
     ghost use Rattle.line_lane.specs.Messages.{IsFilled};
 
     ghost allows = { λ _ message. IsFilled message };
 }
 
-impl<T: Drop, E: Copy> Message<T, E> {
+impl<T: Stored, E: Copy> Message<T, E> {
     /// Returns a message without items and without an end. This allocates no memory.
     pub fn new(alloc: Global) -> Self
         ensures { result ≡ nothing }
     {
         Message {
-            slots: SmallVec::new(alloc),
+            slots: T::Slots::new(alloc),
             ending: None,
         }
     }
@@ -70,7 +66,7 @@ impl<T: Drop, E: Copy> Message<T, E> {
         ensures { self.new
             ≡ record { items = self.old.items ++ item ∷ []; ending = self.old.ending } }
     {
-        self.slots.push_reserved(Some(item));
+        self.slots.push(item);
     }
 
     /// Removes and returns the last item, or returns `None` if there is no item.
@@ -80,14 +76,14 @@ impl<T: Drop, E: Copy> Message<T, E> {
             (λ item. self.old
             ≡ record { items = self.new.items ++ item ∷ []; ending = self.new.ending }) }
     {
-        self.slots.pop()?
+        self.slots.pop()
     }
 
     /// Reverses the order of the items.
     pub fn reverse(&mut self)
         ensures { self.new ≡ record { items = reverse self.old.items; ending = self.old.ending } }
     {
-        self.slots.as_mut_slice().reverse();
+        self.slots.reverse();
     }
 
     /// Drops the items. The end is unchanged.

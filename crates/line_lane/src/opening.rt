@@ -1,6 +1,5 @@
 //! Opens a lane.
 ghost use Rattle.std.specs.Prelude.{◌≡◌, [], None, IfOk};
-ghost use Rattle.std.specs.Arc.{arc_value};
 ghost use Rattle.line_lane.specs.Turns.{fresh};
 ghost use Rattle.line_lane.specs.Takes.{empty_handed};
 ghost use Rattle.line_lane.specs.Known.{AreUnused};
@@ -9,25 +8,24 @@ ghost use Rattle.line_lane.specs.Ends.{HasPlaces, IsLane, block_of, fed, feeder_
 use crate::message::Filled;
 use crate::receiver::Receiver;
 use crate::sender::Sender;
-use crate::{Block, Capacity, Feeder, Setter, Taker};
+use crate::{Block, Capacity, Feeder, Making, Setter, Taker};
 use rtrb::RingBuffer;
-use set_line::{OutOfMemory, Terms};
+use set_line::OutOfMemory;
 use std::alloc::Global;
-use std::sync::Arc;
 
-/// Opens a lane with these settings: two rings with `capacity` slots each, and blocks of `block` lines.
+/// Opens a lane with this maker: two rings with `capacity` slots each, and blocks of `block` items.
 /// Memory is allocated for the rings only. The error means that an allocation failed.
-pub fn open(
+pub fn open<M: Making>(
     alloc: Global,
-    terms: Arc<Terms>,
+    maker: M,
     capacity: Capacity,
     block: Block,
-) -> Result<(Feeder, Setter, Taker), OutOfMemory>
+) -> Result<(Feeder<M::In>, Setter<M>, Taker<M::Out>), OutOfMemory>
     ensures lane { IfOk result (λ ends. IsLane ends.0 ends.1 ends.2) }
     ensures places { IfOk result (λ ends. HasPlaces capacity ends.0 ends.1 ends.2) }
     ensures feeder { IfOk result (λ ends. (fed ends.0 ≡ []) × (open_lines ends.0 ≡ [])
         × (feeder_end ends.0 ≡ None) × (block_of ends.0 ≡ block)) }
-    ensures setter { IfOk result (λ ends. state_of ends.1 ≡ fresh (arc_value terms)) }
+    ensures setter { IfOk result (λ ends. state_of ends.1 ≡ fresh (M.makes maker)) }
     ensures taker { IfOk result (λ ends. hands_of ends.2 ≡ empty_handed) }
     ensures known { IfOk result (λ ends. AreUnused capacity ends.0 ends.1 ends.2) }
 {
@@ -39,7 +37,7 @@ pub fn open(
         block,
     };
     let setter = Setter {
-        terms,
+        maker,
         receiver: Receiver::new(alloc, lines_out),
         sender: Sender::new(alloc, answers_in),
         ready: false,

@@ -4,6 +4,7 @@ ghost use Rattle.std.specs.Coded.{Coded-set, coded_option};
 ghost use Rattle.rtrb.specs.Ring.{SameConsumer, known_items, received};
 ghost use Rattle.line_lane.specs.Messages.{IsFilled, end_of};
 
+use crate::Stored;
 use crate::hand::Hand;
 use crate::message::{Filled, Message};
 use rtrb::Consumer;
@@ -11,7 +12,7 @@ use std::alloc::Global;
 
 /// The receiving end of a ring, with the items of the last received message that weren't taken yet.
 #[derive(Drop)]
-pub(crate) struct Receiver<T, E> {
+pub(crate) struct Receiver<T: Stored, E> {
     pub consumer: Consumer<Message<T, E>, Global, Filled>,
     pub hand: Hand<T, E>,
     ghost told: { hand.ending ≡ end_of (received consumer) } by { Coded-set (coded_option E.code) _ _ },
@@ -21,7 +22,7 @@ pub(crate) struct Receiver<T, E> {
 /// its own because a function that moves a message first clears the space for it, which a call of `receive`
 /// that finds no message doesn't need.
 #[inline(never)]
-fn pop<T: Drop, E: Copy>(
+fn pop<T: Stored, E: Copy>(
     consumer: &mut Consumer<Message<T, E>, Global, Filled>,
     hand: &mut Hand<T, E>,
 )
@@ -37,7 +38,7 @@ fn pop<T: Drop, E: Copy>(
     let _ = hand.len();
 }
 
-impl<T: Drop, E: Copy> Receiver<T, E> {
+impl<T: Stored, E: Copy> Receiver<T, E> {
     ghost use Rattle.std.specs.Prelude.{None, IsTrue, IsFalse, not};
     ghost use Rattle.line_lane.specs.Messages.{nothing};
     ghost use Rattle.line_lane.specs.Rings.{SameReceiver, end_received, items_received, messages_received};

@@ -4,6 +4,7 @@ ghost use Rattle.std.specs.Coded.{Coded-set, coded_option};
 ghost use Rattle.rtrb.specs.Ring.{sent};
 ghost use Rattle.line_lane.specs.Messages.{end_of, ends_last};
 
+use crate::Stored;
 use crate::message::{Filled, Message};
 use rtrb::Producer;
 use std::alloc::Global;
@@ -11,7 +12,7 @@ use std::mem;
 
 /// The sending end of a ring, with the next message, whose items are still being added.
 #[derive(Drop)]
-pub(crate) struct Sender<T, E> {
+pub(crate) struct Sender<T: Stored, E> {
     pub producer: Producer<Message<T, E>, Global, Filled>,
     pub hand: Message<T, E>,
     /// The end that was sent, if any.
@@ -21,10 +22,10 @@ pub(crate) struct Sender<T, E> {
     ghost told: { ended ≡ end_of (sent producer) } by { Coded-set (coded_option E.code) _ _ },
 }
 
-impl<T: Drop, E: Copy> Sender<T, E> {
+impl<T: Stored, E: Copy> Sender<T, E> {
     ghost use Rattle.std.specs.Prelude.{◌+◌, ◌<◌, [], ◌∷◌, ◌++◌, None, IsTrue, not};
     ghost use Rattle.rtrb.specs.Ring.{known_free};
-    ghost use Rattle.line_lane.specs.Messages.{IsFilled, nothing};
+    ghost use Rattle.line_lane.specs.Messages.{IsFilled, first_end, nothing};
     ghost use Rattle.line_lane.specs.Rings.{SameSender, end_sent, items_sent, messages_sent};
     ghost use Rattle.line_lane.specs.Known.{HasNoneIf, places};
 
@@ -51,6 +52,13 @@ impl<T: Drop, E: Copy> Sender<T, E> {
         ensures known { HasNoneIf (not result) (places self.old) (places self.new) }
     {
         !self.producer.is_full()
+    }
+
+    /// Returns the end that was sent or, if none was sent, the end of the next message.
+    pub fn end_made(&self) -> Option<E>
+        ensures { result ≡ first_end (end_sent self.now) self.now.hand.ending }
+    {
+        self.ended.or(self.hand.ending())
     }
 
     /// Sends the next message, and begins a new one. A free slot must be known, no end may have been sent

@@ -1,6 +1,5 @@
 //! The setter of a lane.
 ghost use Rattle.std.specs.Prelude.{◌≡◌, [], true};
-ghost use Rattle.std.specs.Arc.{arc_value};
 ghost use Rattle.std.proofs.Props.{props};
 ghost use Rattle.line_lane.specs.Messages.{IsFilled, are_none, first_end};
 ghost use Rattle.line_lane.specs.Lane.{lane_end_of};
@@ -11,19 +10,19 @@ use crate::hand::Hand;
 use crate::message::Message;
 use crate::receiver::Receiver;
 use crate::sender::Sender;
-use crate::{LaneEnd, SourceEnd, Turn};
-use set_line::{Answer, Line, OutOfMemory, Terms, set};
+use crate::{LaneEnd, Making, SourceEnd, Stored, Turn};
+use set_line::{OutOfMemory, Terms};
 use std::sync::Arc;
 
-/// The endpoint of a lane that sets lines: it receives messages of lines, and sends messages of results.
+/// The endpoint of a lane that makes results: it receives messages of items, and sends messages of results.
 #[derive(Drop)]
-pub struct Setter {
-    pub(crate) terms: Arc<Terms>,
-    pub(crate) receiver: Receiver<Line, SourceEnd>,
-    pub(crate) sender: Sender<Answer, LaneEnd>,
+pub struct Setter<M: Making = Arc<Terms>> {
+    pub(crate) maker: M,
+    pub(crate) receiver: Receiver<M::In, SourceEnd>,
+    pub(crate) sender: Sender<M::Out, LaneEnd>,
     pub(crate) ready: bool,
     ghost in_hand: { IsInHand receiver sender ready } by { Prim.hlevel props },
-    ghost orderly: { IsOrderly (setter_state (arc_value terms) receiver sender ready) } by { Prim.hlevel props },
+    ghost orderly: { IsOrderly (setter_state (M.makes maker) receiver sender ready) } by { Prim.hlevel props },
     ghost filled: { ready ≡ true → IsFilled sender.hand } by { Prim.hlevel props },
 }
 
@@ -37,9 +36,12 @@ fn lane_end(end: SourceEnd) -> LaneEnd
     }
 }
 
-/// Returns whether no received line is left to be set. If none is left and the lines have an end, sets the
+/// Returns whether no received item is left. If none is left and the items have an end, sets the
 /// end of the results.
-fn finish(lines: &Hand<Line, SourceEnd>, answers: &mut Message<Answer, LaneEnd>) -> bool
+fn finish<I: Stored, O: Stored>(
+    lines: &Hand<I, SourceEnd>,
+    answers: &mut Message<O, LaneEnd>,
+) -> bool
     ensures ready { result ≡ are_none lines.now.items }
     ensures items { answers.new.items ≡ answers.old.items }
     ensures ending { answers.new.ending
@@ -54,7 +56,7 @@ fn finish(lines: &Hand<Line, SourceEnd>, answers: &mut Message<Answer, LaneEnd>)
     true
 }
 
-impl Setter {
+impl<M: Making> Setter<M> {
     ghost use Rattle.std.specs.Prelude.{false, is_some, OnErr, IfOk, MatchResult};
     ghost use Rattle.line_lane.specs.Turns.{Turns, given_up, is_done, is_given_up};
     ghost use Rattle.line_lane.specs.Ends.{SameSetter, state_of};
@@ -64,15 +66,14 @@ impl Setter {
     fn has_made_end(&self) -> bool
         ensures { result ≡ is_some (state_of self.now).made }
     {
-        self.sender.ended.is_some() || self.sender.hand.ending().is_some()
+        self.sender.end_made().is_some()
     }
 
     /// Returns whether the lane is abandoned.
     fn has_given_up(&self) -> bool
         ensures { result ≡ is_given_up (state_of self.now).made }
     {
-        let made = self.sender.ended.or(self.sender.hand.ending());
-        matches!(made, Some(LaneEnd::GaveUp))
+        matches!(self.sender.end_made(), Some(LaneEnd::GaveUp))
     }
 
     pub(crate) fn is_done(&self) -> bool
@@ -96,8 +97,8 @@ impl Setter {
         Turn::Moved
     }
 
-    /// Sets the first received line that isn't set yet. The error means that an allocation failed; nothing
-    /// has changed then.
+    /// Makes the result of the first item that is left. The error means that an allocation failed; nothing has
+    /// changed then.
     fn set_first(&mut self) -> Result<Turn, OutOfMemory>
         requires ready { self.old.ready ≡ false }
         requires lines { are_none (state_of self.old).lines ≡ false }
@@ -108,11 +109,10 @@ impl Setter {
             (λ turn. KnowsAfter turn self.old self.new)
             (λ _. KnowsTheSame self.old self.new) }
     {
-        let terms = Arc::try_clone(&self.terms)?;
         let Some(line) = self.receiver.hand.take_first() else {
             unreachable!()
         };
-        match set(self.sender.alloc, terms, line) {
+        match self.maker.make(self.sender.alloc, line) {
             Ok(answer) => {
                 self.sender.hand.push(answer);
                 let (receiver, sender) = (&self.receiver, &mut self.sender);
@@ -126,7 +126,7 @@ impl Setter {
         }
     }
 
-    /// Receives a message. The setter of an abandoned lane drops its lines. Returns `Idle`, with nothing
+    /// Receives a message. The setter of an abandoned lane drops its items. Returns `Idle`, with nothing
     /// changed, if no message was found.
     fn receive(&mut self) -> Turn
         requires ready { self.old.ready ≡ false }
@@ -149,14 +149,14 @@ impl Setter {
         Turn::Moved
     }
 
-    /// Makes one turn: sends the ready message, sets a line or receives a message, the first of these that
+    /// Makes one turn: sends the ready message, makes a result or receives a message, the first of these that
     /// applies. If nothing remains to be done, returns `Done`. If a message of results is ready, sends it, or
-    /// returns `Blocked` if no free slot was found. If a received line isn't set yet, sets the first such
-    /// line. Otherwise receives a message, or returns `Idle` if no message was found.
+    /// returns `Blocked` if no free slot was found. If a received item is left, makes the result of the first
+    /// such item. Otherwise receives a message, or returns `Idle` if no message was found.
     ///
-    /// Once all lines of a message are set, their results are ready to be sent as one message, with the end
-    /// of the lane if the message had the source's end. The error means that an allocation failed; nothing
-    /// has changed then, and a later turn tries the same line again.
+    /// Once the results of all items of a message are made, they are ready to be sent as one message, with the
+    /// end of the lane if the message had the source's end. The error means that an allocation failed; nothing
+    /// has changed then, and a later turn tries the same item again.
     #[tactic(auto, using(crate::proofs::TurnLemmas::turns_kept))]
     pub fn turn(&mut self) -> Result<Turn, OutOfMemory>
         ensures lane { SameSetter self.old self.new }
@@ -182,9 +182,9 @@ impl Setter {
         Ok(self.receive())
     }
 
-    /// Abandons the lane: drops the received lines that aren't set yet, and makes the results that aren't
-    /// sent yet the ready message, with the end `GaveUp`. Lines that are received later are dropped, up to
-    /// the source's end. Nothing changes if the setter has already made the end of the lane.
+    /// Abandons the lane: drops the received items that are left, and makes the results that aren't sent yet
+    /// the ready message, with the end `GaveUp`. Items that are received later are dropped, up to the source's
+    /// end. Nothing changes if the setter has already made the end of the lane.
     pub fn give_up(&mut self)
         ensures lane { SameSetter self.old self.new }
         ensures orderly { IsOrderly (state_of self.new) }

@@ -10,36 +10,47 @@ ghost use Rattle.line_lane.specs.declared.ending.LaneEnd.{LaneEnd as End};
 ghost use Rattle.line_lane.specs.declared.ending.LaneEnd.TheVariants.{GaveUp};
 
 use crate::meeting::meet;
-use crate::{Feeder, LaneEnd, Setter, Taker};
+use crate::{Feeder, LaneEnd, Making, Setter, Taker};
+use set_line::Terms;
+use std::sync::Arc;
 
 /// The three endpoints of a lane that isn't finished.
 #[derive(Drop)]
-pub struct Open {
-    /// The endpoint where lines are fed.
-    pub feeder: Feeder,
-    /// The endpoint that sets lines.
-    pub setter: Setter,
+pub struct Open<M: Making = Arc<Terms>> {
+    /// The endpoint where items are fed.
+    pub feeder: Feeder<M::In>,
+    /// The endpoint that makes results.
+    pub setter: Setter<M>,
     /// The endpoint from which results are taken.
-    pub taker: Taker,
+    pub taker: Taker<M::Out>,
 }
 
 /// Returns the end of a lane, or `None` if the lane isn't finished.
-fn end_of_lane(feeder: &Feeder, setter: &Setter, taker: &Taker) -> Option<LaneEnd>
+fn end_of_lane<M: Making>(
+    feeder: &Feeder<M::In>,
+    setter: &Setter<M>,
+    taker: &Taker<M::Out>,
+) -> Option<LaneEnd>
     ensures { MatchOption result
         (is_over feeder.now setter.now taker.now ≡ false)
         (λ end. (is_over feeder.now setter.now taker.now ≡ true)
         × (taker_end taker.now ≡ Some end)) }
 {
-    if feeder.is_closed() && setter.is_done() && taker.ended {
-        taker.receiver.hand.ending()
-    } else {
-        None
+    if !feeder.is_closed() {
+        return None;
     }
+    if !setter.is_done() {
+        return None;
+    }
+    if !taker.ended {
+        return None;
+    }
+    taker.receiver.hand.ending()
 }
 
 /// Updates what the three endpoints of a lane know about its two rings. The contract states that on each ring
 /// the items received are the first of those sent.
-fn look(feeder: &mut Feeder, setter: &mut Setter, taker: &mut Taker)
+fn look<M: Making>(feeder: &mut Feeder<M::In>, setter: &mut Setter<M>, taker: &mut Taker<M::Out>)
     requires { IsLane feeder.old setter.old taker.old }
     ensures before { AreAsBefore feeder.old setter.old taker.old feeder.new setter.new taker.new }
     ensures met { HaveMet feeder.old setter.old taker.old }
@@ -52,15 +63,19 @@ fn look(feeder: &mut Feeder, setter: &mut Setter, taker: &mut Taker)
 /// Settles a lane: brings its three endpoints, which must come from one `open`, together and checks whether
 /// the lane is finished. It is finished if the feeder is closed, the setter is done, and the taker has
 /// returned the end; this end is the return value then. Otherwise the error contains the endpoints, with
-/// nothing fed, set, sent or taken since.
+/// nothing fed, made, sent or taken since.
 ///
-/// In both cases the results that were taken are those of the first lines that were fed; if the lane is
+/// In both cases the results that were taken are those of the first items that were fed; if the lane is
 /// finished and wasn't abandoned, they are the results of all of them. If the taker has returned an end other
-/// than `GaveUp`, the lane is finished; if it has returned `GaveUp`, the lane is abandoned. The lines that
+/// than `GaveUp`, the lane is finished; if it has returned `GaveUp`, the lane is abandoned. The items that
 /// the setter received are the first of those that were fed.
-pub fn settle(feeder: Feeder, setter: Setter, taker: Taker) -> Result<LaneEnd, Open>
+pub fn settle<M: Making>(
+    feeder: Feeder<M::In>,
+    setter: Setter<M>,
+    taker: Taker<M::Out>,
+) -> Result<LaneEnd, Open<M>>
     requires { IsLane feeder setter taker }
-    ensures pipeline { pipeline (state_of setter).terms (fed feeder) (taken taker) }
+    ensures pipeline { pipeline (state_of setter).makes (fed feeder) (taken taker) }
     ensures seen { IsFirstOf (state_of setter).seen (fed feeder) }
     ensures settled { IfOk result (λ end. IsSettled feeder setter taker end) }
     ensures ended { (end : End) → taker_end taker ≡ Some end → (end ≡ GaveUp → ⊥)
@@ -73,8 +88,9 @@ pub fn settle(feeder: Feeder, setter: Setter, taker: Taker) -> Result<LaneEnd, O
         AreAllKnown feeder setter taker back.feeder back.setter back.taker) }
 {
     let (mut feeder, mut setter, mut taker) = (feeder, setter, taker);
+    let end = end_of_lane(&feeder, &setter, &taker);
     look(&mut feeder, &mut setter, &mut taker);
-    match end_of_lane(&feeder, &setter, &taker) {
+    match end {
         Some(end) => Ok(end),
         None => Err(Open {
             feeder,

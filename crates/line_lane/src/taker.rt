@@ -3,18 +3,18 @@ ghost use Rattle.std.proofs.Props.{props};
 ghost use Rattle.line_lane.specs.Hands.{IsAllReceived};
 
 use crate::receiver::Receiver;
-use crate::{LaneEnd, Took};
+use crate::{LaneEnd, Made, Stored, Took};
 use set_line::Answer;
 
 /// The endpoint of a lane from which results are taken.
 #[derive(Drop)]
-pub struct Taker {
-    pub(crate) receiver: Receiver<Answer, LaneEnd>,
+pub struct Taker<O: Stored = Answer> {
+    pub(crate) receiver: Receiver<O, LaneEnd>,
     pub(crate) ended: bool,
     ghost all: { IsAllReceived receiver ended } by { Prim.hlevel props },
 }
 
-impl Taker {
+impl<O: Made + Stored> Taker<O> {
     ghost use Rattle.std.specs.Prelude.{◌≡◌, ◌+◌, ◌≤◌, ◌++◌};
     ghost use Rattle.line_lane.specs.Takes.{Takes, IsTakenFromHand};
     ghost use Rattle.line_lane.specs.Known.{HasNoneIf, answer_messages, is_nothing};
@@ -22,14 +22,14 @@ impl Taker {
 
     /// Takes the next result of the last received message or, if none is left, the end. Returns `None`, with
     /// nothing changed, if there is neither.
-    fn take_held(&mut self) -> Option<Took>
+    fn take_held(&mut self) -> Option<Took<O>>
         ensures lane { SameTaker self.old self.new }
-        ensures took { IsTakenFromHand (hands_of self.old) result (hands_of self.new) }
+        ensures took { IsTakenFromHand O.is_right (hands_of self.old) result (hands_of self.new) }
         ensures none { answer_messages self.new ≡ answer_messages self.old }
     {
         if let Some(answer) = self.receiver.hand.take_first() {
-            // For the proof: the contract of `outcome` states that the result is the defined one.
-            let _ = answer.outcome();
+            // For the proof: the contract of `show_right` states that the result is right.
+            answer.show_right();
             return Some(Took::Answer(answer));
         }
         let end = self.receiver.hand.ending()?;
@@ -39,9 +39,9 @@ impl Taker {
 
     /// Takes the next result or, after the last one, the end of the lane, which each later call returns
     /// again. Returns `Nothing` if no message was found. At most one message is received.
-    pub fn take(&mut self) -> Took
+    pub fn take(&mut self) -> Took<O>
         ensures lane { SameTaker self.old self.new }
-        ensures took { Takes (hands_of self.old) result (hands_of self.new) }
+        ensures took { Takes O.is_right (hands_of self.old) result (hands_of self.new) }
         ensures whole { taken self.new ++ (hands_of self.new).held ≡ received_answers self.new }
         ensures one { pops self.new ≤ pops self.old + 1 }
         ensures known { HasNoneIf (is_nothing result)

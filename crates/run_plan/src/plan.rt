@@ -7,6 +7,6 @@ pub struct Plan {
     pub capacity: Capacity,
     /// The number of lines in a full block.
     pub block: Block,
-    /// The largest number of threads that set lines. A batch starts at most one for each source.
+    /// The largest number of threads that set lines. A batch starts at most one for each lane.
     pub workers: Workers,
 }

@@ -2,6 +2,7 @@ mod callers;
 mod collectors;
 mod failing;
 mod flushing;
+mod long_lines;
 mod many_lines;
 mod meeting;
 mod memory;

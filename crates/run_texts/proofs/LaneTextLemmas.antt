@@ -1,128 +1,130 @@
 -- What is kept of lanes, event by event.
-use Rattle.std.proofs.Common.{◌≡◌, ℕ, zero, suc, ◌+◌, ◌<◌, List, [], ◌∷◌, ◌++◌, length, get_or, count_by, arith, refl, ap, sym, ◌∙◌}
+use Rattle.std.proofs.Common.{◌≡◌, ℕ, zero, suc, ◌+◌, ◌<◌, ◌^◌, List, [], ◌∷◌, ◌++◌, length, get_or, arith, refl, ap, sym, subst, ◌∙◌, append-nil}
 use Rattle.std.specs.Prelude.{Result, Ok, Err, OnOk, OnErr, is_ok}
+use Rattle.std.specs.List.{concat}
 use Rattle.std.proofs.Math.ListN.{set}
 use Rattle.std.proofs.lemmas.List.{length-set, set-get_or}
-use Rattle.std.proofs.lemmas.List.Sums.{sum_by-append}
-use Rattle.std.proofs.Math.Bool.{cond}
 use Rattle.set_line.specs.declared.version.Version.{Version}
-use Rattle.set_line.specs.Answer.{AnswerValue}
-use Rattle.set_line.specs.Record.{record_text}
 use Rattle.line_lane.specs.declared.ending.LaneEnd.{LaneEnd}
+use Rattle.line_blocks.specs.BlockText.{BlockTextValue}
 use Rattle.set_run.specs.declared.collector.Refusal.{Refusal}
 use Rattle.set_run.specs.Events.{Event, LaneEvent, Answered, Ended, Gets, answers_among, of_lane}
-use Rattle.run_texts.specs.RunText.{end_text, is_refused, why_of}
-use Rattle.run_texts.specs.LaneText.{AreKept, LaneTextValue, kept_of}
-use Rattle.run_texts.proofs.EventLemmas.{among_answered, among_ended, of_lane_more, of_lane_other, other_test, text_more}
+use Rattle.run_texts.specs.RunText.{end_text, why_of}
+use Rattle.run_texts.specs.LaneText.{AreKept, LaneTextValue, block_lines, kept_of, records_of, refused_of}
+use Rattle.run_texts.proofs.EventLemmas.{among_ended, of_lane_more, of_lane_other, other_test, records_more, refused_more, text_more}
 
 -- ---- what is kept of a lane
 
 abbrev lane_of : List ℕ → ℕ → ℕ → LaneTextValue
-lane_of text answers refused = record { text = text; answers = answers; refused = refused }
+lane_of text records refused = record { text = text; records = records; refused = refused }
 
 same_lane : (t t' : List ℕ) (a a' r r' : ℕ) → t ≡ t' → a ≡ a' → r ≡ r' → lane_of t a r ≡ lane_of t' a' r'
 same_lane t t' a a' r r' p q s = ap (λ x. lane_of x a r) p ∙ ap (λ x. lane_of t' x r) q ∙ ap (λ x. lane_of t' a' x) s
 
-abbrev pub with_answer : Version → ℕ → AnswerValue → LaneTextValue → LaneTextValue
-with_answer version source answer old = record {
-  text = old.text ++ record_text source (old.answers + 1) answer.outcome version;
-  answers = old.answers + 1;
-  refused = old.refused + count_by is_refused (answer ∷ []);
+abbrev pub with_block : BlockTextValue → LaneTextValue → LaneTextValue
+with_block block old = record {
+  text = old.text ++ concat (block_lines block);
+  records = old.records + block.lines;
+  refused = old.refused + block.refused;
 }
 
 abbrev pub with_end : Version → ℕ → LaneEnd → LaneTextValue → LaneTextValue
-with_end version source end old = record { text = old.text ++ end_text source version (why_of end) old.answers; answers = old.answers; refused = old.refused }
+with_end version source end old = record { text = old.text ++ end_text source version (why_of end) old.records; records = old.records; refused = old.refused }
 
 pub length_more : {T : Type 0} (xs : List T) (x : T) → length (xs ++ x ∷ []) ≡ length xs + 1
 length_more [] x = refl
 length_more (y ∷ xs) x = omega (arith, length_more xs x)
 
-kept_answered : (version : Version) (source : ℕ) (events : List LaneEvent) (answer : AnswerValue) (old new : LaneTextValue)
-    → old ≡ kept_of version source events → new ≡ with_answer version source answer old → new ≡ kept_of version source (events ++ Answered answer ∷ [])
-kept_answered version source events answer old new was is =
-    is ∙ ap (with_answer version source answer) was
+kept_answered : (version : Version) (source : ℕ) (events : List (LaneEvent BlockTextValue)) (block : BlockTextValue) (old new : LaneTextValue)
+    → old ≡ kept_of version source events → new ≡ with_block block old → new ≡ kept_of version source (events ++ Answered block ∷ [])
+kept_answered version source events block old new was is =
+    is ∙ ap (with_block block) was
     ∙ same_lane _ _ _ _ _ _
-    (sym (text_more source version events (Answered answer)))
-    (sym (ap length (among_answered events answer) ∙ length_more (answers_among events) answer))
-    (sym (ap (count_by is_refused) (among_answered events answer) ∙ sum_by-append (λ a. cond (is_refused a) 1 0) (answers_among events) (answer ∷ [])))
+    (sym (text_more source version events (Answered block)))
+    (sym (records_more events block))
+    (sym (refused_more events block))
 
-kept_ended : (version : Version) (source : ℕ) (events : List LaneEvent) (end : LaneEnd) (old new : LaneTextValue)
+kept_ended : (version : Version) (source : ℕ) (events : List (LaneEvent BlockTextValue)) (end : LaneEnd) (old new : LaneTextValue)
     → old ≡ kept_of version source events → new ≡ with_end version source end old → new ≡ kept_of version source (events ++ Ended end ∷ [])
 kept_ended version source events end old new was is =
     is ∙ ap (with_end version source end) was
     ∙ same_lane _ _ _ _ _ _
-    (sym (text_more source version events (Ended end)))
-    (sym (ap length (among_ended events end)))
-    (sym (ap (count_by is_refused) (among_ended events end)))
+    (ap (λ line. (kept_of version source events).text ++ line) (sym (append-nil (end_text source version (why_of end) (records_of (answers_among events)))))
+    ∙ sym (text_more source version events (Ended end)))
+    (sym (ap records_of (among_ended events end)))
+    (sym (ap refused_of (among_ended events end)))
 
 -- ---- what is kept of all lanes
 
-kept_at : (version : Version) (events : List Event) (number i n : ℕ) (lanes : List LaneTextValue) (d : LaneTextValue)
+kept_at : (version : Version) (events : List (Event BlockTextValue)) (number i n : ℕ) (lanes : List LaneTextValue) (d : LaneTextValue)
     → n ≡ number + i → i < length lanes → AreKept version events number lanes → get_or lanes i d ≡ kept_of version (n + 1) (of_lane n events)
 kept_at version events number i n [] d at within kept = absurd (omega (arith, within))
 kept_at version events number zero n (lane ∷ lanes) d at within kept =
     let same : number ≡ n = omega arith in
     kept.0 ∙ ap (λ m. kept_of version (m + 1) (of_lane m events)) same
 kept_at version events number (suc i) n (lane ∷ lanes) d at within kept =
-    kept_at version events (number + 1) i n lanes d (omega arith) (omega (arith, within)) kept.1
+    kept_at version events (number + 1) i n lanes d (omega arith) (omega (arith, within)) kept.2
 
 -- what came of a lane before these
-kept_same : (version : Version) (events : List Event) (n : ℕ) (event : LaneEvent) (number : ℕ) (lanes : List LaneTextValue)
+kept_same : (version : Version) (events : List (Event BlockTextValue)) (n : ℕ) (event : LaneEvent BlockTextValue) (number : ℕ) (lanes : List LaneTextValue)
     → n < number → AreKept version events number lanes → AreKept version (events ++ (n, event) ∷ []) number lanes
 kept_same version events n event number [] before kept = tt
 kept_same version events n event number (lane ∷ lanes) before kept = (
   kept.0 ∙ ap (kept_of version (number + 1)) (sym (of_lane_other number n events event (other_test n number (λ (e : n ≡ number). omega arith)))),
-  kept_same version events n event (number + 1) lanes (omega arith) kept.1,
+  kept.1,
+  kept_same version events n event (number + 1) lanes (omega arith) kept.2,
 )
 
 -- one event more
-kept_set : (version : Version) (events : List Event) (number i n : ℕ) (lanes : List LaneTextValue) (event : LaneEvent) (new : LaneTextValue)
-    → n ≡ number + i → i < length lanes → new ≡ kept_of version (n + 1) (of_lane n events ++ event ∷ [])
+kept_set : (version : Version) (events : List (Event BlockTextValue)) (number i n : ℕ) (lanes : List LaneTextValue) (event : LaneEvent BlockTextValue) (new : LaneTextValue)
+    → n ≡ number + i → i < length lanes → new ≡ kept_of version (n + 1) (of_lane n events ++ event ∷ []) → 1 + new.records < 2 ^ 64
     → AreKept version events number lanes → AreKept version (events ++ (n, event) ∷ []) number (set lanes i new)
-kept_set version events number i n [] event new at within is kept = absurd (omega (arith, within))
-kept_set version events number zero n (lane ∷ lanes) event new at within is kept =
+kept_set version events number i n [] event new at within is fits kept = absurd (omega (arith, within))
+kept_set version events number zero n (lane ∷ lanes) event new at within is fits kept =
     let same : n ≡ number = omega arith in (
       is ∙ ap (kept_of version (n + 1)) (sym (of_lane_more n n events event refl))
           ∙ ap (λ m. kept_of version (m + 1) (of_lane m (events ++ (n, event) ∷ []))) same,
-      kept_same version events n event (number + 1) lanes (omega arith) kept.1,
+      fits,
+      kept_same version events n event (number + 1) lanes (omega arith) kept.2,
     )
-kept_set version events number (suc i) n (lane ∷ lanes) event new at within is kept = (
+kept_set version events number (suc i) n (lane ∷ lanes) event new at within is fits kept = (
   kept.0 ∙ ap (kept_of version (number + 1)) (sym (of_lane_other number n events event (other_test n number (λ (e : n ≡ number). omega arith)))),
-  kept_set version events (number + 1) i n lanes event new (omega arith) (omega (arith, within)) is kept.1,
+  kept.1,
+  kept_set version events (number + 1) i n lanes event new (omega arith) (omega (arith, within)) is fits kept.2,
 )
 
 kept_blank : (version : Version) (number : ℕ) (lanes : List LaneTextValue) (lane : LaneTextValue)
     → AreKept version [] number lanes → lane ≡ lane_of [] 0 0 → AreKept version [] number (lanes ++ lane ∷ [])
-kept_blank version number [] lane kept is = (is, tt)
-kept_blank version number (l ∷ lanes) lane kept is = (kept.0, kept_blank version (number + 1) lanes lane kept.1 is)
+kept_blank version number [] lane kept is = (is, subst (λ l. 1 + l.records < 2 ^ 64) (sym is) (omega arith), tt)
+kept_blank version number (l ∷ lanes) lane kept is = (kept.0, kept.1, kept_blank version (number + 1) lanes lane kept.2 is)
 
 -- one lane more, of which nothing came yet
 pub kept_begun : (version : Version) (number : ℕ) (lanes more : List LaneTextValue) (lane : LaneTextValue)
-    → more ≡ lanes ++ lane ∷ [] → lane ≡ record { text = []; answers = 0; refused = 0 } → AreKept version [] number lanes → AreKept version [] number more
+    → more ≡ lanes ++ lane ∷ [] → lane ≡ record { text = []; records = 0; refused = 0 } → AreKept version [] number lanes → AreKept version [] number more
 kept_begun version number lanes more lane is blank kept = rw is (kept_blank version number lanes lane kept blank)
 
 -- ---- what a collector of texts was given
 
 module _ {C : Type 0} (version_of : C → Version) (lanes_of : C → List LaneTextValue) (version : Version) (count : ℕ) where
-  abbrev pub Given : C → List Event → Type 0
+  abbrev pub Given : C → List (Event BlockTextValue) → Type 0
   Given texts events = (version_of texts ≡ version) × (length (lanes_of texts) ≡ count) × AreKept version events 0 (lanes_of texts)
 
-  -- an answer was taken, or refused
-  pub gets_answer : (before after : C) (lane : ℕ) (answer : AnswerValue) (r : Result (Unit {0}) Refusal) (old new : LaneTextValue)
+  -- the text of a block was taken, or refused
+  pub gets_answer : (before after : C) (lane : ℕ) (block : BlockTextValue) (r : Result (Unit {0}) Refusal) (old new : LaneTextValue)
       → lane < length (lanes_of before) → old ≡ get_or (lanes_of before) lane old → version_of after ≡ version_of before
       → lanes_of after ≡ set (lanes_of before) lane new
-      → OnOk r (new ≡ with_answer (version_of before) (lane + 1) answer old) → OnErr r (new ≡ old)
-      → Gets Given before (lane, Answered answer) (is_ok r) after
-  gets_answer before after lane answer (Ok u) old new within at same becomes ok err = λ events given. (
+      → OnOk r (new ≡ with_block block old) → OnErr r (new ≡ old) → 1 + new.records < 2 ^ 64
+      → Gets Given before (lane, Answered block) (is_ok r) after
+  gets_answer before after lane block (Ok u) old new within at same becomes ok err fits = λ events given. (
     same ∙ given.0,
     ap length becomes ∙ length-set (lanes_of before) lane new ∙ given.1,
-    rw becomes (kept_set version events 0 lane lane (lanes_of before) (Answered answer) new (omega arith) within
-        (kept_answered version (lane + 1) (of_lane lane events) answer old new
+    rw becomes (kept_set version events 0 lane lane (lanes_of before) (Answered block) new (omega arith) within
+        (kept_answered version (lane + 1) (of_lane lane events) block old new
         (at ∙ kept_at version events 0 lane lane (lanes_of before) old (omega arith) within given.2)
-        (ok ∙ ap (λ v. with_answer v (lane + 1) answer old) given.0))
+        ok) fits
         given.2),
   )
-  gets_answer before after lane answer (Err e) old new within at same becomes ok err = λ events given. (
+  gets_answer before after lane block (Err e) old new within at same becomes ok err fits = λ events given. (
     same ∙ given.0,
     ap length becomes ∙ length-set (lanes_of before) lane new ∙ given.1,
     rw (becomes ∙ ap (set (lanes_of before) lane) (err ∙ at) ∙ set-get_or (lanes_of before) lane old) given.2,
@@ -132,18 +134,18 @@ module _ {C : Type 0} (version_of : C → Version) (lanes_of : C → List LaneTe
   pub gets_end : (before after : C) (lane : ℕ) (end : LaneEnd) (r : Result (Unit {0}) Refusal) (old new : LaneTextValue)
       → lane < length (lanes_of before) → old ≡ get_or (lanes_of before) lane old → version_of after ≡ version_of before
       → lanes_of after ≡ set (lanes_of before) lane new
-      → OnOk r (new ≡ with_end (version_of before) (lane + 1) end old) → OnErr r (new ≡ old)
+      → OnOk r (new ≡ with_end (version_of before) (lane + 1) end old) → OnErr r (new ≡ old) → 1 + new.records < 2 ^ 64
       → Gets Given before (lane, Ended end) (is_ok r) after
-  gets_end before after lane end (Ok u) old new within at same becomes ok err = λ events given. (
+  gets_end before after lane end (Ok u) old new within at same becomes ok err fits = λ events given. (
     same ∙ given.0,
     ap length becomes ∙ length-set (lanes_of before) lane new ∙ given.1,
     rw becomes (kept_set version events 0 lane lane (lanes_of before) (Ended end) new (omega arith) within
         (kept_ended version (lane + 1) (of_lane lane events) end old new
         (at ∙ kept_at version events 0 lane lane (lanes_of before) old (omega arith) within given.2)
-        (ok ∙ ap (λ v. with_end v (lane + 1) end old) given.0))
+        (ok ∙ ap (λ v. with_end v (lane + 1) end old) given.0)) fits
         given.2),
   )
-  gets_end before after lane end (Err e) old new within at same becomes ok err = λ events given. (
+  gets_end before after lane end (Err e) old new within at same becomes ok err fits = λ events given. (
     same ∙ given.0,
     ap length becomes ∙ length-set (lanes_of before) lane new ∙ given.1,
     rw (becomes ∙ ap (set (lanes_of before) lane) (err ∙ at) ∙ set-get_or (lanes_of before) lane old) given.2,

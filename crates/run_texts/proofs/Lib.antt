@@ -1,6 +1,8 @@
 pub mod SettingLemmas
 pub mod RunTextLemmas
 pub mod EventLemmas
+pub mod BlockLemmas
+pub mod BlockRunLemmas
 pub mod LaneTextLemmas
 pub mod ReportLemmas
 pub mod ReportTextLemmas

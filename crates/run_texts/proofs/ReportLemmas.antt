@@ -1,5 +1,6 @@
 -- The reports of a run: those of lanes that have ended, with the answers that came of them.
-use Rattle.std.proofs.Common.{◌≡◌, ℕ, suc, ◌+◌, Bool, false, ◌||◌, List, [], ◌∷◌, length, map, All, Option, Some, None, refl, ap, sym, subst, ◌∙◌}
+use Rattle.std.proofs.Common.{◌≡◌, ℕ, suc, ◌+◌, Bool, false, ◌||◌, List, [], ◌∷◌, length, map, All, Option, Some, None, arith, refl, ap, sym, subst, ◌∙◌, sum_by, count_by}
+use Rattle.std.proofs.lemmas.List.Sums.{sum_by-cons}
 use Rattle.std.proofs.lemmas.List.Elements.{All-head, All-tail}
 use Rattle.std.specs.Prelude.{IsSome}
 use Rattle.std.specs.List.{list_any}
@@ -11,10 +12,16 @@ use Rattle.set_line.specs.Terms.{TermsValue}
 use Rattle.line_lane.specs.declared.fault.SourceFault.{SourceFault}
 use Rattle.line_lane.specs.declared.ending.LaneEnd.{LaneEnd}
 use Rattle.line_lane.specs.declared.ending.LaneEnd.TheVariants.{Complete}
+use Rattle.line_blocks.specs.BlockText.{BlockTextValue}
+use Rattle.set_line.specs.declared.version.Version.{Version}
 use Rattle.set_run.specs.Events.{Event, answers_in}
-use Rattle.set_run.specs.Reports.{AreBack, AreClosed, AreReported, IsTrueToSource}
+use Rattle.set_run.specs.Closed.{AreBack}
+use Rattle.set_run.specs.Reports.{AreReported, IsTrueToSource}
 use Rattle.set_run.specs.declared.report.LaneReport.{LaneReport}
 use Rattle.set_run.specs.declared.run_end.ClosedLane.{ClosedLane}
+use Rattle.run_texts.specs.BlockLanes.{AreClosedIn}
+use Rattle.run_texts.specs.LaneText.{refused_of}
+use Rattle.run_texts.specs.RunText.{is_refused}
 use Rattle.run_texts.specs.Setting.{AreOwnReports}
 use Rattle.run_texts.specs.declared.summary.Summary.{Summary}
 
@@ -39,57 +46,86 @@ module _ {S : Type 0} where
   abbrev pub HasEnd : ClosedLane S → Type 0
   HasEnd lane = IsSome lane.end
 
-  -- the reports of lanes, of which the first has this number
-  abbrev pub reports_of : ℕ → List Event → List (ClosedLane S) → List (LaneReport S)
-  reports_of number events [] = []
-  reports_of number events (lane ∷ lanes) =
-      record { source = lane.source; answers = answers_in number events; end = end_or lane.end } ∷ reports_of (number + 1) events lanes
+-- these are the numbers of refused lines of lanes, of which the first has this number
+abbrev pub AreRefused : {T : Type 0} → List (Event BlockTextValue) → (T → ℕ) → ℕ → List T → Type 0
+AreRefused events count number [] = Unit {0}
+AreRefused events count number (c ∷ counts) = (count c ≡ refused_of (answers_in number events)) × AreRefused events count (number + 1) counts
 
-  are_reported : (to_come : S → Option (List (List ℕ))) (failed : S → Option SourceFault) (events : List Event) (number : ℕ)
-      (sources : List (S × Arc TermsValue Global)) (lanes : List (ClosedLane S))
-      → AreClosed to_come failed events number sources lanes → All (λ lane. IsSome lane.end) lanes
-      → AreReported to_come failed sources (reports_of number events lanes)
-  are_reported to_come failed events number [] [] closed whole = tt
-  are_reported to_come failed events number [] (l ∷ lanes) closed whole = absurd closed
-  are_reported to_come failed events number (s ∷ sources) [] closed whole = absurd closed
-  are_reported to_come failed events number (s ∷ sources) (l ∷ lanes) closed whole = (
+module _ {S : Type 0} (to_come : S → Option (List (List ℕ))) (failed : S → Option SourceFault) (version : Version) (events : List (Event BlockTextValue)) where
+  -- the reports of lanes, of which the first has this number, with the results whose records came
+  abbrev pub reports_of : (number : ℕ) (sources : List (S × Arc TermsValue Global)) (lanes : List (ClosedLane S))
+      → AreClosedIn to_come failed version events number sources lanes → List (LaneReport S)
+  reports_of number [] [] closed = []
+  reports_of number [] (l ∷ lanes) closed = absurd closed
+  reports_of number (s ∷ sources) [] closed = absurd closed
+  reports_of number (s ∷ sources) (l ∷ lanes) closed =
+      record { source = l.source; answers = closed.1.0; end = end_or l.end } ∷ reports_of (number + 1) sources lanes closed.2
+
+  are_reported : (number : ℕ) (sources : List (S × Arc TermsValue Global)) (lanes : List (ClosedLane S))
+      (closed : AreClosedIn to_come failed version events number sources lanes) → All (λ lane. IsSome lane.end) lanes
+      → AreReported to_come failed sources (reports_of number sources lanes closed)
+  are_reported number [] [] closed whole = tt
+  are_reported number [] (l ∷ lanes) closed whole = absurd closed
+  are_reported number (s ∷ sources) [] closed whole = absurd closed
+  are_reported number (s ∷ sources) (l ∷ lanes) closed whole = (
     subst (λ (end : Option LaneEnd). IsTrueToSource (record {
       terms = arc_value s.1;
       before = to_come s.0;
       failed = failed s.0;
-      answers = answers_in number events;
+      answers = closed.1.0;
       end = end;
       after = to_come l.source;
       fails = failed l.source;
-    })) (some_end l.end (All-head HasEnd l lanes whole)) closed.1,
-    are_reported to_come failed events (number + 1) sources lanes closed.2 (All-tail HasEnd l lanes whole),
+    })) (some_end l.end (All-head HasEnd l lanes whole)) closed.1.2,
+    are_reported (number + 1) sources lanes closed.2 (All-tail HasEnd l lanes whole),
   )
 
   -- they have the lanes' sources
-  pub sources_of_reports : (events : List Event) (number : ℕ) (lanes : List (ClosedLane S))
-      → map (λ report. report.source) (reports_of number events lanes) ≡ map (λ lane. lane.source) lanes
-  sources_of_reports events number [] = refl
-  sources_of_reports events number (l ∷ lanes) = ap (λ sources. l.source ∷ sources) (sources_of_reports events (number + 1) lanes)
+  pub sources_of_reports : (number : ℕ) (sources : List (S × Arc TermsValue Global)) (lanes : List (ClosedLane S))
+      (closed : AreClosedIn to_come failed version events number sources lanes)
+      → map (λ report. report.source) (reports_of number sources lanes closed) ≡ map (λ lane. lane.source) lanes
+  sources_of_reports number [] [] closed = refl
+  sources_of_reports number [] (l ∷ lanes) closed = absurd closed
+  sources_of_reports number (s ∷ sources) [] closed = absurd closed
+  sources_of_reports number (s ∷ sources) (l ∷ lanes) closed = ap (λ more. l.source ∷ more) (sources_of_reports (number + 1) sources lanes closed.2)
 
-  pub own_reports : {O : Type 0} (to_come : S → Option (List (List ℕ))) (failed : S → Option SourceFault) (origin : S → O) (events : List Event)
-      (sources : List (S × Arc TermsValue Global)) (lanes : List (ClosedLane S)) → AreClosed to_come failed events 0 sources lanes
+  pub own_reports : {O : Type 0} (origin : S → O) (sources : List (S × Arc TermsValue Global)) (lanes : List (ClosedLane S))
+      (closed : AreClosedIn to_come failed version events 0 sources lanes)
       → All (λ lane. IsSome lane.end) lanes → AreBack origin sources (map (λ lane. lane.source) lanes)
-      → AreOwnReports to_come failed origin sources (reports_of 0 events lanes)
-  own_reports to_come failed origin events sources lanes closed whole back =
-      (are_reported to_come failed events 0 sources lanes closed whole, subst (AreBack origin sources) (sym (sources_of_reports events 0 lanes)) back)
+      → AreOwnReports to_come failed origin sources (reports_of 0 sources lanes closed)
+  own_reports origin sources lanes closed whole back =
+      (are_reported 0 sources lanes closed whole, subst (AreBack origin sources) (sym (sources_of_reports 0 sources lanes closed)) back)
 
   -- how many reports there are
-  pub as_many : (to_come : S → Option (List (List ℕ))) (failed : S → Option SourceFault) (events : List Event) (number : ℕ)
-      (sources : List (S × Arc TermsValue Global)) (lanes : List (ClosedLane S))
-      → AreClosed to_come failed events number sources lanes → length (reports_of number events lanes) ≡ length sources
-  as_many to_come failed events number [] [] closed = refl
-  as_many to_come failed events number [] (l ∷ lanes) closed = absurd closed
-  as_many to_come failed events number (s ∷ sources) [] closed = absurd closed
-  as_many to_come failed events number (s ∷ sources) (l ∷ lanes) closed = ap suc (as_many to_come failed events (number + 1) sources lanes closed.2)
+  pub as_many : (number : ℕ) (sources : List (S × Arc TermsValue Global)) (lanes : List (ClosedLane S))
+      (closed : AreClosedIn to_come failed version events number sources lanes) → length (reports_of number sources lanes closed) ≡ length sources
+  as_many number [] [] closed = refl
+  as_many number [] (l ∷ lanes) closed = absurd closed
+  as_many number (s ∷ sources) [] closed = absurd closed
+  as_many number (s ∷ sources) (l ∷ lanes) closed = ap suc (as_many (number + 1) sources lanes closed.2)
 
-  pub ends_of : (is : LaneEnd → Bool) (events : List Event) (number : ℕ) (lanes : List (ClosedLane S)) → All (λ lane. IsSome lane.end) lanes
-      → list_any (λ lane. option_map_or is lane.end false) lanes ≡ list_any (λ lane. is lane.end) (reports_of number events lanes)
-  ends_of is events number [] whole = refl
-  ends_of is events number (l ∷ lanes) whole =
-      ap (λ more. option_map_or is l.end false || more) (ends_of is events (number + 1) lanes (All-tail HasEnd l lanes whole))
-      ∙ ap (λ (end : Option LaneEnd). option_map_or is end false || list_any (λ lane. is lane.end) (reports_of (number + 1) events lanes)) (some_end l.end (All-head HasEnd l lanes whole))
+  pub ends_of : (is : LaneEnd → Bool) (number : ℕ) (sources : List (S × Arc TermsValue Global)) (lanes : List (ClosedLane S))
+      (closed : AreClosedIn to_come failed version events number sources lanes) → All (λ lane. IsSome lane.end) lanes
+      → list_any (λ lane. option_map_or is lane.end false) lanes ≡ list_any (λ lane. is lane.end) (reports_of number sources lanes closed)
+  ends_of is number [] [] closed whole = refl
+  ends_of is number [] (l ∷ lanes) closed whole = absurd closed
+  ends_of is number (s ∷ sources) [] closed whole = absurd closed
+  ends_of is number (s ∷ sources) (l ∷ lanes) closed whole =
+      ap (λ more. option_map_or is l.end false || more) (ends_of is (number + 1) sources lanes closed.2 (All-tail HasEnd l lanes whole))
+      ∙ ap (λ (end : Option LaneEnd). option_map_or is end false || list_any (λ lane. is lane.end) (reports_of (number + 1) sources lanes closed.2)) (some_end l.end (All-head HasEnd l lanes whole))
+
+  -- the refused lines of the lanes, by their counts
+  pub refusals_of : {T : Type 0} (count : T → ℕ) (number : ℕ) (sources : List (S × Arc TermsValue Global)) (lanes : List (ClosedLane S)) (counts : List T)
+      (closed : AreClosedIn to_come failed version events number sources lanes) → AreRefused events count number counts → length counts ≡ length sources
+      → sum_by count counts ≡ sum_by (λ lane. count_by is_refused lane.answers) (reports_of number sources lanes closed)
+  refusals_of count number [] [] [] closed are long = refl
+  refusals_of count number [] [] (c ∷ counts) closed are long = absurd (omega (arith, long))
+  refusals_of count number [] (l ∷ lanes) counts closed are long = absurd closed
+  refusals_of count number (s ∷ sources) [] counts closed are long = absurd closed
+  refusals_of count number (s ∷ sources) (l ∷ lanes) [] closed are long = absurd (omega (arith, long))
+  refusals_of count number (s ∷ sources) (l ∷ lanes) (c ∷ counts) closed are long =
+      sum_by-cons count c counts
+      ∙ ap (λ more. count c + more) (refusals_of count (number + 1) sources lanes counts closed.2 are.1 (omega (arith, long)))
+      ∙ ap (λ n. n + sum_by (λ lane. count_by is_refused lane.answers) (reports_of (number + 1) sources lanes closed.2)) (are.0 ∙ closed.1.1.1)
+      ∙ sym (sum_by-cons (λ (lane : LaneReport S). count_by is_refused lane.answers)
+      (record { source = l.source; answers = closed.1.0; end = end_or l.end }) (reports_of (number + 1) sources lanes closed.2))

@@ -56,7 +56,7 @@ pub ruleset appends = (nothing_appended, nothing_more, some_more)
 pub ruleset moves = (moved)
 
 -- what a collector was given, by what is in it
-pub gets_within : {C D : Type 0} (of : D → C) (given : C → List Event → Type 0) (before after : D) (event : Event) (taken : Bool)
+pub gets_within : {C D O : Type 0} (of : D → C) (given : C → List (Event O) → Type 0) (before after : D) (event : Event O) (taken : Bool)
     → Gets given (of before) event taken (of after) → Gets (λ d events. given (of d) events) before event taken after
 gets_within of given before after event true h = h
 gets_within of given before after event false h = h

@@ -1,23 +1,23 @@
 -- A stream, event by event.
-use Rattle.std.proofs.Common.{◌≡◌, ℕ, ◌+◌, ◌<◌, List, [], ◌∷◌, ◌++◌, length, get_or, Option, arith, refl, ap, sym, subst, ◌∙◌, append_assoc, append-nil, count_by, length-set}
+use Rattle.std.proofs.Common.{◌≡◌, ℕ, ◌+◌, ◌<◌, List, [], ◌∷◌, ◌++◌, length, get_or, Option, arith, refl, ap, sym, subst, ◌∙◌, append_assoc, append-nil, length-set}
 use Rattle.std.proofs.Math.ListN.{set}
 use Rattle.std.proofs.lemmas.List.{set-get_or}
+use Rattle.std.specs.List.{concat}
 use Rattle.std.specs.Io.KnownBytes.{Keeps}
 use Rattle.set_line.specs.declared.version.Version.{Version}
-use Rattle.set_line.specs.Answer.{AnswerValue}
-use Rattle.set_line.specs.Record.{record_text}
 use Rattle.line_lane.specs.declared.ending.LaneEnd.{LaneEnd}
 use Rattle.set_run.specs.Events.{Event, LaneEvent, Answered, Ended, answers_in}
-use Rattle.run_texts.specs.RunText.{end_text, head_text, is_refused, why_of}
+use Rattle.line_blocks.specs.BlockText.{BlockTextValue}
+use Rattle.run_texts.specs.RunText.{end_text, head_text, why_of}
 use Rattle.run_texts.specs.Streaming.{merged_text}
-use Rattle.run_texts.specs.LaneText.{event_line}
+use Rattle.run_texts.specs.LaneText.{block_lines, event_lines, records_of}
 use Rattle.run_texts.specs.StreamState.{AreCounts, AreOut, MovesOut, IsCountOf, StreamStart}
 use Rattle.run_texts.specs.declared.lane_count.LaneCount.{LaneCount}
 use Rattle.run_texts.proofs.StreamLemmas.{appends_nothing, moves_more, nothing_appended}
-use Rattle.run_texts.proofs.StreamEvents.{count_answered, count_ended, counts_at, counts_set, event_lined, merged_more}
+use Rattle.run_texts.proofs.StreamEvents.{count_answered, count_ended, counts_at, counts_set, event_lined, merged_more, sourced}
 
 -- how a stream stands that began so and was given these events
-abbrev pub StandsSo : StreamStart → ℕ → Version → List LaneCount → Option (List ℕ) → List ℕ → List Event → Type 0
+abbrev pub StandsSo : StreamStart → ℕ → Version → List LaneCount → Option (List ℕ) → List ℕ → List (Event BlockTextValue) → Type 0
 StandsSo start name version counts written block events =
     (name ≡ start.name)
     × (version ≡ start.version)
@@ -25,23 +25,23 @@ StandsSo start name version counts written block events =
     × AreCounts events 0 counts
     × AreOut start.version events start.before written block
 
--- the line of one event more
-out_more : (version : Version) (events : List Event) (before after : Option (List ℕ)) (block block' : List ℕ) (lane : ℕ) (event : LaneEvent) (text : List ℕ)
-    → text ≡ event_line (lane + 1) version (length (answers_in lane events)) event → block' ≡ block ++ text
+-- the lines of one event more
+out_more : (version : Version) (events : List (Event BlockTextValue)) (before after : Option (List ℕ)) (block block' : List ℕ) (lane : ℕ) (event : LaneEvent BlockTextValue) (texts : List (List ℕ))
+    → texts ≡ event_lines (lane + 1) version (records_of (answers_in lane events)) event → block' ≡ block ++ concat texts
     → AreOut version events before after block → AreOut version (events ++ (lane, event) ∷ []) before after block'
-out_more version events before after block block' lane event text is more (lines, are, (written, appends, all)) = (
-  lines ++ (lane + 1, text) ∷ [],
-  event_lined version events lines lane event text is are,
+out_more version events before after block block' lane event texts is more (lines, are, (written, appends, all)) = (
+  lines ++ sourced (lane + 1) texts,
+  event_lined version events lines lane event texts is are,
   (
     written,
     appends,
-    ap (λ b. written ++ b) more ∙ sym (append_assoc written block text) ∙ ap (λ t. t ++ text) all
-        ∙ append_assoc (head_text version) (merged_text lines) text ∙ ap (λ t. head_text version ++ t) (sym (merged_more lines (lane + 1, text))),
+    ap (λ b. written ++ b) more ∙ sym (append_assoc written block (concat texts)) ∙ ap (λ t. t ++ concat texts) all
+        ∙ append_assoc (head_text version) (merged_text lines) (concat texts) ∙ ap (λ t. head_text version ++ t) (sym (merged_more lines (lane + 1) texts)),
   ),
 )
 
 -- some of the block was written
-pub goes_on : (start : StreamStart) (name name' : ℕ) (version version' : Version) (counts counts' : List LaneCount) (w w' : Option (List ℕ)) (b b' : List ℕ) (events : List Event)
+pub goes_on : (start : StreamStart) (name name' : ℕ) (version version' : Version) (counts counts' : List LaneCount) (w w' : Option (List ℕ)) (b b' : List ℕ) (events : List (Event BlockTextValue))
     → name' ≡ name → version' ≡ version → counts' ≡ counts → MovesOut w b w' b'
     → StandsSo start name version counts w b events → StandsSo start name' version' counts' w' b' events
 goes_on start name name' version version' counts counts' w w' b b' events same_name same_version same_counts moves (named, form, lanes, are, (lines, lined, out)) = (
@@ -53,7 +53,7 @@ goes_on start name name' version version' counts counts' w w' b b' events same_n
 )
 
 -- the writer was flushed
-pub flushed : (start : StreamStart) (name : ℕ) (version : Version) (counts : List LaneCount) (w w' : Option (List ℕ)) (b : List ℕ) (events : List Event)
+pub flushed : (start : StreamStart) (name : ℕ) (version : Version) (counts : List LaneCount) (w w' : Option (List ℕ)) (b : List ℕ) (events : List (Event BlockTextValue))
     → Keeps w w' → StandsSo start name version counts w b events → StandsSo start name version counts w' b events
 flushed start name version counts w w' b events keeps stands =
     goes_on start name name version version counts counts w w' b b events refl refl refl ([], nothing_appended w w' keeps, refl) stands
@@ -65,46 +65,45 @@ begins name version counts w block none is =
     (refl, refl, refl, none, ([], (refl, λ lane. refl), ([], appends_nothing w, is ∙ sym (append-nil (head_text version)))))
 
 -- nothing was taken
-pub as_before : (start : StreamStart) (name : ℕ) (version : Version) (counts : List LaneCount) (w : Option (List ℕ)) (b b' : List ℕ) (events : List Event)
+pub as_before : (start : StreamStart) (name : ℕ) (version : Version) (counts : List LaneCount) (w : Option (List ℕ)) (b b' : List ℕ) (events : List (Event BlockTextValue))
     → b' ≡ b → StandsSo start name version counts w b events → StandsSo start name version counts w b' events
 as_before start name version counts w b b' events same stands =
     subst (λ block. StandsSo start name version counts w block events) (sym same) stands
 
--- an answer was taken
-pub taken : (start : StreamStart) (name : ℕ) (version : Version) (counts : List LaneCount) (w : Option (List ℕ)) (b b' : List ℕ) (events : List Event)
-    (lane : ℕ) (answer : AnswerValue) (count new : LaneCount)
+-- the text of a block was taken
+pub taken : (start : StreamStart) (name : ℕ) (version : Version) (counts : List LaneCount) (w : Option (List ℕ)) (b b' : List ℕ) (events : List (Event BlockTextValue))
+    (lane : ℕ) (block : BlockTextValue) (count new : LaneCount)
     → lane < length counts → count ≡ get_or counts lane count
-    → b' ≡ b ++ record_text (lane + 1) (count.answers + 1) answer.outcome version
-    → new.answers ≡ count.answers + 1 → new.refused ≡ count.refused + count_by is_refused (answer ∷ [])
-    → StandsSo start name version counts w b events → StandsSo start name version (set counts lane new) w b' (events ++ (lane, Answered answer) ∷ [])
-taken start name version counts w b b' events lane answer count new within at more answers refused (named, form, lanes, are, out) =
+    → b' ≡ b ++ concat (block_lines block)
+    → new.records ≡ count.records + block.lines → new.refused ≡ count.refused + block.refused
+    → StandsSo start name version counts w b events → StandsSo start name version (set counts lane new) w b' (events ++ (lane, Answered block) ∷ [])
+taken start name version counts w b b' events lane block count new within at more records refused (named, form, lanes, are, out) =
     let was : IsCountOf count (answers_in lane events) =
-    subst (λ n. IsCountOf n (answers_in lane events)) (sym at) (counts_at events 0 lane lane counts count (omega arith) within are) in
-    let line : record_text (lane + 1) (count.answers + 1) answer.outcome version ≡ event_line (lane + 1) start.version (length (answers_in lane events)) (Answered answer) =
-    ap (λ n. record_text (lane + 1) (n + 1) answer.outcome version) was.0 ∙ ap (record_text (lane + 1) (length (answers_in lane events) + 1) answer.outcome) form in (
+    subst (λ n. IsCountOf n (answers_in lane events)) (sym at) (counts_at events 0 lane lane counts count (omega arith) within are) in (
       named,
       form,
       length-set counts lane new ∙ lanes,
-      counts_set events 0 lane lane counts (Answered answer) new (omega arith) within (count_answered count new lane events answer was answers refused) are,
-      out_more start.version events start.before w b b' lane (Answered answer) (record_text (lane + 1) (count.answers + 1) answer.outcome version) line more out,
+      counts_set events 0 lane lane counts (Answered block) new (omega arith) within (count_answered count new lane events block was records refused) are,
+      out_more start.version events start.before w b b' lane (Answered block) (block_lines block) refl more out,
     )
 
 -- an end was taken
-pub ended : (start : StreamStart) (name : ℕ) (version : Version) (counts : List LaneCount) (w : Option (List ℕ)) (b b' : List ℕ) (events : List Event)
+pub ended : (start : StreamStart) (name : ℕ) (version : Version) (counts : List LaneCount) (w : Option (List ℕ)) (b b' : List ℕ) (events : List (Event BlockTextValue))
     (lane : ℕ) (end : LaneEnd) (count : LaneCount)
     → lane < length counts → count ≡ get_or counts lane count
-    → b' ≡ b ++ end_text (lane + 1) version (why_of end) count.answers
+    → b' ≡ b ++ end_text (lane + 1) version (why_of end) count.records
     → StandsSo start name version counts w b events → StandsSo start name version counts w b' (events ++ (lane, Ended end) ∷ [])
 ended start name version counts w b b' events lane end count within at more (named, form, lanes, are, out) =
     let was : IsCountOf count (answers_in lane events) =
     subst (λ n. IsCountOf n (answers_in lane events)) (sym at) (counts_at events 0 lane lane counts count (omega arith) within are) in
-    let line : end_text (lane + 1) version (why_of end) count.answers ≡ event_line (lane + 1) start.version (length (answers_in lane events)) (Ended end) =
-    ap (end_text (lane + 1) version (why_of end)) was.0 ∙ ap (λ v. end_text (lane + 1) v (why_of end) (length (answers_in lane events))) form in
+    let line : end_text (lane + 1) version (why_of end) count.records ∷ [] ≡ event_lines (lane + 1) start.version (records_of (answers_in lane events)) (Ended end) =
+    ap (λ n. end_text (lane + 1) version (why_of end) n ∷ []) was.0 ∙ ap (λ v. end_text (lane + 1) v (why_of end) (records_of (answers_in lane events)) ∷ []) form in
     let same : set counts lane count ≡ counts = ap (set counts lane) at ∙ set-get_or counts lane count in (
       named,
       form,
       lanes,
       subst (AreCounts (events ++ (lane, Ended end) ∷ []) 0) same
           (counts_set events 0 lane lane counts (Ended end) count (omega arith) within (count_ended count lane events end was) are),
-      out_more start.version events start.before w b b' lane (Ended end) (end_text (lane + 1) version (why_of end) count.answers) line more out,
+      out_more start.version events start.before w b b' lane (Ended end) (end_text (lane + 1) version (why_of end) count.records ∷ []) line
+          (more ∙ ap (λ t. b ++ t) (sym (append-nil (end_text (lane + 1) version (why_of end) count.records)))) out,
     )

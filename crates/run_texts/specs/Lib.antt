@@ -1,5 +1,6 @@
 pub mod RunText
 pub mod LaneText
+pub mod BlockLanes
 pub mod ReportText
 pub mod Refusals
 pub mod Setting

@@ -1,16 +1,15 @@
 -- The parts of the output of a batch: the first line, the records of the results of a source, and its end
 -- line.
 -- This project's own.
-use Rattle.std.specs.Prelude.{ℕ, ◌+◌, List, [], ◌∷◌, ◌++◌, length, codes, decimal, Bool, true, false}
+use Rattle.std.specs.Prelude.{ℕ, ◌+◌, List, [], ◌∷◌, ◌++◌, length, codes, decimal, Bool}
 use Rattle.set_line.specs.declared.version.Version.{Version}
 use Rattle.set_line.specs.declared.version.Version.TheVariants.{One, Two, Json}
-use Rattle.set_line.specs.declared.outcome.Outcome.{Outcome}
-use Rattle.set_line.specs.declared.outcome.Outcome.TheVariants.{Set, Refused}
 use Rattle.set_line.specs.Answer.{AnswerValue}
 use Rattle.line_lane.specs.declared.fault.SourceFault.TheVariants.{Read, OutOfMemory, ReadBound}
 use Rattle.line_lane.specs.declared.ending.LaneEnd.{LaneEnd}
 use Rattle.line_lane.specs.declared.ending.LaneEnd.TheVariants.{Complete, SourceFailed, GaveUp}
 use Rattle.set_line.specs.Record.{record_text}
+use Rattle.line_blocks.specs.BlockText.{is_refusal}
 
 -- the records of results; the first one has this line number
 abbrev pub records_from : ℕ → ℕ → Version → List AnswerValue → List ℕ
@@ -51,11 +50,6 @@ head_text Json = []
 abbrev pub lane_text : ℕ → Version → List AnswerValue → List ℕ → List ℕ
 lane_text source version answers why = records_from source 1 version answers ++ end_text source version why (length answers)
 
--- whether an outcome is a refusal
-abbrev pub is_refused_outcome : Outcome → Bool
-is_refused_outcome (Set items width steps) = false
-is_refused_outcome (Refused refusal) = true
-
 -- whether a line was refused
 abbrev pub is_refused : AnswerValue → Bool
-is_refused answer = is_refused_outcome answer.outcome
+is_refused answer = is_refusal answer.outcome

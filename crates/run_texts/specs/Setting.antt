@@ -9,7 +9,8 @@ use Rattle.std.specs.Io.KnownBytes.{Appends}
 use Rattle.set_line.specs.Terms.{TermsValue}
 use Rattle.set_line.specs.declared.version.Version.{Version}
 use Rattle.line_lane.specs.declared.fault.SourceFault.{SourceFault}
-use Rattle.set_run.specs.Reports.{AreBack, AreReported, IsReported}
+use Rattle.set_run.specs.Closed.{AreBack}
+use Rattle.set_run.specs.Reports.{AreReported, IsReported}
 use Rattle.set_run.specs.declared.report.LaneReport.{LaneReport}
 use Rattle.run_texts.specs.ReportText.{run_text, summary_of_run}
 use Rattle.run_texts.specs.declared.summary.Summary.{Summary}

@@ -1,28 +1,28 @@
 -- The state of a batch whose output is written as the results arrive.
 -- This project's own.
-use Rattle.std.specs.Prelude.{◌≡◌, ℕ, ◌+◌, List, [], ◌∷◌, ◌++◌, length, count_by, Option}
+use Rattle.std.specs.Prelude.{◌≡◌, ℕ, ◌+◌, List, [], ◌∷◌, ◌++◌, length, Option}
 use Rattle.std.specs.Io.KnownBytes.{Appends}
-use Rattle.set_line.specs.Answer.{AnswerValue}
 use Rattle.set_line.specs.declared.version.Version.{Version}
 use Rattle.set_run.specs.Events.{Event, answers_in, of_lane}
-use Rattle.run_texts.specs.RunText.{head_text, is_refused}
-use Rattle.run_texts.specs.LaneText.{event_lines}
+use Rattle.line_blocks.specs.BlockText.{BlockTextValue}
+use Rattle.run_texts.specs.RunText.{head_text}
+use Rattle.run_texts.specs.LaneText.{events_lines, records_of, refused_of}
 use Rattle.run_texts.specs.Streaming.{SourceLine, merged_text, of_source}
 use Rattle.run_texts.specs.declared.lane_count.LaneCount.{LaneCount}
 use Rattle.run_texts.specs.declared.stream.Stream.{Stream}
 
 -- these are the output lines of these events; the number of a source is the index of its lane plus 1
-abbrev pub AreLinesOf : Version → List Event → List SourceLine → Type 0
+abbrev pub AreLinesOf : Version → List (Event BlockTextValue) → List SourceLine → Type 0
 AreLinesOf version events lines =
     (of_source 0 lines ≡ [])
-    × ((lane : ℕ) → of_source (lane + 1) lines ≡ event_lines (lane + 1) version 0 (of_lane lane events))
+    × ((lane : ℕ) → of_source (lane + 1) lines ≡ events_lines (lane + 1) version 0 (of_lane lane events))
 
--- the counts are the number of these results and the number of refused lines among them
-abbrev pub IsCountOf : LaneCount → List AnswerValue → Type 0
-IsCountOf count answers = (count.answers ≡ length answers) × (count.refused ≡ count_by is_refused answers)
+-- the counts are the number of records of these blocks and the number of refused lines among them
+abbrev pub IsCountOf : LaneCount → List BlockTextValue → Type 0
+IsCountOf count texts = (count.records ≡ records_of texts) × (count.refused ≡ refused_of texts)
 
--- these are the counts of the results of each lane; the first lane has this index
-abbrev pub AreCounts : List Event → ℕ → List LaneCount → Type 0
+-- these are the counts of the blocks of each lane; the first lane has this index
+abbrev pub AreCounts : List (Event BlockTextValue) → ℕ → List LaneCount → Type 0
 AreCounts events number [] = Unit {0}
 AreCounts events number (count ∷ counts) = IsCountOf count (answers_in number events) × AreCounts events (number + 1) counts
 
@@ -32,7 +32,7 @@ MovesOut before block after left = (written : List ℕ) × Appends before after 
 
 -- the bytes that were written, followed by the bytes in the buffer, are the first line of the record format,
 -- if it has one, and then the lines of these events
-abbrev pub AreOut : Version → List Event → Option (List ℕ) → Option (List ℕ) → List ℕ → Type 0
+abbrev pub AreOut : Version → List (Event BlockTextValue) → Option (List ℕ) → Option (List ℕ) → List ℕ → Type 0
 AreOut version events before after block =
     (lines : List SourceLine)
     × AreLinesOf version events lines
@@ -48,7 +48,7 @@ pub record StreamStart : Type 0 where
 
 module _ {W : Type 0} where
   -- a stream that began in this state has taken these events
-  abbrev pub IsStreamOf : (W → Option (List ℕ)) → StreamStart → Stream W → List Event → Type 0
+  abbrev pub IsStreamOf : (W → Option (List ℕ)) → StreamStart → Stream W → List (Event BlockTextValue) → Type 0
   IsStreamOf contents start stream events =
       (stream.out.ghost_name ≡ start.name)
       × (stream.version ≡ start.version)

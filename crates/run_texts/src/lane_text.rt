@@ -1,29 +1,30 @@
-//! The output of a lane, kept in memory until the batch is done.
-ghost use Rattle.std.specs.Prelude.{◌≡◌, ◌+◌, ◌<◌, ◌^◌, ◌++◌, [], ◌∷◌, count_by, IfErr, OnErr, OnOk};
+//! The output of a source, kept in memory until the batch is done.
+ghost use Rattle.std.specs.Prelude.{◌≡◌, ◌+◌, ◌<◌, ◌^◌, ◌++◌, [], IfErr, OnErr, OnOk};
 ghost use Rattle.std.specs.Io.KnownBytes.{Appends};
 ghost use Rattle.std.specs.List.{concat};
-ghost use Rattle.set_line.specs.Record.{record_text};
 ghost use Rattle.set_run.specs.declared.collector.Refusal.TheVariants.{OutOfMemory as NoMemory, Output};
-ghost use Rattle.run_texts.specs.RunText.{end_text, is_refused, why_of};
+ghost use Rattle.run_texts.specs.LaneText.{block_lines};
+ghost use Rattle.run_texts.specs.RunText.{end_text, why_of};
 
 use crate::block::TextBlock;
 use crate::lane_count::LaneCount;
+use line_blocks::BlockText;
 use line_lane::LaneEnd;
-use set_line::{Answer, RecordTexts, Version};
+use set_line::Version;
 use set_run::Refusal;
 use std::alloc::{AllocError, Global};
 use std::io::Write;
 use std::marker::Model;
 use std::mem;
 
-/// A buffer with this many bytes or more is full: the next record begins a new buffer.
+/// A buffer with this many bytes or more is full: the text of the next block begins a new buffer.
 const FULL: usize = 65_536;
 
 /// The capacity with which each buffer after the first begins. It is larger than `FULL`, so that most buffers
-/// don't have to grow for their last record.
+/// don't have to grow for their last text.
 const ROOM: usize = 73_728;
 
-/// The output of a lane, in buffers. Lines are appended to the last one.
+/// The output of a source, in buffers. Texts are appended to the last one.
 #[derive(Drop)]
 pub(crate) struct LaneText {
     blocks: Vec<TextBlock>,
@@ -40,7 +41,7 @@ impl Model for LaneText {
 
     ghost view = { λ lane. record {
       text = concat lane.blocks.items ++ lane.last.items;
-      answers = lane.count.answers;
+      records = lane.count.records;
       refused = lane.count.refused;
     } };
 }
@@ -61,7 +62,7 @@ fn write_blocks<W: Write>(blocks: Vec<TextBlock>, out: &mut W) -> Result<(), Ref
 impl LaneText {
     /// Returns the empty output of a lane. This allocates no memory.
     pub fn new(alloc: Global) -> Self
-        ensures { result ≡ record { text = []; answers = 0; refused = 0 } }
+        ensures { result ≡ record { text = []; records = 0; refused = 0 } }
     {
         LaneText {
             blocks: Vec::new(alloc),
@@ -79,7 +80,8 @@ impl LaneText {
 
     /// Begins a new buffer. The output is unchanged, also if an allocation fails.
     fn begin_block(&mut self) -> Result<(), AllocError>
-        ensures { self.new ≡ self.old }
+        ensures as_before { self.new ≡ self.old }
+        ensures few { 1 + self.new.records < 2 ^ 64 }
     {
         let alloc = *self.last.allocator();
         let begun = Vec::with_capacity(alloc, ROOM)?;
@@ -96,6 +98,7 @@ impl LaneText {
     /// Begins a new buffer if the last one is full. The output is unchanged, also if an allocation fails.
     fn make_room(&mut self) -> Result<(), Refusal>
         ensures as_before { self.new ≡ self.old }
+        ensures few { 1 + self.new.records < 2 ^ 64 }
         ensures refusal { IfErr result (λ refusal. refusal ≡ NoMemory) }
     {
         if self.last.len() < FULL {
@@ -104,40 +107,33 @@ impl LaneText {
         self.begin_block().map_err(|_| Refusal::OutOfMemory)
     }
 
-    /// Appends the record of the next result of the lane with this index, and counts it. After an error the
-    /// output and the counts are unchanged.
-    pub fn take(
-        &mut self,
-        lane: usize,
-        answer: &Answer,
-        version: Version,
-        texts: Option<&RecordTexts>,
-    ) -> Result<(), Refusal>
-        requires { lane + 1 < 2 ^ 64 }
+    /// Appends the records of the next block, and counts them. After an error the output and the counts are
+    /// unchanged.
+    pub fn take(&mut self, block: &BlockText) -> Result<(), Refusal>
         ensures taken { OnOk result (self.new ≡ record {
-          text = self.old.text
-              ++ record_text (lane + 1) (self.old.answers + 1) answer.now.outcome version;
-          answers = self.old.answers + 1;
-          refused = self.old.refused + count_by is_refused (answer.now ∷ []);
+          text = self.old.text ++ concat (block_lines block.now);
+          records = self.old.records + block.now.lines;
+          refused = self.old.refused + block.now.refused;
         }) }
         ensures as_before { OnErr result (self.new ≡ self.old) }
         ensures refusal { IfErr result (λ refusal. refusal ≡ NoMemory) }
+        ensures few { 1 + self.new.records < 2 ^ 64 }
     {
         self.make_room()?;
-        self.count
-            .push_record(lane, answer, version, texts, &mut self.last)
+        self.count.push_block(block, &mut self.last)
     }
 
     /// Appends the end line of the lane with this index. After an error the output is unchanged.
     pub fn end(&mut self, lane: usize, end: LaneEnd, version: Version) -> Result<(), Refusal>
         requires { lane + 1 < 2 ^ 64 }
         ensures ended { OnOk result (self.new ≡ record {
-          text = self.old.text ++ end_text (lane + 1) version (why_of end) self.old.answers;
-          answers = self.old.answers;
+          text = self.old.text ++ end_text (lane + 1) version (why_of end) self.old.records;
+          records = self.old.records;
           refused = self.old.refused;
         }) }
         ensures as_before { OnErr result (self.new ≡ self.old) }
         ensures refusal { IfErr result (λ refusal. refusal ≡ NoMemory) }
+        ensures few { 1 + self.new.records < 2 ^ 64 }
     {
         self.count.push_end(lane, end, version, &mut self.last)
     }

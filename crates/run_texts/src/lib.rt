@@ -10,9 +10,9 @@ pub use streaming::{stream_each, stream_text};
 pub use summary::{Summary, status};
 
 mod block;
+mod block_run;
 mod fault;
 mod font_setting;
-mod item_texts;
 mod lane_count;
 mod lane_text;
 mod options;

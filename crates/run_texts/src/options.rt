@@ -1,23 +1,43 @@
+use run_plan::{Block, Plan};
 use set_line::Version;
-use set_run::{BatchOptions, Plan};
+use set_run::ItemOptions;
+
+/// More lines than a block can have: a block with 64 KB is full, and each line counts as one byte at least.
+const ANY_LINES: usize = 65_536;
 
 /// The options of a batch and of its output.
 #[derive(Drop)]
 pub struct OutputOptions<'a, G> {
-    /// The capacity and the block of each lane, and the largest number of workers.
+    /// The capacity of each lane, the largest number of lines in a block, and the largest number of workers,
+    /// which is also that of the lanes of a source.
     pub plan: Plan,
     /// The record format.
     pub version: Version,
+    /// Whether a block has all lines that one read of its source completes, up to 64 KB, and not at most as many
+    /// lines as the plan states.
+    pub whole_reads: bool,
     /// The start barrier of the threads.
     pub gate: &'a G,
 }
 
 impl<'a, G> OutputOptions<'a, G> {
-    /// Returns the options of the batch: the plan and the start barrier.
-    pub(crate) fn batch(&self) -> BatchOptions<'a, G> {
-        BatchOptions {
-            plan: self.plan,
+    /// Returns the options of the batch, whose items are blocks of lines: the plan, with one block in each
+    /// message; the start barrier; and the number of workers as the largest number of lanes of a source.
+    pub(crate) fn batch(&self) -> ItemOptions<'a, G> {
+        let block = Block::new(1).unwrap_or(self.plan.block);
+        ItemOptions {
+            plan: Plan { block, ..self.plan },
             gate: self.gate,
+            lanes: self.plan.workers.get(),
+        }
+    }
+
+    /// Returns the largest number of lines in a block.
+    pub(crate) fn most_lines(&self) -> usize {
+        if self.whole_reads {
+            ANY_LINES
+        } else {
+            self.plan.block.get()
         }
     }
 }

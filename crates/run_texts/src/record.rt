@@ -1,13 +1,15 @@
-//! Appends lines of the output: its first line, the record of a result, and the end line of a lane.
-ghost use Rattle.std.specs.Prelude.{◌≡◌, ◌+◌, ◌<◌, ◌^◌, ◌++◌, [], ◌∷◌, count_by, IfErr, OnErr, OnOk};
-ghost use Rattle.set_line.specs.Record.{record_text};
+//! Appends lines of the output: its first line, the records of a block, and the end line of a lane.
+ghost use Rattle.std.specs.Prelude.{◌≡◌, ◌+◌, ◌<◌, ◌^◌, ◌++◌, IfErr, OnErr, OnOk};
+ghost use Rattle.std.specs.List.{concat};
 ghost use Rattle.set_run.specs.declared.collector.Refusal.TheVariants.{OutOfMemory as NoMemory};
-ghost use Rattle.run_texts.specs.RunText.{end_text, head_text, is_refused, json_end, why_of, words_end};
+ghost use Rattle.run_texts.specs.LaneText.{block_lines};
+ghost use Rattle.run_texts.specs.RunText.{end_text, head_text, json_end, why_of, words_end};
 
 use crate::lane_count::LaneCount;
 use itoa::Buffer;
+use line_blocks::BlockText;
 use line_lane::{LaneEnd, SourceFault};
-use set_line::{Answer, Outcome, RecordNumber, RecordTexts, Version, record_outcome};
+use set_line::Version;
 use set_run::Refusal;
 use std::alloc::AllocError;
 
@@ -39,21 +41,21 @@ pub(crate) fn push_head(version: Version, text: &mut Vec<u8>) -> Result<(), Refu
     }
 }
 
-/// Appends the end line of the source with this number, which has this many results.
+/// Appends the end line of the source with this number, which has this many records.
 #[tactic(auto, unfolding(crate::specs::RunText::end_text))]
 fn push_end_line(
     source: u64,
     version: Version,
     end: LaneEnd,
-    answers: u64,
+    records: u64,
     text: &mut Vec<u8>,
 ) -> Result<(), AllocError>
     ensures { OnOk result (text.new.items
-        ≡ text.old.items ++ end_text source version (why_of end) answers) }
+        ≡ text.old.items ++ end_text source version (why_of end) records) }
 {
     match version {
-        Version::One | Version::Two => push_words_end(source, end, answers, text),
-        Version::Json => push_json_end(source, end, answers, text),
+        Version::One | Version::Two => push_words_end(source, end, records, text),
+        Version::Json => push_json_end(source, end, records, text),
     }
 }
 
@@ -62,18 +64,18 @@ fn push_end_line(
 fn push_words_end(
     source: u64,
     end: LaneEnd,
-    answers: u64,
+    records: u64,
     text: &mut Vec<u8>,
 ) -> Result<(), AllocError>
     ensures { OnOk result (text.new.items
-        ≡ text.old.items ++ words_end source (why_of end) answers) }
+        ≡ text.old.items ++ words_end source (why_of end) records) }
 {
     let mut digits = Buffer::new();
     text.extend_from_slice(digits.format(source).as_bytes())?;
     text.extend_from_slice(b" end ")?;
     text.extend_from_slice(why(end))?;
     text.extend_from_slice(b" ")?;
-    text.extend_from_slice(digits.format(answers).as_bytes())?;
+    text.extend_from_slice(digits.format(records).as_bytes())?;
     text.extend_from_slice(b"\n")
 }
 
@@ -82,11 +84,11 @@ fn push_words_end(
 fn push_json_end(
     source: u64,
     end: LaneEnd,
-    answers: u64,
+    records: u64,
     text: &mut Vec<u8>,
 ) -> Result<(), AllocError>
     ensures { OnOk result (text.new.items
-        ≡ text.old.items ++ json_end source (why_of end) answers) }
+        ≡ text.old.items ++ json_end source (why_of end) records) }
 {
     let mut digits = Buffer::new();
     text.extend_from_slice(b"{\"source\":")?;
@@ -94,57 +96,43 @@ fn push_json_end(
     text.extend_from_slice(b",\"end\":\"")?;
     text.extend_from_slice(why(end))?;
     text.extend_from_slice(b"\",\"lines\":")?;
-    text.extend_from_slice(digits.format(answers).as_bytes())?;
+    text.extend_from_slice(digits.format(records).as_bytes())?;
     text.extend_from_slice(b"}\n")
 }
 
 impl LaneCount {
-    /// Returns the counts of a lane without results.
+    /// Returns the counts of a lane without records.
     pub fn new() -> Self
-        ensures answers { result.answers ≡ 0 }
+        ensures records { result.records ≡ 0 }
         ensures refused { result.refused ≡ 0 }
     {
         LaneCount {
-            answers: 0,
+            records: 0,
             refused: 0,
         }
     }
 
-    /// Appends the record of the next result of the lane with this index, and counts it. The error is
-    /// `OutOfMemory`: an allocation failed, or the lane already has 2^64 - 1 results. After an error `text`
-    /// and the counts are unchanged.
-    pub fn push_record(
-        &mut self,
-        lane: usize,
-        answer: &Answer,
-        version: Version,
-        texts: Option<&RecordTexts>,
-        text: &mut Vec<u8>,
-    ) -> Result<(), Refusal>
-        requires { lane + 1 < 2 ^ 64 }
-        ensures text { OnOk result (text.new.items ≡ text.old.items
-            ++ record_text (lane + 1) (self.old.answers + 1) answer.now.outcome version) }
-        ensures answers { OnOk result (self.new.answers ≡ self.old.answers + 1) }
-        ensures refused { OnOk result
-            (self.new.refused ≡ self.old.refused + count_by is_refused (answer.now ∷ [])) }
+    /// Appends the records of the next block of a lane, and counts them. The error is `OutOfMemory`: an
+    /// allocation failed, or the lane would have 2^64 - 1 records. After an error `text` and the counts are
+    /// unchanged.
+    #[tactic(auto, using(crate::proofs::BlockLemmas::texts))]
+    pub fn push_block(&mut self, block: &BlockText, text: &mut Vec<u8>) -> Result<(), Refusal>
+        ensures text { OnOk result (text.new.items
+            ≡ text.old.items ++ concat (block_lines block.now)) }
+        ensures records { OnOk result (self.new.records ≡ self.old.records + block.now.lines) }
+        ensures refused { OnOk result (self.new.refused ≡ self.old.refused + block.now.refused) }
         ensures as_before { OnErr result ((text.new.items ≡ text.old.items)
             × (self.new ≡ self.old)) }
         ensures refusal { IfErr result (λ refusal. refusal ≡ NoMemory) }
     {
-        let Some(answers) = self.answers.checked_add(1) else {
+        let (lines, refused) = (block.lines(), block.refused());
+        if lines >= u64::MAX - self.records {
             return Err(Refusal::OutOfMemory);
-        };
-        let number = RecordNumber {
-            source: lane as u64 + 1,
-            line: answers,
-        };
-        record_outcome(text, number, answer.outcome(), version, texts).map_err(
-            |_| Refusal::OutOfMemory,
-        )?;
-        let more = u64::from(matches!(answer.outcome(), Outcome::Refused(_)));
+        }
+        text.extend_from_slice(block.text())?;
         *self = LaneCount {
-            answers,
-            refused: self.refused + more,
+            records: self.records + lines,
+            refused: self.refused + refused,
         };
         Ok(())
     }
@@ -160,12 +148,12 @@ impl LaneCount {
     ) -> Result<(), Refusal>
         requires { lane + 1 < 2 ^ 64 }
         ensures text { OnOk result (text.new.items ≡ text.old.items
-            ++ end_text (lane + 1) version (why_of end) self.now.answers) }
+            ++ end_text (lane + 1) version (why_of end) self.now.records) }
         ensures as_before { OnErr result (text.new.items ≡ text.old.items) }
         ensures refusal { IfErr result (λ refusal. refusal ≡ NoMemory) }
     {
         let mut line = Vec::new(*text.allocator());
-        push_end_line(lane as u64 + 1, version, end, self.answers, &mut line).map_err(
+        push_end_line(lane as u64 + 1, version, end, self.records, &mut line).map_err(
             |_| Refusal::OutOfMemory,
         )?;
         text.extend_from_slice(line.as_slice())

@@ -7,11 +7,11 @@ ghost use Rattle.set_run.specs.declared.collector.Refusal.TheVariants.{OutOfMemo
 ghost use Rattle.run_texts.specs.LaneText.{AreKept};
 ghost use Rattle.run_texts.specs.RunText.{head_text};
 
-use crate::item_texts::ItemTexts;
 use crate::lane_text::LaneText;
 use crate::record::push_head;
+use line_blocks::BlockText;
 use line_lane::LaneEnd;
-use set_line::{Answer, Version};
+use set_line::Version;
 use set_run::{Collector, Refusal};
 use std::alloc::{AllocError, Global};
 use std::io::Write;
@@ -38,7 +38,6 @@ impl Kept for Brand {
 pub(crate) struct RunTexts<K: Kept> {
     pub version: Version,
     pub lanes: Vec<LaneText>,
-    texts: ItemTexts,
     of: PhantomData<K>,
 }
 
@@ -68,7 +67,6 @@ impl<K: Kept> RunTexts<K> {
         Ok(RunTexts {
             version,
             lanes,
-            texts: ItemTexts::new(alloc),
             of: PhantomData,
         })
     }
@@ -90,6 +88,8 @@ impl<K: Kept> RunTexts<K> {
 }
 
 impl<K: Kept> Collector for RunTexts<K> {
+    type Item = BlockText;
+
     ghost lanes = { λ texts. length texts.lanes.items };
 
     ghost given = { λ texts events. (texts.version ≡ K.version)
@@ -100,9 +100,8 @@ impl<K: Kept> Collector for RunTexts<K> {
 
     ghost quiet = { λ texts. ⊤ };
 
-    fn take(&mut self, lane: usize, answer: Answer) -> Result<(), Refusal> {
-        self.texts.prepare(lane, &answer, self.version);
-        self.lanes[lane].take(lane, &answer, self.version, self.texts.of(lane))
+    fn take(&mut self, lane: usize, block: BlockText) -> Result<(), Refusal> {
+        self.lanes[lane].take(&block)
     }
 
     fn end(&mut self, lane: usize, end: LaneEnd) -> Result<(), Refusal> {

@@ -8,12 +8,13 @@ ghost use Rattle.tfm_tables.specs.Acceptance.{font_fault_of};
 ghost use Rattle.tfm_tables.specs.Font.{FontValue, IsFontOf};
 ghost use Rattle.run_texts.specs.Setting.{AreOwnReports, AreOwnReportsWith, IsWritten};
 
+use crate::block_run::run_blocks;
 use crate::font_setting::with_font;
 use crate::run_summary::{all_refused, summary_of};
 use crate::run_text::{Kept, RunTexts};
 use crate::{FontSetting, OutputOptions, Summary, ToolFault};
 use set_line::Terms;
-use set_run::{Gate, LineSource, MOST_SOURCES, RunFault, run_into};
+use set_run::{Gate, LineSource, MOST_SOURCES, RunFault};
 use std::alloc::Global;
 use std::io::Write;
 use std::marker::Brand;
@@ -49,7 +50,7 @@ where
         Ok(texts) => texts,
         Err(_) => return Err(ToolFault::Run(RunFault::OutOfMemory)),
     };
-    let (texts, ran) = run_into(rt, alloc, sources, options.batch(), texts);
+    let (texts, ran) = run_blocks(rt, alloc, sources, options, texts);
     let run = match ran {
         Ok(run) => run,
         Err(fault) => return Err(ToolFault::Run(fault)),

@@ -6,20 +6,20 @@ ghost use Rattle.set_run.specs.Events.{Answered, Ended, Gets, Keeps as KeepsGive
 ghost use Rattle.run_texts.specs.RunText.{head_text};
 ghost use Rattle.run_texts.specs.StreamState.{AreCounts, IsStreamOf, MovesOut, StreamStart};
 
-use crate::item_texts::ItemTexts;
 use crate::lane_count::LaneCount;
 use crate::record::push_head;
+use line_blocks::BlockText;
 use line_lane::LaneEnd;
-use set_line::{Answer, Version};
+use set_line::Version;
 use set_run::Refusal;
 use std::alloc::{AllocError, Global};
 use std::io::{ErrorKind, Write};
 
-/// A buffer with this many bytes or more is full: it is written before a line is appended.
+/// A buffer with this many bytes or more is full: it is written before more is appended.
 const FULL: usize = 65_536;
 
 /// The capacity with which the buffer begins. It is larger than `FULL`, so that the buffer rarely has to grow
-/// for its last line.
+/// for its last text.
 const ROOM: usize = 73_728;
 
 /// The output of a batch: the writer, and a buffer with the lines that weren't written yet.
@@ -29,7 +29,6 @@ pub(crate) struct Stream<'a, W> {
     pub block: Vec<u8>,
     pub counts: Vec<LaneCount>,
     pub version: Version,
-    pub texts: ItemTexts,
 }
 
 /// Writes with one call, and returns the number of bytes that were written: 0 if the call was interrupted.
@@ -134,22 +133,20 @@ impl<W: Write> Stream<'_, W> {
         self.write_out()
     }
 
-    /// Takes the next result of the lane with this index, and appends its record to the buffer. A full buffer
-    /// is written first.
-    pub fn take(&mut self, lane: usize, answer: &Answer) -> Result<(), Refusal>
+    /// Takes the text of the next block of the source with this index, and appends it to the buffer. A full
+    /// buffer is written first.
+    pub fn take(&mut self, lane: usize, block: &BlockText) -> Result<(), Refusal>
         requires { lane < length self.old.counts.items }
         ensures lanes { length self.new.counts.items ≡ length self.old.counts.items }
         ensures given { (start : StreamStart) → Gets (IsStreamOf W.contents start)
-            self.old (lane, Answered answer.now) (is_ok result) self.new }
+            self.old (lane, Answered block.now) (is_ok result) self.new }
     {
         match self.make_room() {
             Ok(()) => (),
             Err(refusal) => return Err(refusal),
         }
-        self.texts.prepare(lane, answer, self.version);
-        let texts = self.texts.of(lane);
         let mut count = self.counts[lane];
-        match count.push_record(lane, answer, self.version, texts, &mut self.block) {
+        match count.push_block(block, &mut self.block) {
             Ok(()) => (),
             Err(refusal) => return Err(refusal),
         }
@@ -157,7 +154,7 @@ impl<W: Write> Stream<'_, W> {
         Ok(())
     }
 
-    /// Takes the end of the lane with this index, and appends its end line to the buffer. A full buffer is
+    /// Takes the end of the source with this index, and appends its end line to the buffer. A full buffer is
     /// written first.
     pub fn end(&mut self, lane: usize, end: LaneEnd) -> Result<(), Refusal>
         requires { lane < length self.old.counts.items }

@@ -3,7 +3,8 @@ ghost use Rattle.std.specs.Prelude.{◌≡◌, true, ◌<◌, ◌≤◌, ◌⊎�
 ghost use Rattle.set_run.specs.declared.report.LaneReport.{LaneReport as Lane};
 ghost use Rattle.set_run.specs.declared.run_fault.RunFault.{RunFault as Fault};
 ghost use Rattle.set_run.specs.declared.run_fault.RunFault.TheVariants.{TooManySources, OutOfMemory as NoMemory, Thread};
-ghost use Rattle.set_run.specs.Reports.{AreBack, IsCollected, IsWhole};
+ghost use Rattle.set_run.specs.Closed.{AreBack, IsWhole};
+ghost use Rattle.run_texts.specs.BlockLanes.{IsCollectedIn};
 ghost use Rattle.tfm_tables.specs.declared.fault.FontFault.{FontFault as FontRefusal};
 ghost use Rattle.tfm_tables.specs.Acceptance.{font_fault_of};
 ghost use Rattle.tfm_tables.specs.Font.{FontValue, IsFontOf};
@@ -13,15 +14,16 @@ ghost use Rattle.run_texts.specs.Setting.{AreOwnReports, AreOwnReportsWith};
 ghost use Rattle.run_texts.specs.Streaming.{IsCutAtLine, IsCutShort, IsStreamed, with_own_terms, with_these_terms};
 ghost use Rattle.run_texts.specs.StreamState.{IsStreamOf, MovesOut};
 
+use crate::block_run::run_blocks;
 use crate::font_setting::with_font;
-use crate::item_texts::ItemTexts;
 use crate::lane_count::LaneCount;
 use crate::run_summary::{all_counted, summary_of};
 use crate::stream::{Stream, first_block, no_answers, write_block};
 use crate::{FontSetting, OutputOptions, Summary, ToolFault};
+use line_blocks::BlockText;
 use line_lane::LaneEnd;
-use set_line::{Answer, Terms};
-use set_run::{Collector, Gate, LineSource, MOST_SOURCES, Refusal, RunEnd, RunFault, run_into};
+use set_line::Terms;
+use set_run::{Collector, Gate, LineSource, MOST_SOURCES, Refusal, RunEnd, RunFault};
 use std::alloc::Global;
 use std::io::Write;
 use std::marker::{Brand, PhantomData};
@@ -52,6 +54,8 @@ struct Begun<'a, W, K> {
 }
 
 impl<W: Write, K: Beginning> Collector for Begun<'_, W, K> {
+    type Item = BlockText;
+
     ghost lanes = { λ begun. length begun.stream.counts.items };
 
     ghost given = { λ begun events. IsStreamOf W.contents K.start begun.stream events };
@@ -60,8 +64,8 @@ impl<W: Write, K: Beginning> Collector for Begun<'_, W, K> {
 
     ghost quiet = { λ begun. begun.stream.block.items ≡ [] };
 
-    fn take(&mut self, lane: usize, answer: Answer) -> Result<(), Refusal> {
-        self.stream.take(lane, &answer)
+    fn take(&mut self, lane: usize, block: BlockText) -> Result<(), Refusal> {
+        self.stream.take(lane, &block)
     }
 
     fn end(&mut self, lane: usize, end: LaneEnd) -> Result<(), Refusal> {
@@ -89,7 +93,7 @@ where
     W: Write,
     K: Beginning,
     requires { vec_len sources ≤ length stream.counts.items }
-    ensures collected { IfOk result.1 (λ run. IsCollected S.to_come S.failed
+    ensures collected { IfOk result.1 (λ run. IsCollectedIn S.to_come S.failed options.now.version
         (IsStreamOf W.contents K.start) sources.items run stream.entry result.0) }
     ensures whole { IfOk result.1 (λ run. IsWhole run) }
     ensures sources { IfOk result.1 (λ run.
@@ -102,7 +106,7 @@ where
         stream,
         of: PhantomData,
     };
-    let (begun, ran) = run_into(rt, alloc, sources, options.batch(), begun);
+    let (begun, ran) = run_blocks(rt, alloc, sources, options, begun);
     (begun.stream, ran)
 }
 
@@ -180,7 +184,6 @@ where
         block,
         counts,
         version: options.version,
-        texts: ItemTexts::new(alloc),
     };
     let (stream, ran) = run_over::<R, S, G, W, Brand>(rt, alloc, sources, options, stream);
     let Stream {
@@ -188,7 +191,6 @@ where
         mut block,
         counts,
         version: _,
-        texts: _texts,
     } = stream;
     match ran {
         Ok(run) => finish(&mut block, counts.as_slice(), writer, &run),

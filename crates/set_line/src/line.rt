@@ -30,4 +30,10 @@ impl Line {
     {
         self.bytes.as_slice()
     }
+    /// Returns its bytes, as a vector.
+    pub fn into_bytes(self) -> Vec<u8>
+        ensures { result.items ≡ self }
+    {
+        self.bytes
+    }
 }

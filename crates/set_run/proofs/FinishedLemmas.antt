@@ -11,7 +11,8 @@ use Rattle.line_lane.specs.declared.fault.SourceFault.{SourceFault}
 use Rattle.line_lane.specs.declared.ending.LaneEnd.{LaneEnd}
 use Rattle.line_lane.specs.declared.ending.LaneEnd.TheVariants.{Complete}
 use Rattle.set_run.specs.Events.{Event, answers_in}
-use Rattle.set_run.specs.Reports.{AreAllAnswers, AreAnswered, AreClosed, AreReported, AreReportsOf, HasNoOthers, IsTrueToSource, LaneSeen}
+use Rattle.set_run.specs.Closed.{HasNoOthers}
+use Rattle.set_run.specs.Reports.{AreAllAnswers, AreAnswered, AreClosed, AreReported, AreReportsOf, IsTrueToSource, LaneSeen}
 use Rattle.set_run.specs.declared.run_end.ClosedLane.{ClosedLane}
 use Rattle.set_run.specs.declared.report.LaneReport.{LaneReport}
 
@@ -61,7 +62,7 @@ module _ {S : Type 0} where
       ap (λ s. s ∷ map (λ report. report.source) reports) are.0 ∙ ap (λ xs. c.source ∷ xs) (same_sources lanes lists reports are.3)
 
   -- what holds of the lanes holds of their reports
-  pub reported_all : (to_come : S → Option (List (List ℕ))) (failed : S → Option SourceFault) (events : List Event) (first : ℕ)
+  pub reported_all : (to_come : S → Option (List (List ℕ))) (failed : S → Option SourceFault) (events : List (Event AnswerValue)) (first : ℕ)
       (sources : List (S × Arc TermsValue Global)) (lanes : List (ClosedLane S)) (lists : List (List AnswerValue)) (reports : List (LaneReport S))
       → AreClosed to_come failed events first sources lanes → AreReportsOf lanes lists reports
       → ((i : ℕ) → i < length lists → get_or lists i [] ≡ answers_in (first + i) events) → AreReported to_come failed sources reports
@@ -108,7 +109,7 @@ none_kept lanes lists is = λ lane below. ap (λ l. get_or l lane []) is ∙ all
     all_none (suc n) (suc i) = all_none n i
 
 -- a lane for each source
-pub closed_length : {S : Type 0} (to_come : S → Option (List (List ℕ))) (failed : S → Option SourceFault) (events : List Event) (first : ℕ)
+pub closed_length : {S : Type 0} (to_come : S → Option (List (List ℕ))) (failed : S → Option SourceFault) (events : List (Event AnswerValue)) (first : ℕ)
     (sources : List (S × Arc TermsValue Global)) (lanes : List (ClosedLane S)) → AreClosed to_come failed events first sources lanes
     → length lanes ≡ length sources
 closed_length to_come failed events first [] [] are = refl
@@ -121,7 +122,7 @@ module _ {S : Type 0} where
   -- the reports of a run whose answers were kept
   pub reported_kept : (to_come : S → Option (List (List ℕ))) (failed : S → Option SourceFault) (sources : List (S × Arc TermsValue Global))
       (lanes : List (ClosedLane S)) (lists : List (List AnswerValue)) (reports : List (LaneReport S))
-      → (events : List Event)
+      → (events : List (Event AnswerValue))
       × ((lane : ℕ) → lane < length lists → get_or lists lane [] ≡ answers_in lane events)
       × AreClosed to_come failed events 0 sources lanes × HasNoOthers events (length sources)
       → AreReportsOf lanes lists reports → AreReported to_come failed sources reports

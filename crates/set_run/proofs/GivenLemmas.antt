@@ -1,43 +1,73 @@
--- What is left of a source, and what is said of one that had failed.
-use Rattle.std.proofs.Common.{rules, arith, ◌≡◌, ℕ, ◌≤◌, List, [], ◌∷◌, ◌++◌, length, Option, Some, None, refl, ap, sym, ◌∙◌, append_assoc}
-use Rattle.std.proofs.lemmas.List.{length-append}
+-- What a source returned, call by call.
+use Rattle.std.proofs.Common.{rules, ◌≡◌, Bool, true, false, List, [], ◌∷◌, ◌++◌, Option, Some, None, refl, ap, sym, subst, ◌∙◌, append-nil}
+use Rattle.std.specs.Prelude.{Result, Ok, Err, if◌then◌else◌}
+use Rattle.line_lane.specs.Messages.{first_end}
+use Rattle.line_lane.specs.declared.ending.SourceEnd.{SourceEnd}
+use Rattle.line_lane.specs.declared.ending.SourceEnd.TheVariants.{Complete, Failed}
 use Rattle.line_lane.specs.declared.fault.SourceFault.{SourceFault}
-use Rattle.set_run.specs.Given.{Gave, StaysFailed}
-use Rattle.set_run.specs.Sources.{GivesNext, HasGiven, HasNoMore}
+use Rattle.set_run.specs.Calls.{HasEnded, HasReturned, IsFedFrom, WasRead}
 
--- lines were given, and no others
-pub gave_left : (before : Option (List (List ℕ))) (given : List (List ℕ)) (after : Option (List (List ℕ))) → Gave before given after
-    → HasGiven (length given) before after
-gave_left (Some lines) given (Some rest) gave = (given, rest, omega arith, gave, refl)
-gave_left (Some lines) given None gave = absurd gave
-gave_left None given after gave = tt
+module _ {S I : Type 0} (gives : S → Result (Option I) SourceFault → S → Type 0) where
+  -- one item more
+  pub returned_more : (before : S) (items : List I) (now : S) (item : I) (after : S) → HasReturned gives before items now
+      → gives now (Ok (Some item)) after → HasReturned gives before (items ++ item ∷ []) after
+  returned_more before [] now item after so_far one = (after, subst (λ s. gives s (Ok (Some item)) after) so_far one, refl)
+  returned_more before (i ∷ items) now item after (next, first, rest) one = (next, first, returned_more next items now item after rest one)
 
--- and one more
-pub gave_next : (before : Option (List (List ℕ))) (given : List (List ℕ)) (now : Option (List (List ℕ))) (line : List ℕ)
-    (after : Option (List (List ℕ))) → Gave before given now → GivesNext line now after → HasGiven (length given) before after
-gave_next (Some lines) given (Some []) line after gave next = absurd next
-gave_next (Some lines) given (Some (first ∷ rest)) line after gave next =
-    (given ++ first ∷ [], rest, omega (arith, length-append given (first ∷ [])), gave ∙ one_over given first rest, next.1)
-  where
-    one_over : (given : List (List ℕ)) (first : List ℕ) (rest : List (List ℕ)) → given ++ first ∷ rest ≡ (given ++ first ∷ []) ++ rest
-    one_over given first rest = simp append_assoc
-gave_next (Some lines) given None line after gave next = absurd gave
-gave_next None given now line after gave next = tt
+  -- and then an end
+  ended : (before : S) (items : List I) (now after : S) (end : SourceEnd) → HasReturned gives before items now
+      → HasEnded gives now (Some end) after → IsFedFrom gives (Some end) items before after
+  ended before items now after end so_far last = (
+    [],
+    Some end,
+    subst (λ l. WasRead gives before l (Some end) after) (sym (append-nil items)) (now, so_far, last),
+    λ fed_end is. (refl, is),
+  )
 
--- and none is left
-pub gave_all : (before : Option (List (List ℕ))) (given : List (List ℕ)) (now after : Option (List (List ℕ))) → Gave before given now
-    → HasNoMore now after → HasGiven (length given) before after
-gave_all (Some lines) given (Some rest) after gave none = (given, rest, omega arith, gave, none.1 ∙ ap Some (sym none.0))
-gave_all (Some lines) given None after gave none = absurd gave
-gave_all None given now after gave none = tt
+  pub fed_complete : (before : S) (items : List I) (now after : S) → HasReturned gives before items now
+      → gives now (Ok None) after → IsFedFrom gives (Some Complete) items before after
+  fed_complete before items now after so_far last = ended before items now after Complete so_far last
 
--- a source that hasn't failed by now had never failed
-pub never_failed : (failed : Option SourceFault) (given given' : List (List ℕ)) (now fails : Option SourceFault) → StaysFailed failed given now
-    → now ≡ None → StaysFailed failed given' fails
-never_failed failed given given' now fails stays none = λ fault is.
-    let no : None ≡ Some fault = sym none ∙ (stays fault is).1 in absurd (search rules)
+  pub fed_failed : (before : S) (items : List I) (now after : S) (fault : SourceFault) → HasReturned gives before items now
+      → gives now (Err fault) after → IsFedFrom gives (Some (Failed fault)) items before after
+  fed_failed before items now after fault so_far last = ended before items now after (Failed fault) so_far last
 
--- more was to be given than these
-pub given_more : (few many : ℕ) (before after : Option (List (List ℕ))) → few ≤ many → HasGiven many before after → HasGiven few before after
-given_more few many (Some lines) after below (given, rest, long, is, left) = (given, rest, omega (arith, below, long), is, left)
-given_more few many None after below all = tt
+  -- without an end
+  pub fed_so_far : (before : S) (items : List I) (now : S) → HasReturned gives before items now → IsFedFrom gives None items before now
+  fed_so_far before items now so_far = (
+    [],
+    None,
+    subst (λ l. WasRead gives before l None now) (sym (append-nil items)) (now, so_far, refl),
+    λ fed_end is. absurd (search rules),
+  )
+
+  -- with one item that wasn't fed
+  pub fed_but_one : (before : S) (items : List I) (now : S) (item : I) (after : S) → HasReturned gives before items now
+      → gives now (Ok (Some item)) after → IsFedFrom gives None items before after
+  fed_but_one before items now item after so_far one = (
+    item ∷ [],
+    None,
+    (after, returned_more before items now item after so_far one, refl),
+    λ fed_end is. absurd (search rules),
+  )
+
+  -- with an end that wasn't passed on
+  pub not_closed : (end : Option SourceEnd) (items : List I) (before after : S) → IsFedFrom gives end items before after
+      → IsFedFrom gives None items before after
+  not_closed end items before after (more, last, read, ends) = (more, last, read, λ fed_end is. absurd (search rules))
+
+  -- a feeder that had no end was closed with this end, or the end wasn't passed on
+  pub fed_closed : (closed : Bool) (old new : Option SourceEnd) (end : SourceEnd) (items : List I) (before after : S) → old ≡ None
+      → new ≡ (if closed then first_end old (Some end) else old) → IsFedFrom gives (Some end) items before after
+      → IsFedFrom gives new items before after
+  fed_closed true old new end items before after none is fed =
+      let same : new ≡ Some end = is ∙ ap (λ o. first_end o (Some end)) none in
+      subst (λ e. IsFedFrom gives e items before after) (sym same) fed
+  fed_closed false old new end items before after none is fed =
+      subst (λ e. IsFedFrom gives e items before after) (sym (is ∙ none)) (not_closed (Some end) items before after fed)
+
+  -- nothing was passed on
+  pub fed_open : (end new : Option SourceEnd) (items : List I) (before after : S) → new ≡ None → IsFedFrom gives end items before after
+      → IsFedFrom gives new items before after
+  fed_open end new items before after none fed =
+      subst (λ e. IsFedFrom gives e items before after) (sym none) (not_closed end items before after fed)

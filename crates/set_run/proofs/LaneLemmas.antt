@@ -1,194 +1,166 @@
 -- What a lane that has ended says of its source.
-use Rattle.std.proofs.Common.{rules, arith, ◌≡◌, ◌⊎◌, inl, inr, ℕ, ◌≤◌, List, [], ◌∷◌, length, get_or, take, Option, Some, None, Bool, true, false, refl, ap, sym, subst, ◌∙◌}
-use Rattle.std.proofs.lemmas.List.{length-map, length-take, take-take, take-map}
-use Rattle.std.specs.Prelude.{min, is_some}
-use Rattle.std.specs.List.{remove}
-use Rattle.std.specs.Arc.{arc_value}
-use Rattle.std.specs.declared.sync.Arc.{Arc}
-use Rattle.std.specs.declared.alloc.Global.{Global}
+use Rattle.std.proofs.Common.{rules, arith, ◌≡◌, ℕ, zero, suc, ◌<◌, ◌≤◌, List, [], ◌∷◌, ◌++◌, append_assoc, append-nil, length, get_or, take, drop, Option, Some, None, refl, ap, sym, subst, ◌∙◌, take-append-drop}
+use Rattle.std.proofs.lemmas.List.{length-map, length-take, take-take, take-map, drop_all}
+use Rattle.std.specs.Prelude.{map, is_some, All, Result}
+use Rattle.std.specs.List.{AllZip, remove}
+use Rattle.std.proofs.lemmas.List.Elements.{All-cons, All-get_or, All-head, All-tail}
 use Rattle.std.specs.Option.{option_map}
-use Rattle.set_line.specs.Terms.{TermsValue}
-use Rattle.set_line.specs.Answer.{AnswerValue, answer_of}
-use Rattle.line_lane.specs.Lane.{answers_of, lane_end_of, pipeline}
-use Rattle.line_lane.specs.Turns.{is_given_up}
-use Rattle.line_lane.specs.Ends.{fed, feeder_end, state_of, taken}
-use Rattle.line_lane.specs.Settled.{IsSettled}
+use Rattle.line_lane.specs.Lane.{lane_end_of, pipeline}
+use Rattle.line_lane.specs.Ends.{state_of}
+use Rattle.dealt_lanes.specs.InTurn.{AreFirstOfShares, share}
+use Rattle.dealt_lanes.specs.Dealt.{dealer_end, dealt, gathered}
+use Rattle.dealt_lanes.specs.Settled.{AllMake, HaveAbandoned, each_seen}
 use Rattle.line_lane.specs.Rings.{IsFirstOf}
-use Rattle.line_lane.specs.declared.feeder.Feeder.{Feeder}
+use Rattle.line_lane.specs.declared.making.Making.{Ghosts}
 use Rattle.line_lane.specs.declared.setter.Setter.{Setter}
-use Rattle.line_lane.specs.declared.taker.Taker.{Taker}
 use Rattle.line_lane.specs.declared.fault.SourceFault.{SourceFault}
 use Rattle.line_lane.specs.declared.ending.SourceEnd.{SourceEnd}
 use Rattle.line_lane.specs.declared.ending.SourceEnd.TheVariants.{Complete as SourceComplete, Failed}
 use Rattle.line_lane.specs.declared.ending.LaneEnd.{LaneEnd}
 use Rattle.line_lane.specs.declared.ending.LaneEnd.TheVariants.{Complete, SourceFailed, GaveUp}
-use Rattle.set_run.specs.Given.{AreFirst, AreAll, EndsWith, HandsBack, IsFedFrom}
-use Rattle.set_run.specs.Reports.{AreFirstAnswers, AreAllAnswers, IsClosed}
+use Rattle.set_run.specs.Calls.{IsFedFrom, WasRead}
+use Rattle.set_run.specs.Given.{HandsBack}
+use Rattle.set_run.specs.Closed.{IsClosedOf}
 use Rattle.set_run.specs.Lanes.{IsFresh, IsFinished}
-use Rattle.set_run.specs.Workers.{IsWorked}
+use Rattle.set_run.specs.Workers.{HadSeenAnItem, IsWorked}
 use Rattle.set_run.specs.Events.{LaneEvent, answers_among, lane_events}
 use Rattle.set_run.specs.Collecting.{IsToldFirst}
 use Rattle.set_run.specs.declared.source_thread.Feeding.{Feeding}
 use Rattle.set_run.specs.declared.lane_taker.LaneTaker.{LaneTaker}
 use Rattle.set_run.specs.declared.run_end.ClosedLane.{ClosedLane}
-use Rattle.set_run.proofs.GivenLemmas.{given_more}
 
--- the first part of a first part
-first_of_first : {T : Type 0} (given lines : List T) (n : ℕ) → given ≡ take (length given) lines → n ≤ length given → take n given ≡ take n lines
-first_of_first given lines n first few = ap (take n) first ∙ take-take n (length given) lines few
+-- no items
+none_of : {T : Type 0} (xs ys : List T) → xs ++ ys ≡ [] → xs ≡ []
+none_of [] ys none = refl
+none_of (x ∷ xs) ys none = absurd (search rules)
 
-few : (n m : ℕ) → n ≡ min n m → n ≤ m
-few n m e = omega (arith, e)
-
--- there are no more answers than lines that were given
-no_more : (terms : TermsValue) (answers : List AnswerValue) (given : List (List ℕ)) → pipeline terms given answers → length answers ≤ length given
-no_more terms answers given line =
-    let n = length answers in
-    let long : n ≡ min n (length given) = ap length line ∙ length-map (take n given) (answer_of terms) ∙ length-take n given in
-    few n (length given) long
-
--- a list without an item
-none_of : {T : Type 0} (xs : List T) (n : ℕ) → length xs ≤ n → n ≡ 0 → xs ≡ []
-none_of [] n short none = refl
-none_of (x ∷ xs) n short none = absurd (omega (arith, short, none))
-
--- nothing is the first of no lines
+-- nothing is the first of no items
 none_first : {T : Type 0} (xs ys : List T) → IsFirstOf xs ys → ys ≡ [] → xs ≡ []
 none_first [] ys first none = refl
 none_first (x ∷ xs) ys first none =
     let no : x ∷ xs ≡ [] = first ∙ ap (take (length (x ∷ xs))) none in absurd (search rules)
 
--- answers of the first of the lines that were given are those of the first that were to come
-answers_first : (terms : TermsValue) (answers : List AnswerValue) (given : List (List ℕ)) (before : Option (List (List ℕ)))
-    → AreFirst given before → pipeline terms given answers → AreFirstAnswers terms answers before
-answers_first terms answers given (Some lines) first line =
-    line ∙ ap (answers_of terms) (first_of_first given lines (length answers) first (no_more terms answers given line))
-answers_first terms answers given None first line = (take (length answers) given, line)
+-- the first items, and the others with more
+parted : {T : Type 0} (n : ℕ) (given more : List T) → take n given ++ (drop n given ++ more) ≡ given ++ more
+parted n given more = sym (append_assoc (take n given) (drop n given) more) ∙ ap (λ l. l ++ more) (take-append-drop n given)
 
--- the answers of all lines that were given
-answers_all : (terms : TermsValue) (answers : List AnswerValue) (given : List (List ℕ)) (before after : Option (List (List ℕ)))
-    → AreAll given before after → answers ≡ answers_of terms given → AreAllAnswers terms answers before after
-answers_all terms answers given (Some lines) after all are = (are ∙ ap (answers_of terms) all.0, all.1)
-answers_all terms answers given None after all are = (given, are)
+-- none but these
+no_others : {T : Type 0} (n : ℕ) (given more : List T) → length given ≡ n → more ≡ [] → drop n given ++ more ≡ []
+no_others n given more long none =
+    ap (λ l. drop n given ++ l) none ∙ append-nil (drop n given) ∙ drop_all n given (omega (arith, long))
 
--- a lane that wasn't given up ends as its source does
-complete_lane : (terms : TermsValue) (answers : List AnswerValue) (given : List (List ℕ)) (source : Option SourceEnd) (end : LaneEnd)
-    (before after : Option (List (List ℕ))) (fails : Option SourceFault) → option_map lane_end_of source ≡ Some end
-    → EndsWith source given before after fails → answers ≡ answers_of terms given → end ≡ Complete → (fails ≡ None) × AreAllAnswers terms answers before after
-complete_lane terms answers given None end before after fails is ends are whole = absurd (search rules)
-complete_lane terms answers given (Some SourceComplete) end before after fails is ends are whole =
-    (ends.0, answers_all terms answers given before after ends.1 are)
-complete_lane terms answers given (Some (Failed fault)) end before after fails is ends are whole = absurd (search rules)
+-- the end of a source whose lane has this end
+complete_source : (source : Option SourceEnd) → option_map lane_end_of source ≡ Some Complete → source ≡ Some SourceComplete
+complete_source None is = absurd (search rules)
+complete_source (Some SourceComplete) is = refl
+complete_source (Some (Failed fault)) is = absurd (search rules)
 
-failed_lane : (given : List (List ℕ)) (source : Option SourceEnd) (end : LaneEnd) (before after : Option (List (List ℕ)))
-    (fails : Option SourceFault) (fault : SourceFault) → option_map lane_end_of source ≡ Some end → EndsWith source given before after fails
-    → end ≡ SourceFailed fault → fails ≡ Some fault
-failed_lane given None end before after fails fault is ends failed = absurd (search rules)
-failed_lane given (Some SourceComplete) end before after fails fault is ends failed = absurd (search rules)
-failed_lane given (Some (Failed other)) end before after fails fault is ends failed = ends ∙ search rules
+failed_source : (source : Option SourceEnd) (fault : SourceFault) → option_map lane_end_of source ≡ Some (SourceFailed fault) → source ≡ Some (Failed fault)
+failed_source None fault is = absurd (search rules)
+failed_source (Some SourceComplete) fault is = absurd (search rules)
+failed_source (Some (Failed other)) fault is = search rules
 
--- a lane that is complete ended with a source that hasn't failed
-unfailed_lane : (given : List (List ℕ)) (source : Option SourceEnd) (before after : Option (List (List ℕ))) (fails : Option SourceFault)
-    → option_map lane_end_of source ≡ Some Complete → EndsWith source given before after fails → fails ≡ None
-unfailed_lane given None before after fails is ends = absurd (search rules)
-unfailed_lane given (Some SourceComplete) before after fails is ends = ends.0
-unfailed_lane given (Some (Failed fault)) before after fails is ends = absurd (search rules)
+module _ {M I O IS OS : Type 0} {ghosts : Ghosts M I O IS OS} where
+  -- setters after some turns make the same
+  all_make : (ss ts : List (Setter M I O IS OS ghosts)) (makes : I → O) → AllZip IsWorked ss ts → AllMake makes ss → AllMake makes ts
+  all_make [] [] makes worked make = make
+  all_make [] (t ∷ ts) makes worked make = elim worked [ ]
+  all_make (s ∷ ss) [] makes worked make = elim worked [ ]
+  all_make (s ∷ ss) (t ∷ ts) makes worked make =
+      All-cons (λ x. (state_of x).makes ≡ makes) t ts (worked.0.0.2 ∙ All-head (λ x. (state_of x).makes ≡ makes) s ss make)
+      (all_make ss ts makes worked.1 (All-tail (λ x. (state_of x).makes ≡ makes) s ss make))
 
-abbrev end_of_fault : SourceFault → Option SourceFault → LaneEnd
-end_of_fault other (Some fault) = SourceFailed fault
-end_of_fault other None = SourceFailed other
+  -- and the setter of an abandoned lane has received an item
+  all_seen : (ss ts : List (Setter M I O IS OS ghosts)) → AllZip IsWorked ss ts → All (λ s. HadSeenAnItem (state_of s)) ss
+      → All (λ s. HadSeenAnItem (state_of s)) ts
+  all_seen [] [] worked seen = seen
+  all_seen [] (t ∷ ts) worked seen = elim worked [ ]
+  all_seen (s ∷ ss) [] worked seen = elim worked [ ]
+  all_seen (s ∷ ss) (t ∷ ts) worked seen =
+      All-cons (λ x. HadSeenAnItem (state_of x)) t ts (worked.0.1 (All-head (λ x. HadSeenAnItem (state_of x)) s ss seen))
+      (all_seen ss ts worked.1 (All-tail (λ x. HadSeenAnItem (state_of x)) s ss seen))
 
--- a lane whose source has this fault ended with it, or was given up
-fault_or_up : (given : List (List ℕ)) (source : Option SourceEnd) (end : LaneEnd) (before after : Option (List (List ℕ)))
-    (fails : Option SourceFault) (fault : SourceFault) → fails ≡ Some fault
-    → ((end ≡ GaveUp → ⊥) → option_map lane_end_of source ≡ Some end) → EndsWith source given before after fails
-    → (end ≡ SourceFailed fault) ⊎ (end ≡ GaveUp)
-fault_or_up given source GaveUp before after fails fault has is ends = inr refl
-fault_or_up given source Complete before after fails fault has is ends =
-    let none : fails ≡ None = unfailed_lane given source before after fails (is (λ no. absurd (search rules))) ends in
-    let both : None ≡ Some fault = sym none ∙ has in absurd (search rules)
-fault_or_up given source (SourceFailed other) before after fails fault has is ends =
-    let own : fails ≡ Some other = failed_lane given source (SourceFailed other) before after fails other (is (λ no. absurd (search rules))) ends refl in
-    inl (ap (end_of_fault fault) (sym own ∙ has))
+  -- what one setter has received
+  seen_at : (ts : List (Setter M I O IS OS ghosts)) (k : ℕ) (x : Setter M I O IS OS ghosts) → k < length ts → get_or ts k x ≡ x
+      → get_or (each_seen ts) k [] ≡ (state_of x).seen
+  seen_at [] k x below at = absurd (omega (arith, below))
+  seen_at (t ∷ ts) zero x below at = ap (λ s. (state_of s).seen) at
+  seen_at (t ∷ ts) (suc k) x below at = seen_at ts k x (omega (arith, below)) at
 
-not_up : (end : LaneEnd) (fault : SourceFault) → (end ≡ SourceFailed fault) ⊎ (end ≡ GaveUp) → (end ≡ GaveUp → ⊥) → end ≡ SourceFailed fault
-not_up end fault (inl own) going = own
-not_up end fault (inr up) going = absurd (going up)
+  seen_length : (ts : List (Setter M I O IS OS ghosts)) → length (each_seen ts) ≡ length ts
+  seen_length [] = refl
+  seen_length (t ∷ ts) = ap suc (seen_length ts)
 
--- a lane that is over with an end that isn't that of one given up
-going_end : (f : Feeder) (s : Setter) (t : Taker) (end : LaneEnd) → IsSettled f s t end → (end ≡ GaveUp → ⊥)
-    → (option_map lane_end_of (feeder_end f) ≡ Some end) × (taken t ≡ answers_of (state_of s).terms (fed f))
-going_end f s t end settled going = by (is_given_up (state_of s).made) settled.2 settled.3 settled.4
-  where
-    by : (up : Bool) → (up ≡ true → end ≡ GaveUp) → (up ≡ false → option_map lane_end_of (feeder_end f) ≡ Some end)
-        → (up ≡ false → taken t ≡ answers_of (state_of s).terms (fed f))
-        → (option_map lane_end_of (feeder_end f) ≡ Some end) × (taken t ≡ answers_of (state_of s).terms (fed f))
-    by true gave_up ended all = absurd (going (gave_up refl))
-    by false gave_up ended all = (ended refl, all refl)
+  -- if a lane was abandoned, an item was dealt
+  some_dealt : (ts : List (Setter M I O IS OS ghosts)) (items : List I) → HaveAbandoned ts → All (λ s. HadSeenAnItem (state_of s)) ts
+      → AreFirstOfShares (each_seen ts) items → items ≡ [] → ⊥
+  some_dealt ts items (k, x, below, at, up) seen first none =
+      let inside : k < length (each_seen ts) = let long = seen_length ts in omega (arith, long, below) in
+      let had : HadSeenAnItem (state_of x) =
+      subst (λ s. HadSeenAnItem (state_of s)) at (All-get_or (λ s. HadSeenAnItem (state_of s)) ts k x below seen) in
+      had up (sym (seen_at ts k x below at)
+      ∙ none_first (get_or (each_seen ts) k []) (share (length (each_seen ts)) k items) (first k inside) (ap (share (length (each_seen ts)) k) none))
 
--- the first of the answers of the first lines
-pipeline_first : (terms : TermsValue) (fed : List (List ℕ)) (answers all : List AnswerValue) → IsFirstOf answers all → pipeline terms fed all
-    → pipeline terms fed answers
-pipeline_first terms fed answers all first line =
-    let n = length answers in let m = length all in
-    let fits : n ≤ m = omega (arith, length-take n all, ap length first) in
-    first ∙ ap (take n) line ∙ take-map (answer_of terms) n (take m fed) ∙ ap (answers_of terms) (take-take n m fed fits)
+module _ {I O : Type 0} where
+  -- the first of the results of the first items
+  pipeline_first : (makes : I → O) (fed : List I) (results all : List O) → IsFirstOf results all → pipeline makes fed all
+      → pipeline makes fed results
+  pipeline_first makes fed results all first line =
+      let n = length results in let m = length all in
+      let fits : n ≤ m = omega (arith, length-take n all, ap length first) in
+      first ∙ ap (take n) line ∙ take-map makes n (take m fed) ∙ ap (map makes) (take-take n m fed fits)
 
-module _ {S O : Type 0} where
-  -- a lane that has ended
-  pub closed_of : (to_come : S → Option (List (List ℕ))) (failed : S → Option SourceFault) (origin : S → O) (source : S × Arc TermsValue Global)
-      (start back : Feeding S) (s t : Setter) (first last : LaneTaker) (lane : ClosedLane S) (told : List LaneEvent)
-      → start.source ≡ source.0 → IsFresh (arc_value source.1) start.feeder s first → IsWorked s t → HandsBack to_come failed origin start back
-      → IsFinished back t last lane → IsToldFirst told last
-      → (told ≡ lane_events (answers_among told) lane.end) × IsClosed to_come failed (arc_value source.1) source.0 (answers_among told) lane
-  closed_of to_come failed origin source start back s t first last lane told from fresh same handed finished came =
-      let terms = arc_value source.1 in let answers = answers_among told in let given = fed back.feeder in
-      let own : (state_of t).terms ≡ terms = grind (rules, fresh, same.0) in
-      let was : IsFedFrom (feeder_end back.feeder) given (to_come source.0) (to_come lane.source) (failed source.0) (failed lane.source) =
-      subst (λ x. IsFedFrom (feeder_end back.feeder) given (to_come source.0) (to_come x) (failed source.0) (failed x)) (sym finished.0)
-      (subst (λ x. IsFedFrom (feeder_end back.feeder) given (to_come x) (to_come back.source) (failed x) (failed back.source)) from
-      (handed.1 fresh.1 fresh.2))
-      in let line : pipeline terms given answers =
-      pipeline_first terms given answers (taken last.taker) came.1 (subst (λ x. pipeline x given (taken last.taker)) own finished.2)
+module _ {S M I O Q IS OS : Type 0} {ghosts : Ghosts M I O IS OS} where
+  -- lanes of a source that have ended
+  pub closed_of : (gives : S → Result (Option I) SourceFault → S → Type 0) (origin : S → Q) (source : S × M)
+      (start back : Feeding S I IS) (ss ts : List (Setter M I O IS OS ghosts)) (first last : LaneTaker O OS) (lane : ClosedLane S) (told : List (LaneEvent O))
+      → start.source ≡ source.0 → IsFresh (ghosts.makes source.1) start.dealer ss first → AllZip IsWorked ss ts → HandsBack gives origin start back
+      → IsFinished back ts last lane → IsToldFirst told last
+      → (told ≡ lane_events (answers_among told) lane.end) × IsClosedOf gives (ghosts.makes source.1) source.0 (answers_among told) lane
+  closed_of gives origin source start back ss ts first last lane told from fresh same handed finished came =
+      let makes = ghosts.makes source.1 in let results = answers_among told in let given = dealt back.dealer in
+      let n = length results in
+      let own : AllMake makes ts = all_make ss ts makes same fresh.3 in
+      let was : IsFedFrom gives (dealer_end back.dealer) given source.0 lane.source =
+      subst (IsFedFrom gives (dealer_end back.dealer) given source.0) (sym finished.0)
+      (subst (λ x. IsFedFrom gives (dealer_end back.dealer) given x back.source) from
+      (handed.all_fed fresh.1 fresh.2))
+      in let (more, ended, read, ends) = was in
+      let line : pipeline makes given results =
+      pipeline_first makes given results (gathered last.gatherer) came.1 (finished.2 makes own)
       in let over : (end : LaneEnd) → lane.end ≡ Some end → (end ≡ GaveUp → ⊥)
-      → (option_map lane_end_of (feeder_end back.feeder) ≡ Some end) × (answers ≡ answers_of terms given) =
+      → (option_map lane_end_of (dealer_end back.dealer) ≡ Some end) × (results ≡ map makes given) =
       λ end is going.
       let here : last.end ≡ Some end = sym finished.1 ∙ is in
       let all = came.2 (ap is_some here) in
-      let settled = finished.3 end (sym all.1 ∙ here) going in
-      let facts = going_end back.feeder t last.taker end settled going in
-      (facts.0, all.0 ∙ facts.1 ∙ ap (λ x. answers_of x given) own)
+      let facts = finished.3 makes own end (sym all.1 ∙ here) going in
+      (facts.0, all.0 ∙ facts.1)
       in (
-        came.0 ∙ ap (lane_events answers) (sym finished.1),
-        (
-          answers_first terms answers given (to_come source.0) was.lines.0 line,
-          (λ is.
+        came.0 ∙ ap (lane_events results) (sym finished.1),
+        record {
+          items = take n given;
+          more = drop n given ++ more;
+          last = ended;
+          made = line;
+          read = subst (λ l. WasRead gives source.0 l ended lane.source) (sym (parted n given more)) read;
+          complete = λ is.
               let facts = over Complete is (λ no. absurd (search rules)) in
-              complete_lane terms answers given (feeder_end back.feeder) Complete (to_come source.0) (to_come lane.source) (failed lane.source) facts.0
-              was.lines.1 facts.1 refl),
-          (λ fault is.
+              let end = ends SourceComplete (complete_source (dealer_end back.dealer) facts.0) in
+              (no_others n given more (sym (ap length facts.1 ∙ length-map given makes)) end.0, end.1);
+          failed = λ fault is.
               let facts = over (SourceFailed fault) is (λ no. absurd (search rules)) in
-              failed_lane given (feeder_end back.feeder) (SourceFailed fault) (to_come source.0) (to_come lane.source) (failed lane.source) fault facts.0
-              was.lines.1 refl),
-          (λ none. given_more (length answers) (length given) (to_come source.0) (to_come lane.source) (no_more terms answers given line) (was.left none)),
-          (λ fault had.
-              let own = was.stays fault had in (
-                own.1,
-                none_of answers (length given) (no_more terms answers given line) (ap length own.0),
-                (λ end is.
-                    not_up end fault
-                    (fault_or_up given (feeder_end back.feeder) end (to_come source.0) (to_come lane.source) (failed lane.source) fault own.1
-                    (λ going. (over end is going).0) was.lines.1)
-                    (λ up.
-                    let here : last.end ≡ Some GaveUp = sym finished.1 ∙ is ∙ ap Some up in
-                    let all = came.2 (ap is_some here) in
-                    same.1 fresh.5 (finished.5 (sym all.1 ∙ here)) (none_first (state_of t).seen given finished.4 own.0))),
-              )),
-        ),
+              (ends (Failed fault) (failed_source (dealer_end back.dealer) fault facts.0)).1;
+          abandoned = λ up none.
+              let here : last.end ≡ Some GaveUp = sym finished.1 ∙ up in
+              let all = came.2 (ap is_some here) in
+              let no_item : given ≡ [] = none_of given more (sym (parted n given more) ∙ none) in
+              some_dealt ts given (finished.5 (sym all.1 ∙ here)) (all_seen ss ts same fresh.5) finished.4 no_item;
+        },
       )
 
--- the first taker was taken
-pub first_taken : (old new : List LaneTaker) (first : LaneTaker) → (old ≡ [] → ⊥) → first ≡ get_or old 0 first → new ≡ remove old 0
-    → old ≡ first ∷ new
-first_taken [] new first some is rest = absurd (some refl)
-first_taken (t ∷ ts) new first some is rest = ap (λ x. x ∷ ts) (sym is) ∙ ap (λ xs. first ∷ xs) (sym rest)
+module _ {O OS : Type 0} where
+  -- the first taker was taken
+  pub first_taken : (old new : List (LaneTaker O OS)) (first : LaneTaker O OS) → (old ≡ [] → ⊥) → first ≡ get_or old 0 first → new ≡ remove old 0
+      → old ≡ first ∷ new
+  first_taken [] new first some is rest = absurd (some refl)
+  first_taken (t ∷ ts) new first some is rest = ap (λ x. x ∷ ts) (sym is) ∙ ap (λ xs. first ∷ xs) (sym rest)

@@ -3,9 +3,12 @@ pub mod GivenLemmas
 pub mod ReadingLemmas
 pub mod Zips
 pub mod SameEnds
+pub mod SeenLemmas
 pub mod WorkerLemmas
 pub mod EventLemmas
 pub mod TakerLemmas
 pub mod LaneLemmas
+pub mod ClosedLines
 pub mod SpawningLemmas
 pub mod FinishedLemmas
+pub mod HaveMore

@@ -1,76 +1,78 @@
--- A lane of a batch when it is opened and when it is closed.
+-- The lanes of a source when they are opened and when they are closed.
 -- This project's own.
-use Rattle.std.specs.Prelude.{◌≡◌, ℕ, List, [], ◌∷◌, ◌++◌, true, get_or, None, Some}
-use Rattle.std.specs.Arc.{arc_value}
-use Rattle.std.specs.declared.sync.Arc.{Arc}
-use Rattle.std.specs.declared.alloc.Global.{Global}
-use Rattle.set_line.specs.Terms.{TermsValue}
+use Rattle.std.specs.Prelude.{◌≡◌, ◌*◌, ℕ, List, [], ◌∷◌, ◌++◌, All, length, None, Some}
 use Rattle.line_lane.specs.Lane.{pipeline}
-use Rattle.line_lane.specs.Rings.{IsFirstOf}
-use Rattle.line_lane.specs.Settled.{IsSettled}
-use Rattle.line_lane.specs.Turns.{is_given_up}
-use Rattle.line_lane.specs.Ends.{IsLane, fed, feeder_end, state_of, taken, taker_end}
-use Rattle.line_lane.specs.declared.feeder.Feeder.{Feeder}
+use Rattle.line_lane.specs.Ends.{state_of}
+use Rattle.line_lane.specs.declared.making.Making.{Ghosts}
 use Rattle.line_lane.specs.declared.setter.Setter.{Setter}
 use Rattle.line_lane.specs.declared.ending.LaneEnd.{LaneEnd}
 use Rattle.line_lane.specs.declared.ending.LaneEnd.TheVariants.{GaveUp}
-use Rattle.set_run.specs.Workers.{HadSeenALine, HasOneMore}
+use Rattle.dealt_lanes.specs.InTurn.{AreFirstOfShares}
+use Rattle.dealt_lanes.specs.Dealt.{dealer_end, dealt, gathered, gatherer_end}
+use Rattle.dealt_lanes.specs.Settled.{AllMake, AreDealtLanes, HaveAbandoned, IsWhole, each_seen}
+use Rattle.dealt_lanes.specs.declared.dealer.Dealer.{Dealer}
+use Rattle.set_run.specs.Workers.{HadSeenAnItem, HaveMore}
 use Rattle.set_run.specs.Collecting.{IsFreshTaker}
 use Rattle.set_run.specs.declared.source_thread.Feeding.{Feeding}
 use Rattle.set_run.specs.declared.lane_taker.LaneTaker.{LaneTaker}
 use Rattle.set_run.specs.declared.run_end.ClosedLane.{ClosedLane}
 
--- the setters, worker by worker, and the takers of the open lanes
-pub record Held : Type 0 where
-  pub workers : List (List Setter)
-  pub lanes : List LaneTaker
+-- the setters, worker by worker, and the gatherers of the sources whose lanes are open
+pub record Held (T O OS : Type 0) : Type 0 where
+  pub workers : List (List T)
+  pub lanes : List (LaneTaker O OS)
 
--- the endpoints of one lane with these settings: nothing was fed or taken, the feeder isn't closed, and
--- `HadSeenALine` holds for the setter
-abbrev pub IsFresh : TermsValue → Feeder → Setter → LaneTaker → Type 0
-IsFresh terms feeder setter lane =
-    IsLane feeder setter lane.taker
-    × (fed feeder ≡ [])
-    × (feeder_end feeder ≡ None)
-    × ((state_of setter).terms ≡ terms)
-    × IsFreshTaker lane
-    × HadSeenALine (state_of setter)
+module _ {M I O IS OS : Type 0} {ghosts : Ghosts M I O IS OS} where
+  -- the endpoints of the lanes of one source with makers that make this: nothing was dealt or gathered, the dealer
+  -- isn't closed, and `HadSeenAnItem` holds for each setter
+  abbrev pub IsFresh : (I → O) → Dealer I IS → List (Setter M I O IS OS ghosts) → LaneTaker O OS → Type 0
+  IsFresh makes dealer setters lane =
+      AreDealtLanes dealer setters lane.gatherer
+      × (dealt dealer ≡ [])
+      × (dealer_end dealer ≡ None)
+      × AllMake makes setters
+      × IsFreshTaker lane
+      × All (λ s. HadSeenAnItem (state_of s)) setters
 
-module _ {S : Type 0} where
-  -- a closed lane: its source is the one that the thread returned, and its end is the one that the collector
-  -- received. The results taken are those of the first lines fed, and the lines that the setter received are
-  -- the first of those fed. If an end other than `GaveUp` was taken, the lane is finished with this end; if
-  -- `GaveUp` was taken, the setter has abandoned the lane
-  abbrev pub IsFinished : Feeding S → Setter → LaneTaker → ClosedLane S → Type 0
-  IsFinished feeding setter lane closed =
+module _ {S M I O IS OS : Type 0} {ghosts : Ghosts M I O IS OS} where
+  -- the lanes of a source were closed: its source is the one that the thread returned, and its end is the one that
+  -- the collector received. If all setters make the same, the results gathered are those of the first items
+  -- dealt. The items that each setter received are the first of those dealt to its lane. If an end other than
+  -- `GaveUp` was gathered, the results are those of all items, and the end is that of the dealer; if `GaveUp` was
+  -- gathered, a setter has abandoned its lane
+  abbrev pub IsFinished : Feeding S I IS → List (Setter M I O IS OS ghosts) → LaneTaker O OS → ClosedLane S → Type 0
+  IsFinished feeding setters lane closed =
       (closed.source ≡ feeding.source)
       × (closed.end ≡ lane.end)
-      × pipeline (state_of setter).terms (fed feeding.feeder) (taken lane.taker)
-      × ((end : LaneEnd) → taker_end lane.taker ≡ Some end → (end ≡ GaveUp → ⊥) → IsSettled feeding.feeder setter lane.taker end)
-      × IsFirstOf (state_of setter).seen (fed feeding.feeder)
-      × (taker_end lane.taker ≡ Some GaveUp → is_given_up (state_of setter).made ≡ true)
+      × ((makes : I → O) → AllMake makes setters → pipeline makes (dealt feeding.dealer) (gathered lane.gatherer))
+      × ((makes : I → O) → AllMake makes setters → (end : LaneEnd) → gatherer_end lane.gatherer ≡ Some end → (end ≡ GaveUp → ⊥)
+      → IsWhole makes feeding.dealer lane.gatherer end)
+      × AreFirstOfShares (each_seen setters) (dealt feeding.dealer)
+      × (gatherer_end lane.gatherer ≡ Some GaveUp → HaveAbandoned setters)
 
-  -- a lane is opened: its setter is the last one of a worker, its taker precedes those of the other open
-  -- lanes, and its feeder is next to the source
-  abbrev pub Begins : ℕ → S × Arc TermsValue Global → Feeding S → Held → Held → Type 0
-  Begins worker source feeding before after =
+  -- the lanes of a source are opened: the setters of its lanes, of which there are so many, are those that the
+  -- workers have more, its gatherer precedes the others, and its dealer is next to the source
+  abbrev pub Begins : ℕ → ℕ → S × M → Feeding S I IS → Held (Setter M I O IS OS ghosts) O OS → Held (Setter M I O IS OS ghosts) O OS → Type 0
+  Begins count number source feeding before after =
       (feeding.source ≡ source.0)
-      × ((setter : Setter) × (lane : LaneTaker) × IsFresh (arc_value source.1) feeding.feeder setter lane
-      × HasOneMore worker setter before.workers after.workers × (after.lanes ≡ lane ∷ before.lanes))
+      × ((setters : List (Setter M I O IS OS ghosts)) × (lane : LaneTaker O OS) × (length setters ≡ count)
+      × IsFresh (ghosts.makes source.1) feeding.dealer setters lane
+      × HaveMore (number * count) setters before.workers after.workers × (after.lanes ≡ lane ∷ before.lanes))
 
--- a lane can be closed: the worker has a setter, there is a taker, and the feeder, the last setter of the
--- worker and the first taker are the endpoints of one lane
-abbrev pub CanEnd : ℕ → Feeder → Held → Type 0
-CanEnd worker feeder held =
-    (get_or held.workers worker [] ≡ [] → ⊥)
-    × (held.lanes ≡ [] → ⊥)
-    × ((setter : Setter) (lane : LaneTaker) (workers : List (List Setter)) (lanes : List LaneTaker)
-    → HasOneMore worker setter workers held.workers → held.lanes ≡ lane ∷ lanes → IsLane feeder setter lane.taker)
+module _ {M I O IS OS : Type 0} {ghosts : Ghosts M I O IS OS} where
+  -- the lanes of a source can be closed: the workers have so many setters that, with the dealer and the first
+  -- gatherer, are the endpoints of the lanes of one source
+  abbrev pub CanEnd : ℕ → ℕ → Dealer I IS → Held (Setter M I O IS OS ghosts) O OS → Type 0
+  CanEnd count number dealer held =
+      (setters : List (Setter M I O IS OS ghosts)) × (workers : List (List (Setter M I O IS OS ghosts))) × (lane : LaneTaker O OS)
+      × (lanes : List (LaneTaker O OS)) × (length setters ≡ count) × HaveMore (number * count) setters workers held.workers
+      × (held.lanes ≡ lane ∷ lanes) × AreDealtLanes dealer setters lane.gatherer
 
-module _ {S : Type 0} where
-  -- a lane was closed: the last setter of the worker and the first taker are removed, and one closed lane is
+module _ {S M I O IS OS : Type 0} {ghosts : Ghosts M I O IS OS} where
+  -- the lanes of a source were closed: their setters and the first gatherer are removed, and one closed lane is
   -- appended
-  abbrev pub Ends : ℕ → Feeding S → List (ClosedLane S) → List (ClosedLane S) → Held → Held → Type 0
-  Ends worker feeding closed closed' before after =
-      (setter : Setter) × (lane : LaneTaker) × (one : ClosedLane S) × HasOneMore worker setter after.workers before.workers
-      × (before.lanes ≡ lane ∷ after.lanes) × (closed' ≡ closed ++ one ∷ []) × IsFinished feeding setter lane one
+  abbrev pub Ends : ℕ → ℕ → Feeding S I IS → List (ClosedLane S) → List (ClosedLane S) → Held (Setter M I O IS OS ghosts) O OS → Held (Setter M I O IS OS ghosts) O OS → Type 0
+  Ends count number feeding closed closed' before after =
+      (setters : List (Setter M I O IS OS ghosts)) × (lane : LaneTaker O OS) × (one : ClosedLane S)
+      × (length setters ≡ count) × HaveMore (number * count) setters after.workers before.workers
+      × (before.lanes ≡ lane ∷ after.lanes) × (closed' ≡ closed ++ one ∷ []) × IsFinished feeding setters lane one

@@ -1,6 +1,6 @@
 -- The report of a batch on each source.
 -- This project's own.
-use Rattle.std.specs.Prelude.{◌≡◌, ◌≤◌, ℕ, ◌+◌, List, [], ◌∷◌, length, take, map, All, Option, Some, None, IsSome, IfSome}
+use Rattle.std.specs.Prelude.{◌≡◌, ℕ, ◌+◌, List, [], ◌∷◌, length, take, Option, Some, None, IfSome}
 use Rattle.std.specs.List.{AllZip}
 use Rattle.std.specs.Arc.{arc_value}
 use Rattle.std.specs.declared.sync.Arc.{Arc}
@@ -11,6 +11,7 @@ use Rattle.line_lane.specs.Lane.{answers_of}
 use Rattle.line_lane.specs.declared.fault.SourceFault.{SourceFault}
 use Rattle.line_lane.specs.declared.ending.LaneEnd.{LaneEnd}
 use Rattle.line_lane.specs.declared.ending.LaneEnd.TheVariants.{Complete, SourceFailed}
+use Rattle.set_run.specs.Closed.{HasNoOthers}
 use Rattle.set_run.specs.Events.{Event, answers_in, lane_events, of_lane}
 use Rattle.set_run.specs.Sources.{HasGiven}
 use Rattle.set_run.specs.declared.report.LaneReport.{LaneReport}
@@ -106,7 +107,7 @@ module _ {S : Type 0} where
   -- the closed lanes of sources, of which the first has this number: the events of each lane are its results
   -- and then its end, if it has one, and the lane agrees with its source
   abbrev pub AreClosed :
-      (S → Option (List (List ℕ))) → (S → Option SourceFault) → List Event → ℕ → List (S × Arc TermsValue Global) → List (ClosedLane S) → Type 0
+      (S → Option (List (List ℕ))) → (S → Option SourceFault) → List (Event AnswerValue) → ℕ → List (S × Arc TermsValue Global) → List (ClosedLane S) → Type 0
   AreClosed to_come failed events number [] [] = Unit {0}
   AreClosed to_come failed events number [] (lane ∷ lanes) = ⊥
   AreClosed to_come failed events number (source ∷ sources) [] = ⊥
@@ -115,28 +116,14 @@ module _ {S : Type 0} where
       × IsClosed to_come failed (arc_value source.1) source.0 (answers_in number events) lane
       × AreClosed to_come failed events (number + 1) sources lanes
 
--- there are no events of lanes with this number or a larger one
-abbrev pub HasNoOthers : List Event → ℕ → Type 0
-HasNoOthers events lanes = (lane : ℕ) → lanes ≤ lane → of_lane lane events ≡ []
-
 module _ {S C : Type 0} where
   -- if a collector had received nothing before a batch with these sources, it has received the events of
   -- their lanes and no others
   abbrev pub IsCollected :
-      (S → Option (List (List ℕ))) → (S → Option SourceFault) → (C → List Event → Type 0) → List (S × Arc TermsValue Global) → RunEnd S → C → C → Type 0
+      (S → Option (List (List ℕ))) → (S → Option SourceFault) → (C → List (Event AnswerValue) → Type 0) → List (S × Arc TermsValue Global) → RunEnd S → C → C → Type 0
   IsCollected to_come failed given sources run before after =
       given before []
-      → (events : List Event) × given after events × AreClosed to_come failed events 0 sources run.lanes.items × HasNoOthers events (length sources)
-
-module _ {S O : Type 0} where
-  -- these sources have, in order, the same origins as those of the call
-  abbrev pub AreBack : (S → O) → List (S × Arc TermsValue Global) → List S → Type 0
-  AreBack origin sources back = map origin back ≡ map (λ source. origin source.0) sources
-
-module _ {S : Type 0} where
-  -- if there is no refusal, each lane has ended
-  abbrev pub IsWhole : RunEnd S → Type 0
-  IsWhole run = run.refusal ≡ None → All (λ lane. IsSome lane.end) run.lanes.items
+      → (events : List (Event AnswerValue)) × given after events × AreClosed to_come failed events 0 sources run.lanes.items × HasNoOthers events (length sources)
 
 module _ {S : Type 0} where
   -- the reports of lanes that have all ended; each has the results with the same index

@@ -25,6 +25,12 @@ Reads before failed (Ok (Some line)) after fails = (failed ≡ None) × (fails �
 Reads before failed (Ok None) after fails = (failed ≡ None) × (fails ≡ None) × HasNoMore before after
 Reads before failed (Err fault) after fails = (fails ≡ Some fault) × (first_end failed (Some fault) ≡ Some fault)
 
+module _ {S : Type 0} where
+  -- the same for a source, before and after the call
+  abbrev pub gives_line :
+      (S → Option (List (List ℕ))) → (S → Option SourceFault) → S → Result (Option (List ℕ)) SourceFault → S → Type 0
+  gives_line to_come failed before result after = Reads (to_come before) (failed before) result (to_come after) (failed after)
+
 -- the first of the lines that were to come were returned, at least this many, and the others remain; nothing
 -- is stated if the lines aren't known
 abbrev pub HasGiven : ℕ → Option (List (List ℕ)) → Option (List (List ℕ)) → Type 0

@@ -1,19 +1,35 @@
 -- The setters of the lanes, worker by worker, and the properties of a setter that its turns keep.
 -- This project's own.
-use Rattle.std.specs.Prelude.{◌≡◌, ◌<◌, ℕ, List, [], ◌∷◌, ◌++◌, true, length, get_or, set}
+use Rattle.std.specs.Prelude.{◌≡◌, ◌<◌, ◌%◌, ◌+◌, ℕ, List, [], ◌∷◌, ◌++◌, true, length, get_or, set}
 use Rattle.line_lane.specs.Ends.{SameSetter, state_of}
 use Rattle.line_lane.specs.Turns.{SetterState, is_given_up}
+use Rattle.line_lane.specs.declared.making.Making.{Ghosts}
 use Rattle.line_lane.specs.declared.setter.Setter.{Setter}
 
--- the worker with this number has one more setter, as its last one, and the other workers are unchanged
-abbrev pub HasOneMore : ℕ → Setter → List (List Setter) → List (List Setter) → Type 0
-HasOneMore worker setter before after =
-    (worker < length before) × (after ≡ set before worker (get_or before worker [] ++ setter ∷ []))
+module _ {T : Type 0} where
+  -- the worker with this number has one more setter, as its last one, and the other workers are unchanged
+  abbrev pub HasOneMore : ℕ → T → List (List T) → List (List T) → Type 0
+  HasOneMore worker setter before after =
+      (worker < length before) × (after ≡ set before worker (get_or before worker [] ++ setter ∷ []))
 
--- the setter of an abandoned lane has received a line
-abbrev pub HadSeenALine : SetterState → Type 0
-HadSeenALine s = is_given_up s.made ≡ true → s.seen ≡ [] → ⊥
+  -- the workers have these setters more: the first one belongs to the lane with this number, and each later one
+  -- to the next lane. The last one was appended first
+  abbrev pub HaveMore : ℕ → List T → List (List T) → List (List T) → Type 0
+  HaveMore first [] before after = after ≡ before
+  HaveMore first (setter ∷ setters) before after =
+      (between : List (List T)) × HaveMore (first + 1) setters before between × HasOneMore (first % length between) setter between after
 
--- the setter of the same lane, after some turns, which keep `HadSeenALine`
-abbrev pub IsWorked : Setter → Setter → Type 0
-IsWorked s t = SameSetter s t × (HadSeenALine (state_of s) → HadSeenALine (state_of t))
+  -- so many setters can be taken back, of which the first belongs to the lane with this number
+  abbrev pub CanTake : ℕ → ℕ → List (List T) → Type 0
+  CanTake first count workers =
+      (setters : List T) × (before : List (List T)) × (length setters ≡ count) × HaveMore first setters before workers
+
+module _ {I O : Type 0} where
+  -- the setter of an abandoned lane has received an item
+  abbrev pub HadSeenAnItem : SetterState I O → Type 0
+  HadSeenAnItem s = is_given_up s.made ≡ true → s.seen ≡ [] → ⊥
+
+module _ {M I O IS OS : Type 0} {ghosts : Ghosts M I O IS OS} where
+  -- the setter of the same lane, after some turns, which keep `HadSeenAnItem`
+  abbrev pub IsWorked : Setter M I O IS OS ghosts → Setter M I O IS OS ghosts → Type 0
+  IsWorked s t = SameSetter s t × (HadSeenAnItem (state_of s) → HadSeenAnItem (state_of t))

@@ -29,6 +29,8 @@ impl Collector for AnswerLists {
     ghost use Rattle.std.specs.Prelude.{◌≡◌, ◌<◌, [], get_or, length, ⊤};
     ghost use Rattle.set_run.specs.Events.{answers_in};
 
+    type Item = Answer;
+
     ghost lanes = { λ c. length c.lists.items };
 
     ghost given = { λ c events. (lane : _) → lane < length c.lists.items

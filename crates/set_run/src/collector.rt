@@ -6,8 +6,7 @@ ghost use Rattle.set_run.specs.declared.collector.Refusal.{Refusal as Refused};
 ghost use Rattle.set_run.specs.declared.collector.Refusal.TheVariants.{OutOfMemory as NoMemory};
 ghost use Rattle.set_run.specs.Events.{Answered, Ended, Event, Gets, Keeps};
 
-use line_lane::LaneEnd;
-use set_line::Answer;
+use line_lane::{LaneEnd, Made, Stored};
 use std::alloc::AllocError;
 
 /// The reason why a collector takes no more.
@@ -27,18 +26,22 @@ impl From<AllocError> for Refusal {
     }
 }
 
-/// Receives the results of a batch as they come, and the end of each lane after its results. Lanes have the
-/// numbers of their sources, from 0. The results of one lane come in the order of its lines; the order among
+/// Receives the results of a batch as they come, and the end of each lane after its results. For a collector
+/// each source has one lane, with the number of the source, from 0, even if the batch deals the items of the
+/// source over several. The results of one lane come in the order of the items of its source; the order among
 /// different lanes isn't specified. All calls are made in the thread that called the batch.
 ///
 /// After a refusal the collector isn't called again, and the batch is stopped. Before the thread sleeps, it
 /// calls `about_to_wait`, so that the collector can write what it has buffered.
 pub trait Collector {
+    /// A result: [`Answer`](set_line::Answer) if lines are set.
+    type Item: Made + Stored;
+
     /// The number of lanes that the collector can receive results of.
     ghost lanes: { Self → ℕ };
 
     /// Whether these events, in this order, are those that the collector has received.
-    ghost given: { Self → List Event → Type 0 };
+    ghost given: { Self → List (Event Self.Item) → Type 0 };
 
     /// Whether this is the refusal of the collector, if it has refused anything.
     ghost refused: { Self → Option Refused → Type 0 };
@@ -47,11 +50,11 @@ pub trait Collector {
     ghost quiet: { Self → Type 0 };
 
     /// Receives the next result of a lane. A result that is refused doesn't count as received.
-    fn take(&mut self, lane: usize, answer: Answer) -> Result<(), Refusal>
+    fn take(&mut self, lane: usize, item: Self::Item) -> Result<(), Refusal>
         requires lane { lane < lanes self.old }
         requires willing { refused self.old None }
         ensures lanes { lanes self.new ≡ lanes self.old }
-        ensures given { Gets given self.old (lane, Answered answer) (is_ok result) self.new }
+        ensures given { Gets given self.old (lane, Answered item) (is_ok result) self.new }
         ensures refused { refused self.new (result_err result) };
 
     /// Receives the end of a lane: no result of this lane follows. An end that is refused doesn't count as

@@ -1,4 +1,4 @@
-//! The collecting thread: it takes the results of all lanes and gives them to the collector.
+//! The collecting thread: it takes the results of all sources and gives them to the collector.
 ghost use Rattle.std.specs.Prelude.{◌≡◌, ◌≤◌, ◌↔◌, All, IsSome, IsTrue, None, is_none, is_ok, vec_len};
 ghost use Rattle.std.specs.List.{AllZip};
 ghost use Rattle.std.specs.Result.{result_err};
@@ -9,12 +9,14 @@ use crate::backoff::Backoff;
 use crate::lane_taker::LaneTaker;
 use crate::signals::Signals;
 use crate::{Collector, Gate, Refusal, Stage};
+use line_lane::Stored;
 use std::sync::Wait;
 
-/// Takes the available results of all lanes, lane by lane. Returns whether there were any.
+/// Takes the available results of all sources, source by source. Returns whether there were any, or more may
+/// have to be dropped.
 fn go_round<C: Collector>(
     signals: &Signals,
-    lanes: &mut Vec<LaneTaker>,
+    lanes: &mut Vec<LaneTaker<C::Item>>,
     collector: &mut C,
 ) -> Result<bool, Refusal>
     requires lanes { vec_len lanes.old ≤ C.lanes collector.old }
@@ -26,18 +28,23 @@ fn go_round<C: Collector>(
 {
     let mut any = false;
     for lane in 0..lanes.len() {
-        let took = lanes[lane].take_some(lane, signals.lines_before_wake(), collector)?;
+        let took = lanes[lane].visit(lane, signals.lines_before_wake(), collector)?;
         signals.answers_taken(lane, took);
         any |= took;
     }
     Ok(any)
 }
 
-/// Returns whether the collector has received the end of each lane.
-fn have_ended(lanes: &[LaneTaker]) -> bool
-    ensures { IsTrue result ↔ All (λ lane. IsSome lane.end) lanes.now }
+/// Returns whether the collector has received the end of each source, and nothing is left to be taken.
+fn have_ended<O: Stored>(lanes: &[LaneTaker<O>]) -> bool
+    ensures { IsTrue result → All (λ lane. IsSome lane.end) lanes.now }
 {
-    lanes.iter().all(|lane| lane.end.is_some())
+    for lane in lanes {
+        if !lane.is_over() {
+            return false;
+        }
+    }
+    true
 }
 
 /// Sleeps until there may be results. Nothing that the collector has received may be waiting to be written.
@@ -67,12 +74,12 @@ fn wait<R: Wait, C: Collector>(
     Ok(())
 }
 
-/// Takes the results of all lanes up to their ends. The error is the refusal of the collector, after which
+/// Takes the results of all sources up to their ends. The error is the refusal of the collector, after which
 /// nothing more is taken.
 fn collect_all<R: Wait, C: Collector>(
     rt: &R,
     signals: &Signals,
-    lanes: &mut Vec<LaneTaker>,
+    lanes: &mut Vec<LaneTaker<C::Item>>,
     collector: &mut C,
 ) -> Result<(), Refusal>
     requires lanes { vec_len lanes.old ≤ C.lanes collector.old }
@@ -96,23 +103,23 @@ fn collect_all<R: Wait, C: Collector>(
     unreachable!()
 }
 
-/// The takers and the collector after the collection, and the refusal of the collector, if any.
+/// The gatherers and the collector after the collection, and the refusal of the collector, if any.
 #[derive(Drop)]
-pub(crate) struct Collected<C> {
-    pub lanes: Vec<LaneTaker>,
+pub(crate) struct Collected<C, O: Stored> {
+    pub lanes: Vec<LaneTaker<O>>,
     pub collector: C,
     pub refusal: Option<Refusal>,
 }
 
-/// Does the work of the collecting thread: passes the start barrier, and takes the results of all lanes up to
-/// their ends or to the first refusal.
+/// Does the work of the collecting thread: passes the start barrier, and takes the results of all sources up
+/// to their ends or to the first refusal.
 pub(crate) fn collect<R: Wait, G: Gate, C: Collector>(
     rt: &R,
     gate: &G,
     signals: &Signals,
-    lanes: Vec<LaneTaker>,
+    lanes: Vec<LaneTaker<C::Item>>,
     collector: C,
-) -> Collected<C>
+) -> Collected<C, C::Item>
     requires lanes { vec_len lanes ≤ C.lanes collector }
     requires willing { C.refused collector None }
     ensures same { AllZip SameLane lanes.items result.lanes.items }

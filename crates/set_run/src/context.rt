@@ -1,5 +1,6 @@
 //! The context of a batch.
 use crate::Plan;
+use crate::lane_count::LaneCount;
 use crate::signals::Signals;
 use std::alloc::Global;
 
@@ -11,4 +12,6 @@ pub(crate) struct Context<'a, R, G> {
     pub signals: Signals,
     pub alloc: Global,
     pub plan: Plan,
+    /// The number of lanes of each source.
+    pub lanes: LaneCount,
 }

@@ -7,13 +7,13 @@ pub enum Stage {
     Source,
     /// It sets the lines of some lanes.
     Setter,
-    /// It collects the results of all lanes.
+    /// It collects the results of all sources.
     Collector,
 }
 
 /// A start barrier, which each thread of a batch passes once. The barrier may wait.
 pub trait Gate {
-    /// Passes the barrier. The thread of a source calls it with the number of its lane, before it reads the
+    /// Passes the barrier. The thread of a source calls it with the number of its source, before it reads the
     /// first line; a worker with its own number, before its first turn; and the collecting thread with 0,
     /// after all threads were started and before it takes results. Numbers start at 0.
     fn enter(&self, stage: Stage, number: usize);

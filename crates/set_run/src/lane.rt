@@ -1,74 +1,107 @@
-//! The lanes of a batch: how a lane is opened, and how it is closed.
-ghost use Rattle.std.specs.Prelude.{◌≡◌, ◌<◌, ◌≤◌, ◌%◌, ◌++◌, ◌∷◌, [], length, vec_capacity, vec_len, IfOk};
-ghost use Rattle.std.specs.Arc.{arc_value};
-ghost use Rattle.line_lane.specs.Ends.{IsLane};
+//! The lanes of a batch: how the lanes of a source are opened, and how they are closed.
+ghost use Rattle.std.specs.Prelude.{◌≡◌, ◌<◌, ◌≤◌, ◌+◌, ◌*◌, ◌^◌, ◌++◌, ◌∷◌, [], length, vec_capacity, vec_len, IfOk, IfSome};
+ghost use Rattle.dealt_lanes.specs.Settled.{AreDealtLanes};
+ghost use Rattle.dealt_lanes.specs.Dealt.{dealer_lanes};
 ghost use Rattle.set_run.specs.Lanes.{Begins, CanEnd, Ends, IsFinished, IsFresh};
 
 use crate::context::Context;
 use crate::lane_taker::LaneTaker;
 use crate::source_thread::Feeding;
-use crate::worker::{Worker, give, take_back};
+use crate::worker::{Worker, give_all, take_back_all};
 use crate::{ClosedLane, Plan};
-use line_lane::{Feeder, Setter, open, settle};
-use set_line::{OutOfMemory, Terms};
+use dealt_lanes::{Dealer, Shared, open_shared, settle_lanes};
+use line_lane::{Making, Setter, Stored};
+use set_line::OutOfMemory;
 use std::alloc::Global;
-use std::sync::Arc;
 
 /// The lanes of a batch.
 #[derive(Drop)]
-pub(crate) struct BatchLanes<S> {
+pub(crate) struct BatchLanes<S, M: Making> {
     /// The lanes that are closed, in the order of their sources.
     pub closed: Vec<ClosedLane<S>>,
     /// The setters of the open lanes, worker by worker.
-    pub workers: Vec<Worker>,
-    /// The takers of the open lanes, in the order of their numbers.
-    pub takers: Vec<LaneTaker>,
+    pub workers: Vec<Worker<Setter<M>>>,
+    /// The gatherers of the sources whose lanes are open, in the order of their numbers.
+    pub takers: Vec<LaneTaker<M::Out>>,
 }
 
-/// Opens a lane with these settings. The error means that an allocation failed.
-fn open_lane(
+/// A source with the dealer of its lanes, and an empty list with room for the setters of the lanes when these
+/// come back.
+#[derive(Drop)]
+pub(crate) struct Begun<S, M: Making> {
+    pub feeding: Feeding<S, M::In>,
+    pub room: Vec<Setter<M>>,
+}
+
+/// Opens the lanes of a source with this maker. The error means that an allocation failed.
+fn open_source<M: Shared>(
     alloc: Global,
     plan: &Plan,
-    terms: Arc<Terms>,
-) -> Result<(Feeder, Setter, LaneTaker), OutOfMemory>
-    ensures { IfOk result (λ lane. IsFresh (arc_value terms) lane.0 lane.1 lane.2) }
+    maker: M,
+    lanes: usize,
+) -> Result<(Dealer<M::In>, Vec<Setter<M>>, LaneTaker<M::Out>), OutOfMemory>
+    requires { 0 < lanes }
+    ensures fresh { IfOk result (λ ends. IsFresh (M.makes maker) ends.0 ends.1.items ends.2) }
+    ensures count { IfOk result (λ ends. length ends.1.items ≡ lanes) }
 {
-    let (feeder, setter, taker) = open(alloc, terms, plan.capacity, plan.block)?;
-    Ok((feeder, setter, LaneTaker { taker, end: None }))
+    let (dealer, setters, gatherer) = open_shared(alloc, maker, lanes, plan.capacity, plan.block)?;
+    let taker = LaneTaker {
+        gatherer,
+        end: None,
+        drained: false,
+    };
+    Ok((dealer, setters, taker))
 }
 
-/// Opens the lane of a source: appends its setter to those of a worker, puts its taker before the others, and
-/// returns its feeder with the source. The error means that an allocation failed.
-pub(crate) fn begin<R, G, S: Drop>(
+/// Opens the lanes of a source: appends their setters to those of the workers, puts the gatherer before the
+/// others, and returns the dealer with the source. Returns `None` if an allocation fails, or if there is no
+/// worker.
+pub(crate) fn begin<R, G, S: Drop, M: Shared>(
     context: &Context<'_, R, G>,
     number: usize,
-    source: (S, Arc<Terms>),
-    workers: &mut Vec<Worker>,
-    lanes: &mut Vec<LaneTaker>,
-) -> Result<Feeding<S>, OutOfMemory>
-    requires { 0 < vec_len workers.old }
-    ensures { IfOk result (λ feeding. Begins (number % length workers.old.items) source feeding
+    source: (S, M),
+    workers: &mut Vec<Worker<Setter<M>>>,
+    lanes: &mut Vec<LaneTaker<M::Out>>,
+) -> Option<Begun<S, M>>
+    ensures begun { IfSome result (λ begun. Begins (context.now.lanes) number source begun.feeding
         (record { workers = workers.old.items; lanes = lanes.old.items })
         (record { workers = workers.new.items; lanes = lanes.new.items })) }
+    ensures fits { IfSome result (λ begun. number * context.now.lanes + context.now.lanes < 2 ^ 64) }
+    ensures room { IfSome result (λ begun. (begun.room.items ≡ []) × (context.now.lanes ≤ vec_capacity begun.room)) }
 {
-    let (source, terms) = source;
-    let (feeder, setter, lane) = open_lane(context.alloc, &context.plan, terms)?;
-    give(workers, number, setter)?;
-    match lanes.insert(0, lane) {
-        Ok(()) => Ok(Feeding { source, feeder }),
-        Err(_) => Err(OutOfMemory),
+    let (source, maker) = source;
+    let count = context.lanes.get();
+    let Ok((dealer, mut setters, taker)) = open_source(context.alloc, &context.plan, maker, count)
+    else {
+        return None;
+    };
+    let first = number.checked_mul(count)?;
+    // The numbers of all lanes of the source fit.
+    first.checked_add(count)?;
+    give_all(workers, first, &mut setters)?;
+    match lanes.insert(0, taker) {
+        Ok(()) => Some(Begun {
+            feeding: Feeding { source, dealer },
+            room: setters,
+        }),
+        Err(_) => None,
     }
 }
 
-/// Closes a lane, from its three endpoints.
-fn finish_lane<S: Drop>(feeding: Feeding<S>, setter: Setter, lane: LaneTaker) -> ClosedLane<S>
-    requires { IsLane feeding.feeder setter lane.taker }
-    ensures { IsFinished feeding setter lane result }
+/// Closes the lanes of a source, from their endpoints.
+fn finish_source<S: Drop, M: Making>(
+    feeding: Feeding<S, M::In>,
+    setters: Vec<Setter<M>>,
+    taker: LaneTaker<M::Out>,
+) -> ClosedLane<S>
+    requires { AreDealtLanes feeding.dealer setters.items taker.gatherer }
+    ensures { IsFinished feeding setters.items taker result }
 {
-    let Feeding { source, feeder } = feeding;
-    let LaneTaker { taker, end } = lane;
-    // For the proof: the contract of `settle` states that the results taken are those of the first lines fed.
-    let _ = settle(feeder, setter, taker);
+    let Feeding { source, dealer } = feeding;
+    let LaneTaker { gatherer, end, .. } = taker;
+    // For the proof: the contract of `settle_lanes` states that the results gathered are those of the first
+    // items dealt.
+    let _ = settle_lanes(dealer, setters, gatherer);
     ClosedLane { source, end }
 }
 
@@ -84,35 +117,38 @@ fn push<S: Drop>(closed: &mut Vec<ClosedLane<S>>, lane: ClosedLane<S>)
     }
 }
 
-/// Removes and returns the first taker. There must be one.
-fn take_first(takers: &mut Vec<LaneTaker>) -> LaneTaker
+/// Removes and returns the first gatherer. There must be one.
+fn take_first<O: Stored>(takers: &mut Vec<LaneTaker<O>>) -> LaneTaker<O>
     requires { takers.old.items ≡ [] → ⊥ }
     ensures { takers.old.items ≡ result ∷ takers.new.items }
 {
     takers.remove(0)
 }
 
-/// Closes the first open lane, whose number is `number`, after its source's thread was joined, and appends it
-/// to the closed lanes.
-pub(crate) fn end<S: Drop>(
+/// Closes the lanes of the first source whose lanes are open, after its thread was joined, and appends one
+/// closed lane. `room` is an empty list with room for the setters of the source.
+pub(crate) fn end<S: Drop, M: Making>(
     number: usize,
-    feeding: Feeding<S>,
+    begun: Begun<S, M>,
     closed: &mut Vec<ClosedLane<S>>,
-    workers: &mut Vec<Worker>,
-    lanes: &mut Vec<LaneTaker>,
+    workers: &mut Vec<Worker<Setter<M>>>,
+    lanes: &mut Vec<LaneTaker<M::Out>>,
 )
-    requires some { 0 < vec_len workers.old }
+    requires fits { number * dealer_lanes begun.feeding.dealer + dealer_lanes begun.feeding.dealer < 2 ^ 64 }
+    requires empty { begun.room.items ≡ [] }
+    requires setters { dealer_lanes begun.feeding.dealer ≤ vec_capacity begun.room }
     requires room { vec_len closed.old < vec_capacity closed.old }
-    requires lane { CanEnd (number % length workers.old.items) feeding.feeder
+    requires lanes { CanEnd (dealer_lanes begun.feeding.dealer) number begun.feeding.dealer
         (record { workers = workers.old.items; lanes = lanes.old.items }) }
-    ensures ended { Ends (number % length workers.old.items) feeding closed.old.items closed.new.items
+    ensures ended { Ends (dealer_lanes begun.feeding.dealer) number begun.feeding closed.old.items closed.new.items
         (record { workers = workers.old.items; lanes = lanes.old.items })
         (record { workers = workers.new.items; lanes = lanes.new.items }) }
     ensures room { vec_capacity closed.old ≤ vec_capacity closed.new }
 {
-    let Some(setter) = take_back(workers, number) else {
-        unreachable!()
-    };
-    let lane = take_first(lanes);
-    push(closed, finish_lane(feeding, setter, lane));
+    let Begun { feeding, room } = begun;
+    let mut setters = room;
+    let count = feeding.dealer.lanes();
+    take_back_all(workers, number * count, count, &mut setters);
+    let taker = take_first(lanes);
+    push(closed, finish_source(feeding, setters, taker));
 }

@@ -1,25 +1,45 @@
-//! The endpoint of a lane in the collecting thread.
-ghost use Rattle.std.specs.Prelude.{◌≡◌, ◌<◌, None, is_ok};
+//! The endpoint of the lanes of a source in the collecting thread.
+ghost use Rattle.std.specs.Prelude.{◌≡◌, ◌<◌, IsSome, IsTrue, None, is_ok};
 ghost use Rattle.std.specs.Result.{result_err};
-ghost use Rattle.line_lane.specs.Ends.{SameTaker};
+ghost use Rattle.dealt_lanes.specs.Dealt.{SameGatherer, gathered, gatherer_end};
 ghost use Rattle.set_run.specs.Collecting.{TellsLane};
 
 use crate::{Collector, Refusal};
-use line_lane::{LaneEnd, Taker, Took};
+use dealt_lanes::Gatherer;
+use line_lane::{LaneEnd, Made, Stored, Took};
 
-/// A taker, and the end of its lane once the collector has received this end.
+/// The gatherer of a source's lanes, and their end once the collector has received this end.
 #[derive(Drop)]
-pub(crate) struct LaneTaker {
-    pub taker: Taker,
+pub(crate) struct LaneTaker<O: Stored> {
+    pub gatherer: Gatherer<O>,
     pub end: Option<LaneEnd>,
+    /// Whether each lane has returned its end, if a lane was abandoned.
+    pub drained: bool,
 }
 
-impl LaneTaker {
+impl<O: Stored> LaneTaker<O> {
+    /// Returns whether nothing is left to be taken.
+    pub fn is_over(&self) -> bool
+        ensures { IsTrue result → IsSome self.now.end }
+    {
+        match self.end {
+            Some(LaneEnd::GaveUp) => self.drained,
+            Some(_) => true,
+            None => false,
+        }
+    }
+}
+
+impl<O: Made + Stored> LaneTaker<O> {
     /// Takes the next result or the end, and gives it to the collector. Returns whether there was one.
-    fn take<C: Collector>(&mut self, lane: usize, collector: &mut C) -> Result<bool, Refusal>
+    fn take<C: Collector<Item = O>>(
+        &mut self,
+        lane: usize,
+        collector: &mut C,
+    ) -> Result<bool, Refusal>
         requires lane { lane < C.lanes collector.old }
         requires willing { C.refused collector.old None }
-        ensures same { SameTaker self.old.taker self.new.taker }
+        ensures same { SameGatherer self.old.gatherer self.new.gatherer }
         ensures lanes { C.lanes collector.new ≡ C.lanes collector.old }
         ensures told { TellsLane C.given lane self.old collector.old (is_ok result) self.new collector.new }
         ensures refused { C.refused collector.new (result_err result) }
@@ -27,7 +47,7 @@ impl LaneTaker {
         if self.end.is_some() {
             return Ok(false);
         }
-        match self.taker.take() {
+        match self.gatherer.take() {
             Took::Nothing => Ok(false),
             Took::Answer(answer) => {
                 collector.take(lane, answer)?;
@@ -41,9 +61,24 @@ impl LaneTaker {
         }
     }
 
+    /// After the end of an abandoned lane, takes up to `most` results of each lane of the source and drops
+    /// them, so that the setters of the other lanes reach the end. Returns whether more may follow.
+    fn drop_rest(&mut self, most: usize) -> bool
+        ensures same { SameGatherer self.old.gatherer self.new.gatherer }
+        ensures gathered { gathered self.new.gatherer ≡ gathered self.old.gatherer }
+        ensures taken { gatherer_end self.new.gatherer ≡ gatherer_end self.old.gatherer }
+        ensures end { self.new.end ≡ self.old.end }
+    {
+        if self.end.is_none() || self.is_over() {
+            return false;
+        }
+        self.drained = self.gatherer.drop_rest(most);
+        true
+    }
+
     /// Takes the available results and the end, together at most `most`, and gives them to the collector.
     /// Returns whether there were any.
-    pub fn take_some<C: Collector>(
+    fn take_some<C: Collector<Item = O>>(
         &mut self,
         lane: usize,
         most: usize,
@@ -51,7 +86,7 @@ impl LaneTaker {
     ) -> Result<bool, Refusal>
         requires lane { lane < C.lanes collector.old }
         requires willing { C.refused collector.old None }
-        ensures same { SameTaker self.old.taker self.new.taker }
+        ensures same { SameGatherer self.old.gatherer self.new.gatherer }
         ensures lanes { C.lanes collector.new ≡ C.lanes collector.old }
         ensures told { TellsLane C.given lane self.old collector.old (is_ok result) self.new collector.new }
         ensures refused { C.refused collector.new (result_err result) }
@@ -62,5 +97,26 @@ impl LaneTaker {
             }
         }
         Ok(true)
+    }
+
+    /// Takes the available results and the end, together at most `most`, and gives them to the collector.
+    /// After the end of an abandoned lane, drops the results that the other lanes still have, up to `most` of
+    /// each. Returns whether results or the end were taken, or more may have to be dropped.
+    pub fn visit<C: Collector<Item = O>>(
+        &mut self,
+        lane: usize,
+        most: usize,
+        collector: &mut C,
+    ) -> Result<bool, Refusal>
+        requires lane { lane < C.lanes collector.old }
+        requires willing { C.refused collector.old None }
+        ensures same { SameGatherer self.old.gatherer self.new.gatherer }
+        ensures lanes { C.lanes collector.new ≡ C.lanes collector.old }
+        ensures told { TellsLane C.given lane self.old collector.old (is_ok result) self.new collector.new }
+        ensures refused { C.refused collector.new (result_err result) }
+    {
+        let took = self.take_some(lane, most, collector)?;
+        let dropped = self.drop_rest(most);
+        Ok(took || dropped)
     }
 }

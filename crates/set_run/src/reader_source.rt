@@ -1,13 +1,15 @@
 ghost use Rattle.std.specs.Prelude.{◌≡◌, None, option_map};
 ghost use Rattle.std.specs.Io.KnownBytes.{prepend_known};
 ghost use Rattle.set_line.specs.Lines.{lines_of};
-ghost use Rattle.set_run.specs.Sources.{Reads};
-ghost use Rattle.set_run.specs.Reading.{fault_of, lines_to_come};
+ghost use Rattle.set_run.specs.Sources.{gives_line};
+ghost use Rattle.set_run.specs.Cuts.{gives_as};
+ghost use Rattle.set_run.specs.Reading.{IsKept};
 
 use self::buffer::Buffer;
+use self::kept_line::KeptLine;
 use self::raw_line::{RawLine, next_raw_line};
 use self::state::ReaderState;
-use crate::LineSource;
+use crate::{CutLine, LineSource, MOST_BYTES};
 use line_lane::SourceFault;
 use set_line::{Line, cut_at_feeds};
 use std::alloc::Global;
@@ -15,6 +17,7 @@ use std::io::Read;
 use std::snapshot::Snapshot;
 
 mod buffer;
+mod kept_line;
 mod raw_line;
 mod state;
 
@@ -47,31 +50,38 @@ impl<R: Read> ReaderSource<R> {
         }
     }
 
-    /// Reads the next line, or returns `None` at the end. The source must be open: it hasn't reached the end
-    /// or failed before.
-    fn read_line(&mut self) -> Result<Option<Line>, SourceFault>
+    /// Reads the next line, of which at most `most` bytes are kept, or returns `None` at the end. The source
+    /// must be open: it hasn't reached the end or failed before.
+    fn read_line(&mut self, most: usize) -> Result<Option<KeptLine>, SourceFault>
         requires { self.old.state ≡ ReaderState.Open }
-        ensures reads { let before = prepend_known self.old.buffer (R.remaining self.old.reader) in
-            let after = prepend_known self.new.buffer (R.remaining self.new.reader) in
-            Reads (lines_to_come self.old.state before) (fault_of self.old.state) result
-            (lines_to_come self.new.state after) (fault_of self.new.state) }
+        ensures reads { gives_as (IsKept most) (gives_line ⟦<ReaderSource<R> as LineSource>⟧.to_come
+            ⟦<ReaderSource<R> as LineSource>⟧.failed) self.old result self.new }
         ensures origin { self.new.made_of.value ≡ self.old.made_of.value }
     {
         cut_at_feeds();
-        match next_raw_line(self.alloc, &mut self.reader, &mut self.buffer) {
-            Ok(RawLine::Ended(line)) => Ok(Some(Line::new(line))),
+        match next_raw_line(self.alloc, &mut self.reader, &mut self.buffer, most) {
+            Ok(RawLine::Ended(line)) => Ok(Some(line)),
             Ok(RawLine::Last(line)) => {
                 self.state = ReaderState::AtEnd;
-                Ok(if line.is_empty() {
-                    None
-                } else {
-                    Some(Line::new(line))
-                })
+                Ok(if line.is_empty() { None } else { Some(line) })
             }
             Err(fault) => {
                 self.state = ReaderState::Failed(fault);
                 Err(fault)
             }
+        }
+    }
+
+    /// Returns the next line, of which at most `most` bytes are kept, or `None` at the end.
+    fn next_kept(&mut self, most: usize) -> Result<Option<KeptLine>, SourceFault>
+        ensures reads { gives_as (IsKept most) (gives_line ⟦<ReaderSource<R> as LineSource>⟧.to_come
+            ⟦<ReaderSource<R> as LineSource>⟧.failed) self.old result self.new }
+        ensures origin { self.new.made_of.value ≡ self.old.made_of.value }
+    {
+        match self.state {
+            ReaderState::Open => self.read_line(most),
+            ReaderState::AtEnd => Ok(None),
+            ReaderState::Failed(fault) => Err(fault),
         }
     }
 }
@@ -90,10 +100,18 @@ impl<R: Read> LineSource for ReaderSource<R> {
     ghost origin = { λ source. source.made_of.value };
 
     fn next_line(&mut self) -> Result<Option<Line>, SourceFault> {
-        match self.state {
-            ReaderState::Open => self.read_line(),
-            ReaderState::AtEnd => Ok(None),
-            ReaderState::Failed(fault) => Err(fault),
+        match self.next_kept(usize::MAX)? {
+            Some(line) => Ok(Some(line.into_line())),
+            None => Ok(None),
+        }
+    }
+
+    /// Returns the next line, or only its length if it has more than 65,535 bytes. No more bytes of a line
+    /// than these are kept.
+    fn next_cut(&mut self) -> Result<Option<CutLine>, SourceFault> {
+        match self.next_kept(MOST_BYTES)? {
+            Some(line) => Ok(Some(line.into_cut(self.alloc))),
+            None => Ok(None),
         }
     }
 

@@ -2,7 +2,8 @@
 ghost use Rattle.std.specs.Prelude.{All, ◌≡◌, ◌++◌, ◌∷◌, [], ◌<◌, ◌≤◌, ◌⊎◌, Err, IfOk, IfErr, IsSome, MatchResult, get_or, length, map, vec_len};
 ghost use Rattle.set_run.specs.declared.run_fault.RunFault.TheVariants.{TooManySources, OutOfMemory as NoMemory, Thread};
 ghost use Rattle.line_lane.specs.declared.ending.LaneEnd.TheVariants.{Complete};
-ghost use Rattle.set_run.specs.Reports.{AreAnswered, AreBack, AreReported, AreReportsOf};
+ghost use Rattle.set_run.specs.Closed.{AreBack};
+ghost use Rattle.set_run.specs.Reports.{AreAnswered, AreReported, AreReportsOf};
 
 use crate::answer_lists::AnswerLists;
 use crate::{

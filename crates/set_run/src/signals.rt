@@ -12,7 +12,7 @@ use std::thread::Parker;
 /// The largest number of workers.
 const MOST_WORKERS: usize = 16;
 
-/// The largest number of lines, or of moves, in a row before the thread at the other end is woken.
+/// The largest number of items, or of moves, in a row before the thread at the other end is woken.
 const MOST_AT_ONCE: usize = 512;
 
 /// The wake-up of one thread. The wake-ups of different threads are in different cache lines.
@@ -53,14 +53,18 @@ pub(crate) struct Signals {
     workers: [Bell; MOST_WORKERS],
     collector: Bell,
     threads: usize,
+    /// The number of lanes of each source.
+    lanes: usize,
     lines: usize,
     moves: usize,
     ghost some: { 0 < threads },
+    ghost some_lanes: { 0 < lanes },
 }
 
 impl Signals {
-    /// Returns the values for a batch of this plan, with this many workers.
-    pub fn new(plan: &Plan, threads: usize) -> Self {
+    /// Returns the values for a batch of this plan, with this many workers and with this many lanes for each
+    /// source.
+    pub fn new(plan: &Plan, threads: usize, lanes: usize) -> Self {
         let half = (plan.capacity.get() / 2).max(1);
         let block = plan.block.get();
         Signals {
@@ -69,21 +73,25 @@ impl Signals {
             workers: array::from_fn(|_| Bell::new()),
             collector: Bell::new(),
             threads: threads.max(1),
-            lines: half.saturating_mul(block).min(MOST_AT_ONCE),
+            lanes: lanes.max(1),
+            lines: half
+                .saturating_mul(block)
+                .saturating_mul(lanes)
+                .min(MOST_AT_ONCE),
             moves: half
                 .saturating_mul(block.saturating_add(2))
                 .min(MOST_AT_ONCE),
         }
     }
 
-    /// Returns the number of lines after which a thread is woken: as many as the messages in half the slots
-    /// of a ring have, at most 512.
+    /// Returns the number of items after which a thread is woken: as many as the messages in half the slots of
+    /// a ring have, times the number of lanes of a source, at most 512.
     pub fn lines_before_wake(&self) -> usize {
         self.lines
     }
 
-    /// Returns the largest number of moves in one visit of a worker to a lane: as many as are needed to set
-    /// the lines of the messages in half the slots of a ring, at most 512.
+    /// Returns the largest number of moves in one visit of a worker to a lane: as many as are needed to make
+    /// the results of the messages in half the slots of a ring, at most 512.
     pub fn moves_per_visit(&self) -> usize {
         self.moves
     }
@@ -100,39 +108,55 @@ impl Signals {
         ring_all(&self.workers);
     }
 
-    fn source(&self, lane: usize) -> &Bell {
-        &self.sources[lane % MOST_SOURCES]
+    /// Returns the number of a lane of a source among all lanes of the batch.
+    fn lane_number(&self, source: usize, lane: usize) -> usize {
+        (source % MOST_SOURCES)
+            .saturating_mul(self.lanes)
+            .saturating_add(lane)
     }
 
-    /// Returns the wake-up of the worker that sets the lines of this lane.
+    /// Returns the wake-up of the source of a lane.
+    fn source_of(&self, lane: usize) -> &Bell {
+        &self.sources[lane / self.lanes % MOST_SOURCES]
+    }
+
+    /// Returns the wake-up of the worker that has the setter of this lane.
     fn worker_of(&self, lane: usize) -> &Bell {
         &self.workers[lane % self.threads % MOST_WORKERS]
     }
 
-    /// Wakes the worker of a lane. The thread of the source calls it after it has fed lines, before it
-    /// sleeps, and when it is done.
-    pub fn lines_fed(&self, lane: usize) {
-        self.worker_of(lane).ring();
+    /// Wakes the workers of all lanes of a source.
+    fn wake_workers(&self, source: usize) {
+        for lane in 0..self.lanes {
+            self.worker_of(self.lane_number(source, lane)).ring();
+        }
     }
 
-    /// Waits, in the thread of a source, until there may be a free slot: pauses, or wakes the lane's worker
-    /// and sleeps.
-    pub fn wait_as_source<R: Wait>(&self, rt: &R, lane: usize, backoff: &mut Backoff) {
+    /// Wakes the workers of all lanes of a source. The thread of the source calls it after it has fed several
+    /// items, before it sleeps, before it requests an item from a source that isn't ready, and when it is
+    /// done.
+    pub fn lines_fed(&self, source: usize) {
+        self.wake_workers(source);
+    }
+
+    /// Waits, in the thread of a source, until there may be a free slot: pauses, or wakes the workers of the
+    /// source's lanes and sleeps.
+    pub fn wait_as_source<R: Wait>(&self, rt: &R, source: usize, backoff: &mut Backoff) {
         if backoff.looks_again() {
             return;
         }
-        self.lines_fed(lane);
-        self.source(lane).sleep(rt, backoff);
+        self.lines_fed(source);
+        self.sources[source % MOST_SOURCES].sleep(rt, backoff);
     }
 
-    /// Wakes the source's thread and the collecting thread. A worker calls it after it has made moves in a
-    /// lane.
+    /// Wakes the thread of the lane's source and the collecting thread. A worker calls it after it has made
+    /// moves in a lane.
     pub fn lines_set(&self, lane: usize) {
-        self.source(lane).ring();
+        self.source_of(lane).ring();
         self.collector.ring();
     }
 
-    /// Waits, in the thread of a worker, until there may be lines or free slots for results: pauses or
+    /// Waits, in the thread of a worker, until there may be items or free slots for results: pauses or
     /// sleeps.
     pub fn wait_as_worker<R: Wait>(&self, rt: &R, number: usize, backoff: &mut Backoff) {
         if !backoff.looks_again() {
@@ -140,11 +164,11 @@ impl Signals {
         }
     }
 
-    /// Records that the collecting thread has visited a lane: wakes the lane's worker if results or the end
-    /// were taken (`any`).
-    pub fn answers_taken(&self, lane: usize, any: bool) {
+    /// Wakes the workers of all lanes of a source if the collecting thread has taken or dropped results, or
+    /// has taken the end, when it visited these lanes (`any`).
+    pub fn answers_taken(&self, source: usize, any: bool) {
         if any {
-            self.worker_of(lane).ring();
+            self.wake_workers(source);
         }
     }
 

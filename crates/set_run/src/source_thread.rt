@@ -1,48 +1,55 @@
-//! The thread of a source: it reads the lines of the source and feeds them to its lane.
-ghost use Rattle.std.specs.Prelude.{◌≡◌, ◌++◌, ◌∷◌, [], None, Some, IsTrue, length, if◌then◌else◌};
-ghost use Rattle.line_lane.specs.Ends.{SameFeeder, fed, feeder_end, open_lines};
+//! The thread of a source: it reads the items of the source and deals them over its lanes.
+ghost use Rattle.std.specs.Prelude.{◌≡◌, ◌++◌, ◌∷◌, [], None, Some, IsTrue, if◌then◌else◌};
+ghost use Rattle.dealt_lanes.specs.Feeders.{AreFlushed};
+ghost use Rattle.dealt_lanes.specs.Dealt.{SameDealer, dealer_end, dealt};
 ghost use Rattle.line_lane.specs.Messages.{first_end};
-ghost use Rattle.set_run.specs.Given.{AreFed, HandsBack, StaysFailed};
-ghost use Rattle.set_run.specs.Sources.{HasGiven};
+ghost use Rattle.set_run.specs.Calls.{IsFedFrom};
+ghost use Rattle.set_run.specs.Given.{HandsBack};
 
 use crate::backoff::Backoff;
 use crate::signals::Signals;
-use crate::{Gate, LineSource, Stage};
-use line_lane::{Feeder, OfferFault, SourceEnd};
-use set_line::Line;
+use crate::{Gate, ItemSource, Stage};
+use dealt_lanes::Dealer;
+use line_lane::{OfferFault, SourceEnd, Stored};
 use std::snapshot::Snapshot;
 use std::sync::Wait;
 use std::thread::Promise;
 
-/// A source with the feeder of its lane.
+/// A source with the dealer of its lanes.
 #[derive(Drop)]
-pub(crate) struct Feeding<S> {
+pub(crate) struct Feeding<S, I: Stored> {
     pub source: S,
-    pub feeder: Feeder,
+    pub dealer: Dealer<I>,
 }
 
-/// The promise of the thread of a source, with the source and the feeder as they were when the thread
+/// The promise of the thread of a source, with the source and the dealer as they were when the thread
 /// started.
 #[derive(Drop)]
-pub(crate) struct FedFrom<S>(pub Snapshot<Feeding<S>>);
+pub(crate) struct FedFrom<S, I: Stored>(pub Snapshot<Feeding<S, I>>);
 
-impl<S: LineSource> Promise<Feeding<S>> for FedFrom<S> {
-    ghost kept_by = { λ p r. HandsBack S.to_come S.failed S.origin p.0.value r };
+impl<I: Stored, S: ItemSource<I>> Promise<Feeding<S, I>> for FedFrom<S, I> {
+    ghost kept_by = { λ p r. HandsBack S.next_gives S.origin p.0.value r };
 }
 
-/// Feeds a line, as soon as there is room for it. Returns false, with the line dropped, if the batch is
-/// stopped before or the feeder is closed.
-fn offer<R: Wait>(rt: &R, signals: &Signals, number: usize, feeder: &mut Feeder, line: Line) -> bool
-    ensures lane { SameFeeder feeder.old feeder.new }
-    ensures end { feeder_end feeder.new ≡ feeder_end feeder.old }
-    ensures fed { fed feeder.new ≡ (if result then fed feeder.old ++ line ∷ [] else fed feeder.old) }
+/// Deals an item, as soon as there is room for it. Returns false, with the item dropped, if the batch is
+/// stopped before or the dealer is closed.
+fn offer<R: Wait, I: Stored>(
+    rt: &R,
+    signals: &Signals,
+    number: usize,
+    dealer: &mut Dealer<I>,
+    item: I,
+) -> bool
+    ensures lane { SameDealer dealer.old dealer.new }
+    ensures end { dealer_end dealer.new ≡ dealer_end dealer.old }
+    ensures fed { dealt dealer.new ≡ (if result then dealt dealer.old ++ item ∷ [] else dealt dealer.old) }
 {
-    let mut line = line;
+    let mut item = item;
     let mut backoff = Backoff::new();
     for _ in rt.forever() {
-        match feeder.offer(line) {
+        match dealer.offer(item) {
             Ok(()) => return true,
-            Err(OfferFault::NoRoom(back)) => line = back,
+            Err(OfferFault::NoRoom(back)) => item = back,
             Err(OfferFault::Closed(_)) => return false,
         }
         if signals.is_stopped() {
@@ -53,41 +60,22 @@ fn offer<R: Wait>(rt: &R, signals: &Signals, number: usize, feeder: &mut Feeder,
     unreachable!()
 }
 
-/// Sends the open block, as soon as there is room for it. Returns false if the batch is stopped before.
-fn flush<R: Wait>(rt: &R, signals: &Signals, number: usize, feeder: &mut Feeder) -> bool
-    ensures lane { SameFeeder feeder.old feeder.new }
-    ensures end { feeder_end feeder.new ≡ feeder_end feeder.old }
-    ensures fed { fed feeder.new ≡ fed feeder.old }
-    ensures flushed { IsTrue result → open_lines feeder.new ≡ [] }
-{
-    let mut backoff = Backoff::new();
-    for _ in rt.forever() {
-        if feeder.flush() {
-            return true;
-        }
-        if signals.is_stopped() {
-            return false;
-        }
-        signals.wait_as_source(rt, number, &mut backoff);
-    }
-    unreachable!()
-}
-
-/// Closes the feeder, as soon as there is room for the end. Returns false if the batch is stopped before.
-fn close<R: Wait>(
+/// Sends the open block of each lane, as soon as there is room for it. Returns false if the batch is stopped
+/// before.
+fn flush<R: Wait, I: Stored>(
     rt: &R,
     signals: &Signals,
     number: usize,
-    feeder: &mut Feeder,
-    end: SourceEnd,
+    dealer: &mut Dealer<I>,
 ) -> bool
-    ensures lane { SameFeeder feeder.old feeder.new }
-    ensures fed { fed feeder.new ≡ fed feeder.old }
-    ensures end { feeder_end feeder.new ≡ (if result then first_end (feeder_end feeder.old) (Some end) else feeder_end feeder.old) }
+    ensures lane { SameDealer dealer.old dealer.new }
+    ensures end { dealer_end dealer.new ≡ dealer_end dealer.old }
+    ensures fed { dealt dealer.new ≡ dealt dealer.old }
+    ensures flushed { IsTrue result → AreFlushed dealer.new.feeders.items }
 {
     let mut backoff = Backoff::new();
     for _ in rt.forever() {
-        if feeder.close(end) {
+        if dealer.flush() {
             return true;
         }
         if signals.is_stopped() {
@@ -98,8 +86,33 @@ fn close<R: Wait>(
     unreachable!()
 }
 
-/// Wakes the worker if enough lines were fed since the last wake-up, or if some were and the source isn't
-/// ready. Returns the number of lines since the last wake-up, with the next line.
+/// Closes the dealer, as soon as there is room for the end. Returns false if the batch is stopped before.
+fn close<R: Wait, I: Stored>(
+    rt: &R,
+    signals: &Signals,
+    number: usize,
+    dealer: &mut Dealer<I>,
+    end: SourceEnd,
+) -> bool
+    ensures lane { SameDealer dealer.old dealer.new }
+    ensures fed { dealt dealer.new ≡ dealt dealer.old }
+    ensures end { dealer_end dealer.new ≡ first_end (dealer_end dealer.old) (Some end) }
+{
+    let mut backoff = Backoff::new();
+    for _ in rt.forever() {
+        if dealer.close(end) {
+            return true;
+        }
+        if signals.is_stopped() {
+            return false;
+        }
+        signals.wait_as_source(rt, number, &mut backoff);
+    }
+    unreachable!()
+}
+
+/// Wakes the workers of the source if enough items were fed since the last wake-up, or if some were and the
+/// source isn't ready. Returns the number of items since the last wake-up, with the next item.
 fn wake_if_due(signals: &Signals, number: usize, unannounced: usize, is_ready: bool) -> usize {
     if unannounced >= signals.lines_before_wake() || unannounced > 0 && !is_ready {
         signals.lines_fed(number);
@@ -109,24 +122,20 @@ fn wake_if_due(signals: &Signals, number: usize, unannounced: usize, is_ready: b
     }
 }
 
-/// Reads the lines of a source and feeds them, each before the next one is read. If the source isn't ready,
-/// the open block is sent before the next line is read, so that no line waits in the block for the source.
-/// Returns how the source ended, or `None` if the batch is stopped before or the feeder is closed.
-fn feed_lines<R: Wait, S: LineSource>(
+/// Reads the items of a source and deals them, each before the next one is read. If the source isn't ready,
+/// the open block of each lane is sent before the next item is read, so that no item waits in a block for the
+/// source. Returns how the source ended, or `None` if the batch is stopped before or the dealer is closed.
+fn feed_items<R: Wait, I: Stored, S: ItemSource<I>>(
     rt: &R,
     signals: &Signals,
     number: usize,
     source: &mut S,
-    feeder: &mut Feeder,
+    dealer: &mut Dealer<I>,
 ) -> Option<SourceEnd>
-    ensures lane { SameFeeder feeder.old feeder.new }
-    ensures open { feeder_end feeder.new ≡ feeder_end feeder.old }
-    ensures fed { fed feeder.old ≡ [] →
-        AreFed result (fed feeder.new) (S.to_come source.old) (S.to_come source.new) (S.failed source.new) }
-    ensures left { fed feeder.old ≡ [] → S.failed source.new ≡ None
-        → HasGiven (length (fed feeder.new)) (S.to_come source.old) (S.to_come source.new) }
-    ensures failed { fed feeder.old ≡ []
-        → StaysFailed (S.failed source.old) (fed feeder.new) (S.failed source.new) }
+    ensures lane { SameDealer dealer.old dealer.new }
+    ensures open { dealer_end dealer.new ≡ dealer_end dealer.old }
+    ensures fed { dealt dealer.old ≡ []
+        → IsFedFrom S.next_gives result (dealt dealer.new) source.old source.new }
     ensures origin { S.origin source.new ≡ S.origin source.old }
 {
     let mut unannounced = 0;
@@ -134,14 +143,14 @@ fn feed_lines<R: Wait, S: LineSource>(
         if signals.is_stopped() {
             return None;
         }
-        let is_ready = source.is_ready();
-        if !is_ready && !flush(rt, signals, number, feeder) {
+        let is_ready = source.has_item();
+        if !is_ready && !flush(rt, signals, number, dealer) {
             return None;
         }
         unannounced = wake_if_due(signals, number, unannounced, is_ready);
-        match source.next_line() {
-            Ok(Some(line)) => {
-                if !offer(rt, signals, number, feeder, line) {
+        match source.next_item() {
+            Ok(Some(item)) => {
+                if !offer(rt, signals, number, dealer, item) {
                     return None;
                 }
             }
@@ -152,25 +161,25 @@ fn feed_lines<R: Wait, S: LineSource>(
     unreachable!()
 }
 
-/// Does the work of a source's thread: passes the start barrier, feeds the lines of the source, and closes
-/// the feeder with the end of the source, unless the batch is stopped before.
-pub(crate) fn feed<R: Wait, S: LineSource, G: Gate>(
+/// Does the work of a source's thread: passes the start barrier, deals the items of the source, and closes
+/// the dealer with the end of the source, unless the batch is stopped before.
+pub(crate) fn feed<R: Wait, I: Stored, S: ItemSource<I>, G: Gate>(
     rt: &R,
     gate: &G,
     signals: &Signals,
     number: usize,
-    feeding: Feeding<S>,
-) -> Feeding<S>
-    ensures { HandsBack S.to_come S.failed S.origin feeding result }
+    feeding: Feeding<S, I>,
+) -> Feeding<S, I>
+    ensures { HandsBack S.next_gives S.origin feeding result }
 {
     gate.enter(Stage::Source, number);
     let Feeding {
         mut source,
-        mut feeder,
+        mut dealer,
     } = feeding;
-    if let Some(end) = feed_lines(rt, signals, number, &mut source, &mut feeder) {
-        let _ = close(rt, signals, number, &mut feeder, end);
+    if let Some(end) = feed_items(rt, signals, number, &mut source, &mut dealer) {
+        let _ = close(rt, signals, number, &mut dealer, end);
     }
     signals.lines_fed(number);
-    Feeding { source, feeder }
+    Feeding { source, dealer }
 }

@@ -57,6 +57,7 @@ where
     let options = OutputOptions {
         plan: layout.plan,
         version: layout.version,
+        whole_reads: layout.whole_reads,
         gate: &NoGate,
     };
     match delivery {

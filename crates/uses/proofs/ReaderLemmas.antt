@@ -15,7 +15,8 @@ use Rattle.line_lane.specs.Lane.{answers_of}
 use Rattle.line_lane.specs.declared.ending.LaneEnd.{LaneEnd}
 use Rattle.line_lane.specs.declared.fault.SourceFault.{SourceFault}
 use Rattle.set_run.specs.Events.{Answered, Ended, Event, LaneEvent, answers_among, answers_in, of_lane}
-use Rattle.set_run.specs.Reports.{AreAllAnswers, AreClosed, AreFirstAnswers, AreReported, HasNoOthers, IsReported}
+use Rattle.set_run.specs.Closed.{HasNoOthers}
+use Rattle.set_run.specs.Reports.{AreAllAnswers, AreClosed, AreFirstAnswers, AreReported, IsReported}
 use Rattle.set_run.specs.declared.report.LaneReport.{LaneReport}
 use Rattle.set_run.specs.declared.run_fault.RunFault.{RunFault}
 use Rattle.set_run.specs.declared.run_end.ClosedLane.{ClosedLane}
@@ -67,43 +68,43 @@ module _ {S : Type 0} where
 -- ---- the list of a collector
 
 -- an element put before both lists or before neither
-perhaps_first : (b : Bool) (x : LaneEvent) (ys xs tail : List LaneEvent) → ys ≡ xs ++ tail
+perhaps_first : (b : Bool) (x : LaneEvent AnswerValue) (ys xs tail : List (LaneEvent AnswerValue)) → ys ≡ xs ++ tail
     → (if b then x ∷ ys else ys) ≡ (if b then x ∷ xs else xs) ++ tail
 perhaps_first true x ys xs tail e = ap (λ l. x ∷ l) e
 perhaps_first false x ys xs tail e = e
 
 -- the events of the first lane, with one more event
-of_more : (events : List Event) (event : Event) → of_lane 0 (events ++ event ∷ []) ≡ of_lane 0 events ++ of_lane 0 (event ∷ [])
+of_more : (events : List (Event AnswerValue)) (event : Event AnswerValue) → of_lane 0 (events ++ event ∷ []) ≡ of_lane 0 events ++ of_lane 0 (event ∷ [])
 of_more [] event = refl
 of_more (e ∷ events) event =
     perhaps_first (e.0 == 0) e.1 (of_lane 0 (events ++ event ∷ [])) (of_lane 0 events) (of_lane 0 (event ∷ [])) (of_more events event)
 
 -- the results in two lists of events, one list after the other
-answers_append : (xs ys : List LaneEvent) → answers_among (xs ++ ys) ≡ answers_among xs ++ answers_among ys
+answers_append : (xs ys : List (LaneEvent AnswerValue)) → answers_among (xs ++ ys) ≡ answers_among xs ++ answers_among ys
 answers_append [] ys = refl
 answers_append (Answered a ∷ xs) ys = ap (λ l. a ∷ l) (answers_append xs ys)
 answers_append (Ended e ∷ xs) ys = answers_append xs ys
 
-told_more : (events : List Event) (event : Event) → told_in (events ++ event ∷ []) ≡ told_in events ++ told_in (event ∷ [])
+told_more : (events : List (Event AnswerValue)) (event : Event AnswerValue) → told_in (events ++ event ∷ []) ≡ told_in events ++ told_in (event ∷ [])
 told_more events event =
     ap (λ l. map (λ answer. told_of answer.outcome) (answers_among l)) (of_more events event)
     ∙ ap (λ l. map (λ answer. told_of answer.outcome) l) (answers_append (of_lane 0 events) (of_lane 0 (event ∷ [])))
     ∙ map-append (λ answer. told_of answer.outcome) (answers_in 0 events) (answers_in 0 (event ∷ []))
 
 -- the list with one more result of the only lane
-pub told_answer : (events : List Event) (lane : ℕ) (answer : AnswerValue) → lane < 1
+pub told_answer : (events : List (Event AnswerValue)) (lane : ℕ) (answer : AnswerValue) → lane < 1
     → told_in (events ++ (lane, Answered answer) ∷ []) ≡ told_in events ++ told_of answer.outcome ∷ []
 told_answer events zero answer below = told_more events (0, Answered answer)
 told_answer events (suc lane) answer below = absurd (omega arith)
 
 -- a collector's list after the width or refusal of that result was pushed
-pub told_pushed : (old new : List (Result ℤ LineRefusal)) (events : List Event) (lane : ℕ) (answer : AnswerValue) (told : Result ℤ LineRefusal)
+pub told_pushed : (old new : List (Result ℤ LineRefusal)) (events : List (Event AnswerValue)) (lane : ℕ) (answer : AnswerValue) (told : Result ℤ LineRefusal)
     → lane < 1 → old ≡ told_in events → told ≡ told_of answer.outcome → new ≡ old ++ told ∷ [] → new ≡ told_in (events ++ (lane, Answered answer) ∷ [])
 told_pushed old new events lane answer told below has is pushed =
     pushed ∙ ap (λ l. l ++ told ∷ []) has ∙ ap (λ t. told_in events ++ t ∷ []) is ∙ sym (told_answer events lane answer below)
 
 -- the list after the end of the only lane: unchanged
-pub told_end : (events : List Event) (lane : ℕ) (end : LaneEnd) → lane < 1 → told_in (events ++ (lane, Ended end) ∷ []) ≡ told_in events
+pub told_end : (events : List (Event AnswerValue)) (lane : ℕ) (end : LaneEnd) → lane < 1 → told_in (events ++ (lane, Ended end) ∷ []) ≡ told_in events
 told_end events zero end below = told_more events (0, Ended end) ∙ append-nil (told_in events)
 told_end events (suc lane) end below = absurd (omega arith)
 
@@ -115,7 +116,7 @@ told_of_answers terms (line ∷ lines) = ap (λ l. told_of (answer_of terms line
 -- the list of a collector has the widths and refusals of the lines of the reader
 module _ {S : Type 0} where
   pub told_lane : (to_come : S → Option (List (List ℕ))) (failed : S → Option SourceFault) (terms : TermsValue) (bytes : Option (List ℕ)) (source : S)
-      (shared : Arc TermsValue Global) (lane : ClosedLane S) (end : LaneEnd) (events : List Event) (told : List (Result ℤ LineRefusal))
+      (shared : Arc TermsValue Global) (lane : ClosedLane S) (end : LaneEnd) (events : List (Event AnswerValue)) (told : List (Result ℤ LineRefusal))
       → to_come source ≡ option_map lines_of bytes → arc_value shared ≡ terms → lane.end ≡ Some end → told ≡ told_in events
       → AreClosed to_come failed events 0 ((source, shared) ∷ []) (lane ∷ []) → IsToldOf terms bytes told end
   told_lane to_come failed terms None source shared lane end events told is has ended were are = tt
@@ -137,7 +138,7 @@ module _ {S : Type 0} where
       )
 
   -- one source has one lane
-  one_lane : (to_come : S → Option (List (List ℕ))) (failed : S → Option SourceFault) (events : List Event) (source : S × Arc TermsValue Global)
+  one_lane : (to_come : S → Option (List (List ℕ))) (failed : S → Option SourceFault) (events : List (Event AnswerValue)) (source : S × Arc TermsValue Global)
       (lanes rest : List (ClosedLane S)) (lane : ClosedLane S) → AreClosed to_come failed events 0 (source ∷ []) lanes → lanes ≡ rest ++ lane ∷ []
       → AreClosed to_come failed events 0 (source ∷ []) (lane ∷ [])
   one_lane to_come failed events source [] rest lane are is = elim are [ ]
@@ -152,7 +153,7 @@ module _ {S : Type 0} where
       → IfOk result (
       λ run.
       before ≡ told_in []
-      → (events : List Event) × (after ≡ told_in events) × AreClosed to_come failed events 0 sources run.lanes.items × HasNoOthers events (length sources)
+      → (events : List (Event AnswerValue)) × (after ≡ told_in events) × AreClosed to_come failed events 0 sources run.lanes.items × HasNoOthers events (length sources)
       )
       → result ≡ Ok run → before ≡ [] → sources ≡ (source, shared) ∷ [] → run.lanes.items ≡ rest ++ lane ∷ [] → lane.end ≡ Some end
       → to_come source ≡ option_map lines_of bytes → arc_value shared ≡ terms → IsToldOf terms bytes after end
@@ -164,3 +165,13 @@ module _ {S : Type 0} where
       (one_lane to_come failed here.0 (source, shared) run.lanes.items rest lane
       (subst (λ list. AreClosed to_come failed here.0 0 list run.lanes.items) these
       (subst (λ r. AreClosed to_come failed here.0 0 sources r.lanes.items) same here.2)) last)
+
+module _ {I O : Type 0} where
+  -- the only result of a lane that was fed one item
+  pub first_made : (makes now : I → O) (fed : List I) (taken : List O) (item : I) (result : O) → now ≡ makes → fed ≡ item ∷ []
+      → taken ≡ result ∷ [] → taken ≡ map now (take (length taken) fed) → result ≡ makes item
+  first_made makes now fed taken item result same one came all =
+      let made : result ∷ [] ≡ map now (take 1 (item ∷ [])) =
+      subst (λ f. result ∷ [] ≡ map now (take 1 f)) one (subst (λ t. t ≡ map now (take (length t) fed)) came all) in
+      let first : result ≡ now item = cc in
+      first ∙ ap (λ m. m item) same

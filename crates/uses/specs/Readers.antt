@@ -4,7 +4,7 @@ use Rattle.std.specs.Prelude.{◌≡◌, ℕ, ℤ, List, length, map, take, Opti
 use Rattle.std.specs.Option.{option_map}
 use Rattle.set_line.specs.Terms.{TermsValue}
 use Rattle.set_line.specs.Lines.{lines_of}
-use Rattle.set_line.specs.Answer.{outcome_of}
+use Rattle.set_line.specs.Answer.{AnswerValue, outcome_of}
 use Rattle.set_line.specs.declared.outcome.LineRefusal.{LineRefusal}
 use Rattle.line_lane.specs.Lane.{answers_of}
 use Rattle.line_lane.specs.declared.ending.LaneEnd.{LaneEnd}
@@ -23,7 +23,7 @@ module _ {S : Type 0} where
       × (report.end ≡ Complete → IfSome bytes (λ known. report.answers ≡ answers_of terms (lines_of known)))
 
 -- the width or the refusal of each result of the first lane, in order
-abbrev pub told_in : List Event → List (Result ℤ LineRefusal)
+abbrev pub told_in : List (Event AnswerValue) → List (Result ℤ LineRefusal)
 told_in events = map (λ answer. told_of answer.outcome) (answers_in 0 events)
 
 -- the width or the refusal of each of these lines, in order

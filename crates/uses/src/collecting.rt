@@ -26,6 +26,8 @@ impl Collector for ToldLines {
     ghost use Rattle.std.specs.Prelude.{◌≡◌, ⊤};
     ghost use Rattle.uses.specs.Readers.{told_in};
 
+    type Item = Answer;
+
     ghost lanes = { λ c. 1 };
 
     ghost given = { λ c events. c.told.items ≡ told_in events };

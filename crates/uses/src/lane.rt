@@ -13,7 +13,7 @@ use std::sync::Arc;
 /// one sends the result. Returns `OutOfMemory` if allocation fails.
 fn take_turns(setter: &mut Setter) -> Result<(), OutOfMemory>
     ensures lane { SameSetter setter.old setter.new }
-    ensures terms { (state_of setter.new).terms ≡ (state_of setter.old).terms }
+    ensures makes { (state_of setter.new).makes ≡ (state_of setter.old).makes }
 {
     setter.turn()?;
     setter.turn()?;
@@ -38,7 +38,7 @@ fn set_first(feeder: Feeder, setter: Setter, taker: Taker, line: Line) -> Option
     requires lane { IsLane feeder setter taker }
     requires fed { fed feeder ≡ [] }
     requires taken { taken taker ≡ [] }
-    ensures { IfSome result (λ answer. answer ≡ answer_of (state_of setter).terms line) }
+    ensures { IfSome result (λ answer. answer ≡ (state_of setter).makes line) }
 {
     let (mut feeder, mut setter, mut taker) = (feeder, setter, taker);
     let Ok(()) = feeder.offer(line) else {

@@ -1,8 +1,9 @@
 //! A caller that holds two lanes. Their ends go through lists, and what comes out of each lane is
 //! proved to be the answers of its own lines, by the contracts of the calls alone. If memory is
 //! refused, or there is too little room, it stops.
-ghost use Rattle.std.specs.Prelude.{◌≡◌, [], ◌∷◌, ◌++◌};
+ghost use Rattle.std.specs.Prelude.{◌≡◌, [], ◌∷◌, ◌++◌, map};
 ghost use Rattle.std.specs.Arc.{arc_value};
+ghost use Rattle.set_line.specs.Answer.{answer_of};
 ghost use Rattle.line_lane.specs.Lane.{answers_of};
 ghost use Rattle.line_lane.specs.Ends.{IsLane, SameFeeder, SameSetter, SameTaker, fed, state_of, taken};
 
@@ -29,7 +30,7 @@ fn feed_all<R: Abort>(rt: &R, feeder: &mut Feeder, lines: Vec<Line>)
 /// Takes this many turns.
 fn take_turns<R: Abort>(rt: &R, setter: &mut Setter, turns: u32)
     ensures lane { SameSetter setter.old setter.new }
-    ensures terms { (state_of setter.new).terms ≡ (state_of setter.old).terms }
+    ensures makes { (state_of setter.new).makes ≡ (state_of setter.old).makes }
 {
     for _ in 0..turns {
         let _ = setter.turn().expect(rt, "memory");
@@ -60,7 +61,7 @@ fn open_with<R: Abort>(
 ) -> (Feeder, Setter, Taker)
     ensures lane { IsLane result.0 result.1 result.2 }
     ensures fed { fed result.0 ≡ lines.items }
-    ensures terms { (state_of result.1).terms ≡ arc_value terms }
+    ensures makes { (state_of result.1).makes ≡ answer_of (arc_value terms) }
     ensures taken { taken result.2 ≡ [] }
 {
     let (capacity, block) = sizes(4, 2).expect(rt, "sizes in range");
@@ -80,7 +81,7 @@ fn finish<R: Abort>(
 ) -> Vec<Answer>
     requires lane { IsLane feeder setter taker }
     requires taken { taken taker ≡ [] }
-    ensures { result.items ≡ answers_of (state_of setter).terms (fed feeder) }
+    ensures { result.items ≡ map (state_of setter).makes (fed feeder) }
 {
     let (mut setter, mut taker) = (setter, taker);
     take_turns(rt, &mut setter, 100);

@@ -61,6 +61,8 @@ impl Refuses {
 impl Collector for Refuses {
     ghost use Rattle.std.specs.Prelude.{⊤};
 
+    type Item = Answer;
+
     ghost lanes = { λ c. 3 };
 
     ghost given = { λ c events. ⊤ };

@@ -89,6 +89,8 @@ struct CountingCollector<'a> {
 impl Collector for CountingCollector<'_> {
     ghost use Rattle.std.specs.Prelude.{⊤};
 
+    type Item = Answer;
+
     ghost lanes = { λ c. 64 };
 
     ghost given = { λ c events. ⊤ };

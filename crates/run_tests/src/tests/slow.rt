@@ -113,6 +113,8 @@ where
 {
     ghost use Rattle.std.specs.Prelude.{⊤};
 
+    type Item = Answer;
+
     ghost lanes = { λ c. 64 };
 
     ghost given = { λ c events. ⊤ };

@@ -1,6 +1,6 @@
 //! A run whose collector refuses something returns, wherever its threads are then.
 use super::slow::{LateGate, SlowCollector, sources};
-use set_run::{BatchOptions, Refusal, run_into};
+use set_run::{ItemOptions, Refusal, run_items};
 use std::process::Abort;
 use std::sync::Wait;
 use std::test::Fail;
@@ -84,19 +84,21 @@ static CASES: [Case; 8] = [
     },
 ];
 
-/// Rings and messages, sources, workers.
-static PLANS: [((usize, usize), usize, usize); 4] = [
-    ((1, 1), 1, 1),
-    ((1, 1), 3, 2),
-    ((2, 8), 2, 1),
-    ((16, 1), 2, 2),
+/// Rings and messages; sources, workers, and lanes of a source.
+static PLANS: [((usize, usize), (usize, usize, usize)); 6] = [
+    ((1, 1), (1, 1, 1)),
+    ((1, 1), (3, 2, 1)),
+    ((2, 8), (2, 1, 1)),
+    ((16, 1), (2, 2, 1)),
+    ((1, 1), (1, 3, 3)),
+    ((2, 1), (2, 2, 2)),
 ];
 
 /// A run of this plan is stopped so, and returns.
 fn returns<R: Threads + Wait + Clock + Abort + AllocGlobal + Sync>(
     rt: &R,
     case: Case,
-    (size, count, workers): ((usize, usize), usize, usize),
+    (size, (count, workers, lanes)): ((usize, usize), (usize, usize, usize)),
 ) -> Result<(), Fail> {
     let plan = plan(size.0, size.1, workers)?;
     let sources = sources(rt, rt.alloc(), count, (case.lines, case.pause)).ok_or("out of memory")?;
@@ -115,8 +117,12 @@ fn returns<R: Threads + Wait + Clock + Abort + AllocGlobal + Sync>(
         rt,
         pause: case.late,
     };
-    let options = BatchOptions { plan, gate: &late };
-    let (collector, ended) = run_into(rt, rt.alloc(), sources, options, collector);
+    let options = ItemOptions {
+        plan,
+        gate: &late,
+        lanes,
+    };
+    let (collector, ended) = run_items(rt, rt.alloc(), sources, options, collector);
     let run = ended?;
     let name = case.name;
     assert_eq!(rt; run.refusal, Some(Refusal::Output), "{name}");

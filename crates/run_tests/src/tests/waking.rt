@@ -1,6 +1,6 @@
 //! Runs over small rings, whose threads often sleep: each is woken.
 use super::slow::{LateGate, SlowCollector, sources};
-use set_run::{BatchOptions, run_into};
+use set_run::{ItemOptions, run_items};
 use std::process::Abort;
 use std::sync::Wait;
 use std::test::Fail;
@@ -23,14 +23,21 @@ static PAUSES: [(&str, u64, u64, u64); 5] = [
     ("the collector at first", 0, 0, 20_000),
 ];
 
-/// Rings and messages, and workers.
-static PLANS: [((usize, usize), usize); 4] = [((1, 1), 1), ((1, 1), 3), ((2, 1), 2), ((1, 8), 1)];
+/// Rings and messages, workers, and lanes of a source.
+static PLANS: [((usize, usize), usize, usize); 6] = [
+    ((1, 1), 1, 1),
+    ((1, 1), 3, 1),
+    ((2, 1), 2, 1),
+    ((1, 8), 1, 1),
+    ((1, 1), 3, 3),
+    ((2, 1), 2, 2),
+];
 
 /// A run of this plan comes to its end while somebody takes his time.
 fn ends<R: Threads + Wait + Clock + Abort + AllocGlobal + Sync>(
     rt: &R,
     (who, before_line, before_answer, late): (&str, u64, u64, u64),
-    (size, workers): ((usize, usize), usize),
+    (size, workers, lanes): ((usize, usize), usize, usize),
 ) -> Result<(), Fail> {
     let plan = plan(size.0, size.1, workers)?;
     let sources = sources(rt, rt.alloc(), SOURCES as usize, (LINES, before_line)).ok_or(
@@ -48,8 +55,12 @@ fn ends<R: Threads + Wait + Clock + Abort + AllocGlobal + Sync>(
         wrong: false,
     };
     let late = LateGate { rt, pause: late };
-    let options = BatchOptions { plan, gate: &late };
-    let (collector, ended) = run_into(rt, rt.alloc(), sources, options, collector);
+    let options = ItemOptions {
+        plan,
+        gate: &late,
+        lanes,
+    };
+    let (collector, ended) = run_items(rt, rt.alloc(), sources, options, collector);
     let run = ended?;
     assert_eq!(rt; run.refusal, None, "{who}");
     assert_eq!(rt; collector.answers, SOURCES * LINES, "{who}");

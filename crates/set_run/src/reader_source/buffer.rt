@@ -1,8 +1,9 @@
-ghost use Rattle.std.specs.Prelude.{◌≡◌, ◌==◌, ◌++◌, [], OnOk, IfOk};
+ghost use Rattle.std.specs.Prelude.{◌≡◌, ◌==◌, ◌+◌, ◌<◌, ◌≤◌, ◌^◌, [], OnOk, IfOk};
 ghost use Rattle.std.specs.List.{position};
 ghost use Rattle.std.specs.Io.KnownBytes.{Consumes, IsAtEnd};
-ghost use Rattle.set_run.specs.Reading.{MovesLine};
+ghost use Rattle.set_run.specs.Reading.{MovesKept};
 
+use crate::reader_source::kept_line::KeptLine;
 use line_lane::SourceFault;
 use memchr::memchr;
 use std::alloc::Global;
@@ -28,7 +29,7 @@ impl Model for Buffer {
     ghost view = { λ buffer. drop buffer.start (take buffer.end buffer.space.items) };
 
     ghost invariant = { λ buffer. (buffer.start ≤ buffer.end)
-        × (buffer.end ≤ length buffer.space.items) };
+        × (buffer.end ≤ length buffer.space.items) × (length buffer.space.items ≤ 4096) };
 }
 
 impl Buffer {
@@ -80,19 +81,21 @@ impl Buffer {
     /// Moves bytes of the buffer to the end of `line`: those before the first line feed, which is dropped, or
     /// all of them if there is no line feed. Returns whether there was one. The error means that an
     /// allocation failed.
-    pub(crate) fn move_line(&mut self, line: &mut Vec<u8>) -> Result<bool, SourceFault>
-        ensures { IfOk result (λ ended.
-            MovesLine self.old line.old.items ended line.new.items self.new) }
+    pub(crate) fn move_line(&mut self, line: &mut KeptLine) -> Result<bool, SourceFault>
+        requires room { line.old.count + 4096 < 2 ^ 64 }
+        ensures moved { IfOk result (λ ended.
+            MovesKept self.old line.old ended line.new self.new) }
+        ensures count { line.new.count ≤ line.old.count + 4096 }
     {
         let bytes = &self.space[self.start..self.end];
         match first_feed(bytes) {
             Some(at) => {
-                append(line, &bytes[..at])?;
+                line.push(&bytes[..at])?;
                 self.start += at + 1;
                 Ok(true)
             }
             None => {
-                append(line, bytes)?;
+                line.push(bytes)?;
                 self.start = self.end;
                 Ok(false)
             }
@@ -105,11 +108,4 @@ fn first_feed(bytes: &[u8]) -> Option<usize>
     ensures { result ≡ position (λ byte. byte == 10) bytes.now }
 {
     memchr(b'\n', bytes)
-}
-
-fn append(line: &mut Vec<u8>, bytes: &[u8]) -> Result<(), SourceFault>
-    ensures { OnOk result (line.new.items ≡ line.old.items ++ bytes.now) }
-{
-    line.extend_from_slice(bytes)
-        .map_err(|_| SourceFault::OutOfMemory)
 }

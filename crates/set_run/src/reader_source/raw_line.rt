@@ -3,6 +3,7 @@ ghost use Rattle.std.specs.Io.KnownBytes.{prepend_known};
 ghost use Rattle.set_run.specs.Reading.{TakesRawLine};
 
 use crate::reader_source::buffer::Buffer;
+use crate::reader_source::kept_line::KeptLine;
 use line_lane::SourceFault;
 use std::alloc::Global;
 use std::io::Read;
@@ -14,23 +15,24 @@ const MAX_READS: u32 = 1_048_576;
 #[derive(Drop)]
 pub(crate) enum RawLine {
     /// These bytes were followed by a line feed.
-    Ended(Vec<u8>),
+    Ended(KeptLine),
     /// These bytes were followed by the end of the reader.
-    Last(Vec<u8>),
+    Last(KeptLine),
 }
 
-/// Returns the next raw line, from the bytes in the buffer and those that are read. The error is
-/// `OutOfMemory` if an allocation failed, `Read` if a read failed, and `ReadBound` if 1,048,576 reads contain
-/// neither a line feed nor the end.
+/// Returns the next raw line, from the bytes in the buffer and those that are read. At most `most` of its
+/// bytes are kept: of a longer line only the length. The error is `OutOfMemory` if an allocation failed,
+/// `Read` if a read failed, and `ReadBound` if 1,048,576 reads contain neither a line feed nor the end.
 pub(crate) fn next_raw_line<R: Read>(
     alloc: Global,
     reader: &mut R,
     buffer: &mut Buffer,
+    most: usize,
 ) -> Result<RawLine, SourceFault>
-    ensures { IfOk result (λ raw_line. TakesRawLine (prepend_known buffer.old (R.remaining reader.old)) raw_line
-        (prepend_known buffer.new (R.remaining reader.new))) }
+    ensures { IfOk result (λ raw_line. TakesRawLine most (prepend_known buffer.old (R.remaining reader.old))
+        raw_line (prepend_known buffer.new (R.remaining reader.new))) }
 {
-    let mut line = Vec::new(alloc);
+    let mut line = KeptLine::new(alloc, most);
     if buffer.move_line(&mut line)? {
         return Ok(RawLine::Ended(line));
     }

@@ -116,6 +116,7 @@ fn stream_two<R: Abort + Threads + Wait + Sync + AllocGlobal>(
     let options = OutputOptions {
         plan: small_plan().expect(rt, "a plan"),
         version: Version::One,
+        whole_reads: false,
         gate: &NoGate,
     };
     stream_text(rt, &font, two_sources(rt.alloc(), 5)?, &options, out)

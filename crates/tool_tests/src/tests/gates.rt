@@ -6,7 +6,8 @@ use std::test::Fail;
 use test_support::{CountingGate, plan};
 use tfm_tool::{FontSetting, OutputOptions, Summary, ToolFault, set_text, stream_text};
 
-/// The threads that enter the gate for three sources of a line each, with this many workers at most.
+/// The threads that enter the gate for three sources of a line each, with this many workers. Each of the
+/// numbers has a hexadecimal digit for each thread, which counts how often the thread entered.
 fn threads_of<R>(rt: &R, workers: usize, streams: bool) -> Result<(u64, u64, u64), Fail>
 where
     R: Abort + Threads + Wait + Sync + AllocGlobal,
@@ -26,6 +27,7 @@ where
     let options = OutputOptions {
         plan: plan(1, 1, workers)?,
         version: Version::One,
+        whole_reads: false,
         gate: &gate,
     };
     let mut out = Vec::new(alloc);
@@ -41,7 +43,7 @@ where
 #[test]
 fn texts_of_runs_keep_to_the_plan_and_the_gate(rt: HostRuntime) -> Result<(), Fail> {
     for streams in [false, true] {
-        for (workers, setters) in [(1, 0x1), (2, 0x11), (3, 0x111), (16, 0x111)] {
+        for (workers, setters) in [(1, 0x1), (2, 0x11), (3, 0x111), (16, u64::MAX / 15)] {
             let entries = threads_of(&rt, workers, streams)?;
             assert_eq!(rt; entries, (0x111, setters, 0x1), "{workers}");
         }

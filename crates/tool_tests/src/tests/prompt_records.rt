@@ -99,6 +99,7 @@ fn each_record_is_written_before_the_next_line_is_there(rt: HostRuntime) -> Resu
     let options = OutputOptions {
         plan: plan(16, 1, 2)?,
         version: Version::One,
+        whole_reads: true,
         gate: &NoGate,
     };
     let none = Summary {

@@ -72,6 +72,7 @@ where
     let options = OutputOptions {
         plan,
         version: Version::Two,
+        whole_reads: false,
         gate: &NoGate,
     };
     set_each(rt, rt.alloc(), sources, &options, out)

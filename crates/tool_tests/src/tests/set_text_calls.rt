@@ -61,6 +61,7 @@ where
     let options = OutputOptions {
         plan: small_plan().expect(rt, "a plan"),
         version,
+        whole_reads: false,
         gate: &NoGate,
     };
     set_text(rt, &font, sources, &options, out)

@@ -42,6 +42,7 @@ where
     let options = OutputOptions {
         plan,
         version,
+        whole_reads: true,
         gate: &NoGate,
     };
     stream_text(rt, &font, sources, &options, out)

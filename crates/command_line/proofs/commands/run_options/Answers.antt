@@ -9,8 +9,7 @@ returns c =
     let form = c.record_option.ensures in
     let workers : IsArgument (with_default (codes "2") (number_rule (codes "workers") 16)) c.default_value-workers.result = search rules in
     let capacity : IsArgument (with_default (codes "16") (number_rule (codes "capacity") 65536)) c.default_value-capacity.result = search rules in
-    let block : IsArgument (with_default c.args.lines.now (number_rule (codes "block") 8)) c.default_value-block.result = search rules in
-    IfOk-weaker c.with_argument-7.result _ _ (λ made more app is.
+    IfOk-weaker c.with_argument-7.result _ _ (λ made more app rule is block.
     let with_missing = c.in_ok-command.ensures _ _ is missing.2 in
     let with_crlf = c.in_ok-command-2.ensures _ _ with_missing c.flag_option.ensures in
     let with_workers = c.in_ok-command-3.ensures _ _ with_crlf workers in

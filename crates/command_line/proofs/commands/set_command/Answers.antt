@@ -1,11 +1,12 @@
 use Rattle.std.proofs.Common.{rules, codes}
 use Rattle.std.proofs.lemmas.Result.{IfOk-weaker}
-use Rattle.command_line.specs.Commands.{IsArgument, needed, words_rule}
+use Rattle.command_line.specs.Commands.{IsArgument, block_rule, needed, with_default, words_rule}
 use Rattle.command_line.proofs.CommandLemmas.{as_subcommand}
 use Rattle.command_line.proofs.commands.set_command.Goals as goal
 
 pub returns : goal.returns
 returns c =
-    let with_options = c.in_ok-command.ensures _ c.subcommand-command.ensures in
+    let block : IsArgument (with_default (codes "1") block_rule) c.default_value-block.result = search rules in
+    let with_options = c.in_ok-command.ensures _ _ c.subcommand-command.ensures block in
     let files : IsArgument (needed (words_rule (codes "FILE"))) c.required.result = search rules in
     IfOk-weaker c.with_argument.result _ _ (λ made more. (with_options.0, as_subcommand _ made (more _ _ with_options.1 files))) c.with_argument.ensures

@@ -32,8 +32,10 @@ returns-in-Ok-clause-write g c = λ is.
     let came = collected (begins _ c.args.options.now.version c.in_ok-counts.counts.items before c.in_ok-block.block.items c.in_ok-counts.ensures.none c.in_ok-block.ensures.head) in
     let last = c.out-1.given.1 (sym (same_name g.S.LineSource.to_come g.S.LineSource.failed c.args.sources.items c.in-Ok.run'.lanes.items start
     s.out.ghost_name s.version s.counts.items (g.W.Write.contents s.out.now) before s.block.items [] came)) in
+    let long : length c.in_ok-counts.counts.items ≡ length c.args.sources.items =
+    omega (arith, c.in_ok-counts.ensures.lanes, c.len-2.ensures, c.args.sources.ok.0) in
     rw last (ends_short g.S.LineSource.to_come g.S.LineSource.failed c.args.sources.items c.in-Ok.run'.lanes.items start
-    s.out.ghost_name s.version s.counts.items (g.W.Write.contents s.out.now) (g.W.Write.contents c.finish.new.out) s.block.items c.finish.new.block.items came c.finish.ensures.moves)
+    s.out.ghost_name s.version s.counts.items (g.W.Write.contents s.out.now) (g.W.Write.contents c.finish.new.out) s.block.items c.finish.new.block.items came long c.finish.ensures.moves)
 
 pub returns-in-Ok-clause-memory : goal.returns-in-Ok-clause-memory
 returns-in-Ok-clause-memory g c = λ is.
@@ -44,5 +46,7 @@ returns-in-Ok-clause-memory g c = λ is.
     let came = collected (begins _ c.args.options.now.version c.in_ok-counts.counts.items before c.in_ok-block.block.items c.in_ok-counts.ensures.none c.in_ok-block.ensures.head) in
     let last = c.out-1.given.1 (sym (same_name g.S.LineSource.to_come g.S.LineSource.failed c.args.sources.items c.in-Ok.run'.lanes.items start
     s.out.ghost_name s.version s.counts.items (g.W.Write.contents s.out.now) before s.block.items [] came)) in
+    let long : length c.in_ok-counts.counts.items ≡ length c.args.sources.items =
+    omega (arith, c.in_ok-counts.ensures.lanes, c.len-2.ensures, c.args.sources.ok.0) in
     rw last (ends_at_line g.S.LineSource.to_come g.S.LineSource.failed c.args.sources.items c.in-Ok.run'.lanes.items start
-    s.out.ghost_name s.version s.counts.items (g.W.Write.contents s.out.now) (g.W.Write.contents c.finish.new.out) s.block.items c.finish.new.block.items came c.finish.ensures.moves (c.finish.ensures.memory is))
+    s.out.ghost_name s.version s.counts.items (g.W.Write.contents s.out.now) (g.W.Write.contents c.finish.new.out) s.block.items c.finish.new.block.items came long c.finish.ensures.moves (c.finish.ensures.memory is))

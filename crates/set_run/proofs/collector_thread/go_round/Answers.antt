@@ -16,8 +16,8 @@ loop-lane-init g c = record {
 
 pub returns-in_err-took-clause-same : goal.returns-in_err-took-clause-same
 returns-in_err-took-clause-same g c =
-    zip_change SameLane lane_trans c.args.lanes.now.items c.loop-lane.lanes.items c.loop-lane.lane c.index_mut.result.now c.take_some.new.self
-    c.index_mut.ensures.value (search rules) c.loop-lane.invariant.same c.take_some.ensures.same
+    zip_change SameLane lane_trans c.args.lanes.now.items c.loop-lane.lanes.items c.loop-lane.lane c.index_mut.result.now c.visit.new.self
+    c.index_mut.ensures.value (search rules) c.loop-lane.invariant.same c.visit.ensures.same
 
 pub returns-in_err-took-clause-told : goal.returns-in_err-took-clause-told
 returns-in_err-took-clause-told g c =
@@ -26,12 +26,12 @@ returns-in_err-took-clause-told g c =
     let below : c.loop-lane.lane < length ts = search rules in
     let here : c.loop-lane.lane < length now = omega (arith, long, below) in
     let failed : false ≡ is_ok c.from_residual.result = search rules in
-    subst (λ ok. TellsLanes g.C.Collector.given ts c.args.collector.now ok (slice_set now c.loop-lane.lane c.take_some.new.self) c.take_some.new.collector)
+    subst (λ ok. TellsLanes g.C.Collector.given ts c.args.collector.now ok (slice_set now c.loop-lane.lane c.visit.new.self) c.visit.new.collector)
     failed
-    (tells_all_then g.C.Collector.given ts now (slice_set now c.loop-lane.lane c.take_some.new.self) c.args.collector.now c.loop-lane.collector
-    c.take_some.new.collector false (sym long) c.loop-lane.invariant.told
-    (tells_one g.C.Collector.given now c.loop-lane.lane c.index_mut.result.now c.take_some.new.self c.loop-lane.collector
-    c.take_some.new.collector false here c.index_mut.ensures.value c.in_err-took.ensures.told))
+    (tells_all_then g.C.Collector.given ts now (slice_set now c.loop-lane.lane c.visit.new.self) c.args.collector.now c.loop-lane.collector
+    c.visit.new.collector false (sym long) c.loop-lane.invariant.told
+    (tells_one g.C.Collector.given now c.loop-lane.lane c.index_mut.result.now c.visit.new.self c.loop-lane.collector
+    c.visit.new.collector false here c.index_mut.ensures.value c.in_err-took.ensures.told))
 
 pub loop-lane-preserved : goal.loop-lane-preserved
 loop-lane-preserved g c =
@@ -40,12 +40,12 @@ loop-lane-preserved g c =
     let below : c.loop-lane.lane < length ts = search rules in
     let here : c.loop-lane.lane < length now = omega (arith, long, below) in
     record {
-      same = zip_change SameLane lane_trans ts now c.loop-lane.lane c.index_mut.result.now c.take_some.new.self c.index_mut.ensures.value below
-          c.loop-lane.invariant.same c.take_some.ensures.same;
-      lanes = c.take_some.ensures.lanes ∙ c.loop-lane.invariant.lanes;
-      told = tells_all_then g.C.Collector.given ts now (slice_set now c.loop-lane.lane c.take_some.new.self) c.args.collector.now c.loop-lane.collector
-          c.take_some.new.collector true (sym long) c.loop-lane.invariant.told
-          (tells_one g.C.Collector.given now c.loop-lane.lane c.index_mut.result.now c.take_some.new.self
-          c.loop-lane.collector c.take_some.new.collector true here c.index_mut.ensures.value c.in_ok-took.ensures.told);
+      same = zip_change SameLane lane_trans ts now c.loop-lane.lane c.index_mut.result.now c.visit.new.self c.index_mut.ensures.value below
+          c.loop-lane.invariant.same c.visit.ensures.same;
+      lanes = c.visit.ensures.lanes ∙ c.loop-lane.invariant.lanes;
+      told = tells_all_then g.C.Collector.given ts now (slice_set now c.loop-lane.lane c.visit.new.self) c.args.collector.now c.loop-lane.collector
+          c.visit.new.collector true (sym long) c.loop-lane.invariant.told
+          (tells_one g.C.Collector.given now c.loop-lane.lane c.index_mut.result.now c.visit.new.self
+          c.loop-lane.collector c.visit.new.collector true here c.index_mut.ensures.value c.in_ok-took.ensures.told);
       willing = c.in_ok-took.ensures.refused;
     }

@@ -3,4 +3,4 @@ use Rattle.std.specs.Prelude.{◌≡◌, vec_len}
 use Rattle.set_run.proofs.running_into.empty_workers.Given as goal
 
 abbrev pub invariant-loop-made : goal.invariant-loop-made
-invariant-loop-made l = vec_len l.workers ≡ l.made
+invariant-loop-made g l = vec_len l.workers ≡ l.made

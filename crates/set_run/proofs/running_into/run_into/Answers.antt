@@ -1,13 +1,10 @@
-use Rattle.std.proofs.Common.{arith, ◌≡◌, ◌+◌, [], length, ap, sym, subst}
-use Rattle.std.specs.Prelude.{All}
-use Rattle.set_run.specs.Collecting.{IsFreshTaker}
-use Rattle.set_run.specs.Reports.{HasNoOthers}
+use Rattle.std.proofs.lemmas.Result.{IfOk-weaker}
+use Rattle.set_run.proofs.ClosedLines.{closed_lines}
 use Rattle.set_run.proofs.running_into.run_into.Goals as goal
 
-pub returns-in-Ok-run_threads-clause-collected : goal.returns-in-Ok-run_threads-clause-collected
-returns-in-Ok-run_threads-clause-collected g c = λ has.
-    let takers = c.in-Ok.lanes.takers.items in let none : takers ≡ [] = c.in-Ok.ensures.takers in
-    let (events, has', all, are, others) =
-    c.in-Ok-run_threads.ensures.gathered.told has (subst (All IsFreshTaker) (sym none) (λ k d below. absurd (omega (arith, below))))
-    in let only : length c.args.sources.items + length takers ≡ length c.args.sources.items = omega (arith, ap length none) in
-    (events, has', are, subst (λ n. HasNoOthers events n) only others)
+pub returns-clause-collected : goal.returns-clause-collected
+returns-clause-collected g c =
+    IfOk-weaker c.run_items.result.1 _ _ (λ run collected has.
+    let (events, has', are, others) = collected has in
+    (events, has', closed_lines g.S.LineSource.to_come g.S.LineSource.failed events 0 c.args.sources.items run.lanes.items are, others))
+    c.run_items.ensures.collected

@@ -1,4 +1,4 @@
-use Rattle.std.proofs.Common.{rules, arith, ◌≡◌, ◌+◌, ◌≤◌, [], ◌∷◌, ◌++◌, length, refl, subst, sym, vec_len, vec_capacity}
+use Rattle.std.proofs.Common.{arith, ap, ◌∙◌, ◌≡◌, ◌+◌, ◌≤◌, [], ◌∷◌, ◌++◌, length, refl, subst, sym, vec_len, vec_capacity}
 use Rattle.std.specs.List.{AllZip}
 use Rattle.std.proofs.lemmas.Result.{IfOk-weaker}
 use Rattle.set_run.specs.Gathering.{Collects}
@@ -57,8 +57,11 @@ come_back-requires g t c =
 
 pub returns-clause-workers : goal.returns-clause-workers
 returns-clause-workers g t c =
-    let was : c.args.workers.items ≡ c.reserve.new.self.items ++ c.in-Some.worker ∷ [] = search rules in
-    let kept : AllZip IsWorked c.in-Some.worker c.join-worker.result = search rules in
+    let was : c.args.workers.items ≡ c.reserve.new.self.items ++ c.in-Some.worker ∷ [] =
+    c.in-Some.ensures.items ∙ ap (λ xs. xs ++ c.in-Some.worker ∷ []) (sym c.reserve.ensures.items) in
+    let from : c.in-Ok.child.promise.0.value ≡ c.in-Some.worker = ap (λ p. p.0.value) c.in-Ok.ensures.ok ∙ c.of.ensures in
+    let kept : AllZip IsWorked c.in-Some.worker c.join-worker.result =
+    subst (λ w. AllZip IsWorked w c.join-worker.result) from c.join-worker.ensures in
     after_below c.start_workers-below.result c.come_back.result (λ b. AllZip (AllZip IsWorked) c.reserve.new.self.items b.0.items) (λ b a. a.0.items ≡ b.0.items ++ c.join-worker.result ∷ []) _ c.start_workers-below.ensures.workers c.come_back.ensures.items (λ b a same is.
     subst (λ xs. AllZip (AllZip IsWorked) xs a.0.items) (sym was)
     (subst (λ ys. AllZip (AllZip IsWorked) (c.reserve.new.self.items ++ c.in-Some.worker ∷ []) ys) (sym is)
@@ -74,3 +77,8 @@ returns-clause-begun g t c = λ none. no_more (vec_len c.pop.new.self) (vec_len 
 
 pub returns-clause-not_started : goal.returns-clause-not_started
 returns-clause-not_started g t c = err_below c.start_workers-below.result c.come_back.result (λ u. u.collector ≡ c.args.collector) c.start_workers-below.ensures.not_started c.come_back.ensures.not_started
+
+pub returns-clause-room : goal.returns-clause-room
+returns-clause-room g t c =
+    after_below c.start_workers-below.result c.come_back.result _ _ _ c.start_workers-below.ensures.room c.come_back.ensures.room
+    (λ b a had more. omega (arith, c.in-Some.ensures.capacity, c.reserve.ensures.capacity, had, more))

@@ -6,7 +6,7 @@ use Rattle.set_run.proofs.WorkerLemmas.{took_back}
 use Rattle.set_run.proofs.worker.take_back.Goals as goal
 
 pub returns : goal.returns
-returns c =
+returns g c =
     let workers = c.args.workers.now.items in let at : ℕ = c.args.number % c.len.result in let long : c.len.result ≡ length workers = search rules in
     let below : at < length workers = subst (λ n. at < n) long (mod_below c.args.number c.len.result (search rules)) in
     subst (λ n. MatchOption c.pop.result (get_or workers (c.args.number % n) [] ≡ []) (λ s. HasOneMore (c.args.number % n) s (set workers at c.pop.new.self) workers))

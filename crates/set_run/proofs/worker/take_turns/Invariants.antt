@@ -3,4 +3,4 @@ use Rattle.set_run.specs.Workers.{IsWorked}
 use Rattle.set_run.proofs.worker.take_turns.Given as goal
 
 abbrev pub invariant-loop-moves : goal.invariant-loop-moves
-invariant-loop-moves l = IsWorked l.initial.setter l.setter
+invariant-loop-moves g l = IsWorked l.initial.setter l.setter

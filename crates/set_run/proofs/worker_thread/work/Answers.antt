@@ -7,12 +7,12 @@ pub loop-init : goal.loop-init
 loop-init g c = (tt, tt, zip_refl IsWorked setter_refl c.args.worker)
 
 pub returns-in-Done : goal.returns-in-Done
-returns-in-Done g c = zip_trans IsWorked setter_trans c.args.worker c.loop.worker c.go_round.new.self c.loop.invariant.2 c.go_round.ensures
+returns-in-Done g c = zip_trans IsWorked setter_trans c.args.worker c.loop.worker c.go_round.new.worker c.loop.invariant.2 c.go_round.ensures
 
 pub loop-preserved-in-Made : goal.loop-preserved-in-Made
 loop-preserved-in-Made g c =
-    (tt, tt, zip_trans IsWorked setter_trans c.args.worker c.loop.worker c.go_round.new.self c.loop.invariant.2 c.go_round.ensures)
+    (tt, tt, zip_trans IsWorked setter_trans c.args.worker c.loop.worker c.go_round.new.worker c.loop.invariant.2 c.go_round.ensures)
 
 pub loop-preserved : goal.loop-preserved
 loop-preserved g c =
-    (tt, tt, zip_trans IsWorked setter_trans c.args.worker c.loop.worker c.go_round.new.self c.loop.invariant.2 c.go_round.ensures)
+    (tt, tt, zip_trans IsWorked setter_trans c.args.worker c.loop.worker c.go_round.new.worker c.loop.invariant.2 c.go_round.ensures)

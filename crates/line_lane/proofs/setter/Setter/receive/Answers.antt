@@ -1,12 +1,15 @@
-use Rattle.std.proofs.Common.{refl, subst, sym, ap, ◌∙◌}
+use Rattle.std.proofs.Common.{arith, length, refl, subst, sym, ap, ◌∙◌}
+use Rattle.std.specs.Prelude.{not}
 use Rattle.line_lane.specs.Rings.{end_sent, items_received, end_received, messages_received}
 use Rattle.line_lane.specs.Turns.{IsOrderly}
 use Rattle.line_lane.specs.Ends.{state_of}
+use Rattle.line_lane.specs.Known.{HasNoneIf, answer_places, messages}
+use Rattle.line_lane.proofs.KnownLemmas.{none_if_same}
 use Rattle.line_lane.proofs.TurnLemmas.{message_filled, message_in_hand, message_state, before_end-unmade, undone-before_end, orderly_receipt, receipt-message, receipt-dropping, moves_on, moves_receiving}
 use Rattle.line_lane.proofs.setter.Setter.receive.Goals as goal
 
 pub invariant_of-self-else-given_up-clause-in_hand : goal.invariant_of-self-else-given_up-clause-in_hand
-invariant_of-self-else-given_up-clause-in_hand c =
+invariant_of-self-else-given_up-clause-in_hand g c =
     let old = c.args.self.now in
     let source = undone-before_end (state_of old) c.requires.lines c.requires.ready c.requires.done old.orderly in
     let going = sym c.has_given_up-given_up.ensures ∙ c.if-given_up.false in
@@ -15,7 +18,7 @@ invariant_of-self-else-given_up-clause-in_hand c =
     c.finish-self.ensures.ready c.finish-self.ensures.ending (before_end-unmade (state_of old) c.requires.lines source going old.orderly)
 
 pub invariant_of-self-else-given_up-clause-orderly : goal.invariant_of-self-else-given_up-clause-orderly
-invariant_of-self-else-given_up-clause-orderly c =
+invariant_of-self-else-given_up-clause-orderly g c =
     let old = c.args.self.now in
     let m = c.receive.new.self.hand in
     let source = undone-before_end (state_of old) c.requires.lines c.requires.ready c.requires.done old.orderly in
@@ -29,7 +32,7 @@ invariant_of-self-else-given_up-clause-orderly c =
     (orderly_receipt (state_of old) m c.requires.lines c.requires.ready old.orderly)
 
 pub returns-then-given_up-clause-turn : goal.returns-then-given_up-clause-turn
-returns-then-given_up-clause-turn c =
+returns-then-given_up-clause-turn g c =
     let old = c.args.self.now in
     let m = c.receive.new.self.hand in
     let source = undone-before_end (state_of old) c.requires.lines c.requires.ready c.requires.done old.orderly in
@@ -44,6 +47,70 @@ returns-then-given_up-clause-turn c =
     )
 
 pub invariant_of-self-else-given_up-clause-filled : goal.invariant_of-self-else-given_up-clause-filled
-invariant_of-self-else-given_up-clause-filled c =
+invariant_of-self-else-given_up-clause-filled g c =
     message_filled c.receive.new.self.hand c.args.self.now.sender.hand.ending c.finish-self.new.answers c.finish-self.result
     (c.receive.ensures.filled c.if-not-receive.false) c.finish-self.ensures.ready c.finish-self.ensures.ending
+
+pub receive-requires : goal.receive-requires
+receive-requires g c =
+    let old = c.args.self.now in
+    undone-before_end (state_of old) c.requires.lines c.requires.ready c.requires.done old.orderly
+
+pub invariant_of-self : goal.invariant_of-self
+invariant_of-self g c =
+    let old = c.args.self.now in
+    let nothing = c.receive.ensures.nothing c.if-not-receive.true in
+    record { in_hand = rw nothing.1 old.in_hand; orderly = rw (nothing.0, nothing.1) old.orderly; filled = old.filled }
+
+pub returns-then-not-receive-clause-turn : goal.returns-then-not-receive-clause-turn
+returns-then-not-receive-clause-turn g c =
+    let old = c.args.self.now in
+    let nothing = c.receive.ensures.nothing c.if-not-receive.true in (
+      rw (nothing.0, nothing.1) refl,
+      c.requires.done,
+      c.requires.ready,
+      c.requires.lines,
+      undone-before_end (state_of old) c.requires.lines c.requires.ready c.requires.done old.orderly,
+    )
+
+pub returns-then-not-receive-clause-known : goal.returns-then-not-receive-clause-known
+returns-then-not-receive-clause-known g c = (
+  none_if_same (answer_places c.args.self.now),
+  subst (λ r. HasNoneIf (not r) (messages c.args.self.now.receiver) (messages c.receive.new.self)) c.if-not-receive.true c.receive.ensures.known,
+)
+
+pub invariant_of-self-then-given_up : goal.invariant_of-self-then-given_up
+invariant_of-self-then-given_up g c =
+    let old = c.args.self.now in
+    let came = c.receive.new.self in
+    let is = c.if-not-receive.false in
+    let none = ap (λ m. length m.items) c.clear.ensures in (
+      (ap (λ m. m.ending) c.clear.ensures ∙ came.told, tt),
+      (
+        (omega (arith, none, old.in_hand.0), old.in_hand.1, old.in_hand.2),
+        (
+          subst IsOrderly
+              (sym (receipt-dropping (state_of old) came.hand (items_received came) c.clear.new.self.items (end_received came)
+              (messages_received came) (sym c.has_given_up-given_up.ensures ∙ c.if-given_up.true) (c.receive.ensures.items is)
+              (c.receive.ensures.ended is) (ap (λ m. m.items) c.clear.ensures) c.requires.lines (c.receive.ensures.count is)))
+              (orderly_receipt (state_of old) came.hand c.requires.lines c.requires.ready old.orderly),
+          (old.filled, tt),
+        ),
+      ),
+    )
+
+pub returns-else-given_up-clause-turn : goal.returns-else-given_up-clause-turn
+returns-else-given_up-clause-turn g c =
+    let old = c.args.self.now in
+    let m = c.receive.new.self.hand in
+    let source = undone-before_end (state_of old) c.requires.lines c.requires.ready c.requires.done old.orderly in
+    let going = sym c.has_given_up-given_up.ensures ∙ c.if-given_up.false in (
+      c.requires.done,
+      moves_on (state_of old) _ c.requires.ready
+          (moves_receiving (state_of old) _ m c.requires.lines source (c.receive.ensures.few c.if-not-receive.false)
+          (message_state (state_of old) m c.finish-self.new.answers (end_sent old.sender) old.sender.hand.ending c.finish-self.result
+          (items_received c.receive.new.self) (end_received c.receive.new.self) (messages_received c.receive.new.self)
+          c.requires.lines source going refl old.orderly c.finish-self.ensures.items c.finish-self.ensures.ready c.finish-self.ensures.ending
+          (c.receive.ensures.items c.if-not-receive.false) (c.receive.ensures.ended c.if-not-receive.false) (c.receive.ensures.count c.if-not-receive.false)
+          ∙ receipt-message (state_of old) m going)),
+    )

@@ -4,7 +4,7 @@ use Rattle.line_lane.proofs.TakeLemmas.{taken_next, taken_whole, holding-unended
 use Rattle.line_lane.proofs.taker.Taker.take_held.Goals as goal
 
 pub invariant_of-self-in-Some-1 : goal.invariant_of-self-in-Some-1
-invariant_of-self-in-Some-1 c =
+invariant_of-self-in-Some-1 g c =
     let held = ap (λ m. m.items) c.in-Some.ensures in
     let all = c.args.self.now.all in
     record {
@@ -16,12 +16,12 @@ invariant_of-self-in-Some-1 c =
     }
 
 pub returns-in-Some-clause-took : goal.returns-in-Some-clause-took
-returns-in-Some-clause-took c =
+returns-in-Some-clause-took g c =
     let held = ap (λ m. m.items) c.in-Some.ensures in
     let old = c.args.self.now in
     let unended = holding-unended old.ended old.receiver.hand.items c.take_first.new.self.items c.in-Some.answer old.all.1 held in (
       (
-        c.outcome.ensures.right,
+        c.show_right.ensures,
         unended,
         unended,
         taken_next (items_received old.receiver) old.receiver.hand.items c.take_first.new.self.items c.in-Some.answer held old.all.0,

@@ -1,0 +1,9 @@
+pub mod Shares
+pub mod Zips
+pub mod SameEnds
+pub mod Drained
+pub mod Dealing
+pub mod Endpoints
+pub mod Meeting
+pub mod Together
+pub mod Opened

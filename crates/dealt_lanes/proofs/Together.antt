@@ -1,0 +1,212 @@
+-- What is known of several lanes once their endpoints were brought together.
+use Rattle.std.proofs.Common.{arith, ◌≡◌, ℕ, zero, suc, ◌+◌, ◌%◌, ◌<◌, Bool, true, false, nat_eq, List, [], ◌∷◌, ◌++◌, length, map, get_or, Option, Some, None, refl, ap, sym, subst, ◌∙◌, append-nil}
+use Rattle.std.specs.Prelude.{is_some}
+use Rattle.std.specs.Option.{option_map}
+use Rattle.std.proofs.lemmas.Nat.{mod_below}
+use Rattle.std.proofs.lemmas.Option.{none-some}
+use Rattle.std.proofs.lemmas.List.{map-append, take-map}
+use Rattle.std.proofs.lemmas.List.Elements.{All-head, All-tail}
+use Rattle.line_lane.specs.Rings.{IsFirstOf}
+use Rattle.line_lane.specs.Lane.{lane_end_of, pipeline}
+use Rattle.line_lane.specs.Turns.{is_given_up}
+use Rattle.line_lane.specs.Settled.{IsSettled}
+use Rattle.line_lane.specs.Ends.{fed, feeder_end, state_of, taken, taker_end}
+use Rattle.line_lane.specs.declared.making.Making.{Ghosts}
+use Rattle.line_lane.specs.declared.feeder.Feeder.{Feeder}
+use Rattle.line_lane.specs.declared.setter.Setter.{Setter}
+use Rattle.line_lane.specs.declared.taker.Taker.{Taker}
+use Rattle.line_lane.specs.declared.ending.SourceEnd.{SourceEnd}
+use Rattle.line_lane.specs.declared.ending.LaneEnd.{LaneEnd}
+use Rattle.line_lane.specs.declared.ending.LaneEnd.TheVariants.{GaveUp}
+use Rattle.dealt_lanes.specs.InTurn.{AreFirstOfShares, AreInTurn, StopAt, in_turn, share, share_from}
+use Rattle.dealt_lanes.specs.Feeders.{HaveEnd, each_fed}
+use Rattle.dealt_lanes.specs.Takers.{AreGathered, each_taken}
+use Rattle.dealt_lanes.specs.Lanes.{AllThree, IsMet}
+use Rattle.dealt_lanes.specs.Settled.{AllMake, HaveAbandoned, each_seen}
+use Rattle.dealt_lanes.proofs.Meeting.{three_lengths}
+use Rattle.dealt_lanes.proofs.Shares.{IsFront, first_front, front_first, front_trans, fronts, here, share-append, there}
+use Rattle.dealt_lanes.proofs.Zips.{length_map}
+
+-- ---- what is made of shares
+
+module _ {S T : Type 0} where
+  share-map : (f : S → T) (k i j : ℕ) (xs : List S) → share_from k i j (map f xs) ≡ map f (share_from k i j xs)
+  share-map f k i j [] = refl
+  share-map f k i j (x ∷ xs) = by (nat_eq (j % k) i) refl (share-map f k i (j + 1) xs)
+    where
+      by : (b : Bool) → nat_eq (j % k) i ≡ b → share_from k i (j + 1) (map f xs) ≡ map f (share_from k i (j + 1) xs)
+          → share_from k i j (f x ∷ map f xs) ≡ map f (share_from k i j (x ∷ xs))
+      by true e more = here k i j (f x) (map f xs) e ∙ ap (λ l. f x ∷ l) more ∙ ap (map f) (sym (here k i j x xs e))
+      by false e more = there k i j (f x) (map f xs) e ∙ more ∙ ap (map f) (sym (there k i j x xs e))
+
+  map_front : (f : S → T) (front all : List S) → IsFront front all → IsFront (map f front) (map f all)
+  map_front f front all (rest, e) = (map f rest, sym (map-append f front rest) ∙ ap (map f) e)
+
+  -- results made of the first items
+  pipeline_front : (makes : S → T) (items : List S) (results : List T) → pipeline makes items results → IsFront results (map makes items)
+  pipeline_front makes items results e =
+      first_front results (map makes items) (e ∙ sym (take-map makes (length results) items))
+
+  front_pipeline : (makes : S → T) (items : List S) (results : List T) → IsFront results (map makes items) → pipeline makes items results
+  front_pipeline makes items results front = front_first results (map makes items) front ∙ take-map makes (length results) items
+
+module _ {T : Type 0} where
+  longer : (xs : List T) (y : T) (ys : List T) → xs ≡ xs ++ (y ∷ ys) → ⊥
+  longer [] y ys e = grind (arith, e)
+  longer (x ∷ xs) y ys e = longer xs y ys (grind (arith, e))
+
+  -- the first items are all items, if the share of the list in turn after them is the same
+  whole_share : (k : ℕ) (xs ys : List T) → 0 < k → share k (length xs % k) xs ≡ share k (length xs % k) ys → IsFront xs ys → xs ≡ ys
+  whole_share k xs ys some same ([], e) = sym (append-nil xs) ∙ e
+  whole_share k xs ys some same (y ∷ rest, e) =
+      let at : ℕ = length xs % k in
+      let start : 0 + length xs ≡ length xs = omega arith in
+      let itself : nat_eq (length xs % k) at ≡ true = search arith in
+      let more : share k at ys ≡ share k at xs ++ (y ∷ share_from k at (length xs + 1) rest) =
+      ap (share k at) (sym e) ∙ share-append k at 0 xs (y ∷ rest) ∙ ap (λ n. share k at xs ++ share_from k at n (y ∷ rest)) start
+      ∙ ap (λ l. share k at xs ++ l) (here k at (length xs) y rest itself) in
+      absurd (longer (share k at xs) y (share_from k at (length xs + 1) rest) (same ∙ more))
+
+-- ---- lane by lane
+
+module _ {M I O IS OS : Type 0} {ghosts : Ghosts M I O IS OS} where
+  -- the results of one lane
+  lane_results : (fs : List (Feeder I IS)) (ss : List (Setter M I O IS OS ghosts)) (ts : List (Taker O OS)) (makes : I → O) (i : ℕ) → AllThree IsMet fs ss ts
+      → AllMake makes ss → pipeline makes (get_or (each_fed fs) i []) (get_or (each_taken ts) i [])
+  lane_results [] [] [] makes i met make = refl
+  lane_results [] [] (t ∷ ts) makes i met make = elim met [ ]
+  lane_results [] (s ∷ ss) ts makes i met make = elim met [ ]
+  lane_results (f ∷ fs) [] ts makes i met make = elim met [ ]
+  lane_results (f ∷ fs) (s ∷ ss) [] makes i met make = elim met [ ]
+  lane_results (f ∷ fs) (s ∷ ss) (t ∷ ts) makes zero met make =
+      subst (λ m. pipeline m (fed f) (taken t)) (All-head (λ x. (state_of x).makes ≡ makes) s ss make) met.0.results
+  lane_results (f ∷ fs) (s ∷ ss) (t ∷ ts) makes (suc i) met make =
+      lane_results fs ss ts makes i met.1 (All-tail (λ x. (state_of x).makes ≡ makes) s ss make)
+
+  -- the items that one setter has received
+  lane_seen : (fs : List (Feeder I IS)) (ss : List (Setter M I O IS OS ghosts)) (ts : List (Taker O OS)) (i : ℕ) → AllThree IsMet fs ss ts
+      → IsFirstOf (get_or (each_seen ss) i []) (get_or (each_fed fs) i [])
+  lane_seen [] [] [] i met = refl
+  lane_seen [] [] (t ∷ ts) i met = elim met [ ]
+  lane_seen [] (s ∷ ss) ts i met = elim met [ ]
+  lane_seen (f ∷ fs) [] ts i met = elim met [ ]
+  lane_seen (f ∷ fs) (s ∷ ss) [] i met = elim met [ ]
+  lane_seen (f ∷ fs) (s ∷ ss) (t ∷ ts) zero met = met.0.seen
+  lane_seen (f ∷ fs) (s ∷ ss) (t ∷ ts) (suc i) met = lane_seen fs ss ts i met.1
+
+  -- a lane that is finished with an end other than `GaveUp`
+  going_end : (f : Feeder I IS) (s : Setter M I O IS OS ghosts) (t : Taker O OS) (end : LaneEnd) → IsSettled f s t end → (end ≡ GaveUp → ⊥)
+      → (option_map lane_end_of (feeder_end f) ≡ Some end) × (taken t ≡ map (state_of s).makes (fed f))
+  going_end f s t end settled going = by (is_given_up (state_of s).made) settled.2 settled.3 settled.4
+    where
+      by : (up : Bool) → (up ≡ true → end ≡ GaveUp) → (up ≡ false → option_map lane_end_of (feeder_end f) ≡ Some end)
+          → (up ≡ false → taken t ≡ map (state_of s).makes (fed f))
+          → (option_map lane_end_of (feeder_end f) ≡ Some end) × (taken t ≡ map (state_of s).makes (fed f))
+      by true gave_up ended all = absurd (going (gave_up refl))
+      by false gave_up ended all = (ended refl, all refl)
+
+  lane_ended : (fs : List (Feeder I IS)) (ss : List (Setter M I O IS OS ghosts)) (ts : List (Taker O OS)) (makes : I → O) (i : ℕ) (end : LaneEnd)
+      → AllThree IsMet fs ss ts → AllMake makes ss → get_or (map taker_end ts) i None ≡ Some end → (end ≡ GaveUp → ⊥)
+      → (option_map lane_end_of (get_or (map feeder_end fs) i None) ≡ Some end) × (get_or (each_taken ts) i [] ≡ map makes (get_or (each_fed fs) i []))
+  lane_ended [] [] [] makes i end met make is going = absurd (none-some end is)
+  lane_ended [] [] (t ∷ ts) makes i end met make is going = elim met [ ]
+  lane_ended [] (s ∷ ss) ts makes i end met make is going = elim met [ ]
+  lane_ended (f ∷ fs) [] ts makes i end met make is going = elim met [ ]
+  lane_ended (f ∷ fs) (s ∷ ss) [] makes i end met make is going = elim met [ ]
+  lane_ended (f ∷ fs) (s ∷ ss) (t ∷ ts) makes zero end met make is going =
+      let facts = going_end f s t end (met.0.ended end is going) going in
+      (facts.0, facts.1 ∙ ap (λ m. map m (fed f)) (All-head (λ x. (state_of x).makes ≡ makes) s ss make))
+  lane_ended (f ∷ fs) (s ∷ ss) (t ∷ ts) makes (suc i) end met make is going =
+      lane_ended fs ss ts makes i end met.1 (All-tail (λ x. (state_of x).makes ≡ makes) s ss make) is going
+
+  lane_abandoned : (fs : List (Feeder I IS)) (ss : List (Setter M I O IS OS ghosts)) (ts : List (Taker O OS)) (i : ℕ) → AllThree IsMet fs ss ts
+      → get_or (map taker_end ts) i None ≡ Some GaveUp → HaveAbandoned ss
+  lane_abandoned [] [] [] i met is = absurd (none-some GaveUp is)
+  lane_abandoned [] [] (t ∷ ts) i met is = elim met [ ]
+  lane_abandoned [] (s ∷ ss) ts i met is = elim met [ ]
+  lane_abandoned (f ∷ fs) [] ts i met is = elim met [ ]
+  lane_abandoned (f ∷ fs) (s ∷ ss) [] i met is = elim met [ ]
+  lane_abandoned (f ∷ fs) (s ∷ ss) (t ∷ ts) zero met is = (0, s, omega arith, refl, met.0.gave_up is)
+  lane_abandoned (f ∷ fs) (s ∷ ss) (t ∷ ts) (suc i) met is =
+      let (k, x, below, at, up) = lane_abandoned fs ss ts i met.1 is in (suc k, x, omega (arith, below), at, up)
+
+module _ {I IS : Type 0} where
+  -- the end of one feeder is that of all
+  lane_end : (fs : List (Feeder I IS)) (i : ℕ) (all : Option SourceEnd) (end : LaneEnd) → HaveEnd all fs
+      → option_map lane_end_of (get_or (map feeder_end fs) i None) ≡ Some end → option_map lane_end_of all ≡ Some end
+  lane_end [] i all end have is = absurd (none-some end is)
+  lane_end (f ∷ fs) zero all end have is = by (feeder_end f) (All-head (λ x. is_some (feeder_end x) ≡ true → feeder_end x ≡ all) f fs have) is
+    where
+      by : (own : Option SourceEnd) → (is_some own ≡ true → own ≡ all) → option_map lane_end_of own ≡ Some end → option_map lane_end_of all ≡ Some end
+      by None same is = absurd (none-some end is)
+      by (Some e) same is = ap (option_map lane_end_of) (sym (same refl)) ∙ is
+  lane_end (f ∷ fs) (suc i) all end have is = lane_end fs i all end (All-tail (λ x. is_some (feeder_end x) ≡ true → feeder_end x ≡ all) f fs have) is
+
+-- ---- all lanes
+
+module _ {M I O IS OS : Type 0} {ghosts : Ghosts M I O IS OS} where
+  -- the results in turn are a front of those made of all items
+  gathered_front : (fs : List (Feeder I IS)) (ss : List (Setter M I O IS OS ghosts)) (ts : List (Taker O OS)) (at turn : ℕ) (makes : I → O) → at < length fs
+      → AreInTurn (each_fed fs) at → StopAt (each_taken ts) turn → AllThree IsMet fs ss ts → AllMake makes ss
+      → IsFront (in_turn (each_taken ts)) (map makes (in_turn (each_fed fs)))
+  gathered_front fs ss ts at turn makes below dealt stop met make =
+      let lengths = three_lengths IsMet fs ss ts met in
+      let k : ℕ = length fs in
+      let items : List I = in_turn (each_fed fs) in
+      let results : List O = in_turn (each_taken ts) in
+      let wide : length (each_fed fs) ≡ k = length_map fed fs in
+      let long : length (each_taken ts) ≡ k = length_map taken ts ∙ lengths.1 ∙ sym lengths.0 in
+      fronts k 0 results (map makes items) (omega (arith, below)) (λ i within.
+      let inside : i < length (each_taken ts) = omega (arith, long, within) in
+      let there : i < length (each_fed fs) = omega (arith, wide, within) in
+      let first : IsFront (share k i results) (get_or (each_taken ts) i []) =
+      subst (λ n. IsFront (share n i results) (get_or (each_taken ts) i [])) long
+      (first_front (share (length (each_taken ts)) i results) (get_or (each_taken ts) i []) (stop.0 i inside)) in
+      let own : get_or (each_fed fs) i [] ≡ share k i items = dealt.0 i there ∙ ap (λ n. share n i items) wide in
+      front_trans (share k i results) (get_or (each_taken ts) i []) (share_from k i 0 (map makes items)) first
+      (subst (IsFront (get_or (each_taken ts) i [])) (ap (map makes) own ∙ sym (share-map makes k i 0 items))
+      (pipeline_front makes (get_or (each_fed fs) i []) (get_or (each_taken ts) i []) (lane_results fs ss ts makes i met make))))
+
+  pub gathered_pipeline : (fs : List (Feeder I IS)) (ss : List (Setter M I O IS OS ghosts)) (ts : List (Taker O OS)) (at turn : ℕ) (makes : I → O) → at < length fs
+      → AreInTurn (each_fed fs) at → StopAt (each_taken ts) turn → AllThree IsMet fs ss ts → AllMake makes ss
+      → pipeline makes (in_turn (each_fed fs)) (in_turn (each_taken ts))
+  gathered_pipeline fs ss ts at turn makes below dealt stop met make =
+      front_pipeline makes (in_turn (each_fed fs)) (in_turn (each_taken ts)) (gathered_front fs ss ts at turn makes below dealt stop met make)
+
+  pub gathered_whole : (fs : List (Feeder I IS)) (ss : List (Setter M I O IS OS ghosts)) (ts : List (Taker O OS)) (at turn : ℕ) (makes : I → O)
+      (all : Option SourceEnd) (took : Option LaneEnd) (end : LaneEnd) → at < length fs → AreInTurn (each_fed fs) at → HaveEnd all fs
+      → AreGathered took ts turn → AllThree IsMet fs ss ts → AllMake makes ss → took ≡ Some end → (end ≡ GaveUp → ⊥)
+      → (option_map lane_end_of all ≡ Some end) × (in_turn (each_taken ts) ≡ map makes (in_turn (each_fed fs)))
+  gathered_whole fs ss ts at turn makes all took end below dealt have gathered met make is going =
+      let lengths = three_lengths IsMet fs ss ts met in
+      let k : ℕ = length fs in
+      let items : List I = in_turn (each_fed fs) in
+      let results : List O = in_turn (each_taken ts) in
+      let wide : length (each_fed fs) ≡ k = length_map fed fs in
+      let long : length (each_taken ts) ≡ k = length_map taken ts ∙ lengths.1 ∙ sym lengths.0 in
+      let some : 0 < k = omega (arith, below) in
+      let here' : get_or (map taker_end ts) turn None ≡ Some end = gathered.2 (ap is_some is) ∙ is in
+      let facts = lane_ended fs ss ts makes turn end met make here' going in
+      let next : turn ≡ length results % k = gathered.1.1 ∙ ap (λ n. length results % n) long in
+      let inside : turn < length (each_fed fs) = subst (λ n. n < length (each_fed fs)) (sym next)
+      (subst (λ n. length results % k < n) (sym wide) (mod_below (length results) k some)) in
+      let own : share k turn results ≡ share k turn (map makes items) =
+      ap (λ n. share n turn results) (sym long) ∙ sym gathered.1.2 ∙ facts.1
+      ∙ ap (map makes) (dealt.0 turn inside ∙ ap (λ n. share n turn items) wide) ∙ sym (share-map makes k turn 0 items) in (
+        lane_end fs turn all end have facts.0,
+        whole_share k results (map makes items) some (subst (λ n. share k n results ≡ share k n (map makes items)) next own)
+            (gathered_front fs ss ts at turn makes below dealt gathered.1 met make),
+      )
+
+  pub seen_shares : (fs : List (Feeder I IS)) (ss : List (Setter M I O IS OS ghosts)) (ts : List (Taker O OS)) (at : ℕ) → AreInTurn (each_fed fs) at
+      → AllThree IsMet fs ss ts → AreFirstOfShares (each_seen ss) (in_turn (each_fed fs))
+  seen_shares fs ss ts at dealt met i within =
+      let lengths = three_lengths IsMet fs ss ts met in
+      let items : List I = in_turn (each_fed fs) in
+      let same : length (each_fed fs) ≡ length (each_seen ss) = length_map fed fs ∙ lengths.0 ∙ sym (length_map (λ s. (state_of s).seen) ss) in
+      let inside : i < length (each_fed fs) = omega (arith, same, within) in
+      subst (IsFirstOf (get_or (each_seen ss) i [])) (dealt.0 i inside ∙ ap (λ n. share n i items) same) (lane_seen fs ss ts i met)
+
+  pub abandoned : (fs : List (Feeder I IS)) (ss : List (Setter M I O IS OS ghosts)) (ts : List (Taker O OS)) (turn : ℕ) (took : Option LaneEnd)
+      → AllThree IsMet fs ss ts → AreGathered took ts turn → took ≡ Some GaveUp → HaveAbandoned ss
+  abandoned fs ss ts turn took met gathered is = lane_abandoned fs ss ts turn met (gathered.2 (ap is_some is) ∙ is)

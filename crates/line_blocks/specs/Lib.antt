@@ -1,0 +1,5 @@
+pub mod Blocks
+pub mod Stored
+pub mod Visited
+pub mod BlockText
+pub mod Gathering

@@ -1,0 +1,103 @@
+//! Runs a batch whose results are the texts of blocks of lines.
+ghost use Rattle.std.specs.Prelude.{◌≡◌, ◌+◌, ◌≤◌, ◌⊎◌, ◌++◌, None, IfErr, IfOk, map, vec_capacity, vec_len};
+ghost use Rattle.set_run.specs.declared.run_fault.RunFault.TheVariants.{OutOfMemory as NoMemory, Thread};
+ghost use Rattle.set_run.specs.Closed.{AreBack, IsWhole};
+ghost use Rattle.run_texts.specs.BlockLanes.{AreWrapped, IsCollectedIn, unwrapped};
+
+use crate::OutputOptions;
+use line_blocks::{BlockText, LineBlocks, RecordMaker, kept_lines, lanes_of_lines};
+use set_line::{Terms, Version};
+use set_run::{
+    ClosedLane, Collector, Gate, LineSource, RunEnd, RunFault, lane_of_lines, run_items,
+};
+use std::alloc::{AllocError, Global};
+use std::sync::{Arc, Wait};
+use std::thread::Threads;
+
+/// Returns each source as a source of blocks of at most this many lines, with the maker of its records. The
+/// sources are numbered from 1. Fails if an allocation fails.
+fn with_makers<S: LineSource + Drop>(
+    alloc: Global,
+    sources: Vec<(S, Arc<Terms>)>,
+    version: Version,
+    most: usize,
+) -> Result<Vec<(LineBlocks<S>, RecordMaker)>, AllocError>
+    ensures { IfOk result (λ wrapped. AreWrapped version 1 sources.items wrapped.items) }
+{
+    let mut wrapped = Vec::with_capacity(alloc, sources.len())?;
+    for pair in sources {
+        let (source, terms) = pair;
+        let number = wrapped.len() as u64 + 1;
+        let blocks = LineBlocks::new(alloc, source, most);
+        wrapped.push((blocks, RecordMaker::new(alloc, terms, number, version)))?;
+    }
+    Ok(wrapped)
+}
+
+/// Appends each closed lane to `closed`, with its source of lines. There must be room for them.
+fn unwrap_lanes<S: LineSource + Drop>(
+    lanes: Vec<ClosedLane<LineBlocks<S>>>,
+    closed: Vec<ClosedLane<S>>,
+) -> Vec<ClosedLane<S>>
+    requires { vec_len closed + vec_len lanes ≤ vec_capacity closed }
+    ensures { result.items ≡ closed.items ++ map unwrapped lanes.items }
+{
+    let mut closed = closed;
+    for lane in lanes {
+        let ClosedLane { source, end } = lane;
+        let source = source.into_source();
+        match closed.push(ClosedLane { source, end }) {
+            Ok(()) => (),
+            Err(_) => unreachable!(),
+        }
+    }
+    closed
+}
+
+/// Sets the lines of all sources, each with its settings, in blocks, in one batch, and gives the texts of the
+/// blocks to a collector. A block has at most as many lines as the options state. The errors are those of
+/// `run_items`.
+pub(crate) fn run_blocks<R, S, G, C>(
+    rt: &R,
+    alloc: Global,
+    sources: Vec<(S, Arc<Terms>)>,
+    options: &OutputOptions<'_, G>,
+    collector: C,
+) -> (C, Result<RunEnd<S>, RunFault>)
+where
+    R: Threads + Wait + Sync,
+    S: LineSource + Send + Drop,
+    G: Gate + Sync,
+    C: Collector<Item = BlockText> + Drop,
+    requires lanes { vec_len sources ≤ C.lanes collector }
+    requires willing { C.refused collector None }
+    ensures collected { IfOk result.1 (λ run. IsCollectedIn S.to_come S.failed options.now.version
+        C.given sources.items run collector result.0) }
+    ensures whole { IfOk result.1 (λ run. IsWhole run) }
+    ensures sources { IfOk result.1 (λ run.
+        AreBack S.origin sources.items (map (λ lane. lane.source) run.lanes.items)) }
+    ensures refused { IfOk result.1 (λ run. C.refused result.0 run.refusal) }
+    ensures lanes { C.lanes result.0 ≡ C.lanes collector }
+    ensures fault { IfErr result.1 (λ fault. result.0 ≡ collector) }
+    ensures few { vec_len sources ≤ 64
+        → IfErr result.1 (λ fault. (fault ≡ NoMemory) ⊎ (fault ≡ Thread)) }
+{
+    let Ok(closed) = Vec::with_capacity(alloc, sources.len()) else {
+        return (collector, Err(RunFault::OutOfMemory));
+    };
+    let Ok(wrapped) = with_makers(alloc, sources, options.version, options.most_lines()) else {
+        return (collector, Err(RunFault::OutOfMemory));
+    };
+    // For the proof: laws of lines in blocks, and of lanes of lines.
+    kept_lines();
+    lanes_of_lines::<S>();
+    lane_of_lines::<S>();
+    let (collector, ran) = run_items(rt, alloc, wrapped, options.batch(), collector);
+    match ran {
+        Ok(RunEnd { lanes, refusal }) => {
+            let lanes = unwrap_lanes(lanes, closed);
+            (collector, Ok(RunEnd { lanes, refusal }))
+        }
+        Err(fault) => (collector, Err(fault)),
+    }
+}

@@ -1,0 +1,173 @@
+-- Lanes of lines: what the calls of a source of lines say of its lines.
+use Rattle.std.proofs.Common.{rules, arith, ◌≡◌, ℕ, ◌+◌, List, [], ◌∷◌, ◌++◌, length, take, Option, Some, None, refl, ap, sym, subst, ◌∙◌, append_assoc, append-nil}
+use Rattle.std.proofs.lemmas.List.{length-map, length-append}
+use Rattle.std.proofs.Math.Seq.{take-append_seam}
+use Rattle.std.specs.Prelude.{⊤}
+use Rattle.std.specs.Arc.{arc_value}
+use Rattle.std.specs.declared.sync.Arc.{Arc}
+use Rattle.std.specs.declared.alloc.Global.{Global}
+use Rattle.set_line.specs.Terms.{TermsValue}
+use Rattle.set_line.specs.Answer.{AnswerValue, answer_of}
+use Rattle.line_lane.specs.Lane.{answers_of}
+use Rattle.line_lane.specs.Messages.{first_end}
+use Rattle.line_lane.specs.declared.fault.SourceFault.{SourceFault}
+use Rattle.line_lane.specs.declared.ending.SourceEnd.{SourceEnd}
+use Rattle.line_lane.specs.declared.ending.SourceEnd.TheVariants.{Complete as SourceComplete, Failed}
+use Rattle.line_lane.specs.declared.ending.LaneEnd.{LaneEnd}
+use Rattle.line_lane.specs.declared.ending.LaneEnd.TheVariants.{Complete, SourceFailed, GaveUp}
+use Rattle.set_run.specs.Calls.{HasEnded, HasReturned}
+use Rattle.set_run.specs.Events.{Event, answers_in}
+use Rattle.set_run.specs.Sources.{GivesNext, HasGiven, HasNoMore, gives_line}
+use Rattle.set_run.specs.Closed.{AreClosedOf, IsClosedOf}
+use Rattle.set_run.specs.Reports.{AreAllAnswers, AreClosed, AreFirstAnswers, IsClosed}
+use Rattle.set_run.specs.declared.run_end.ClosedLane.{ClosedLane}
+
+-- ---- lines to come
+
+-- these lines were returned, and the others of those to come remain; nothing is stated if those to come weren't known
+abbrev Gave : Option (List (List ℕ)) → List (List ℕ) → Option (List (List ℕ)) → Type 0
+Gave (Some lines) given (Some rest) = lines ≡ given ++ rest
+Gave (Some lines) given None = ⊥
+Gave None given after = ⊤
+
+gave_none : (before : Option (List (List ℕ))) → Gave before [] before
+gave_none (Some lines) = refl
+gave_none None = tt
+
+gave_first : (before : Option (List (List ℕ))) (line : List ℕ) (now : Option (List (List ℕ))) (lines : List (List ℕ)) (after : Option (List (List ℕ)))
+    → GivesNext line before now → Gave now lines after → Gave before (line ∷ lines) after
+gave_first None line now lines after next gave = tt
+gave_first (Some []) line now lines after next gave = absurd next
+gave_first (Some (first ∷ rest)) line now lines after next gave = by after (subst (λ n. Gave n lines after) next.1 gave)
+  where
+    by : (after : Option (List (List ℕ))) → Gave (Some rest) lines after → Gave (Some (first ∷ rest)) (line ∷ lines) after
+    by (Some left) is = ap (λ l. l ∷ rest) (sym next.0) ∙ ap (λ l. line ∷ l) is
+    by None is = absurd is
+
+-- the results of the first of these lines
+gave_answers : (terms : TermsValue) (answers : List AnswerValue) (lines more : List (List ℕ)) (before after : Option (List (List ℕ)))
+    → answers ≡ answers_of terms lines → Gave before (lines ++ more) after → AreFirstAnswers terms answers before
+gave_answers terms answers lines more None after are gave = (lines, are)
+gave_answers terms answers lines more (Some all) None are gave = absurd gave
+gave_answers terms answers lines more (Some all) (Some rest) are gave =
+    let long : length answers ≡ length lines = ap length are ∙ length-map lines (answer_of terms) in
+    let front : take (length answers) all ≡ lines =
+    ap (λ n. take n all) long ∙ ap (take (length lines)) (gave ∙ append_assoc lines more rest) ∙ take-append_seam lines (more ++ rest) in
+    are ∙ ap (answers_of terms) (sym front)
+
+-- and of all
+gave_all : (terms : TermsValue) (answers : List AnswerValue) (lines : List (List ℕ)) (before now after : Option (List (List ℕ)))
+    → answers ≡ answers_of terms lines → Gave before lines now → HasNoMore now after → AreAllAnswers terms answers before after
+gave_all terms answers lines None now after are gave none = (lines, are)
+gave_all terms answers lines (Some all) None after are gave none = absurd gave
+gave_all terms answers lines (Some all) (Some rest) after are gave none =
+    (are ∙ ap (answers_of terms) (sym (gave ∙ ap (λ l. lines ++ l) none.0 ∙ append-nil lines)), none.1)
+
+-- the lines that are left
+gave_left : (least : ℕ) (lines more : List (List ℕ)) (before after : Option (List (List ℕ))) → least ≡ length lines
+    → Gave before (lines ++ more) after → HasGiven least before after
+gave_left least lines more None after long gave = tt
+gave_left least lines more (Some all) None long gave = absurd gave
+gave_left least lines more (Some all) (Some rest) long gave = (lines ++ more, rest, omega (arith, long, length-append lines more), gave, refl)
+
+-- the same at the end
+left_at_end : (least : ℕ) (lines : List (List ℕ)) (before now after : Option (List (List ℕ))) → HasGiven least before now → HasNoMore now after
+    → HasGiven least before after
+left_at_end least lines None now after left none = tt
+left_at_end least lines (Some all) None after (given, rest, long, is, some) none = absurd (search rules)
+left_at_end least lines (Some all) (Some last) after (given, rest, long, is, some) none = (given, last, long, is ∙ ap (λ l. given ++ l) (search (rules, some)), none.1 ∙ ap Some (sym none.0))
+
+-- ---- calls of a source of lines
+
+module _ {S : Type 0} (to_come : S → Option (List (List ℕ))) (failed : S → Option SourceFault) where
+  returned_lines : (before : S) (lines : List (List ℕ)) (after : S) → HasReturned (gives_line to_come failed) before lines after
+      → Gave (to_come before) lines (to_come after)
+  returned_lines before [] after same = subst (λ s. Gave (to_come before) [] (to_come s)) (sym same) (gave_none (to_come before))
+  returned_lines before (line ∷ lines) after (now, one, rest) =
+      gave_first (to_come before) line (to_come now) lines (to_come after) one.2 (returned_lines now lines after rest)
+
+  -- a source that had failed returns no line
+  stays_failed : (before : S) (lines : List (List ℕ)) (after : S) (fault : SourceFault) → HasReturned (gives_line to_come failed) before lines after
+      → failed before ≡ Some fault → (lines ≡ []) × (failed after ≡ Some fault)
+  stays_failed before [] after fault same had = (refl, ap failed same ∙ had)
+  stays_failed before (line ∷ lines) after fault (now, one, rest) had =
+      let no : None ≡ Some fault = sym one.0 ∙ had in absurd (search rules)
+
+  -- lines that are left, unless it failed
+  left_of : (least : ℕ) (before now after : S) (last : Option SourceEnd) → HasGiven least (to_come before) (to_come now)
+      → HasEnded (gives_line to_come failed) now last after → failed after ≡ None → HasGiven least (to_come before) (to_come after)
+  left_of least before now after None given ended none = subst (λ s. HasGiven least (to_come before) (to_come s)) (sym ended) given
+  left_of least before now after (Some SourceComplete) given ended none = left_at_end least [] (to_come before) (to_come now) (to_come after) given ended.2
+  left_of least before now after (Some (Failed fault)) given ended none =
+      let no : Some fault ≡ None = sym ended.0 ∙ none in absurd (search rules)
+
+  -- the error that it had
+  kept_fault : (now after : S) (last : Option SourceEnd) (fault : SourceFault) → HasEnded (gives_line to_come failed) now last after
+      → failed now ≡ Some fault → (failed after ≡ Some fault) × ((end : SourceEnd) → last ≡ Some end → end ≡ Failed fault)
+  kept_fault now after None fault ended had = (ap failed ended ∙ had, λ end is. absurd (search rules))
+  kept_fault now after (Some SourceComplete) fault ended had =
+      let no : None ≡ Some fault = sym ended.0 ∙ had in absurd (search rules)
+  kept_fault now after (Some (Failed other)) fault ended had =
+      let same : other ≡ fault = first_fault (failed now) had ended.1 in
+      (ended.0 ∙ ap Some same, λ end is. own end is ∙ ap Failed same)
+    where
+      first_fault : (f : Option SourceFault) → f ≡ Some fault → first_end f (Some other) ≡ Some other → other ≡ fault
+      first_fault None had' is = absurd (search rules)
+      first_fault (Some g) had' is = search (rules, had', is)
+
+      own : (end : SourceEnd) → Some (Failed other) ≡ Some end → end ≡ Failed other
+      own end is = search (rules, is)
+
+  -- the closed lane of a source of lines
+  pub closed_line : (terms : TermsValue) (source : S) (answers : List AnswerValue) (lane : ClosedLane S)
+      → IsClosedOf (gives_line to_come failed) (answer_of terms) source answers lane → IsClosed to_come failed terms source answers lane
+  closed_line terms source answers lane made =
+      let (now, returned, ended) = made.read in
+      let all = made.items ++ made.more in
+      let gave : Gave (to_come source) all (to_come now) = returned_lines source all now returned in
+      let long : length answers ≡ length made.items = ap length made.made ∙ length-map made.items (answer_of terms) in (
+        gave_answers terms answers made.items made.more (to_come source) (to_come now) made.made gave,
+        (λ is.
+            let whole = made.complete is in
+            let last : HasEnded (gives_line to_come failed) now (Some SourceComplete) lane.source =
+            subst (λ e. HasEnded (gives_line to_come failed) now e lane.source) whole.1 ended in
+            let only : all ≡ made.items = ap (λ l. made.items ++ l) whole.0 ∙ append-nil made.items in (
+              last.1,
+              gave_all terms answers made.items (to_come source) (to_come now) (to_come lane.source) made.made
+                  (subst (λ l. Gave (to_come source) l (to_come now)) only gave) last.2,
+            )),
+        (λ fault is. (subst (λ e. HasEnded (gives_line to_come failed) now e lane.source) (made.failed fault is) ended).0),
+        (λ none. left_of (length answers) source now lane.source made.last
+            (gave_left (length answers) made.items made.more (to_come source) (to_come now) long gave) ended none),
+        (λ fault had.
+            let stays = stays_failed source all now fault returned had in
+            let kept = kept_fault now lane.source made.last fault ended stays.1 in
+            let none : made.items ≡ [] = no_first made.items made.more stays.0 in
+            (kept.0, made.made ∙ ap (answers_of terms) none, λ end is. lane_end end fault is stays.0 kept.1)),
+      )
+    where
+      no_first : (xs ys : List (List ℕ)) → xs ++ ys ≡ [] → xs ≡ []
+      no_first [] ys none = refl
+      no_first (x ∷ xs) ys none = absurd (search rules)
+
+      lane_end : (end : LaneEnd) (fault : SourceFault) → lane.end ≡ Some end → made.items ++ made.more ≡ []
+          → ((last : SourceEnd) → made.last ≡ Some last → last ≡ Failed fault) → end ≡ SourceFailed fault
+      lane_end Complete fault is none kept =
+          let no : SourceComplete ≡ Failed fault = kept SourceComplete (made.complete is).1 in absurd (search rules)
+      lane_end (SourceFailed other) fault is none kept =
+          let own : Failed other ≡ Failed fault = kept (Failed other) (made.failed other is) in search (rules, own)
+      lane_end GaveUp fault is none kept = absurd (made.abandoned is none)
+
+  -- the closed lanes of sources of lines
+  pub closed_lines : (events : List (Event AnswerValue)) (number : ℕ)
+      (sources : List (S × Arc TermsValue Global)) (lanes : List (ClosedLane S))
+      → AreClosedOf (gives_line to_come failed) (λ terms. answer_of (arc_value terms)) events number sources lanes
+      → AreClosed to_come failed events number sources lanes
+  closed_lines events number [] [] are = tt
+  closed_lines events number [] (lane ∷ lanes) are = elim are [ ]
+  closed_lines events number (source ∷ sources) [] are = elim are [ ]
+  closed_lines events number (source ∷ sources) (lane ∷ lanes) are = (
+    are.0,
+    closed_line (arc_value source.1) source.0 (answers_in number events) lane are.1,
+    closed_lines events (number + 1) sources lanes are.2,
+  )
