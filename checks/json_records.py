@@ -13,6 +13,7 @@ import re
 from lib.base import PROGRAM, Case, execute, read, rows, table
 from lib.docs import blocks, text_of, worked_examples
 from lib.tfm import path_of, sample, samples
+from library_lines import LinesCase
 
 WEIGHT = 3
 CASES, SCHEMA = table("json_records"), json.loads(read("docs/records.schema.json"))
@@ -37,6 +38,8 @@ class Wrong(Exception):
 
 def item_of(word):
     """An item of JSON, by its field in record format 2."""
+    if re.fullmatch("u[0-9A-F]{4,6}", word):
+        return ["u", int(word[1:], 16)]
     found = re.fullmatch(r"(c)(\d+)=(-?\d+)|([ks])(-?\d+)|(m)(\d+)", word)
     if not found:
         raise Wrong(f"not an item: {word!r}")
@@ -48,7 +51,7 @@ def pairs_of_record(line):
     """The names and values of a line of record format 2, in order."""
     for found in filter(None, (re.fullmatch(form, line) for form in CASES["forms"])):
         return [(name, [item_of(word) for word in text.split()] if name == "items"
-                 else text if name in ("end", "refused") else int(text))
+                 else text if name in ("end", "refused") else int(text, 16 if name == "character" else 10))
                 for name, text in found.groupdict().items()]
     raise Wrong(f"not a line of record format 2: {line!r}")
 
@@ -163,6 +166,23 @@ class Records(Case):
         words = (row["command"] + row.get("more", "") * row.get("times", 0)).split()
         words = [path_of(word[1:]) if word.startswith("@") else word for word in words]
         self.compare(words[0], words[1:], sample(row["given"]) if "given" in row else b"")
+
+
+class Encoded(LinesCase):
+    """Records of lines in UTF-8, in JSON and in format 2"""
+
+    @rows((f"{name}, {missing}", name, missing)
+          for name in ("ot1", "t1", "ly1", "latin1") for missing in ("refuse", "skip"))
+    def test_records(self, name, missing):
+        """Lines of characters with and without codes, alone and after others, and lines that are too long."""
+        letters = [chr(number) for number in (33, 97, 0xDF, 0xE9, 0x152, 0x2013, 0x20AC, 0xFB01, 0x4E2D, 0x1F600, 0x10FFFF)]
+        text = "\n".join([*letters, *(f"five {letter}x{letter}" for letter in letters), "é" * 32768, "€" * 21845])
+        font = self.tfmset.Font(sample("demo"))
+        plain, seen = (font.records(text, missing=missing, encoding=name, version=version).decode().splitlines()
+                       for version in (2, 3))
+        self.same("lines", (24, 24), (len(plain), len(seen)))
+        self.none([fault for line, record in zip(seen, plain) for fault in line_errors(line, record)])
+        self.same("uncoded", True, any('"uncoded"' in line or '["u",' in line for line in seen))
 
 
 class Lines(Case):
