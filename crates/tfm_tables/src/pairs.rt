@@ -5,7 +5,7 @@ ghost use Rattle.std.specs.List.{slice_get};
 ghost use Rattle.std.specs.Option.{option_and_then, option_or};
 ghost use Rattle.tfm_tables.specs.declared.step.Step.{Step as Instruction};
 ghost use Rattle.tfm_tables.specs.Program.{address_of};
-ghost use Rattle.tfm_tables.specs.Pairs.{IsTableOf, entry_for, row_of};
+ghost use Rattle.tfm_tables.specs.Pairs.{IsTableOf, address_in, row_of};
 
 use crate::Step;
 use std::alloc::{AllocError, Global};
@@ -20,58 +20,37 @@ pub(crate) struct PairTable {
     pub rows: Vec<[u16; 256]>,
 }
 
-/// Records `address` for the code of the instruction, unless an earlier instruction has this code. An
-/// instruction with a skip above 128 matches no code.
-fn mark(marks: &mut [Option<u16>; 256], step: &Step, address: u16)
-    ensures { (code : ℕ) → code < 256 → get_or marks.new code None ≡ option_or (get_or marks.old code None) (if nat_le step.now.skip 128 && (step.now.next == code) then Some address else None) }
+/// Records `address` in the entry for the code of the instruction, unless an earlier instruction has this
+/// code. An instruction with a skip above 128 matches no code.
+fn mark(row: &mut [u16; 256], step: &Step, address: u16)
+    requires { address < 2 ^ 15 }
+    ensures { (code : ℕ) → code < 256 → address_in (get_or row.new code 0) ≡ option_or (address_in (get_or row.old code 0)) (if nat_le step.now.skip 128 && (step.now.next == code) then Some address else None) }
 {
-    let mark = &mut marks[usize::from(step.next)];
-    if step.skip <= 128 && mark.is_none() {
-        *mark = Some(address);
+    let entry = &mut row[usize::from(step.next)];
+    if step.skip <= 128 && *entry == NOWHERE {
+        *entry = address;
     }
 }
 
-/// Returns for each code the first address, in the chain from `start`, that matches the code. The
-/// chain is followed once for all codes.
-fn first_addresses(program: &[Step], start: usize) -> [Option<u16>; 256]
+/// Computes the row of a left side: for each code the first address, in the chain from `start`, that matches
+/// the code. The chain is followed once for all codes.
+fn walked_row(program: &[Step], start: Option<usize>) -> [u16; 256]
     requires { length program.now ≤ 2 ^ 15 }
-    ensures { (code : ℕ) → code < 256 → get_or result code None ≡ address_of program.now start code }
+    ensures { result ≡ row_of program.now start }
 {
-    let mut marks = [None; 256];
+    let mut row = [NOWHERE; 256];
+    let Some(start) = start else {
+        return row;
+    };
     let mut at = start;
     while let Some(step) = program.get(at) {
-        mark(&mut marks, step, at as u16);
+        mark(&mut row, step, at as u16);
         if step.skip >= 128 {
             break;
         }
         at += usize::from(step.skip) + 1;
     }
-    marks
-}
-
-/// Returns the row of these addresses, with `NOWHERE` for `None`.
-fn row(marks: &[Option<u16>; 256]) -> [u16; 256]
-    ensures { (code : ℕ) → code < 256 → get_or result code 0 ≡ entry_for (get_or marks.now code None) }
-{
-    let mut row = [NOWHERE; 256];
-    for code in 0..256 {
-        if let Some(address) = marks[code] {
-            row[code] = address;
-        }
-    }
     row
-}
-
-/// Computes the row of a left side from the chain of its program.
-fn walked_row(program: &[Step], start: Option<usize>) -> [u16; 256]
-    requires { length program.now ≤ 2 ^ 15 }
-    ensures { result ≡ row_of program.now start }
-{
-    let marks = match start {
-        Some(start) => first_addresses(program, start),
-        None => [None; 256],
-    };
-    row(&marks)
 }
 
 /// Returns the row of a left side. The row of an earlier left side with the same starting address is
