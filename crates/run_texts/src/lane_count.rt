@@ -1,4 +1,4 @@
-ghost use Rattle.std.specs.Prelude.{◌≤◌, ◌<◌, ◌+◌, ◌^◌};
+ghost use Rattle.std.specs.Prelude.{◌≡◌, ◌≤◌, ◌<◌, ◌+◌, ◌^◌, ℕ};
 
 /// The number of records of a lane so far, and the number of refused lines among them.
 #[derive(Clone, Copy, Debug)]
@@ -9,4 +9,22 @@ pub(crate) struct LaneCount {
     pub refused: u64,
     ghost within: { refused ≤ records },
     ghost few: { 1 + records < 2 ^ 64 },
+}
+
+/// A lane whose refused lines are counted.
+pub(crate) trait Counted {
+    /// The number of refused lines.
+    ghost refused: { Self → ℕ };
+
+    /// Returns the number of refused lines.
+    fn refused(&self) -> u64
+        ensures { result ≡ refused self.now };
+}
+
+impl Counted for LaneCount {
+    ghost refused = { λ count. count.refused };
+
+    fn refused(&self) -> u64 {
+        self.refused
+    }
 }

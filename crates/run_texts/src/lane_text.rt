@@ -7,7 +7,7 @@ ghost use Rattle.run_texts.specs.LaneText.{block_lines};
 ghost use Rattle.run_texts.specs.RunText.{end_text, why_of};
 
 use crate::block::TextBlock;
-use crate::lane_count::LaneCount;
+use crate::lane_count::{Counted, LaneCount};
 use line_blocks::BlockText;
 use line_lane::LaneEnd;
 use set_line::Version;
@@ -46,6 +46,14 @@ impl Model for LaneText {
     } };
 }
 
+impl Counted for LaneText {
+    ghost refused = { λ lane. lane.refused };
+
+    fn refused(&self) -> u64 {
+        self.count.refused
+    }
+}
+
 /// Writes buffers in order, and frees each when it is written.
 fn write_blocks<W: Write>(blocks: Vec<TextBlock>, out: &mut W) -> Result<(), Refusal>
     ensures written { OnOk result (Appends (W.contents out.old) (W.contents out.new)
@@ -69,13 +77,6 @@ impl LaneText {
             last: Vec::new(alloc),
             count: LaneCount::new(),
         }
-    }
-
-    /// Returns the number of refused lines.
-    pub fn refused(&self) -> u64
-        ensures { result ≡ self.now.refused }
-    {
-        self.count.refused
     }
 
     /// Begins a new buffer. The output is unchanged, also if an allocation fails.

@@ -5,32 +5,19 @@ ghost use Rattle.std.specs.Option.{option_map_or};
 ghost use Rattle.run_texts.specs.ReportText.{is_unread, is_wanting, summary_of_lanes};
 
 use crate::Summary;
-use crate::lane_count::LaneCount;
-use crate::lane_text::LaneText;
+use crate::lane_count::Counted;
 use line_lane::{LaneEnd, SourceFault};
 use set_run::ClosedLane;
 
 /// Returns the number of refused lines of all lanes, or 2^64 - 1 if it is larger.
-pub(crate) fn all_refused(lanes: &[LaneText]) -> u64
-    ensures { result ≡ min (2 ^ 64 - 1) (sum_by (λ lane. lane.refused) lanes.now) }
+pub(crate) fn all_refused<C: Counted>(lanes: &[C]) -> u64
+    ensures { result ≡ min (2 ^ 64 - 1) (sum_by C.refused lanes.now) }
 {
     let mut count: u64 = 0;
     for lane in lanes {
         count = count.saturating_add(lane.refused());
     }
     count
-}
-
-/// Returns the number of refused lines of all lanes, or 2^64 - 1 if it is larger, from the counts of lanes
-/// whose output isn't kept.
-pub(crate) fn all_counted(counts: &[LaneCount]) -> u64
-    ensures { result ≡ min (2 ^ 64 - 1) (sum_by (λ count. count.refused) counts.now) }
-{
-    let mut refused: u64 = 0;
-    for count in counts {
-        refused = refused.saturating_add(count.refused);
-    }
-    refused
 }
 
 /// Returns whether a read of some source failed, or a line needed too many reads.

@@ -17,7 +17,7 @@ ghost use Rattle.run_texts.specs.StreamState.{IsStreamOf, MovesOut};
 use crate::block_run::run_blocks;
 use crate::font_setting::with_font;
 use crate::lane_count::LaneCount;
-use crate::run_summary::{all_counted, summary_of};
+use crate::run_summary::{all_refused, summary_of};
 use crate::stream::{Stream, first_block, no_answers, write_block};
 use crate::{FontSetting, OutputOptions, Summary, ToolFault};
 use line_blocks::BlockText;
@@ -134,7 +134,7 @@ fn finish<W: Write, S>(
     }
     write_block(block, out).map_err(|_| ToolFault::Write)?;
     match run.refusal {
-        None => Ok(summary_of(all_counted(counts), run.lanes.as_slice())),
+        None => Ok(summary_of(all_refused(counts), run.lanes.as_slice())),
         Some(_) => Err(ToolFault::OutOfMemory),
     }
 }
