@@ -64,12 +64,6 @@ pub begins : (name : ℕ) (version : Version) (counts : List LaneCount) (w : Opt
 begins name version counts w block none is =
     (refl, refl, refl, none, ([], (refl, λ lane. refl), ([], appends_nothing w, is ∙ sym (append-nil (head_text version)))))
 
--- nothing was taken
-pub as_before : (start : StreamStart) (name : ℕ) (version : Version) (counts : List LaneCount) (w : Option (List ℕ)) (b b' : List ℕ) (events : List (Event BlockTextValue))
-    → b' ≡ b → StandsSo start name version counts w b events → StandsSo start name version counts w b' events
-as_before start name version counts w b b' events same stands =
-    subst (λ block. StandsSo start name version counts w block events) (sym same) stands
-
 -- the text of a block was taken
 pub taken : (start : StreamStart) (name : ℕ) (version : Version) (counts : List LaneCount) (w : Option (List ℕ)) (b b' : List ℕ) (events : List (Event BlockTextValue))
     (lane : ℕ) (block : BlockTextValue) (count new : LaneCount)

@@ -11,7 +11,7 @@ use crate::ToolFault;
 use set_line::{Limit, Policy, Terms};
 use std::alloc::{AllocError, Global};
 use std::sync::Arc;
-use tfm_tables::{Font, FontFault};
+use tfm_tables::Font;
 use tfm_words::Size;
 
 /// The bytes and the size of a font, and the limit and the policy of its lines. [`terms_of`] makes settings
@@ -39,11 +39,7 @@ pub fn terms_of(alloc: Global, font: &FontSetting<'_>) -> Result<Arc<Terms>, Too
     ensures fault { IfErr result (λ fault. (fault ≡ ToolFault.OutOfMemory)
         ⊎ ((f : Refusal) × (fault ≡ ToolFault.Font f))) }
 {
-    let accepted = match Font::read(alloc, font.bytes, font.size) {
-        Ok(accepted) => accepted,
-        Err(FontFault::OutOfMemory) => return Err(ToolFault::OutOfMemory),
-        Err(fault) => return Err(ToolFault::Font(fault)),
-    };
+    let accepted = Font::read(alloc, font.bytes, font.size)?;
     Arc::new(alloc, Terms::new(accepted, font.limit, font.policy)).map_err(
         |_| ToolFault::OutOfMemory,
     )
@@ -85,12 +81,6 @@ pub(crate) fn with_font<S: Drop>(
     ensures fault { IfErr result (λ fault. (fault ≡ ToolFault.OutOfMemory)
         ⊎ ((f : Refusal) × (fault ≡ ToolFault.Font f))) }
 {
-    let terms = match terms_of(alloc, font) {
-        Ok(terms) => terms,
-        Err(fault) => return Err(fault),
-    };
-    match with_terms(alloc, sources, &terms) {
-        Ok(pairs) => Ok(pairs),
-        Err(_) => Err(ToolFault::OutOfMemory),
-    }
+    let terms = terms_of(alloc, font)?;
+    Ok(with_terms(alloc, sources, &terms)?)
 }

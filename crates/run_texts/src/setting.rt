@@ -46,15 +46,11 @@ where
     ensures font { (fault : Refusal) → result ≡ Err (ToolFault.Font fault) → ⊥ }
     ensures memory { result ≡ Err ToolFault.OutOfMemory → out.new ≡ out.old }
 {
-    let texts = match RunTexts::<K>::new(alloc, sources.len(), options.version) {
-        Ok(texts) => texts,
-        Err(_) => return Err(ToolFault::Run(RunFault::OutOfMemory)),
-    };
+    let texts = RunTexts::<K>::new(alloc, sources.len(), options.version).map_err(
+        |_| ToolFault::Run(RunFault::OutOfMemory),
+    )?;
     let (texts, ran) = run_blocks(rt, alloc, sources, options, texts);
-    let run = match ran {
-        Ok(run) => run,
-        Err(fault) => return Err(ToolFault::Run(fault)),
-    };
+    let run = ran.map_err(ToolFault::Run)?;
     // The collector fails only for lack of memory, and nothing is written yet.
     if let Some(_) = run.refusal {
         return Err(ToolFault::Run(RunFault::OutOfMemory));
@@ -133,8 +129,6 @@ where
     ensures run { (fault : Fault) → result ≡ Err (ToolFault.Run fault) → out.new ≡ out.old }
     ensures memory { result ≡ Err ToolFault.OutOfMemory → out.new ≡ out.old }
 {
-    match with_font(rt.alloc(), font, sources) {
-        Ok(sources) => set_each(rt, rt.alloc(), sources, options, out),
-        Err(fault) => Err(fault),
-    }
+    let sources = with_font(rt.alloc(), font, sources)?;
+    set_each(rt, rt.alloc(), sources, options, out)
 }

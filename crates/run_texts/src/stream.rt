@@ -141,15 +141,9 @@ impl<W: Write> Stream<'_, W> {
         ensures given { (start : StreamStart) → Gets (IsStreamOf W.contents start)
             self.old (lane, Answered block.now) (is_ok result) self.new }
     {
-        match self.make_room() {
-            Ok(()) => (),
-            Err(refusal) => return Err(refusal),
-        }
+        self.make_room()?;
         let mut count = self.counts[lane];
-        match count.push_block(block, &mut self.block) {
-            Ok(()) => (),
-            Err(refusal) => return Err(refusal),
-        }
+        count.push_block(block, &mut self.block)?;
         self.counts[lane] = count;
         Ok(())
     }
@@ -162,15 +156,9 @@ impl<W: Write> Stream<'_, W> {
         ensures given { (start : StreamStart) → Gets (IsStreamOf W.contents start)
             self.old (lane, Ended end) (is_ok result) self.new }
     {
-        match self.make_room() {
-            Ok(()) => (),
-            Err(refusal) => return Err(refusal),
-        }
+        self.make_room()?;
         let count = self.counts[lane];
-        match count.push_end(lane, end, self.version, &mut self.block) {
-            Ok(()) => (),
-            Err(refusal) => return Err(refusal),
-        }
+        count.push_end(lane, end, self.version, &mut self.block)?;
         Ok(())
     }
 

@@ -240,8 +240,6 @@ where
         (record { font = f; limit = font.now.limit; policy = font.now.policy }) sources.items)
         (W.contents out.old) (W.contents out.new)) }
 {
-    match with_font(rt.alloc(), font, sources) {
-        Ok(sources) => stream_each(rt, rt.alloc(), sources, options, out),
-        Err(fault) => Err(fault),
-    }
+    let sources = with_font(rt.alloc(), font, sources)?;
+    stream_each(rt, rt.alloc(), sources, options, out)
 }

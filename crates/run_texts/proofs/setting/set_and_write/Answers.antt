@@ -1,4 +1,4 @@
-use Rattle.std.proofs.Common.{rules, ◌≡◌, [], map, None, sum_by}
+use Rattle.std.proofs.Common.{arith, rules, ◌≡◌, [], map, Ok, sum_by}
 use Rattle.set_run.specs.Closed.{AreBack, IsWhole}
 use Rattle.run_texts.specs.BlockLanes.{IsCollectedIn}
 use Rattle.set_run.specs.declared.run_end.RunEnd.{RunEnd}
@@ -10,18 +10,18 @@ use Rattle.run_texts.proofs.setting.set_and_write.Goals as goal
 
 pub returns-clause-text : goal.returns-clause-text
 returns-clause-text g c =
-    let run : RunEnd g.row.S.Denot = c.in-Ok-ran.run' in
+    let run : RunEnd g.row.S.Denot = c.in_ok-run.run' in
     let after : RunTexts g.row.K.Denot = c.run_blocks-texts.result.0 in
-    let none : run.refusal ≡ None = search rules in
-    let whole : IsWhole run = rw c.in-Ok-ran.is at c.run_blocks-texts.ensures.whole in
+    let ran : c.run_blocks-texts.result.1 ≡ Ok run = grind arith in
+    let whole : IsWhole run = rw ran at c.run_blocks-texts.ensures.whole in
     let collected : IsCollectedIn g.S.LineSource.to_come g.S.LineSource.failed c.args.options.now.version
     (Given (λ (texts : RunTexts g.row.K.Denot). texts.version) (λ texts. texts.lanes.items) g.K.Kept.version g.K.Kept.lanes)
-    c.args.sources.items run c.in-Ok.texts after = rw c.in-Ok-ran.is at c.run_blocks-texts.ensures.collected in
-    let back : AreBack g.S.LineSource.origin c.args.sources.items (map (λ lane. lane.source) run.lanes.items) = rw c.in-Ok-ran.is at c.run_blocks-texts.ensures.sources in
-    let begun : Given (λ (texts : RunTexts g.row.K.Denot). texts.version) (λ texts. texts.lanes.items) g.K.Kept.version g.K.Kept.lanes c.in-Ok.texts [] = (search rules, search rules, search rules) in
+    c.args.sources.items run c.in_ok-texts.texts after = rw ran at c.run_blocks-texts.ensures.collected in
+    let back : AreBack g.S.LineSource.origin c.args.sources.items (map (λ lane. lane.source) run.lanes.items) = rw ran at c.run_blocks-texts.ensures.sources in
+    let begun : Given (λ (texts : RunTexts g.row.K.Denot). texts.version) (λ texts. texts.lanes.items) g.K.Kept.version g.K.Kept.lanes c.in_ok-texts.texts [] = (search rules, search rules, search rules) in
     let short : c.summary_of-summary.result ≡ summary_of_lanes (sum_by (λ text. text.refused) after.lanes.items) run.lanes.items =
-    let of = c.summary_of-summary.ensures (sum_by (λ text. text.refused) after.lanes.items) (search rules) in search rules in
+    let of = c.summary_of-summary.ensures (sum_by (λ text. text.refused) after.lanes.items) (cc) in cc in
     kept_run (λ (texts : RunTexts g.row.K.Denot). texts.version) (λ texts. texts.lanes.items) g.K.Kept.version
-    g.S.LineSource.to_come g.S.LineSource.failed g.S.LineSource.origin c.args.sources.items run c.in-Ok.texts after c.args.options.now.version g.K.Kept.lanes
+    g.S.LineSource.to_come g.S.LineSource.failed g.S.LineSource.origin c.args.sources.items run c.in_ok-texts.texts after c.args.options.now.version g.K.Kept.lanes
     (g.W.Write.contents c.args.out.now) (g.W.Write.contents c.write.new.out) c.summary_of-summary.result
-    c.requires.version (search rules) begun none whole collected back (search rules) short
+    c.requires.version (search rules) begun (search rules) whole collected back (search rules) short

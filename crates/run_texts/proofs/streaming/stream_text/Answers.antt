@@ -6,27 +6,27 @@ use Rattle.run_texts.specs.Streaming.{IsCutAtLine, IsCutShort}
 use Rattle.run_texts.proofs.StreamedSettingLemmas.{all_streamed_with, same_terms}
 use Rattle.run_texts.proofs.streaming.stream_text.Goals as goal
 
-pub returns-in-Ok-clause-text : goal.returns-in-Ok-clause-text
-returns-in-Ok-clause-text g c =
-    all_streamed_with g.S.LineSource.to_come g.S.LineSource.failed g.S.LineSource.origin c.args.font.now.bytes.now c.args.font.now.size c.in-Ok.ensures.terms.0 c.args.font.now.limit c.args.font.now.policy c.args.options.now.version
-    c.args.sources.items c.in-Ok.sources.items (g.W.Write.contents c.args.out.now) (g.W.Write.contents c.stream_each.new.out) c.stream_each.result
-    c.in-Ok.ensures.terms.1 c.in-Ok.ensures.terms.2 c.stream_each.ensures.text
+pub returns-clause-text : goal.returns-clause-text
+returns-clause-text g c =
+    all_streamed_with g.S.LineSource.to_come g.S.LineSource.failed g.S.LineSource.origin c.args.font.now.bytes.now c.args.font.now.size c.in_ok-sources.ensures.terms.0 c.args.font.now.limit c.args.font.now.policy c.args.options.now.version
+    c.args.sources.items c.in_ok-sources.sources.items (g.W.Write.contents c.args.out.now) (g.W.Write.contents c.stream_each.new.out) c.stream_each.result
+    c.in_ok-sources.ensures.terms.1 c.in_ok-sources.ensures.terms.2 c.stream_each.ensures.text
 
-pub returns-in-Ok-clause-write : goal.returns-in-Ok-clause-write
-returns-in-Ok-clause-write g c = λ is.
-    let terms : TermsValue = record { font = c.in-Ok.ensures.terms.0; limit = c.args.font.now.limit; policy = c.args.font.now.policy } in
-    let have : AllZip (HasTerms terms) c.args.sources.items c.in-Ok.sources.items = c.in-Ok.ensures.terms.2 in (
-      c.in-Ok.ensures.terms.0,
-      c.in-Ok.ensures.terms.1,
-      subst (λ sources. IsCutShort g.S.LineSource.to_come g.S.LineSource.failed c.args.options.now.version sources (g.W.Write.contents c.args.out.now) (g.W.Write.contents c.stream_each.new.out)) (same_terms terms c.args.sources.items c.in-Ok.sources.items have) (c.stream_each.ensures.write is),
+pub returns-clause-write : goal.returns-clause-write
+returns-clause-write g c = λ is.
+    let terms : TermsValue = record { font = c.in_ok-sources.ensures.terms.0; limit = c.args.font.now.limit; policy = c.args.font.now.policy } in
+    let have : AllZip (HasTerms terms) c.args.sources.items c.in_ok-sources.sources.items = c.in_ok-sources.ensures.terms.2 in (
+      c.in_ok-sources.ensures.terms.0,
+      c.in_ok-sources.ensures.terms.1,
+      subst (λ sources. IsCutShort g.S.LineSource.to_come g.S.LineSource.failed c.args.options.now.version sources (g.W.Write.contents c.args.out.now) (g.W.Write.contents c.stream_each.new.out)) (same_terms terms c.args.sources.items c.in_ok-sources.sources.items have) (c.stream_each.ensures.write is),
     )
 
-pub returns-in-Ok-clause-memory : goal.returns-in-Ok-clause-memory
-returns-in-Ok-clause-memory g c = λ is.
-    let terms : TermsValue = record { font = c.in-Ok.ensures.terms.0; limit = c.args.font.now.limit; policy = c.args.font.now.policy } in
-    let have : AllZip (HasTerms terms) c.args.sources.items c.in-Ok.sources.items = c.in-Ok.ensures.terms.2 in
+pub returns-clause-memory : goal.returns-clause-memory
+returns-clause-memory g c = λ is.
+    let terms : TermsValue = record { font = c.in_ok-sources.ensures.terms.0; limit = c.args.font.now.limit; policy = c.args.font.now.policy } in
+    let have : AllZip (HasTerms terms) c.args.sources.items c.in_ok-sources.sources.items = c.in_ok-sources.ensures.terms.2 in
     inr (
-      c.in-Ok.ensures.terms.0,
-      c.in-Ok.ensures.terms.1,
-      subst (λ sources. IsCutAtLine g.S.LineSource.to_come g.S.LineSource.failed c.args.options.now.version sources (g.W.Write.contents c.args.out.now) (g.W.Write.contents c.stream_each.new.out)) (same_terms terms c.args.sources.items c.in-Ok.sources.items have) (c.stream_each.ensures.memory is),
+      c.in_ok-sources.ensures.terms.0,
+      c.in_ok-sources.ensures.terms.1,
+      subst (λ sources. IsCutAtLine g.S.LineSource.to_come g.S.LineSource.failed c.args.options.now.version sources (g.W.Write.contents c.args.out.now) (g.W.Write.contents c.stream_each.new.out)) (same_terms terms c.args.sources.items c.in_ok-sources.sources.items have) (c.stream_each.ensures.memory is),
     )
