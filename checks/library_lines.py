@@ -11,6 +11,7 @@ import ctypes
 import functools
 import itertools
 import os
+import random
 import shutil
 import struct
 import sys
@@ -48,7 +49,7 @@ class Job:
 
 
 def jobs():
-    """The worked examples, texts at several sizes and limits, and texts that need long arrays."""
+    """The worked examples, texts at several sizes and limits, and texts that need long arrays or are long."""
     for font, options, cell, _ in worked_examples():
         given = dict(zip(options.split()[::2], options.split()[1::2]))
         yield Job(f"fonts/{font}.tfm", text_of(cell), int(given.get("--size", 0)),
@@ -64,6 +65,11 @@ def jobs():
         yield Job("fonts/right_boundary.tfm", text, missing=missing)
     for operation in (1, 2, 3, 7, 11):
         yield Job(f"fonts/ligature_{operation}.tfm", b"ab" * 1500 + b"\nab", 655361)
+    draw = random.Random(1)
+    long_fonts = "left_boundary right_boundary ligature_0 ligature_3 largest without_space no_characters".split()
+    for name, missing in itertools.product(["demo", *("fonts/" + name for name in long_fonts)], policies):
+        words = (draw.choices(b"abc f\x80", (20, 20, 20, 10, .1, .1), k=draw.randrange(90)) for _ in range(1700))
+        yield Job(name + ".tfm", b"\n".join(map(bytes, words)), missing=missing)
 
 
 JOBS = list(jobs())

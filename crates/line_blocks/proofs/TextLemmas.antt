@@ -9,7 +9,9 @@ use Rattle.set_line.specs.Terms.{TermsValue}
 use Rattle.set_line.specs.Answer.{outcome_of, refusal_of}
 use Rattle.set_line.specs.Record.{record_text}
 use Rattle.set_line.specs.declared.outcome.LineRefusal.TheVariants.{TooLong}
-use Rattle.set_line.specs.declared.outcome.Outcome.TheVariants.{Refused}
+use Rattle.set_line.specs.declared.outcome.Outcome.{Outcome}
+use Rattle.set_line.specs.declared.outcome.Outcome.TheVariants.{Set, Refused}
+use Rattle.pair_texts.specs.Sums.{is_refused}
 use Rattle.set_run.specs.Cuts.{cut}
 use Rattle.line_blocks.specs.Blocks.{BlockValue, lines_of_block, numbered_cuts}
 use Rattle.line_blocks.specs.BlockText.{MakerValue, block_text, is_refusal, line_records, outcome_in, record_in, records_in, refused_in}
@@ -56,3 +58,8 @@ records_in-cuts maker first (line ∷ lines) =
     ∙ ap (λ text. record_text maker.source first (outcome_of maker.terms line) maker.version ++ text) (records_in-cuts maker (first + 1) lines)
 
 pub ruleset records = (texts_joined, records_in-cuts)
+
+-- whether a result is a refusal, in the words of two crates
+pub same_refusal : (outcome : Outcome) → is_refused outcome ≡ is_refusal outcome
+same_refusal (Set items width steps) = refl
+same_refusal (Refused refusal) = refl

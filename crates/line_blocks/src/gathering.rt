@@ -28,6 +28,9 @@ pub struct LineBlocks<S> {
     /// The line number of the next line. It isn't right any more if it would have more than 64 bits.
     next: u64,
     most: usize,
+    /// The numbers of bytes and lines of the last block, if it has more than one line, and otherwise 0. The
+    /// next block begins with room for as many.
+    usual: (usize, usize),
     alloc: Global,
 }
 
@@ -48,6 +51,7 @@ impl<S: LineSource> LineBlocks<S> {
             held: None,
             next: 1,
             most,
+            usual: (0, 0),
             alloc,
         }
     }
@@ -88,7 +92,9 @@ impl<S: LineSource> LineBlocks<S> {
     {
         let first = if self.next == u64::MAX { 0 } else { self.next };
         self.next = first + 1;
-        LineBlock::of_line(self.alloc, first, line)
+        let mut block = LineBlock::of_line(self.alloc, first, line);
+        block.reserve(self.usual.0, self.usual.1);
+        block
     }
 
     /// Appends the next line to a block. Returns false, with the block unchanged, if there is no line or no
@@ -154,6 +160,11 @@ impl<S: LineSource> ItemSource<LineBlock> for LineBlocks<S> {
         };
         let mut block = self.begin(line);
         self.fill(&mut block);
+        self.usual = if block.len() > 1 {
+            (block.byte_len(), block.len())
+        } else {
+            (0, 0)
+        };
         Ok(Some(block))
     }
 

@@ -75,6 +75,16 @@ impl LineBlock {
         self.lengths.clear();
     }
 
+    /// Makes room for this many further bytes and lines. If an allocation fails, the room is smaller, and
+    /// `push_line` allocates what it needs.
+    pub fn reserve(&mut self, bytes: usize, lines: usize)
+        ensures { self.new ≡ self.old }
+    {
+        if self.bytes.reserve(bytes).is_ok() {
+            let _ = self.lengths.reserve(lines);
+        }
+    }
+
     /// Returns the number of lines.
     #[tactic(auto, using(crate::proofs::StoredLemmas::counted))]
     pub fn len(&self) -> usize

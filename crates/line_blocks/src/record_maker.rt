@@ -6,17 +6,12 @@ ghost use Rattle.line_blocks.specs.Visited.{value_of};
 
 use crate::{BlockLineRef, BlockText, LineBlock};
 use dealt_lanes::Shared;
-use lig_kern::Item;
 use line_lane::Making;
-use set_line::{
-    LineRefusal, OutOfMemory, Outcome, RecordNumber, RecordTexts, Terms, Version, record_outcome,
-    set_bytes,
-};
+use pair_texts::{LineWriter, RecordForm};
+use set_line::{LineRefusal, OutOfMemory, Outcome, RecordNumber, Terms, Version, record_outcome};
 use std::alloc::Global;
-use std::boxed::Box;
 use std::marker::Model;
 use std::sync::Arc;
-use tfm_tables::Font;
 
 /// Makes the records of the lines of a source. Memory that is used for each line, such as that of its items,
 /// is kept for the next one, so that most lines need no allocation.
@@ -25,10 +20,8 @@ pub struct RecordMaker {
     terms: Arc<Terms>,
     source: u64,
     version: Version,
-    /// The texts of the items of the font, once they were made.
-    texts: Option<Box<RecordTexts>>,
-    /// The memory for the items of a line.
-    list: Vec<Item>,
+    /// Sets the lines, and has the memory that is used for each of them.
+    writer: LineWriter,
     /// The number of bytes of the last text.
     last: usize,
     /// The allocator of the makers that `share` returns.
@@ -36,19 +29,15 @@ pub struct RecordMaker {
 }
 
 impl Model for RecordMaker {
+    ghost use Rattle.std.specs.Prelude.{◌≡◌};
     ghost use Rattle.std.specs.Arc.{arc_value};
     ghost use Rattle.line_blocks.specs.BlockText.{MakerValue};
 
     ghost Value = { MakerValue };
 
     ghost view = { λ m. record { terms = arc_value m.terms; source = m.source; version = m.version } };
-}
 
-/// Makes the texts of the items of a font. Returns `None` if an allocation fails. This isn't inlined, because
-/// a function with a table among its locals clears 8 KB when it is entered.
-#[inline(never)]
-fn texts_of(alloc: Global, font: &Font) -> Option<Box<RecordTexts>> {
-    Box::new(alloc, RecordTexts::new(font)).ok()
+    ghost invariant = { λ m. m.writer ≡ (arc_value m.terms).font };
 }
 
 /// Returns an empty text with room for this many bytes, or without any if an allocation fails.
@@ -67,41 +56,28 @@ impl RecordMaker {
     pub fn new(alloc: Global, terms: Arc<Terms>, source: u64, version: Version) -> Self
         ensures { result ≡ record { terms = arc_value terms; source = source; version = version } }
     {
+        let writer = LineWriter::new(alloc, terms.font());
         RecordMaker {
             terms,
             source,
             version,
-            texts: None,
-            list: Vec::new(alloc),
+            writer,
             last: 0,
             alloc,
         }
     }
 
-    /// Makes the texts of the items of the font, if they aren't made yet. After a failed allocation the
-    /// records are made without them: this takes longer, but the bytes are the same. No texts are made for
-    /// records in JSON, which don't use them.
-    fn prepare(&mut self, alloc: Global)
+    /// Prepares the writer, except for records in JSON, for which a table of texts isn't used.
+    fn prepare(&mut self)
         ensures { self.new ≡ self.old }
     {
-        if self.version != Version::Json && self.texts.is_none() {
-            self.texts = texts_of(alloc, self.terms.font());
-        }
-    }
-
-    /// Returns the result of a line. Memory of `list` is used for its items.
-    fn outcome(&mut self, line: BlockLineRef<'_>) -> Result<Outcome, OutOfMemory>
-        ensures kept { self.new ≡ self.old }
-        ensures made { IfOk result (λ outcome.
-            outcome ≡ outcome_in self.old.terms (value_of line.entry)) }
-    {
-        match line {
-            BlockLineRef::Whole(bytes) => set_bytes(&self.terms, bytes, &mut self.list),
-            BlockLineRef::TooLong(length) => Ok(Outcome::Refused(LineRefusal::TooLong(length))),
+        if self.version != Version::Json {
+            self.writer.prepare(self.terms.font());
         }
     }
 
     /// Appends the record of a line. Returns whether the line was refused.
+    #[tactic(auto, using(crate::proofs::TextLemmas::same_refusal))]
     fn append(
         &mut self,
         number: u64,
@@ -114,15 +90,22 @@ impl RecordMaker {
         ensures refused { IfOk result (λ refused.
             refused ≡ is_refusal (outcome_in self.old.terms (value_of line.entry))) }
     {
-        let outcome = self.outcome(line)?;
         let number = RecordNumber {
             source: self.source,
             line: number,
         };
-        record_outcome(text, number, &outcome, self.version, self.texts.as_deref())?;
-        let refused = matches!(outcome, Outcome::Refused(_));
-        outcome.give_back(&mut self.list);
-        Ok(refused)
+        let version = self.version;
+        match line {
+            BlockLineRef::Whole(bytes) => {
+                let form = RecordForm { number, version };
+                self.writer.append(&self.terms, bytes, form, text)
+            }
+            BlockLineRef::TooLong(length) => {
+                let outcome = Outcome::Refused(LineRefusal::TooLong(length));
+                record_outcome(text, number, &outcome, version, None)?;
+                Ok(true)
+            }
+        }
     }
 
     /// Appends the records of the lines of a block. Returns the number of refused lines.
@@ -153,7 +136,7 @@ impl RecordMaker {
         ensures made { IfOk result (λ text. text ≡ block_text self.old block) }
         ensures back { IfErr result (λ failed. failed.0 ≡ block) }
     {
-        self.prepare(alloc);
+        self.prepare();
         let mut text = with_room(alloc, self.last.saturating_add(self.last / 4));
         match self.append_all(&block, &mut text) {
             Ok(refused) => {

@@ -1,4 +1,4 @@
-//! Failed allocations of single calls of `tfm_tables`, `lig_kern` and `set_line`.
+//! Failed allocations of single calls of `tfm_tables`, `lig_kern`, `set_line` and `pair_texts`.
 #![tactic(auto)]
 
 #[cfg(test)]

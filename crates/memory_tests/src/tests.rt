@@ -9,6 +9,7 @@ mod records;
 mod slices;
 mod texts;
 mod words;
+mod writers;
 
 /// The outcome if the allocation that failed is one of those that make the arguments.
 const NO_ARGUMENTS: &str = "no memory for the arguments";

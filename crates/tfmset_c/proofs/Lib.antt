@@ -2,3 +2,4 @@ pub mod ReadingLemmas
 pub mod ArrayLemmas
 pub mod TextLemmas
 pub mod EncodedLemmas
+pub mod WidthLemmas

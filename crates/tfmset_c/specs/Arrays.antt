@@ -1,8 +1,8 @@
 -- Arrays of the caller, which are filled from the front.
 -- This project's own.
-use Rattle.std.specs.Prelude.{◌≡◌, ◌≢◌, ◌⊎◌, ℕ, ◌+◌, ◌-◌, ◌^◌, ◌<◌, ◌≤◌, List, ◌++◌, length, take, drop}
+use Rattle.std.specs.Prelude.{◌≡◌, ◌≢◌, ◌⊎◌, ℕ, ◌+◌, ◌-◌, ◌^◌, ◌<◌, ◌≤◌, List, [], ◌∷◌, ◌++◌, length, map, take, drop}
 use Rattle.set_line.specs.declared.outcome.Outcome.{Outcome}
-use Rattle.tfmset_c.specs.Texts.{counts_told, held, items_told, lines_told}
+use Rattle.tfmset_c.specs.Texts.{counts_told, held, item_told, items_in, items_told, line_told, lines_told}
 use Rattle.tfmset_c.specs.declared.lines.TfmsetCounts.{TfmsetCounts}
 use Rattle.tfmset_c.specs.declared.lines.TfmsetItem.{TfmsetItem}
 use Rattle.tfmset_c.specs.declared.lines.TfmsetLine.{TfmsetLine}
@@ -86,3 +86,8 @@ ArePut {T} put at at' now now' =
 pub record IsUnderWay (all to_come : List Outcome) (counts : TfmsetCounts) (lines_before lines : List TfmsetLine) (items_before items : List TfmsetItem) : Type 0 where
   pub item : IsPartly (items_told all) (items_told to_come) counts.items items_before items
   pub line : IsPartly (lines_told 0 all) (lines_told item.place to_come) counts.lines lines_before lines
+
+-- a line was written into an array of lines, and its items were counted, without an array for them
+pub record IsPutWithoutItems (outcome : Outcome) (at next : TfmsetCounts) (lines_before lines_after : List TfmsetLine) : Type 0 where
+  pub line : (before : ℕ) → at.items ≡ held before → ArePut (line_told before outcome ∷ []) at.lines next.lines lines_before lines_after
+  pub items : ArePut (map item_told (items_in outcome)) at.items next.items [] []

@@ -15,6 +15,7 @@ ghost use Rattle.std.specs.Prelude.{
   length,
   MatchOption,
 };
+ghost use Rattle.set_line.specs.Answer.{outcome_of};
 ghost use Rattle.set_line.specs.Record.{record_text};
 ghost use Rattle.tfm_tables.specs.Acceptance.{font_fault_of};
 ghost use Rattle.tfmset_c.specs.Arrays.{AreRecordsTold, IsFilled};
@@ -31,14 +32,17 @@ ghost use Rattle.tfmset_c.specs.Texts.{
 use crate::arrays::{has_room, put_bytes};
 use crate::reading::{DONE, MEMORY, NO_ROOM, RANGE};
 use crate::settings::{Text, in_range, terms_of};
-use set_line::{
-    OutOfMemory, Outcome, RecordNumber, RecordTexts, Version, first_line, record_outcome, set_bytes,
-};
+use pair_texts::{LineWriter, RecordForm};
+use set_line::{OutOfMemory, RecordNumber, RecordTexts, Terms, Version, first_line};
 use std::alloc::Global;
 
-/// The largest number of bytes in a text for which no item texts are made beforehand. Making them takes about
-/// as long as making the texts of this many items one by one.
+/// The largest number of bytes in a text for which no record texts are made beforehand: they take about as
+/// long to make as the texts of this many items one by one.
 const FEW_BYTES: usize = 2_048;
+
+/// The largest number of bytes in a text whose records are made without a table of texts: with an empty table
+/// they take about as long.
+const FEW_FOR_TABLE: usize = 12_288;
 
 /// The format of the records of a text, and the number of the first one.
 #[derive(Clone, Copy)]
@@ -71,19 +75,33 @@ pub fn texts_for(text: Text, version: Version) -> Option<RecordTexts> {
     Some(RecordTexts::new(text.terms.font()))
 }
 
-/// Replaces the contents of `made` with the record of an outcome.
+/// Returns a writer for the lines of a text, with a table of texts if `is_long`.
+pub fn writer_for(alloc: Global, text: Text, is_long: bool) -> LineWriter
+    ensures { result ≡ text.entry.terms.now.font }
+{
+    let mut writer = LineWriter::new(alloc, text.terms.font());
+    if is_long {
+        writer.prepare(text.terms.font());
+    }
+    writer
+}
+
+/// Replaces the contents of `made` with the record of a line.
 fn make_record(
+    writer: &mut LineWriter,
+    terms: &Terms,
+    line: &[u8],
+    form: RecordForm,
     made: &mut Vec<u8>,
-    number: RecordNumber,
-    outcome: &Outcome,
-    version: Version,
-    texts: Option<&RecordTexts>,
 ) -> Result<(), OutOfMemory>
-    ensures { OnOk result (made.new.items
-        ≡ record_text number.source number.line outcome.now version) }
+    requires { writer.old ≡ terms.now.font }
+    ensures font { writer.new ≡ writer.old }
+    ensures made { OnOk result (made.new.items ≡ record_text form.number.source form.number.line
+        (outcome_of terms.now line.now) form.version) }
 {
     made.clear();
-    record_outcome(made, number, outcome, version, texts)
+    writer.append(terms, line, form, made)?;
+    Ok(())
 }
 
 /// Sets the lines of a text, and writes their records into the array while there is room. Returns the number
@@ -102,17 +120,19 @@ fn fill_records(
         format.first.line format.version (outcomes_of text.entry.terms.now text.entry.bytes.now))
         records.old records.new) }
 {
-    let texts = texts_for(text, format.version);
-    let mut list = Vec::new(alloc);
+    let is_long = format.version != Version::Json && text.bytes.len() > FEW_FOR_TABLE;
+    let mut writer = writer_for(alloc, text, is_long);
     let mut made = Vec::new(alloc);
     let mut number = format.first;
     let mut at = 0;
     let mut rest = text.bytes;
     while let Some((line, more)) = first_line(rest) {
-        let outcome = set_bytes(text.terms, line, &mut list)?;
-        make_record(&mut made, number, &outcome, format.version, texts.as_ref())?;
+        let form = RecordForm {
+            number,
+            version: format.version,
+        };
+        make_record(&mut writer, text.terms, line, form, &mut made)?;
         at = put_bytes(records, at, &made);
-        outcome.give_back(&mut list);
         number.line += 1;
         rest = more;
     }

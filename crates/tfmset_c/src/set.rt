@@ -1,7 +1,10 @@
 //! `tfmset_set` and `tfmset_widths`: set the lines of a text into arrays of the caller.
 ghost use Rattle.std.specs.Prelude.{◌≡◌, ◌≢◌, ◌≤◌, ◌↔◌, ◌⊎◌, ℕ, ◌∷◌, [], map, None, IsSome, IfOk};
+ghost use Rattle.pair_texts.specs.Sums.{HasSums};
+ghost use Rattle.set_line.specs.Answer.{outcome_of};
+ghost use Rattle.set_line.specs.declared.outcome.Outcome.{Outcome as OutcomeValue};
 ghost use Rattle.tfm_tables.specs.Acceptance.{font_fault_of};
-ghost use Rattle.tfmset_c.specs.Arrays.{AreLinesTold, ArePut, AreTold, IsFilled};
+ghost use Rattle.tfmset_c.specs.Arrays.{AreLinesTold, ArePut, AreTold, IsFilled, IsPutWithoutItems};
 ghost use Rattle.tfmset_c.specs.Texts.{
   IsOutOfRange,
   counts_told,
@@ -18,10 +21,16 @@ ghost use Rattle.tfmset_c.specs.Texts.{
 use crate::arrays::{has_room, put_item, put_line};
 use crate::lines::{TfmsetCounts, TfmsetItem, TfmsetLine, item_for_c, line_for_c};
 use crate::reading::{DONE, MEMORY, NO_ROOM, RANGE};
+use crate::records::writer_for;
 use crate::settings::{Text, in_range, terms_of};
 use lig_kern::Item;
-use set_line::{OutOfMemory, Outcome, first_line, set_bytes};
+use pair_texts::{LineWriter, Sums};
+use set_line::{OutOfMemory, Outcome, Terms, first_line, set_bytes};
 use std::alloc::Global;
+
+/// The largest number of bytes in a text whose widths are computed without a table of texts: with an empty
+/// table they take about as long.
+const FEW_FOR_TABLE: usize = 65_536;
 
 /// Writes items, starting at index `first`, while there is room, and returns the index after all of them.
 fn put_items(items: &mut [TfmsetItem], first: usize, made: &[Item]) -> usize
@@ -116,6 +125,105 @@ fn set_into(
     NO_ROOM
 }
 
+/// Returns a line that is set, with these sums. `first` is the number of items before it.
+fn line_of_sums(sums: Sums, first: usize) -> TfmsetLine
+    ensures { (outcome : OutcomeValue) (before : ℕ) → HasSums outcome sums → first ≡ held before
+        → result ≡ line_told before outcome }
+{
+    TfmsetLine {
+        width: sums.width,
+        first,
+        count: sums.items,
+        place: 0,
+        steps: sums.steps,
+        refusal: 0,
+        code: 0,
+    }
+}
+
+/// Writes a line with these sums at the indices `at`, if there is room, and returns the indices after it.
+fn put_sums(lines: &mut [TfmsetLine], at: TfmsetCounts, sums: Sums) -> TfmsetCounts
+    ensures { (outcome : OutcomeValue) → HasSums outcome sums
+        → IsPutWithoutItems outcome at result lines.old lines.new }
+{
+    TfmsetCounts {
+        lines: put_line(lines, at.lines, line_of_sums(sums, at.items)),
+        items: at.items.saturating_add(sums.items),
+    }
+}
+
+/// Sets a line in the general way, writes it at the indices `at`, if there is room, and returns the indices
+/// after it. The memory of `list` is used for its items.
+fn put_width(
+    lines: &mut [TfmsetLine],
+    at: TfmsetCounts,
+    terms: &Terms,
+    line: &[u8],
+    list: &mut Vec<Item>,
+) -> Result<TfmsetCounts, OutOfMemory>
+    ensures { IfOk result (λ next.
+        IsPutWithoutItems (outcome_of terms.now line.now) at next lines.old lines.new) }
+{
+    let outcome = set_bytes(terms, line, list)?;
+    let mut none: [TfmsetItem; 0] = [];
+    let next = put_outcome(lines, &mut none, at, &outcome);
+    outcome.give_back(list);
+    Ok(next)
+}
+
+/// Sets lines of which only the sums are returned, with the memory that is used for each of them.
+#[derive(Drop)]
+struct WidthSetter {
+    writer: LineWriter,
+    list: Vec<Item>,
+}
+
+impl WidthSetter {
+    /// Sets a line, writes it at the indices `at`, if there is room, and returns the indices after it.
+    fn put(
+        &mut self,
+        terms: &Terms,
+        line: &[u8],
+        lines: &mut [TfmsetLine],
+        at: TfmsetCounts,
+    ) -> Result<TfmsetCounts, OutOfMemory>
+        requires { self.old.writer ≡ terms.now.font }
+        ensures font { self.new.writer ≡ self.old.writer }
+        ensures put { IfOk result (λ next.
+            IsPutWithoutItems (outcome_of terms.now line.now) at next lines.old lines.new) }
+    {
+        match self.writer.sums(terms, line) {
+            Some(sums) => Ok(put_sums(lines, at, sums)),
+            None => put_width(lines, at, terms, line, &mut self.list),
+        }
+    }
+}
+
+/// Sets the lines of a text, and writes the lines into the array while there is room. Returns the numbers of
+/// lines and items. If an allocation fails, the contents of the array are unspecified.
+fn fill_widths(
+    alloc: Global,
+    text: Text,
+    lines: &mut [TfmsetLine],
+) -> Result<TfmsetCounts, OutOfMemory>
+    ensures counts { IfOk result (λ counts.
+        counts ≡ counts_told (outcomes_of text.entry.terms.now text.entry.bytes.now)) }
+    ensures lines { IfOk result (λ counts.
+        IsFilled (lines_told 0 (outcomes_of text.entry.terms.now text.entry.bytes.now)) lines.old lines.new) }
+{
+    let mut setter = WidthSetter {
+        writer: writer_for(alloc, text, text.bytes.len() > FEW_FOR_TABLE),
+        list: Vec::new(alloc),
+    };
+    let mut counts = TfmsetCounts { lines: 0, items: 0 };
+    let mut rest = text.bytes;
+    while let Some((line, more)) = first_line(rest) {
+        counts = setter.put(text.terms, line, lines, counts)?;
+        rest = more;
+    }
+    Ok(counts)
+}
+
 /// Sets the lines of a text into the array `lines`. Returns: 0 after success; 2 if an allocation fails, with
 /// `counts` unchanged; 3 if the array is too short.
 fn set_widths(alloc: Global, text: Text, lines: &mut [TfmsetLine], counts: &mut TfmsetCounts) -> u32
@@ -123,8 +231,7 @@ fn set_widths(alloc: Global, text: Text, lines: &mut [TfmsetLine], counts: &mut 
     ensures told { AreLinesTold (outcomes_of text.entry.terms.now text.entry.bytes.now) result counts.old
         counts.new lines.old lines.new }
 {
-    let mut none: [TfmsetItem; 0] = [];
-    let Ok(told) = fill(alloc, text, lines, &mut none) else {
+    let Ok(told) = fill_widths(alloc, text, lines) else {
         return MEMORY;
     };
     *counts = told;

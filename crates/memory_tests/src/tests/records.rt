@@ -9,7 +9,7 @@ use std::alloc::Global;
 use std::process::Abort;
 use std::test::Fail;
 
-const EARLIER: &[u8] = b"1 end complete 0\n";
+pub const EARLIER: &[u8] = b"1 end complete 0\n";
 
 const FIRST: &[u8] = b"2:1 set 962560 c97=327680 k-40960 c99=491520 k20480 c98=163840\n";
 
@@ -28,7 +28,7 @@ fn ready(alloc: Global) -> Option<(Answer, Vec<u8>)> {
 
 /// The text has this record after the earlier bytes, if it was appended, and otherwise these bytes alone.
 /// Returns whether it was.
-fn has_record<R: Abort>(
+pub fn has_record<R: Abort>(
     rt: &R,
     recorded: Result<(), OutOfMemory>,
     text: &[u8],

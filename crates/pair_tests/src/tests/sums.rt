@@ -1,0 +1,234 @@
+//! Lines that are set by the texts of pairs. No contract states which lines these are, and a writer that sets
+//! every line in the general way would be proved as well.
+use super::writers::{LIMIT, Writer, terms_of};
+use pair_texts::Sums;
+use set_line::{Limit, Policy, Terms};
+use std::process::Abort;
+use std::sync::Arc;
+use std::test::Fail;
+use test_support::fonts::TWO_KERNS;
+use test_support::fonts::examples::{
+    boundary_exists, endless, indirect, left_boundary, ligature, plain, right_boundary,
+    without_space,
+};
+use test_support::fonts::lengths::SHORT;
+use tfm_tables::Font;
+use tfm_words::Size;
+
+/// A line, its width, its steps and the number of its items.
+type Row = (&'static str, i64, u32, usize);
+
+/// The same without the line.
+type Numbers = (i64, u32, usize);
+
+fn numbers_of(sums: Option<Sums>) -> Option<Numbers> {
+    let sums = sums?;
+    Some((sums.width, sums.steps, sums.items))
+}
+
+/// The line has these sums, both when its texts are made and when they are there.
+fn has_sums<R: Abort + AllocGlobal>(
+    rt: &R,
+    case: &str,
+    terms: Arc<Terms>,
+    line: &str,
+    wanted: Option<Numbers>,
+) {
+    let mut writer = Writer::prepared(rt.alloc(), terms);
+    for time in ["first", "second"] {
+        let found = numbers_of(writer.sums(line.as_bytes()));
+        assert_eq!(rt; found, wanted, "{case}, {line}, {time} time");
+    }
+}
+
+/// The lines have these sums with just their steps as the limit, and none with one step less.
+fn sets_each<R: Abort + AllocGlobal>(
+    rt: &R,
+    case: &str,
+    file: &[u8],
+    rows: &[Row],
+) -> Result<(), Fail> {
+    for (line, width, steps, items) in rows {
+        let wanted = Some((*width, *steps, *items));
+        for (limit, policy) in [((*steps).max(1), Policy::Refuse), (LIMIT, Policy::Skip)] {
+            let terms = terms_of(rt, file, limit, policy)?;
+            has_sums(rt, case, terms, line, wanted);
+        }
+        let limit = steps.saturating_sub(1);
+        if limit > 0 {
+            let terms = terms_of(rt, file, limit, Policy::Skip)?;
+            has_sums(rt, case, terms, line, None);
+        }
+    }
+    Ok(())
+}
+
+static PLAIN: [Row; 10] = [
+    ("", 0, 0, 0),
+    ("a", 327_680, 1, 1),
+    ("abc", 983_040, 3, 3),
+    (" ", 218_453, 0, 1),
+    ("  ", 436_906, 0, 2),
+    (" ab ", 928_426, 2, 4),
+    ("a b", 709_973, 2, 3),
+    ("a b  c", 1_638_399, 3, 6),
+    ("ab abc", 1_693_013, 5, 6),
+    ("aaaa", 1_310_720, 4, 4),
+];
+
+static NO_SPACE: [Row; 2] = [("  ", 0, 0, 2), ("a b", 491_520, 2, 3)];
+
+static KERNS: [Row; 2] = [("ab", 450_560, 2, 3), ("ab ab", 1_119_573, 4, 7)];
+
+/// Between two a is a kern of 160.
+static SAME: [Row; 2] = [("aa", 655_520, 2, 3), ("aaa", 983_360, 3, 5)];
+
+static INDIRECT: [Row; 1] = [("ab", 491_520, 2, 2)];
+
+#[test]
+fn plain_lines_and_kerns_are_set_by_pairs(rt: HostRuntime) -> Result<(), Fail> {
+    sets_each(&rt, "the plain font", &plain(rt.alloc())?, &PLAIN)?;
+    sets_each(&rt, "no space", &without_space(rt.alloc())?, &NO_SPACE)?;
+    sets_each(&rt, "two kerns", &TWO_KERNS.file(rt.alloc())?, &KERNS)?;
+    sets_each(&rt, "a before a", &SHORT.file(rt.alloc())?, &SAME)?;
+    sets_each(&rt, "indirect", &indirect(rt.alloc())?, &INDIRECT)
+}
+
+/// a and b become c, with a kern between c and b.
+static LIGATURES: [Row; 6] = [
+    ("ab", 491_520, 2, 1),
+    ("acb", 962_560, 3, 5),
+    ("abb", 675_840, 3, 3),
+    ("ab ab", 1_201_493, 4, 3),
+    (" ab ", 928_426, 2, 3),
+    ("aab", 819_200, 3, 2),
+];
+
+/// a and a become a.
+static SAME_LIGATURE: [Row; 2] = [("aa", 327_680, 2, 1), ("aaa a", 873_813, 4, 3)];
+
+/// The kerns of the font in which c comes between a and b, and both stay.
+static NO_LIGATURE: [Row; 2] = [("acb", 962_560, 3, 5), ("ba", 491_520, 2, 2)];
+
+#[test]
+fn ligatures_that_replace_both_are_set_by_pairs(rt: HostRuntime) -> Result<(), Fail> {
+    for op in [0, 4, 8, 12, 127] {
+        let case = format!(in rt.alloc(); "operation {op}")?;
+        sets_each(&rt, &case, &ligature(rt.alloc(), op)?, &LIGATURES)?;
+    }
+    sets_each(&rt, "a from aa", &endless(rt.alloc(), 0)?, &SAME_LIGATURE)?;
+    sets_each(&rt, "no ligature", &ligature(rt.alloc(), 3)?, &NO_LIGATURE)
+}
+
+/// After b is a kern before the boundary; c has none.
+static RIGHT_BOUNDARY: [Row; 7] = [
+    ("", 0, 0, 0),
+    ("  ", 436_906, 0, 2),
+    ("b", 184_320, 2, 2),
+    ("c", 491_520, 2, 1),
+    ("bc", 655_360, 3, 2),
+    ("cb", 675_840, 3, 3),
+    ("b b", 587_093, 4, 5),
+];
+
+static BOUNDARY_EXISTS: [Row; 3] = [
+    ("a", 286_720, 2, 2),
+    ("ab", 450_560, 3, 3),
+    ("a ", 505_173, 2, 3),
+];
+
+/// Before a, at the left boundary, is a kern.
+static LEFT_BOUNDARY: [Row; 3] = [
+    ("a", 286_720, 1, 2),
+    (" a", 505_173, 1, 3),
+    ("ab", 450_560, 2, 3),
+];
+
+#[test]
+fn kerns_at_boundaries_are_set_by_pairs(rt: HostRuntime) -> Result<(), Fail> {
+    let file = right_boundary(rt.alloc())?;
+    sets_each(&rt, "a right boundary", &file, &RIGHT_BOUNDARY)?;
+    let file = boundary_exists(rt.alloc())?;
+    sets_each(&rt, "a boundary that exists", &file, &BOUNDARY_EXISTS)?;
+    let file = left_boundary(rt.alloc())?;
+    sets_each(&rt, "a left boundary", &file, &LEFT_BOUNDARY)
+}
+
+/// The lines have no sums.
+fn sets_none<R: Abort + AllocGlobal>(
+    rt: &R,
+    case: &str,
+    file: &[u8],
+    lines: &[&str],
+) -> Result<(), Fail> {
+    for line in lines {
+        for policy in [Policy::Refuse, Policy::Skip] {
+            let terms = terms_of(rt, file, LIMIT, policy)?;
+            has_sums(rt, case, terms, line, None);
+        }
+    }
+    Ok(())
+}
+
+#[test]
+fn other_lines_are_left_to_the_general_way(rt: HostRuntime) -> Result<(), Fail> {
+    for op in [1, 2, 3, 5, 6, 7, 11] {
+        let case = format!(in rt.alloc(); "operation {op}")?;
+        let lines = ["ab", "ab c", "c ab"];
+        sets_none(&rt, &case, &ligature(rt.alloc(), op)?, &lines)?;
+    }
+    let file = right_boundary(rt.alloc())?;
+    sets_none(&rt, "the right boundary", &file, &["a", "a b", "b a"])?;
+    let file = left_boundary(rt.alloc())?;
+    sets_none(&rt, "the left boundary", &file, &["b", "a b", "ba"])?;
+    let file = plain(rt.alloc())?;
+    sets_none(
+        &rt,
+        "missing",
+        &file,
+        &["d", "ad", "da", "a d", "a\t", "\0"],
+    )
+}
+
+/// The longest line that is set has 65,535 bytes.
+#[test]
+fn a_line_that_is_too_long_has_no_sums(rt: HostRuntime) -> Result<(), Fail> {
+    let terms = terms_of(&rt, &plain(rt.alloc())?, LIMIT, Policy::Refuse)?;
+    let line = "a".repeat(rt.alloc(), 65_535)?;
+    let wanted = Some((21_474_508_800, 65_535, 65_535));
+    has_sums(&rt, "65,535 bytes", terms.clone()?, &line, wanted);
+    let line = "a".repeat(rt.alloc(), 65_536)?;
+    has_sums(&rt, "65,536 bytes", terms, &line, None);
+    Ok(())
+}
+
+#[test]
+fn a_writer_that_is_not_prepared_has_no_sums(rt: HostRuntime) -> Result<(), Fail> {
+    let terms = terms_of(&rt, &plain(rt.alloc())?, LIMIT, Policy::Refuse)?;
+    let mut writer = Writer::new(rt.alloc(), terms);
+    for line in ["", " ", "a", "a b"] {
+        let found = numbers_of(writer.sums(line.as_bytes()));
+        assert_eq!(rt; found, None, "{line}");
+    }
+    Ok(())
+}
+
+/// A character, a kern and a space that are added by one byte, with a text of 32 bytes and of 33.
+#[test]
+fn a_text_of_32_bytes_fits_in_the_table(rt: HostRuntime) -> Result<(), Fail> {
+    let cases = [
+        // " c97=14999998 k-1875000 s9999989"
+        (29_999_999, Some((23_124_987, 2, 3))),
+        // " c97=67108856 k-8388607 s44739194"
+        (134_217_727, None),
+    ];
+    let file = boundary_exists(rt.alloc())?;
+    for (size, wanted) in cases {
+        let font = Font::read(rt.alloc(), &file, Size::new(size))?;
+        let limit = Limit::new(LIMIT).ok_or("a limit out of range")?;
+        let terms = Arc::new(rt.alloc(), Terms::new(font, limit, Policy::Refuse))?;
+        let case = format!(in rt.alloc(); "size {size}")?;
+        has_sums(&rt, &case, terms, "a ", wanted);
+    }
+    Ok(())
+}

@@ -1,0 +1,67 @@
+//! The table of texts of a font. A cell is made when it is first needed.
+ghost use Rattle.std.specs.Prelude.{◌≡◌, ◌<◌, IfOk};
+
+use crate::cells::{UNKNOWN, make_cell};
+use crate::pair::Pair;
+use std::alloc::{AllocError, Global};
+use std::marker::Model;
+use std::snapshot::Snapshot;
+use tfm_tables::Font;
+
+/// The number of cells: 257 columns, for the bytes and for the end of a line, of 256 rows.
+const CELLS: usize = 65_792;
+
+/// The table of texts of a font.
+#[derive(Drop)]
+pub(crate) struct PairTable {
+    /// The cells, column by column.
+    pub cells: Vec<u16>,
+    /// The pairs whose indices are in cells.
+    pub pairs: Vec<Pair>,
+    /// For the proof: the font.
+    font: Snapshot<Font>,
+}
+
+impl Model for PairTable {
+    ghost use Rattle.tfm_tables.specs.Font.{FontValue};
+    ghost use Rattle.pair_texts.specs.Cells.{AreCells};
+
+    ghost Value = { FontValue };
+
+    ghost view = { λ t. t.font.value };
+
+    ghost invariant = { λ t. AreCells t.font.value t.pairs.items t.cells.items };
+}
+
+impl PairTable {
+    /// Returns the table of a font, in which no cell is made yet. Fails if an allocation fails.
+    #[tactic(auto, using(crate::proofs::CellLemmas::tables))]
+    pub fn new(alloc: Global, font: &Font) -> Result<Self, AllocError>
+        ensures { IfOk result (λ table. table ≡ font.now) }
+    {
+        let mut cells = Vec::new(alloc);
+        cells.resize(CELLS, UNKNOWN as u16)?;
+        Ok(PairTable {
+            cells,
+            pairs: Vec::new(alloc),
+            font: Snapshot::of(font),
+        })
+    }
+
+    /// Makes the cell of a row for a byte, or for the end of the line, unless it is made already.
+    #[tactic(auto, using(crate::proofs::CellLemmas::tables))]
+    pub fn make(&mut self, font: &Font, row: usize, next: usize)
+        requires font { self.old ≡ font.now }
+        requires row { row < 256 }
+        requires next { next < 257 }
+        ensures { self.new ≡ self.old }
+    {
+        let at = 256 * next + row;
+        if usize::from(self.cells[at]) != UNKNOWN {
+            return;
+        }
+        let alloc = *self.pairs.allocator();
+        let cell = make_cell(alloc, font, row as u8, next, &mut self.pairs);
+        self.cells[at] = cell as u16;
+    }
+}
