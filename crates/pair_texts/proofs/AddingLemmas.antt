@@ -3,6 +3,7 @@ use Rattle.std.proofs.Common.{◌≡◌, List, [], ◌∷◌, ◌++◌, ℤ, pos
 use Rattle.std.proofs.Math.IntN.{+ℤ_assoc, +ℤ_idl}
 use Rattle.std.proofs.lemmas.Grind.{flat_map-append}
 use Rattle.std.proofs.lemmas.Int.{to_z-of_z}
+use Rattle.std.proofs.lemmas.List.{drop_all}
 use Rattle.tfm_tables.specs.Font.{FontValue}
 use Rattle.lig_kern.specs.declared.symbol.Symbol.{Symbol}
 use Rattle.lig_kern.specs.declared.symbol.Symbol.TheVariants.{Left, Char, Right}
@@ -26,6 +27,6 @@ pub total_width-append : (xs ys : List Item) → total_width (xs ++ ys) ≡ tota
 total_width-append [] ys = sym (+ℤ_idl (total_width ys))
 total_width-append (x ∷ xs) ys = ap (λ w. amount_of x +ℤ w) (total_width-append xs ys) ∙ sym (+ℤ_assoc (amount_of x) (total_width xs) (total_width ys))
 
-pub ruleset texts = (flat_map-append, append_assoc)
+pub ruleset texts = (flat_map-append, append_assoc, append-nil, drop_all)
 
 pub ruleset widths = (total_width-append, to_z-of_z)

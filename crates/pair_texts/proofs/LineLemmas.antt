@@ -166,7 +166,7 @@ runs_onward policy font limit used before (run ∷ next ∷ runs) set is within 
 
 -- ---- no byte is refused
 
-byte_kept : (policy : Policy) (font : FontValue) (current : Symbol) (byte : ℕ) (added : Addition) → byte_added font current byte ≡ Some added
+pub byte_kept : (policy : Policy) (font : FontValue) (current : Symbol) (byte : ℕ) (added : Addition) → byte_added font current byte ≡ Some added
     → is_refused policy font byte ≡ false
 unfolding byte_added
 byte_kept Skip font current byte added is = refl

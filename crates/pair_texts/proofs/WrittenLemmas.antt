@@ -1,7 +1,8 @@
 -- A line that is written up to a byte, and the next byte.
-use Rattle.std.proofs.Common.{◌≡◌, ℕ, suc, ◌+◌, ◌^◌, ◌<◌, ◌≤◌, pos, ◌+ℤ◌, ◌≤ℤ◌, Bool, false, List, [], ◌∷◌, ◌++◌, length, take, drop, drop-cons, get_or, flat_map, Option, Some, None, arith, refl, ap, sym, subst, ◌∙◌, append_assoc, length-append}
+use Rattle.std.proofs.Common.{◌≡◌, ℕ, suc, ◌+◌, ◌^◌, ◌<◌, ◌≤◌, pos, ◌+ℤ◌, ◌≤ℤ◌, Bool, true, false, List, [], ◌∷◌, ◌++◌, length, take, drop, drop-cons, length-drop, get_or, flat_map, Option, Some, None, arith, refl, ap, sym, subst, ◌∙◌, append_assoc, length-append}
 use Rattle.std.specs.Prelude.{◌==◌, IfSome}
 use Rattle.std.proofs.Math.Seq.{take-append_seam}
+use Rattle.std.specs.List.{position, position_or_len}
 use Rattle.std.specs.Option.{option_and_then, option_map}
 use Rattle.std.proofs.lemmas.Grind.{flat_map-append}
 use Rattle.std.proofs.lemmas.Int.{ints}
@@ -10,20 +11,24 @@ use Rattle.lig_kern.specs.declared.symbol.Symbol.{Symbol}
 use Rattle.lig_kern.specs.declared.symbol.Symbol.TheVariants.{Left}
 use Rattle.lig_kern.specs.Result.{Setting}
 use Rattle.set_line.specs.Onward.{setting}
-use Rattle.set_line.specs.declared.outcome.Outcome.TheVariants.{Set}
+use Rattle.set_line.specs.declared.outcome.LineRefusal.TheVariants.{Missing}
+use Rattle.set_line.specs.declared.outcome.Outcome.TheVariants.{Refused, Set}
+use Rattle.set_line.specs.declared.policy.Policy.{Policy}
+use Rattle.set_line.specs.declared.policy.Policy.TheVariants.{Refuse, Skip}
 use Rattle.set_line.specs.declared.version.Version.{Version}
-use Rattle.set_line.specs.Answer.{outcome_of}
+use Rattle.set_line.specs.Answer.{is_neither, outcome_of}
 use Rattle.set_line.specs.Record.{item_text, outcome_text, record_text, words_record}
+use Rattle.set_line.specs.Stops.{is_refused}
 use Rattle.set_line.specs.Terms.{TermsValue}
 use Rattle.set_line.specs.Width.{total_width}
 use Rattle.pair_texts.specs.Additions.{Addition, added_of, after, alone, byte_added, ending_of, set_from}
 use Rattle.pair_texts.specs.Cells.{symbol_of}
-use Rattle.pair_texts.specs.Sums.{IsSet}
 use Rattle.pair_texts.specs.Words.{IsInWords, result_of, words_of}
-use Rattle.pair_texts.specs.Written.{IsSetAs, IsSmall, IsStep, IsWhole, IsWritten, joined}
+use Rattle.pair_texts.specs.Written.{HasNoneBefore, IsSetAs, IsSmall, IsStep, IsWhole, IsWritten, joined}
 use Rattle.pair_texts.specs.declared.written.Written.{Written}
 use Rattle.pair_texts.proofs.AddingLemmas.{total_width-append}
-use Rattle.pair_texts.proofs.LineLemmas.{line_outcome}
+use Rattle.pair_texts.proofs.LineLemmas.{byte_kept, line_outcome}
+use Rattle.set_line.proofs.AnswerLemmas.{outcome_missing}
 
 -- the next column is that of a byte
 byte_next : (font : FontValue) (current : Symbol) (next : ℕ) → next < 256 → added_of font current next ≡ byte_added font current next
@@ -44,6 +49,7 @@ pub written_first : (font : FontValue) (line room : List ℕ) (start : Written) 
 written_first font line room start row none steps count width = record {
   set = setting 0 [];
   onward = joined_none (set_from font Left line) ∙ ap (λ symbol. option_map (joined (setting 0 [])) (set_from font symbol line)) (sym (ap symbol_of row));
+  none = omega arith;
   text = ap (λ n. take n room) none;
   width = width;
   steps = steps;
@@ -74,6 +80,8 @@ written_byte : (font : FontValue) (line old new : List ℕ) (byte : ℕ) (rest :
 unfolding set_from
 written_byte font line old new byte rest before next way step small =
     let first : byte_added font (symbol_of before.row) byte ≡ Some step.added = sym (byte_next font (symbol_of before.row) byte small) ∙ step.is in
+    let further : position_or_len (is_neither font) (byte ∷ rest) ≡ 1 + position_or_len (is_neither font) rest =
+    rw (byte_kept Refuse font (symbol_of before.row) byte step.added first) refl in
     record {
       set = joined way.set (alone step.added);
       onward =
@@ -81,6 +89,7 @@ written_byte font line old new byte rest before next way step small =
           ∙ ap (λ o. option_map (joined way.set) (option_and_then (λ added. option_map (after added) (set_from font added.current rest)) o)) first
           ∙ ap (λ symbol. option_map (joined way.set) (option_map (after step.added) (set_from font symbol rest))) (sym (step.row small))
           ∙ joined_twice way.set step.added (set_from font (symbol_of next.row) rest);
+      none = omega (arith, way.none, further);
       text = added_text font line (byte ∷ rest) old new byte before next way step;
       width = added_width font line (byte ∷ rest) old new byte before next way step;
       steps = step.steps ∙ ap (λ n. n + step.added.steps) way.steps;
@@ -149,12 +158,6 @@ step_back font before next size old middle new behind None long kept step = tt
 step_back font before next size old middle new behind (Some after) long kept step =
     rw (whole_slice size new behind long) (step_through font before next old middle new after step kept)
 
--- the last step of a line
-pub ends_whole : (font : FontValue) (line rest old new : List ℕ) (before : Written) (r : Option Written) → IsWritten font line rest old before → rest ≡ []
-    → IfSome r (IsStep font before 256 old new) → IfSome r (IsWhole font line new)
-ends_whole font line rest old new before None way none step = tt
-ends_whole font line rest old new before (Some whole) way none step = written_whole font line rest old new before whole way none step
-
 -- a line that is written and within the limit
 pub set_as : (terms : TermsValue) (line room : List ℕ) (whole : Written) → IsWhole terms.font line room whole → length line ≤ 65535
     → whole.steps ≤ terms.limit → IsSetAs terms line room whole
@@ -168,6 +171,20 @@ set_as terms line room whole is short within = record {
   count = is.count;
 }
 
+-- a line whose first missing character is at this index, if missing characters are refused
+pub missing_here : (terms : TermsValue) (line : List ℕ) (at code : ℕ) → length line ≤ 65535 → HasNoneBefore terms.font line (drop at line)
+    → at < length line → code ≡ get_or line at 0 → is_refused terms.policy terms.font code ≡ true → outcome_of terms line ≡ Refused (Missing at code)
+missing_here terms line at code short none within is refused = by terms.policy refl refused
+  where
+    by : (policy : Policy) → terms.policy ≡ policy → is_refused policy terms.font code ≡ true → outcome_of terms line ≡ Refused (Missing at code)
+    by Skip skips refused = absurd (cc)
+    by Refuse refuses missing =
+        let behind : drop at line ≡ code ∷ drop (suc at) line = drop-cons line at 0 within ∙ ap (λ c. c ∷ drop (suc at) line) (sym is) in
+        let first : position_or_len (is_neither terms.font) (drop at line) ≡ 0 = rw behind (rw missing refl) in
+        let here : position_or_len (is_neither terms.font) line ≡ at = omega (arith, none, first, length-drop at line) in
+        let found : position (is_neither terms.font) line ≡ Some at = grind (arith, here) in
+        sym (outcome_missing terms line (Missing at code) short (rw refuses (rw found (ap (λ c. Some (Missing at c)) is))))
+
 pub ruleset wholes = (set_as)
 
 -- the record of such a line
@@ -180,8 +197,3 @@ recorded terms line room before after whole source place version with_steps is f
     ∙ ap (λ text. before ++ words_of with_steps source place whole text) is.text
     ∙ ap (λ outcome. before ++ words_record with_steps source place outcome) (sym is.outcome)
     ∙ ap (λ text. before ++ text) (sym (form source place (outcome_of terms line)))
-
--- the result of such a line
-pub is_set : (terms : TermsValue) (line room : List ℕ) (whole : Written) → IsSetAs terms line room whole → IsSet (outcome_of terms line)
-is_set terms line room whole is =
-    (record { width = whole.width; steps = whole.steps; items = whole.count }, record { items = is.items; is = is.outcome; count = is.count })

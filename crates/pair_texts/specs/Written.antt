@@ -1,12 +1,13 @@
 -- How far a line is written. This project's own.
 use Rattle.std.specs.Prelude.{◌≡◌, ℕ, ◌+◌, ◌*◌, ◌<◌, ◌≤◌, ◌^◌, pos, ◌+ℤ◌, ◌≤ℤ◌, List, ◌++◌, length, take, flat_map, Some}
+use Rattle.std.specs.List.{position_or_len}
 use Rattle.std.specs.Option.{option_map}
 use Rattle.tfm_tables.specs.Font.{FontValue}
 use Rattle.lig_kern.specs.declared.symbol.Symbol.TheVariants.{Left}
 use Rattle.lig_kern.specs.declared.item.Item.{Item}
 use Rattle.lig_kern.specs.Result.{Setting}
 use Rattle.set_line.specs.declared.outcome.Outcome.TheVariants.{Set}
-use Rattle.set_line.specs.Answer.{outcome_of}
+use Rattle.set_line.specs.Answer.{is_neither, outcome_of}
 use Rattle.set_line.specs.Onward.{setting}
 use Rattle.set_line.specs.Record.{item_text}
 use Rattle.set_line.specs.Terms.{TermsValue}
@@ -29,10 +30,16 @@ pub record IsStep (font : FontValue) (before : Written) (next : ℕ) (old new : 
 abbrev pub joined : Setting → Setting → Setting
 joined set more = setting (set.steps + more.steps) (set.items ++ more.items)
 
+-- each byte before the rest of a line is a space or a character: the first byte that is neither is as far
+-- from the end of the line as the first such byte of the rest
+abbrev pub HasNoneBefore : FontValue → List ℕ → List ℕ → Type 0
+HasNoneBefore font line rest = position_or_len (is_neither font) line + length rest ≡ length line + position_or_len (is_neither font) rest
+
 -- a line is written up to one of its bytes, and `rest` is still to be written
 pub record IsWritten (font : FontValue) (line rest room : List ℕ) (so_far : Written) : Type 0 where
   pub set : Setting
   pub onward : set_from font Left line ≡ option_map (joined set) (set_from font (symbol_of so_far.row) rest)
+  pub none : HasNoneBefore font line rest
   pub text : take so_far.length room ≡ flat_map item_text set.items
   pub width : so_far.width ≡ total_width set.items
   pub steps : so_far.steps ≡ set.steps

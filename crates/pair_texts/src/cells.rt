@@ -9,7 +9,6 @@ use crate::adding::{Added, END, added_at, symbol_in};
 use crate::making::make_pair;
 use crate::pair::Pair;
 use lig_kern::Symbol;
-use std::alloc::Global;
 use tfm_tables::Font;
 
 /// The largest number of pairs. They take at most 1 MiB. A cell with a number of at least `UNKNOWN` isn't an
@@ -103,13 +102,7 @@ fn push_pair(pairs: &mut Vec<Pair>, pair: Pair) -> usize
 /// Appends a pair to `pairs` if the cell needs one. The cell is one for the general way if it isn't defined
 /// what the byte adds, if the text is too long, if there are too many pairs, or if an allocation fails.
 #[tactic(auto, using(crate::proofs::CellLemmas::made))]
-pub(crate) fn make_cell(
-    alloc: Global,
-    font: &Font,
-    row: u8,
-    next: usize,
-    pairs: &mut Vec<Pair>,
-) -> usize
+pub(crate) fn make_cell(font: &Font, row: u8, next: usize, pairs: &mut Vec<Pair>) -> usize
     requires next { next < 257 }
     requires few { vec_len pairs.old ≤ 65024 }
     ensures front { StaysInFront pairs.old.items pairs.new.items }
@@ -121,9 +114,9 @@ pub(crate) fn make_cell(
         return GENERAL;
     };
     if is_in_own_row(&added, next) {
-        return match make_pair(alloc, &added) {
-            Ok(Some(pair)) => push_pair(pairs, pair),
-            Ok(None) | Err(_) => GENERAL,
+        return match make_pair(&added) {
+            Some(pair) => push_pair(pairs, pair),
+            None => GENERAL,
         };
     }
     match ligature_row(&added) {

@@ -1,12 +1,12 @@
-ghost use Rattle.std.specs.Prelude.{◌≡◌, ◌++◌, IfOk, IfSome, MatchBool, OnErr, OnOk, true, false};
+ghost use Rattle.std.specs.Prelude.{◌≡◌, ◌++◌, IfOk, IfSome, MatchOption, OnErr, OnOk};
 ghost use Rattle.set_line.specs.Answer.{outcome_of};
 ghost use Rattle.set_line.specs.Record.{record_text};
-ghost use Rattle.pair_texts.specs.Sums.{HasSums, is_refused};
+ghost use Rattle.pair_texts.specs.Sums.{IsInSums, is_refused};
 
 use crate::of_font::PairTexts;
 use crate::{RecordForm, Sums};
 use lig_kern::Item;
-use set_line::{OutOfMemory, Outcome, RecordTexts, Terms, record_outcome, set_bytes};
+use set_line::{LineRefusal, OutOfMemory, Outcome, RecordTexts, Terms, record_outcome, set_bytes};
 use std::alloc::Global;
 use std::boxed::Box;
 use std::marker::Model;
@@ -111,26 +111,27 @@ impl LineWriter {
         Ok(refused)
     }
 
-    /// Sets a line with the table of texts, and appends its record. Returns false, with nothing appended, if
-    /// the line has to be set in the general way.
+    /// Sets a line with the table of texts, and appends its record. Returns whether the line is refused. Returns
+    /// `None`, with nothing appended, if the line has to be set in the general way.
     fn append_by_pairs(
         &mut self,
         terms: &Terms,
         line: &[u8],
         form: RecordForm,
         out: &mut Vec<u8>,
-    ) -> Result<bool, OutOfMemory>
+    ) -> Result<Option<bool>, OutOfMemory>
         requires { self.old ≡ terms.now.font }
         ensures font { self.new ≡ self.old }
-        ensures appended { IfOk result (λ is_set. MatchBool is_set (out.new.items ≡ out.old.items
-            ++ record_text form.number.source form.number.line (outcome_of terms.now line.now) form.version)
-            (out.new.items ≡ out.old.items)) }
-        ensures set { IfOk result (λ is_set. is_set ≡ true → is_refused (outcome_of terms.now line.now) ≡ false) }
+        ensures appended { IfOk result (λ refused. MatchOption refused (out.new.items ≡ out.old.items)
+            (λ refused. out.new.items ≡ out.old.items
+            ++ record_text form.number.source form.number.line (outcome_of terms.now line.now) form.version)) }
+        ensures refused { IfOk result (λ refused. IfSome refused (λ refused.
+            refused ≡ is_refused (outcome_of terms.now line.now))) }
         ensures unchanged { OnErr result (out.new.items ≡ out.old.items) }
     {
         match &mut self.texts {
             Some(texts) => texts.record(terms, line, form, out),
-            None => Ok(false),
+            None => Ok(None),
         }
     }
 
@@ -150,19 +151,19 @@ impl LineWriter {
         ensures refused { IfOk result (λ refused. refused ≡ is_refused (outcome_of terms.now line.now)) }
         ensures unchanged { OnErr result (out.new.items ≡ out.old.items) }
     {
-        if self.append_by_pairs(terms, line, form, out)? {
-            return Ok(false);
+        match self.append_by_pairs(terms, line, form, out)? {
+            Some(refused) => Ok(refused),
+            None => self.append_generally(terms, line, form, out),
         }
-        self.append_generally(terms, line, form, out)
     }
 
     /// Returns the width, the number of steps and the number of items of a line that is set with the table of
-    /// texts. Returns `None` if the writer isn't prepared, or if the line is refused or has to be set in the
-    /// general way.
-    pub fn sums(&mut self, terms: &Terms, line: &[u8]) -> Option<Sums>
+    /// texts, or the refusal of a line for a missing character. Returns `None` if the writer isn't prepared, or if
+    /// the line has to be set in the general way.
+    pub fn sums(&mut self, terms: &Terms, line: &[u8]) -> Option<Result<Sums, LineRefusal>>
         requires { self.old ≡ terms.now.font }
         ensures font { self.new ≡ self.old }
-        ensures sums { IfSome result (HasSums (outcome_of terms.now line.now)) }
+        ensures sums { IfSome result (IsInSums (outcome_of terms.now line.now)) }
     {
         match &mut self.texts {
             Some(texts) => texts.sums(terms, line),

@@ -1,5 +1,5 @@
 //! Makes the texts of pairs.
-ghost use Rattle.std.specs.Prelude.{◌≡◌, ◌≤◌, ◌^◌, ◌++◌, pos, ◌+ℤ◌, ◌≤ℤ◌, flat_map, length, take, IfOk, IfSome, OnOk};
+ghost use Rattle.std.specs.Prelude.{◌≡◌, ◌≤◌, ◌+◌, ◌^◌, ◌++◌, pos, ◌+ℤ◌, ◌≤ℤ◌, drop, flat_map, length, take, IfSome};
 ghost use Rattle.std.specs.Option.{option_to_list};
 ghost use Rattle.set_line.specs.Record.{item_text};
 ghost use Rattle.set_line.specs.Width.{total_width};
@@ -8,34 +8,45 @@ ghost use Rattle.pair_texts.specs.Cells.{IsTextOf};
 use crate::adding::{Added, Passed};
 use crate::pair::{BYTES, Pair};
 use lig_kern::Item;
-use std::alloc::{AllocError, Global};
-use tfm_words::push_number;
+use set_line::write_item_text;
 
-/// Appends the text of an item in a record.
-#[tactic(auto, unfolding(set_line::specs::Record::item_text))]
-fn push_item(text: &mut Vec<u8>, item: Item) -> Result<(), AllocError>
-    ensures { OnOk result (text.new.items ≡ text.old.items ++ item_text item) }
+/// The largest number of bytes in the texts of three items.
+const ROOM: usize = 51;
+
+/// Writes the text of an item, if there is one, so that it ends at the index `end`, and returns its start.
+fn write_some(text: &mut [u8], end: usize, item: Option<Item>) -> usize
+    requires { (17 ≤ end) × (end ≤ length text.old) }
+    ensures place { (result ≤ end) × (end ≤ result + 17) }
+    ensures written { drop result text.new
+        ≡ flat_map item_text (option_to_list item) ++ drop end text.old }
 {
     match item {
-        Item::Char { code, width } => {
-            push_number(text, b" c", code)?;
-            push_number(text, b"=", width)
-        }
-        Item::Kern(amount) => push_number(text, b" k", amount),
-        Item::Space(amount) => push_number(text, b" s", amount),
-        Item::Skipped(code) => push_number(text, b" m", code),
+        Some(item) => write_item_text(text, end, &item),
+        None => end,
     }
 }
 
-/// Appends the text of an item, if there is one.
-fn push_some(text: &mut Vec<u8>, item: Option<Item>) -> Result<(), AllocError>
-    ensures { OnOk result (text.new.items
-        ≡ text.old.items ++ flat_map item_text (option_to_list item)) }
+/// Writes the texts of the items that a step past a symbol adds, so that they end at the index `end`, and
+/// returns their start.
+#[tactic(auto, using(crate::proofs::AddingLemmas::texts))]
+fn write_passed(text: &mut [u8], end: usize, passed: &Passed) -> usize
+    requires { (34 ≤ end) × (end ≤ length text.old) }
+    ensures place { (result ≤ end) × (end ≤ result + 34) }
+    ensures written { drop result text.new ≡ flat_map item_text passed.now.items ++ drop end text.old }
 {
-    match item {
-        Some(item) => push_item(text, item),
-        None => Ok(()),
-    }
+    let kern_at = write_some(text, end, passed.kern);
+    write_some(text, kern_at, passed.character)
+}
+
+/// Writes the texts of the items that a byte adds, so that they end at the index 51, and returns their start.
+#[tactic(auto, using(crate::proofs::AddingLemmas::texts))]
+fn write_added(text: &mut [u8], added: &Added) -> usize
+    requires { 51 ≤ length text.old }
+    ensures place { result ≤ 51 }
+    ensures written { drop result text.new ≡ flat_map item_text added.now.items ++ drop 51 text.old }
+{
+    let space_at = write_some(text, ROOM, added.space);
+    write_passed(text, space_at, &added.passed)
 }
 
 /// Returns the amount that an item adds to the width, in sp.
@@ -62,16 +73,6 @@ fn padded(text: &[u8]) -> Option<[u8; BYTES]>
     let mut bytes = [0; BYTES];
     bytes[..text.len()].copy_from_slice(text);
     Some(bytes)
-}
-
-/// Appends the texts of the items that a byte adds.
-#[tactic(auto, using(crate::proofs::AddingLemmas::texts))]
-fn push_added(text: &mut Vec<u8>, added: &Added) -> Result<(), AllocError>
-    ensures { OnOk result (text.new.items ≡ text.old.items ++ flat_map item_text added.now.items) }
-{
-    push_some(text, added.passed.character)?;
-    push_some(text, added.passed.kern)?;
-    push_some(text, added.space)
 }
 
 /// Returns the width of the items that a step past a symbol adds, in sp.
@@ -105,24 +106,24 @@ fn count_of(added: &Added) -> usize
 }
 
 /// Returns the pair of what a byte adds, or `None` if its text is too long.
-pub(crate) fn make_pair(alloc: Global, added: &Added) -> Result<Option<Pair>, AllocError>
-    ensures { IfOk result (λ pair. IfSome pair (IsTextOf added.now)) }
+#[tactic(auto, using(crate::proofs::AddingLemmas::texts))]
+pub(crate) fn make_pair(added: &Added) -> Option<Pair>
+    ensures { IfSome result (IsTextOf added.now) }
 {
-    let mut text = Vec::new(alloc);
-    push_added(&mut text, added)?;
-    let Some(bytes) = padded(&text) else {
-        return Ok(None);
-    };
+    let mut room = [0; ROOM];
+    let start = write_added(&mut room, added);
+    let text = &room[start..];
+    let bytes = padded(text)?;
     let steps = added.passed.steps;
     // For the proof: no byte adds more than one step, but the type of the number doesn't state this.
     if steps > 1 {
-        return Ok(None);
+        return None;
     }
-    Ok(Some(Pair {
+    Some(Pair {
         text: bytes,
         length: text.len(),
         steps: usize::from(steps),
         count: count_of(added),
         width: added_width(added),
-    }))
+    })
 }

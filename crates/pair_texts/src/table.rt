@@ -60,8 +60,7 @@ impl PairTable {
         if usize::from(self.cells[at]) != UNKNOWN {
             return;
         }
-        let alloc = *self.pairs.allocator();
-        let cell = make_cell(alloc, font, row as u8, next, &mut self.pairs);
+        let cell = make_cell(font, row as u8, next, &mut self.pairs);
         self.cells[at] = cell as u16;
     }
 }

@@ -1,6 +1,6 @@
 //! Writes the items of a line.
-ghost use Rattle.std.specs.Prelude.{◌≡◌, ◌≤◌, ◌<◌, ◌+◌, ◌^◌, pos, ◌+ℤ◌, ◌≤ℤ◌, drop, length, take, vec_len, IfSome, OnOk};
-ghost use Rattle.pair_texts.specs.Written.{IsSmall, IsStep, IsWhole, IsWritten};
+ghost use Rattle.std.specs.Prelude.{◌≡◌, ◌≤◌, ◌<◌, ◌+◌, ◌^◌, pos, ◌+ℤ◌, ◌≤ℤ◌, drop, length, take, vec_len, IfErr, IfOk, IfSome};
+ghost use Rattle.pair_texts.specs.Written.{HasNoneBefore, IsSmall, IsStep, IsWhole, IsWritten};
 
 use crate::adding::END;
 use crate::pair::BYTES;
@@ -109,20 +109,22 @@ fn step_anew(
     )
 }
 
-/// Writes the texts of the items of a line to `room`. Returns `None` if the line has to be set in the general
-/// way.
+/// Writes the texts of the items of a line to `room`. The error means that the line has to be set in the
+/// general way, or is refused: it is the index of a byte, or the length of the line, for which nothing is
+/// written. Each byte before it is a space or a character.
 #[tactic(auto, using(crate::proofs::WrittenLemmas::steps))]
 pub(crate) fn write_line(
     table: &mut PairTable,
     font: &Font,
     line: &[u8],
     room: &mut Vec<u8>,
-) -> Option<Written>
+) -> Result<Written, usize>
     requires font { table.old ≡ font.now }
     requires short { length line.now ≤ 65535 }
     ensures table { table.new ≡ table.old }
-    ensures whole { IfSome result (IsWhole font.now line.now room.new.items) }
-    ensures within { IfSome result (λ whole. whole.length ≤ vec_len room.new) }
+    ensures whole { IfOk result (IsWhole font.now line.now room.new.items) }
+    ensures within { IfOk result (λ whole. whole.length ≤ vec_len room.new) }
+    ensures stopped { IfErr result (λ at. HasNoneBefore font.now line.now (drop at line.now)) }
 {
     let mut at = 0;
     let mut so_far = START;
@@ -131,9 +133,15 @@ pub(crate) fn write_line(
         at = reached;
         so_far = after;
         if at < line.len() {
-            so_far = step_anew(table, font, usize::from(line[at]), so_far, room)?;
+            let Some(next) = step_anew(table, font, usize::from(line[at]), so_far, room) else {
+                return Err(at);
+            };
+            so_far = next;
             at += 1;
         }
     }
-    step_anew(table, font, END, so_far, room)
+    match step_anew(table, font, END, so_far, room) {
+        Some(whole) => Ok(whole),
+        None => Err(at),
+    }
 }

@@ -72,12 +72,6 @@ pub outcome_set_as : (terms : TermsValue) (line : List ℕ) (steps : ℕ) (befor
 outcome_set_as terms line steps before items shown width none empty reached same sum =
     ap (λ xs. Set xs width steps) same ∙ ap (λ w. Set items w steps) sum ∙ outcome_set terms line steps before items none empty reached
 
-pub outcome_steps_as : (terms : TermsValue) (line : List ℕ) (before : List Item) (limit : ℕ) → refusal_of terms line ≡ None → before ≡ []
-    → onward terms.font terms.limit (setting 0 before) (portions_of terms.policy terms.font line) ≡ None
-    → limit ≡ terms.limit → Refused (Steps limit) ≡ outcome_of terms line
-outcome_steps_as terms line before limit none empty reached same =
-    ap (λ n. Refused (Steps n)) same ∙ outcome_steps terms line before none empty reached
-
 -- so few items that their width fits
 pub few_enough : (line : List ℕ) (steps : ℕ) (before items : List Item) → length line ≤ 65535 → before ≡ []
     → steps ≤ 16777216 → length items + 2 * 0 ≤ length before + 2 * steps + length line → length items ≤ 2147483648

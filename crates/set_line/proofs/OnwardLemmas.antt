@@ -1,7 +1,6 @@
 -- Portions, set one after the other.
 use Rattle.std.proofs.Common.{◌≡◌, ℕ, suc, zero, ◌+◌, ◌-◌, ◌*◌, ◌<◌, ◌≤◌, Bool, true, false, List, [], ◌∷◌, ◌++◌, length, map, take, drop, Option, Some, None, arith, refl, ap, sym, subst, ◌∙◌, append_assoc, append-nil, length-append, length-drop}
-use Rattle.std.specs.Prelude.{not, filter, nat_le, slice_index, Result, IfOk, if◌then◌else◌}
-use Rattle.std.specs.declared.alloc.AllocError.{AllocError}
+use Rattle.std.specs.Prelude.{not, filter, nat_le, slice_index, if◌then◌else◌}
 use Rattle.std.specs.Option.{option_and_then, option_map}
 use Rattle.std.specs.List.{slice_split, position_or_len}
 use Rattle.std.proofs.lemmas.Int.{to_z-of_z}
@@ -17,7 +16,7 @@ use Rattle.set_line.specs.declared.policy.Policy.{Policy}
 use Rattle.set_line.specs.declared.policy.Policy.TheVariants.{Skip}
 use Rattle.set_line.specs.Pieces.{Portion, space, skipped, is_space, is_missing, run_of, portions_of, portions_of_piece, portions_of_pieces, pieces_of}
 use Rattle.set_line.specs.Answer.{setting_of, within_limit, all_of, together, setting_of_portions}
-use Rattle.set_line.specs.Onward.{setting, added, onward, Reaches}
+use Rattle.set_line.specs.Onward.{setting, added, onward}
 
 -- ---- one after the other
 
@@ -289,11 +288,6 @@ setting_is font limit portions = together-onward font limit 0 [] portions (omega
     by (Some settings) = ap (λ n. within_limit limit (setting n (together settings).items)) (omega arith)
 
 -- ---- what a body answers
-
-pub reaches_from : (a b : Option Setting) (r : Result (Option ℕ) AllocError) (items : List Item) → a ≡ b
-    → IfOk r (λ steps. Reaches b steps items) → IfOk r (λ steps. Reaches a steps items)
-reaches_from a b r items same reached =
-    let family : Option Setting → Type 0 = λ s. IfOk r (λ steps. Reaches s steps items) in subst family (sym same) reached
 
 -- one byte and one item more
 pub one_more : (first used steps : ℕ) (before items middle after : List Item) (item : Item) (part behind rest whole : List ℕ)

@@ -1,6 +1,6 @@
 -- Where a piece of a line ends while it is set: at a space, and at a byte that is refused.
 -- This project's own representation; Answer defines which line is refused.
-use Rattle.std.specs.Prelude.{◌≡◌, ℕ, ◌<◌, ◌||◌, Bool, false, List, get_or}
+use Rattle.std.specs.Prelude.{ℕ, ◌||◌, Bool, false, List}
 use Rattle.std.specs.List.{list_any}
 use Rattle.tfm_tables.specs.Font.{FontValue}
 use Rattle.set_line.specs.declared.policy.Policy.{Policy}
@@ -20,7 +20,3 @@ has_refused policy font line = list_any (is_refused policy font) line
 -- whether a piece ends at a byte
 abbrev pub is_stop : Policy → FontValue → ℕ → Bool
 is_stop policy font byte = is_space byte || is_refused policy font byte
-
--- a table of 256 entries contains `is_stop` of each byte
-abbrev pub AreStops : Policy → FontValue → List Bool → Type 0
-AreStops policy font stops = (byte : ℕ) → byte < 256 → get_or stops byte false ≡ is_stop policy font byte

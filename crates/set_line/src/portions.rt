@@ -9,7 +9,7 @@ ghost use Rattle.set_line.specs.declared.policy.Policy.TheVariants.{Skip as Skip
 ghost use Rattle.set_line.specs.Pieces.{is_missing, portions_of, portions_of_piece, run_of, skipped, space};
 ghost use Rattle.set_line.specs.Answer.{is_neither as is_neither_in};
 ghost use Rattle.set_line.specs.Onward.{AreFew, Reaches, onward, setting};
-ghost use Rattle.set_line.specs.Stops.{has_refused, is_stop};
+ghost use Rattle.set_line.specs.Stops.{has_refused, is_stop as is_stop_in};
 
 use crate::{Policy, Terms};
 use lig_kern::{Item, WordFault, few_items, result_within_limit, set_word};
@@ -52,14 +52,22 @@ pub(crate) fn find_unknown(font: &Font, bytes: &[u8]) -> usize
     bytes.len()
 }
 
+/// Returns whether a piece ends at a byte: at a space and, if missing characters are refused, at each of
+/// them.
+fn is_stop(terms: &Terms, byte: u8) -> bool
+    ensures { result ≡ is_stop_in terms.now.policy terms.now.font byte }
+{
+    byte == b' ' || (terms.policy() == Policy::Refuse && !terms.font().exists(byte))
+}
+
 /// Returns the index of the first byte at which a piece ends, or the length if there is none.
 #[tactic(auto, using(crate::proofs::PlaceLemmas::places))]
 fn find_stop(terms: &Terms, bytes: &[u8]) -> usize
-    ensures place { result ≡ position_or_len (is_stop terms.now.policy terms.now.font) bytes.now }
+    ensures place { result ≡ position_or_len (is_stop_in terms.now.policy terms.now.font) bytes.now }
     ensures within { result ≤ length bytes.now }
 {
     for i in 0..bytes.len() {
-        if terms.stops_at(bytes[i]) {
+        if is_stop(terms, bytes[i]) {
             return i;
         }
     }

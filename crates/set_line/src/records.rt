@@ -4,4 +4,4 @@ mod json_text;
 pub(crate) mod ready;
 pub(crate) mod record_number;
 pub(crate) mod record_text;
-mod writing;
+pub(crate) mod writing;

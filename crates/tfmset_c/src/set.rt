@@ -152,6 +152,14 @@ fn put_sums(lines: &mut [TfmsetLine], at: TfmsetCounts, sums: Sums) -> TfmsetCou
     }
 }
 
+/// Writes a line at the indices `at`, if there is room, and returns the indices after it.
+fn put_line_alone(lines: &mut [TfmsetLine], at: TfmsetCounts, outcome: &Outcome) -> TfmsetCounts
+    ensures { IsPutWithoutItems outcome.now at result lines.old lines.new }
+{
+    let mut none: [TfmsetItem; 0] = [];
+    put_outcome(lines, &mut none, at, outcome)
+}
+
 /// Sets a line in the general way, writes it at the indices `at`, if there is room, and returns the indices
 /// after it. The memory of `list` is used for its items.
 fn put_width(
@@ -165,8 +173,7 @@ fn put_width(
         IsPutWithoutItems (outcome_of terms.now line.now) at next lines.old lines.new) }
 {
     let outcome = set_bytes(terms, line, list)?;
-    let mut none: [TfmsetItem; 0] = [];
-    let next = put_outcome(lines, &mut none, at, &outcome);
+    let next = put_line_alone(lines, at, &outcome);
     outcome.give_back(list);
     Ok(next)
 }
@@ -193,7 +200,8 @@ impl WidthSetter {
             IsPutWithoutItems (outcome_of terms.now line.now) at next lines.old lines.new) }
     {
         match self.writer.sums(terms, line) {
-            Some(sums) => Ok(put_sums(lines, at, sums)),
+            Some(Ok(sums)) => Ok(put_sums(lines, at, sums)),
+            Some(Err(refusal)) => Ok(put_line_alone(lines, at, &Outcome::Refused(refusal))),
             None => put_width(lines, at, terms, line, &mut self.list),
         }
     }

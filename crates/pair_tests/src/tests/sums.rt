@@ -1,8 +1,7 @@
 //! Lines that are set by the texts of pairs. No contract states which lines these are, and a writer that sets
 //! every line in the general way would be proved as well.
 use super::writers::{LIMIT, Writer, terms_of};
-use pair_texts::Sums;
-use set_line::{Limit, Policy, Terms};
+use set_line::{Limit, LineRefusal, Policy, Terms};
 use std::process::Abort;
 use std::sync::Arc;
 use std::test::Fail;
@@ -21,9 +20,14 @@ type Row = (&'static str, i64, u32, usize);
 /// The same without the line.
 type Numbers = (i64, u32, usize);
 
-fn numbers_of(sums: Option<Sums>) -> Option<Numbers> {
-    let sums = sums?;
-    Some((sums.width, sums.steps, sums.items))
+/// The sums of a line or its refusal, or `None` if the line has to be set in the general way.
+type Found = Option<Result<Numbers, LineRefusal>>;
+
+fn sums_of(writer: &mut Writer, line: &str) -> Found {
+    Some(match writer.sums(line.as_bytes())? {
+        Ok(sums) => Ok((sums.width, sums.steps, sums.items)),
+        Err(refusal) => Err(refusal),
+    })
 }
 
 /// The line has these sums, both when its texts are made and when they are there.
@@ -32,11 +36,11 @@ fn has_sums<R: Abort + AllocGlobal>(
     case: &str,
     terms: Arc<Terms>,
     line: &str,
-    wanted: Option<Numbers>,
+    wanted: Found,
 ) {
     let mut writer = Writer::prepared(rt.alloc(), terms);
     for time in ["first", "second"] {
-        let found = numbers_of(writer.sums(line.as_bytes()));
+        let found = sums_of(&mut writer, line);
         assert_eq!(rt; found, wanted, "{case}, {line}, {time} time");
     }
 }
@@ -49,7 +53,7 @@ fn sets_each<R: Abort + AllocGlobal>(
     rows: &[Row],
 ) -> Result<(), Fail> {
     for (line, width, steps, items) in rows {
-        let wanted = Some((*width, *steps, *items));
+        let wanted = Some(Ok((*width, *steps, *items)));
         for (limit, policy) in [((*steps).max(1), Policy::Refuse), (LIMIT, Policy::Skip)] {
             let terms = terms_of(rt, file, limit, policy)?;
             has_sums(rt, case, terms, line, wanted);
@@ -181,13 +185,36 @@ fn other_lines_are_left_to_the_general_way(rt: HostRuntime) -> Result<(), Fail> 
     sets_none(&rt, "the right boundary", &file, &["a", "a b", "b a"])?;
     let file = left_boundary(rt.alloc())?;
     sets_none(&rt, "the left boundary", &file, &["b", "a b", "ba"])?;
+    Ok(())
+}
+
+/// Lines of the plain font, each with the offset of its first missing character, and this character.
+static MISSING: [(&str, usize, u8); 7] = [
+    ("d", 0, b'd'),
+    ("ad", 1, b'd'),
+    ("da d", 0, b'd'),
+    ("a d", 2, b'd'),
+    ("abc  |d", 5, b'|'),
+    (" a\t", 2, b'\t'),
+    ("\0", 0, 0),
+];
+
+/// A missing character is refused even if the steps before it are above the limit. If missing characters are
+/// skipped, the line is left to the general way.
+#[test]
+fn a_missing_character_is_refused_where_it_is_met(rt: HostRuntime) -> Result<(), Fail> {
     let file = plain(rt.alloc())?;
-    sets_none(
-        &rt,
-        "missing",
-        &file,
-        &["d", "ad", "da", "a d", "a\t", "\0"],
-    )
+    for (line, offset, code) in MISSING {
+        let wanted = Some(Err(LineRefusal::Missing { offset, code }));
+        let terms = terms_of(&rt, &file, 1, Policy::Refuse)?;
+        has_sums(&rt, "refused", terms, line, wanted);
+        let terms = terms_of(&rt, &file, LIMIT, Policy::Skip)?;
+        has_sums(&rt, "skipped", terms, line, None);
+    }
+    let file = ligature(rt.alloc(), 3)?;
+    let terms = terms_of(&rt, &file, LIMIT, Policy::Refuse)?;
+    has_sums(&rt, "after another ligature", terms, "ab d", None);
+    Ok(())
 }
 
 /// The longest line that is set has 65,535 bytes.
@@ -195,10 +222,12 @@ fn other_lines_are_left_to_the_general_way(rt: HostRuntime) -> Result<(), Fail> 
 fn a_line_that_is_too_long_has_no_sums(rt: HostRuntime) -> Result<(), Fail> {
     let terms = terms_of(&rt, &plain(rt.alloc())?, LIMIT, Policy::Refuse)?;
     let line = "a".repeat(rt.alloc(), 65_535)?;
-    let wanted = Some((21_474_508_800, 65_535, 65_535));
+    let wanted = Some(Ok((21_474_508_800, 65_535, 65_535)));
     has_sums(&rt, "65,535 bytes", terms.clone()?, &line, wanted);
-    let line = "a".repeat(rt.alloc(), 65_536)?;
-    has_sums(&rt, "65,536 bytes", terms, &line, None);
+    for part in ["a", "d"] {
+        let line = part.repeat(rt.alloc(), 65_536)?;
+        has_sums(&rt, "65,536 bytes", terms.clone()?, &line, None);
+    }
     Ok(())
 }
 
@@ -207,8 +236,7 @@ fn a_writer_that_is_not_prepared_has_no_sums(rt: HostRuntime) -> Result<(), Fail
     let terms = terms_of(&rt, &plain(rt.alloc())?, LIMIT, Policy::Refuse)?;
     let mut writer = Writer::new(rt.alloc(), terms);
     for line in ["", " ", "a", "a b"] {
-        let found = numbers_of(writer.sums(line.as_bytes()));
-        assert_eq!(rt; found, None, "{line}");
+        assert_eq!(rt; sums_of(&mut writer, line), None, "{line}");
     }
     Ok(())
 }
@@ -218,7 +246,7 @@ fn a_writer_that_is_not_prepared_has_no_sums(rt: HostRuntime) -> Result<(), Fail
 fn a_text_of_32_bytes_fits_in_the_table(rt: HostRuntime) -> Result<(), Fail> {
     let cases = [
         // " c97=14999998 k-1875000 s9999989"
-        (29_999_999, Some((23_124_987, 2, 3))),
+        (29_999_999, Some(Ok((23_124_987, 2, 3)))),
         // " c97=67108856 k-8388607 s44739194"
         (134_217_727, None),
     ];

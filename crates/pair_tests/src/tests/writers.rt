@@ -1,6 +1,6 @@
 //! Writers of records, each with settings of the same font.
 use pair_texts::{LineWriter, RecordForm, Sums};
-use set_line::{Limit, OutOfMemory, Policy, Terms};
+use set_line::{Limit, LineRefusal, OutOfMemory, Policy, Terms};
 use std::alloc::Global;
 use std::marker::Model;
 use std::sync::Arc;
@@ -55,8 +55,8 @@ impl Writer {
         made
     }
 
-    /// Returns the sums of a line.
-    pub fn sums(&mut self, line: &[u8]) -> Option<Sums> {
+    /// Returns the sums of a line, or its refusal.
+    pub fn sums(&mut self, line: &[u8]) -> Option<Result<Sums, LineRefusal>> {
         self.writer.sums(&self.terms, line)
     }
 

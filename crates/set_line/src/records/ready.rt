@@ -5,7 +5,7 @@ ghost use Rattle.lig_kern.specs.declared.item.Item.TheVariants.{Char, Space};
 ghost use Rattle.set_line.specs.Record.{item_text};
 ghost use Rattle.set_line.specs.Ready.{AreByCode};
 
-use crate::records::writing::write_made;
+use crate::records::writing::write_item_text;
 use lig_kern::Item;
 use tfm_tables::Font;
 
@@ -45,7 +45,7 @@ impl ReadyText {
         ensures { drop result.start result.bytes ≡ item_text item }
     {
         let mut bytes = [0; BYTES];
-        let start = write_made(&mut bytes, BYTES, &item);
+        let start = write_item_text(&mut bytes, BYTES, &item);
         ReadyText {
             start: start as u8,
             bytes,
@@ -112,18 +112,6 @@ impl RecordTexts {
             space,
             space_text: ReadyText::new(Item::Space(space)),
         }
-    }
-
-    /// Returns whether each character and the space of a font has the width here that it has in the font.
-    /// Then a second table for this font would be the same.
-    pub fn has_widths_of(&self, font: &Font) -> bool {
-        for code in 0..256u16 {
-            let width = font.metrics(code as u8).map_or(0, |metrics| metrics.width);
-            if self.chars[usize::from(code)].width != width {
-                return false;
-            }
-        }
-        self.space == font.space()
     }
 
     /// Returns the text of an item if it was made beforehand.

@@ -59,9 +59,10 @@ fn write_amount(text: &mut [u8], end: usize, amount: i32) -> usize
     write_byte(text, start, b'-')
 }
 
-/// Makes the text of an item so that it ends at `end`, and returns its start.
+/// Writes the text of an item, as formats 1 and 2 have it, so that it ends at the index `end`, and returns the
+/// index of its first byte. No text has more than 17 bytes.
 #[tactic(auto, using(crate::proofs::WritingLemmas::items), unfolding(crate::specs::Record::item_text))]
-pub(crate) fn write_made(text: &mut [u8], end: usize, item: &Item) -> usize
+pub fn write_item_text(text: &mut [u8], end: usize, item: &Item) -> usize
     requires { (17 ≤ end) × (end ≤ length text.old) }
     ensures place { (result ≤ end) × (end ≤ result + 17) }
     ensures written { drop result text.new ≡ item_text item.now ++ drop end text.old }
@@ -104,7 +105,7 @@ fn write_item(text: &mut [u8], end: usize, item: &Item, texts: Option<&RecordTex
 {
     match ready_text(texts, item) {
         Some(made) => made.write(text, end),
-        None => write_made(text, end, item),
+        None => write_item_text(text, end, item),
     }
 }
 
