@@ -3,8 +3,8 @@
 A waiting thread sleeps for at most 50 milliseconds, so that a lost wake-up costs little. Because of this
 timeout no test would notice a lost wake-up. In a copy of the crates such a sleep lasts a minute, and two
 tests of `run_tests` are executed there with `rt try`, without proofs: small rings with slow sources and slow
-collectors, and batches that are stopped. They must end within seconds. Without the wake-ups of one kind they
-must hang.
+collectors, and batches that are stopped. They must end within seconds. Without the wake-ups of one kind, or
+if another thread is woken in their place, they must hang.
 """
 import os
 import re
@@ -33,8 +33,8 @@ class WakeUps(Case):
         super().setUp()
         self.need("rt")
 
-    def tried(self, seconds, line=None):
-        """The results of the two tests without the wake-ups of a line, and whether one was stopped."""
+    def tried(self, seconds, change=()):
+        """The results of the two tests in which a text is changed, and whether one was stopped."""
         crates = f"{self.room}/crates"
         tests = f"{crates}/run_tests/src/tests"
         shutil.copytree(f"{ROOT}/crates", crates, ignore=shutil.ignore_patterns("out", "must-fail"))
@@ -47,8 +47,8 @@ class WakeUps(Case):
         for shortest in ("1", "50"):
             changed(f"{crates}/set_run/src/backoff.rt", f"_SLEEP: u64 = {shortest};",
                     "_SLEEP: u64 = 60_000;")
-        if line:
-            changed(f"{crates}/set_run/src/signals.rt", line, "{}")
+        if change:
+            changed(f"{crates}/set_run/src/signals.rt", *change)
         said = "".join(execute("rt", "try", "--test", "--seconds", str(seconds), cwd=f"{crates}/run_tests",
                                timeout=900)[1:])
         words = re.findall(r"^test tests::\w+::\w+ \.\.\. (\w+)", said, re.M)
@@ -59,7 +59,7 @@ class WakeUps(Case):
         self.same("tests", ["ok", "ok"], self.tried(SECONDS)[0])
 
     @rows(table("wake_ups")["kinds"])
-    def test_without(self, line):
+    def test_without(self, *change):
         """The tests hang without a kind of wake-up."""
-        words, hung = self.tried(FEW_SECONDS, line)
+        words, hung = self.tried(FEW_SECONDS, change)
         self.same("one test hangs", (True, True), (words != ["ok", "ok"], hung))

@@ -1,9 +1,10 @@
 -- The feeders of a dealer.
 -- This project's own.
-use Rattle.std.specs.Prelude.{◌≡◌, ℕ, List, [], map, get_or, set, true, All, Option, Some, is_some, Result}
+use Rattle.std.specs.Prelude.{◌≡◌, ℕ, List, [], map, get_or, set, not, true, false, All, Option, Some, is_some, is_none, Result}
 use Rattle.std.specs.List.{AllZip}
-use Rattle.line_lane.specs.Ends.{IsAsFed, IsFed, IsRefused, SameFeeder, fed, feeder_end, open_lines}
-use Rattle.line_lane.specs.Known.{HasNoneIf, lacks_room, line_places}
+use Rattle.line_lane.specs.Messages.{are_none}
+use Rattle.line_lane.specs.Ends.{IsAsFed, IsClosedWith, IsFed, IsFlushed, IsRefused, SameFeeder, fed, feeder_end, open_lines}
+use Rattle.line_lane.specs.Known.{HasManyLines, HasNoneIf, lacks_room, line_places}
 use Rattle.line_lane.specs.declared.feeder.Feeder.{Feeder}
 use Rattle.line_lane.specs.declared.offer_fault.OfferFault.{OfferFault}
 use Rattle.line_lane.specs.declared.ending.SourceEnd.{SourceEnd}
@@ -29,6 +30,20 @@ module _ {I IS : Type 0} where
   abbrev pub AreFlushed : List (Feeder I IS) → Type 0
   AreFlushed feeders = All (λ f. open_lines f ≡ []) feeders
 
+  -- a feeder after it was asked to send its open block: if no item is left in the block, they were sent; if one is
+  -- left, the feeder is as before, and no free slot was known before and none is known after
+  pub record IsFlushedIfRoom (f g : Feeder I IS) : Type 0 where
+    pub flushed : open_lines g ≡ [] → IsFlushed f g
+    pub refused : (open_lines g ≡ [] → ⊥) → IsAsFed f g
+    pub room : HasNoneIf (not (are_none (open_lines g))) (line_places f) (line_places g)
+
+  -- a feeder after it was asked to close with this end: if it is closed, it was closed with this end, or had an end
+  -- before; if it isn't, it is as before, and no free slot was known before and none is known after
+  pub record IsClosedIfRoom (end : SourceEnd) (f g : Feeder I IS) : Type 0 where
+    pub closed : is_some (feeder_end g) ≡ true → IsClosedWith f end g
+    pub refused : is_some (feeder_end g) ≡ false → IsAsFed f g
+    pub room : HasNoneIf (is_none (feeder_end g)) (line_places f) (line_places g)
+
   -- for each feeder the items fed, the open block, the end and the messages sent are as before
   abbrev pub AreAsFed : List (Feeder I IS) → List (Feeder I IS) → Type 0
   AreAsFed before after = AllZip IsAsFed before after
@@ -48,3 +63,7 @@ module _ {I IS : Type 0} where
   HasRoomAt before lane result after =
       (f : Feeder I IS) × (g : Feeder I IS) × (f ≡ get_or before lane f) × (after ≡ set before lane g)
       × HasNoneIf (lacks_room result) (line_places f) (line_places g)
+
+  -- of the slots of the ring of items of one feeder a quarter aren't known to be free
+  abbrev pub HasManyLinesAt : List (Feeder I IS) → ℕ → Type 0
+  HasManyLinesAt feeders lane = (f : Feeder I IS) × (f ≡ get_or feeders lane f) × HasManyLines f

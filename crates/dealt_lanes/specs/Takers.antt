@@ -1,11 +1,11 @@
 -- The takers of a gatherer.
 -- This project's own.
-use Rattle.std.specs.Prelude.{◌≡◌, ℕ, List, map, get_or, set, true, All, IsSome, Option, None, is_some}
+use Rattle.std.specs.Prelude.{◌≡◌, ◌+◌, ◌<◌, ◌≤◌, ℕ, List, [], length, map, get_or, set, true, All, IsSome, Option, None, is_some}
 use Rattle.std.specs.List.{AllZip}
 use Rattle.line_lane.specs.Rings.{IsFirstOf}
 use Rattle.line_lane.specs.Ends.{SameTaker, hands_of, taken, taker_end}
 use Rattle.line_lane.specs.Takes.{Takes}
-use Rattle.line_lane.specs.Known.{HasNoneIf, answer_messages, is_nothing}
+use Rattle.line_lane.specs.Known.{HasNoneIf, IsKept, answer_messages, is_nothing}
 use Rattle.line_lane.specs.declared.taker.Taker.{Taker}
 use Rattle.line_lane.specs.declared.took.Took.{Took}
 use Rattle.line_lane.specs.declared.ending.LaneEnd.{LaneEnd}
@@ -33,6 +33,18 @@ module _ {O OS : Type 0} where
   abbrev pub IsDrained : Taker O OS → Taker O OS → Type 0
   IsDrained t u =
       SameTaker t u × IsFirstOf (taken t) (taken u) × (is_some (taker_end t) ≡ true → hands_of u ≡ hands_of t)
+
+  -- nothing can be taken: no result and no end is buffered, and no message is known
+  abbrev pub HasNothing : Taker O OS → Type 0
+  HasNothing t = ((hands_of t).held ≡ []) × ((hands_of t).ending ≡ None) × ((answer_messages t).known ≡ 0)
+
+  -- the taker after up to this many results were taken: if fewer were taken and the end wasn't returned, nothing was
+  -- left
+  pub record IsDrainedOf (most : ℕ) (t u : Taker O OS) : Type 0 where
+    pub drained : IsDrained t u
+    pub bound : length (taken u) ≤ length (taken t) + most
+    pub rest : length (taken u) < length (taken t) + most → taker_end u ≡ None → HasNothing u
+    pub known : IsKept (answer_messages t) (answer_messages u)
 
   -- each taker has returned the end of its lane
   abbrev pub HaveEnded : List (Taker O OS) → Type 0

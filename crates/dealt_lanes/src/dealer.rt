@@ -4,7 +4,7 @@ ghost use Rattle.std.proofs.Props.{props};
 ghost use Rattle.dealt_lanes.specs.InTurn.{AreInTurn};
 ghost use Rattle.dealt_lanes.specs.Feeders.{HaveEnd, each_fed};
 
-use crate::feeding::{close_all, flush_all, offer_at};
+use crate::feeding::{close_all, flush_all, holds_back_at, offer_at};
 use crate::turn::next_turn;
 use line_lane::{Feeder, OfferFault, SourceEnd, Stored};
 use set_line::Line;
@@ -24,9 +24,10 @@ pub struct Dealer<I: Stored = Line> {
 }
 
 impl<I: Stored> Dealer<I> {
-    ghost use Rattle.std.specs.Prelude.{◌≡◌, IsTrue, OnOk, IfErr, None, Some};
+    ghost use Rattle.std.specs.Prelude.{◌≡◌, ◌↔◌, IsTrue, OnOk, IfErr, None, Some};
+    ghost use Rattle.std.specs.List.{AllZip};
     ghost use Rattle.line_lane.specs.Messages.{first_end};
-    ghost use Rattle.dealt_lanes.specs.Feeders.{AreClosedWith, AreFlushed, HasRoomAt};
+    ghost use Rattle.dealt_lanes.specs.Feeders.{AreClosedWith, AreFlushed, HasManyLinesAt, HasRoomAt, IsClosedIfRoom, IsFlushedIfRoom};
     ghost use Rattle.dealt_lanes.specs.Dealt.{IsAsDealt, IsDealt, IsNotDealt, SameDealer, dealer_end, dealer_lanes, dealer_turn, dealt};
     ghost use Rattle.line_lane.specs.declared.ending.SourceEnd.{SourceEnd as End};
 
@@ -70,6 +71,16 @@ impl<I: Stored> Dealer<I> {
         }
     }
 
+    /// Returns whether this item should be dealt later: it is large, and a quarter of the slots of the lane in
+    /// turn, and at least one, are in use as far as is known. Nothing is dealt or sent.
+    pub fn holds_back(&mut self, item: &I) -> bool
+        ensures lanes { SameDealer self.old self.new }
+        ensures same { IsAsDealt self.old self.new }
+        ensures full { IsTrue result → HasManyLinesAt self.new.feeders.items (dealer_turn self.new) }
+    {
+        holds_back_at(&mut self.feeders, self.turn, item)
+    }
+
     /// Sends the open block of each lane. Returns false if no free slot was found for one of them; the others
     /// were sent, and a later call sends the rest.
     pub fn flush(&mut self) -> bool
@@ -77,7 +88,8 @@ impl<I: Stored> Dealer<I> {
         ensures end { dealer_end self.new ≡ dealer_end self.old }
         ensures turn { dealer_turn self.new ≡ dealer_turn self.old }
         ensures dealt { dealt self.new ≡ dealt self.old }
-        ensures flushed { IsTrue result → AreFlushed self.new.feeders.items }
+        ensures flushed { IsTrue result ↔ AreFlushed self.new.feeders.items }
+        ensures room { AllZip IsFlushedIfRoom self.old.feeders.items self.new.feeders.items }
     {
         flush_all(&mut self.feeders)
     }
@@ -90,8 +102,10 @@ impl<I: Stored> Dealer<I> {
         ensures end { dealer_end self.new ≡ first_end (dealer_end self.old) (Some end) }
         ensures turn { dealer_turn self.new ≡ dealer_turn self.old }
         ensures dealt { dealt self.new ≡ dealt self.old }
-        ensures closed { IsTrue result → (first : End) → dealer_end self.new ≡ Some first
-            → AreClosedWith first self.new.feeders.items }
+        ensures closed { (first : End) → dealer_end self.new ≡ Some first
+            → (IsTrue result ↔ AreClosedWith first self.new.feeders.items) }
+        ensures room { (first : End) → dealer_end self.new ≡ Some first
+            → AllZip (IsClosedIfRoom first) self.old.feeders.items self.new.feeders.items }
     {
         let first = self.end.unwrap_or(end);
         self.end = Some(first);

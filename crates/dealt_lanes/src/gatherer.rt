@@ -3,7 +3,7 @@ ghost use Rattle.std.specs.Prelude.{◌<◌, length};
 ghost use Rattle.std.proofs.Props.{props};
 ghost use Rattle.dealt_lanes.specs.Takers.{AreGathered};
 
-use crate::taking::{drop_all, take_at};
+use crate::taking::{drop_all, have_ended, take_at};
 use crate::turn::next_turn;
 use line_lane::{LaneEnd, Made, Stored, Taker, Took};
 use set_line::Answer;
@@ -21,9 +21,22 @@ pub struct Gatherer<O: Stored = Answer> {
     ghost gathered: { AreGathered end takers.items turn } by { Prim.hlevel props },
 }
 
+impl<O: Stored> Gatherer<O> {
+    ghost use Rattle.std.specs.Prelude.{◌≡◌, ◌↔◌, IsTrue};
+    ghost use Rattle.dealt_lanes.specs.Takers.{HaveEnded};
+
+    /// Returns whether each lane has returned its end.
+    pub fn have_ended(&self) -> bool
+        ensures { IsTrue result ↔ HaveEnded self.now.takers.items }
+    {
+        have_ended(&self.takers)
+    }
+}
+
 impl<O: Made + Stored> Gatherer<O> {
-    ghost use Rattle.std.specs.Prelude.{◌≡◌, IsTrue, None};
-    ghost use Rattle.dealt_lanes.specs.Takers.{HasMessagesAt, HaveEnded};
+    ghost use Rattle.std.specs.Prelude.{◌≡◌, ◌↔◌, IsSome, IsTrue, None};
+    ghost use Rattle.std.specs.List.{AllZip};
+    ghost use Rattle.dealt_lanes.specs.Takers.{HasMessagesAt, HaveEnded, IsDrainedOf};
     ghost use Rattle.dealt_lanes.specs.Dealt.{Gathers, SameGatherer, gathered, gatherer_end, gatherer_turn};
 
     /// Takes the next result, which is from the lane in turn, after which the next lane is in turn. If this
@@ -63,11 +76,16 @@ impl<O: Made + Stored> Gatherer<O> {
         ensures lanes { SameGatherer self.old self.new }
         ensures gathered { gathered self.new ≡ gathered self.old }
         ensures end { gatherer_end self.new ≡ gatherer_end self.old }
-        ensures ended { IsTrue result → HaveEnded self.new.takers.items }
+        ensures unchanged { gatherer_end self.old ≡ None → self.new ≡ self.old }
+        ensures emptied { IsSome (gatherer_end self.old)
+            → AllZip (IsDrainedOf most) self.old.takers.items self.new.takers.items }
+        ensures ended { IsTrue result
+            ↔ (IsSome (gatherer_end self.old) × HaveEnded self.new.takers.items) }
     {
         if self.end.is_none() {
             return false;
         }
-        drop_all(&mut self.takers, most)
+        drop_all(&mut self.takers, most);
+        self.have_ended()
     }
 }

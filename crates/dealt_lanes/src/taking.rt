@@ -1,8 +1,7 @@
 //! The takers of a gatherer.
-ghost use Rattle.std.specs.Prelude.{◌≡◌, ◌<◌, IsSome, IsTrue, vec_len};
+ghost use Rattle.std.specs.Prelude.{◌≡◌, ◌↔◌, ◌<◌, IsTrue, vec_len};
 ghost use Rattle.std.specs.List.{AllZip};
-ghost use Rattle.line_lane.specs.Ends.{taker_end};
-ghost use Rattle.dealt_lanes.specs.Takers.{HasMessagesAt, HaveEnded, IsDrained, IsTakenAt, SameTakers};
+ghost use Rattle.dealt_lanes.specs.Takers.{HasMessagesAt, HaveEnded, IsDrainedOf, IsTakenAt, SameTakers};
 
 use line_lane::{Made, Stored, Taker, Took};
 
@@ -16,30 +15,31 @@ pub(crate) fn take_at<O: Made + Stored>(takers: &mut Vec<Taker<O>>, lane: usize)
     takers[lane].take()
 }
 
-/// Takes up to `most` results of a lane and drops them. Returns whether the end of the lane was taken.
-fn drop_some<O: Made + Stored>(taker: &mut Taker<O>, most: usize) -> bool
-    ensures taken { IsDrained taker.old taker.new }
-    ensures ended { IsTrue result → IsSome (taker_end taker.new) }
+/// Takes up to `most` results of a lane and drops them.
+fn drop_some<O: Made + Stored>(taker: &mut Taker<O>, most: usize)
+    ensures { IsDrainedOf most taker.old taker.new }
 {
-    for _ in 0..most {
+    for dropped in 0..most {
         match taker.take() {
-            Took::Nothing => return false,
             Took::Answer(_) => (),
-            Took::End(_) => return true,
+            Took::Nothing => return,
+            Took::End(_) => return,
         }
     }
-    false
 }
 
-/// Takes up to `most` results of each lane and drops them. Returns whether the end of each lane was taken.
-pub(crate) fn drop_all<O: Made + Stored>(takers: &mut Vec<Taker<O>>, most: usize) -> bool
-    ensures taken { AllZip IsDrained takers.old.items takers.new.items }
-    ensures ended { IsTrue result → HaveEnded takers.new.items }
+/// Takes up to `most` results of each lane and drops them.
+pub(crate) fn drop_all<O: Made + Stored>(takers: &mut Vec<Taker<O>>, most: usize)
+    ensures { AllZip (IsDrainedOf most) takers.old.items takers.new.items }
 {
-    let mut all = true;
     for lane in 0..takers.len() {
-        let ended = drop_some(&mut takers[lane], most);
-        all = all && ended;
+        drop_some(&mut takers[lane], most);
     }
-    all
+}
+
+/// Returns whether the end of each lane was taken.
+pub(crate) fn have_ended<O: Stored>(takers: &[Taker<O>]) -> bool
+    ensures { IsTrue result ↔ HaveEnded takers.now }
+{
+    takers.iter().all(|taker| taker.has_ended())
 }

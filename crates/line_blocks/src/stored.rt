@@ -39,8 +39,22 @@ impl Slots<LineBlock> for BlockSlots {
     }
 }
 
+/// The number of bytes above which a block is large.
+const LARGE_BLOCK: usize = 8192;
+
+/// The number of bytes above which a text is large: those of the usual text of a block of that many bytes.
+const LARGE_TEXT: usize = 98_304;
+
+fn is_large_text(text: &BlockText) -> bool {
+    text.text().len() > LARGE_TEXT
+}
+
 impl Stored for LineBlock {
     type Slots = BlockSlots;
+
+    fn is_large(&self) -> bool {
+        self.byte_len() > LARGE_BLOCK
+    }
 }
 
 /// The slots for texts of blocks inside a message.
@@ -77,8 +91,19 @@ impl Slots<BlockText> for TextSlots {
     fn clear(&mut self) {
         self.slots.clear();
     }
+
+    fn ends_large(&self) -> bool {
+        match self.slots.last() {
+            Some(text) => is_large_text(text),
+            None => false,
+        }
+    }
 }
 
 impl Stored for BlockText {
     type Slots = TextSlots;
+
+    fn is_large(&self) -> bool {
+        is_large_text(self)
+    }
 }

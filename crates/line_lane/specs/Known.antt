@@ -1,8 +1,8 @@
 -- The free slots and the messages of a ring that an end of the ring knows about. What an end knows stays
 -- true, whatever the other end does.
 -- This project's own; `known_free` and `known_items` are those of `rtrb`.
-use Rattle.std.specs.Prelude.{◌≡◌, ℕ, ◌+◌, ◌≤◌, Bool, true, false, length, Result, Ok, Err}
-use Rattle.rtrb.specs.Ring.{known_free, known_items}
+use Rattle.std.specs.Prelude.{◌≡◌, ℕ, ◌+◌, ◌-◌, ◌/◌, ◌≤◌, max, Bool, true, false, length, Result, Ok, Err}
+use Rattle.rtrb.specs.Ring.{known_free, known_items, producer_capacity}
 use Rattle.line_lane.specs.Rings.{messages_sent, messages_received}
 use Rattle.line_lane.specs.declared.sender.Sender.{Sender}
 use Rattle.line_lane.specs.declared.receiver.Receiver.{Receiver}
@@ -48,6 +48,10 @@ module _ {T E TS : Type 0} where
   abbrev pub places : Sender T E TS → Stock
   places o = record { known = known_free o.producer; used = messages_sent o }
 
+  -- of the slots of a ring a quarter, and at least one, aren't known to be free
+  abbrev pub IsQuarterFull : Sender T E TS → Type 0
+  IsQuarterFull o = max (producer_capacity o.producer / 4) 1 ≤ producer_capacity o.producer - known_free o.producer
+
   -- the messages that a receiving end knows about
   abbrev pub messages : Receiver T E TS → Stock
   messages i = record { known = length (known_items i.consumer); used = messages_received i }
@@ -59,6 +63,10 @@ module _ {I IS : Type 0} where
   abbrev pub line_places : Feeder I IS → Stock
   line_places f = places f.sender
 
+  -- a quarter of the slots of the ring of items aren't known to be free
+  abbrev pub HasManyLines : Feeder I IS → Type 0
+  HasManyLines f = IsQuarterFull f.sender
+
 module _ {M I O IS OS : Type 0} {ghosts : Ghosts M I O IS OS} where
   -- the messages in the ring of items
   abbrev pub line_messages : Setter M I O IS OS ghosts → Stock
@@ -67,6 +75,10 @@ module _ {M I O IS OS : Type 0} {ghosts : Ghosts M I O IS OS} where
   -- the free slots of the ring of results
   abbrev pub answer_places : Setter M I O IS OS ghosts → Stock
   answer_places s = places s.sender
+
+  -- a quarter of the slots of the ring of results aren't known to be free
+  abbrev pub HasManyAnswers : Setter M I O IS OS ghosts → Type 0
+  HasManyAnswers s = IsQuarterFull s.sender
 
 module _ {O OS : Type 0} where
   -- the messages in the ring of results

@@ -21,7 +21,7 @@ pub struct Feeder<I: Stored = Line> {
 impl<I: Stored> Feeder<I> {
     ghost use Rattle.std.specs.Prelude.{IsTrue, IsFalse, OnOk, IfErr, not};
     ghost use Rattle.line_lane.specs.Ends.{IsAsFed, IsClosedWith, IsFed, IsFlushed, IsRefused, SameFeeder, block_of, fed, feeder_end, open_lines};
-    ghost use Rattle.line_lane.specs.Known.{HasNoneIf, lacks_room, line_places};
+    ghost use Rattle.line_lane.specs.Known.{HasManyLines, HasNoneIf, IsKept, lacks_room, line_places};
 
     pub(crate) fn is_closed(&self) -> bool
         ensures { result ≡ is_some (feeder_end self.now) }
@@ -57,6 +57,17 @@ impl<I: Stored> Feeder<I> {
         self.sender.hand.push(item);
         self.sender.send();
         Ok(())
+    }
+
+    /// Returns whether this item should be fed later: it is large, and a quarter of the slots of the ring, and
+    /// at least one, are in use as far as is known. Nothing is fed or sent.
+    pub fn holds_back(&mut self, item: &I) -> bool
+        ensures lane { SameFeeder self.old self.new }
+        ensures fed { IsAsFed self.old self.new }
+        ensures full { IsTrue result → HasManyLines self.new }
+        ensures known { IsKept (line_places self.old) (line_places self.new) }
+    {
+        item.is_large() && self.sender.is_quarter_full()
     }
 
     /// Sends the open block as one message, unless it is empty. Returns false, with the open block unchanged,

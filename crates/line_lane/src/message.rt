@@ -93,6 +93,11 @@ impl<T: Stored, E: Copy> Message<T, E> {
         self.slots.clear();
     }
 
+    /// Returns whether the last item is large.
+    pub fn ends_large(&self) -> bool {
+        self.slots.ends_large()
+    }
+
     /// Sets the end, in place of an earlier one.
     pub fn finish(&mut self, ending: E)
         ensures { self.new ≡ record { items = self.old.items; ending = Some ending } }

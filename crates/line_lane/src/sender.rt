@@ -23,11 +23,11 @@ pub(crate) struct Sender<T: Stored, E> {
 }
 
 impl<T: Stored, E: Copy> Sender<T, E> {
-    ghost use Rattle.std.specs.Prelude.{◌+◌, ◌<◌, [], ◌∷◌, ◌++◌, None, IsTrue, not};
+    ghost use Rattle.std.specs.Prelude.{◌↔◌, ◌+◌, ◌<◌, [], ◌∷◌, ◌++◌, None, IsTrue, not};
     ghost use Rattle.rtrb.specs.Ring.{known_free};
     ghost use Rattle.line_lane.specs.Messages.{IsFilled, first_end, nothing};
     ghost use Rattle.line_lane.specs.Rings.{SameSender, end_sent, items_sent, messages_sent};
-    ghost use Rattle.line_lane.specs.Known.{HasNoneIf, places};
+    ghost use Rattle.line_lane.specs.Known.{HasNoneIf, IsKept, IsQuarterFull, places};
 
     /// Returns the sending end of a ring into which nothing was sent, with an empty next message.
     pub fn new(alloc: Global, producer: Producer<Message<T, E>, Global, Filled>) -> Self
@@ -52,6 +52,20 @@ impl<T: Stored, E: Copy> Sender<T, E> {
         ensures known { HasNoneIf (not result) (places self.old) (places self.new) }
     {
         !self.producer.is_full()
+    }
+
+    /// Returns whether a quarter of the slots of the ring, and at least one, are in use as far as is known. The
+    /// receiver may free one at any time.
+    pub fn is_quarter_full(&mut self) -> bool
+        ensures same { SameSender self.old self.new }
+        ensures sent { sent self.new.producer ≡ sent self.old.producer }
+        ensures hand { self.new.hand ≡ self.old.hand }
+        ensures full { IsTrue result ↔ IsQuarterFull self.new }
+        ensures known { IsKept (places self.old) (places self.new) }
+    {
+        let slots = self.producer.capacity();
+        let free = self.producer.slots();
+        (slots / 4).max(1) <= slots.saturating_sub(free)
     }
 
     /// Returns the end that was sent or, if none was sent, the end of the next message.

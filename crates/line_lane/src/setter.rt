@@ -57,10 +57,10 @@ fn finish<I: Stored, O: Stored>(
 }
 
 impl<M: Making> Setter<M> {
-    ghost use Rattle.std.specs.Prelude.{false, is_some, OnErr, IfOk, MatchResult};
+    ghost use Rattle.std.specs.Prelude.{false, is_some, IsTrue, OnErr, IfOk, MatchResult};
     ghost use Rattle.line_lane.specs.Turns.{Turns, given_up, is_done, is_given_up};
     ghost use Rattle.line_lane.specs.Ends.{SameSetter, state_of};
-    ghost use Rattle.line_lane.specs.Known.{KnowsAfter, KnowsTheSame};
+    ghost use Rattle.line_lane.specs.Known.{HasManyAnswers, IsKept, KnowsAfter, KnowsTheSame, answer_places, line_messages};
 
     /// Returns whether the setter has made the end of the lane, whether or not this end was sent.
     fn has_made_end(&self) -> bool
@@ -147,6 +147,19 @@ impl<M: Making> Setter<M> {
             self.ready = finish(&receiver.hand, &mut sender.hand);
         }
         Turn::Moved
+    }
+
+    /// Returns whether the ready message should be sent later: its last result is large, and a quarter of the
+    /// slots of the ring of results, and at least one, are in use as far as is known. Nothing is sent.
+    pub fn holds_back(&mut self) -> bool
+        ensures lane { SameSetter self.old self.new }
+        ensures state { state_of self.new ≡ state_of self.old }
+        ensures ready { IsTrue result → (state_of self.old).ready ≡ true }
+        ensures full { IsTrue result → HasManyAnswers self.new }
+        ensures known { IsKept (answer_places self.old) (answer_places self.new) }
+        ensures messages { line_messages self.new ≡ line_messages self.old }
+    {
+        self.ready && self.sender.hand.ends_large() && self.sender.is_quarter_full()
     }
 
     /// Makes one turn: sends the ready message, makes a result or receives a message, the first of these that

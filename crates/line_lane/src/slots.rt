@@ -38,6 +38,11 @@ pub trait Slots<T>: Drop {
     /// Drops the items.
     fn clear(&mut self)
         ensures { items self.new ≡ [] };
+
+    /// Returns whether the last item is large ([`Stored::is_large`]). The default is false.
+    fn ends_large(&self) -> bool {
+        false
+    }
 }
 
 /// An item of a message: a type with slots for its values.
@@ -45,6 +50,13 @@ pub trait Stored: Drop {
     /// The slots of a message for items of this type. For the proof: generic code needn't bound the size of a
     /// type that each type of items chooses, unlike that of an array of items.
     type Slots: Slots<Self>;
+
+    /// Returns whether this item takes so much memory that only a quarter of the slots of a ring should have
+    /// such items. The return value affects only when an item is sent, never the results. The default is
+    /// false.
+    fn is_large(&self) -> bool {
+        false
+    }
 }
 
 /// Slots inside the message. Each item is in an `Option`, since unused slots of the list contain a blank value.
@@ -95,5 +107,12 @@ impl<T: Drop> Slots<T> for InlineSlots<T> {
 
     fn clear(&mut self) {
         self.slots.clear();
+    }
+}
+
+impl<T> InlineSlots<T> {
+    /// Returns the last item, or `None` if there is no item.
+    pub fn last(&self) -> Option<&T> {
+        self.slots.as_slice().last()?.as_ref()
     }
 }

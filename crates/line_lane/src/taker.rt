@@ -14,6 +14,18 @@ pub struct Taker<O: Stored = Answer> {
     ghost all: { IsAllReceived receiver ended } by { Prim.hlevel props },
 }
 
+impl<O: Stored> Taker<O> {
+    ghost use Rattle.std.specs.Prelude.{◌≡◌, is_some};
+    ghost use Rattle.line_lane.specs.Ends.{taker_end};
+
+    /// Returns whether `take` has returned the end of the lane.
+    pub fn has_ended(&self) -> bool
+        ensures { result ≡ is_some (taker_end self.now) }
+    {
+        self.ended
+    }
+}
+
 impl<O: Made + Stored> Taker<O> {
     ghost use Rattle.std.specs.Prelude.{◌≡◌, ◌+◌, ◌≤◌, ◌++◌};
     ghost use Rattle.line_lane.specs.Takes.{Takes, IsTakenFromHand};

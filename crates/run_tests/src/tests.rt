@@ -1,7 +1,9 @@
+mod after_stopping;
 mod callers;
 mod collectors;
 mod failing;
 mod flushing;
+mod large_items;
 mod long_lines;
 mod many_lines;
 mod meeting;

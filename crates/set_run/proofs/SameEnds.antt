@@ -4,7 +4,9 @@ use Rattle.std.specs.List.{AllZip}
 use Rattle.dealt_lanes.specs.Lanes.{AllThree}
 use Rattle.line_lane.specs.Messages.{first_end}
 use Rattle.line_lane.specs.declared.ending.SourceEnd.{SourceEnd}
-use Rattle.line_lane.specs.declared.offer_fault.OfferFault.TheVariants.{NoRoom}
+use Rattle.line_lane.specs.declared.offer_fault.OfferFault.{OfferFault}
+use Rattle.line_lane.specs.declared.offer_fault.OfferFault.TheVariants.{Closed, NoRoom}
+use Rattle.set_run.specs.Given.{item_of}
 use Rattle.dealt_lanes.specs.Dealt.{SameDealer}
 use Rattle.dealt_lanes.specs.declared.dealer.Dealer.{Dealer}
 use Rattle.set_run.proofs.Zips.{zip_refl, zip_trans}
@@ -21,7 +23,7 @@ module _ {M I O IS OS : Type 0} {ghosts : Ghosts M I O IS OS} where
   same_setter : (s : Setter M I O IS OS ghosts) → SameSetter s s
   same_setter s = grind rules
 
-  same_setters : (s t u : Setter M I O IS OS ghosts) → SameSetter s t → SameSetter t u → SameSetter s u
+  pub same_setters : (s t u : Setter M I O IS OS ghosts) → SameSetter s t → SameSetter t u → SameSetter s u
   same_setters s t u a b = grind (rules, a, b)
 
   pub setter_refl : (s : Setter M I O IS OS ghosts) → IsWorked s s
@@ -71,10 +73,13 @@ pub first_again : (old : Option SourceEnd) (end : SourceEnd) → first_end (firs
 first_again None end = refl
 first_again (Some first) end = refl
 
--- the item that is returned for lack of room
-pub back_with_no_room : {I : Type 0} (end : Option SourceEnd) (block : ℕ) (lines : List I) (item back : I) → IsRefusal end block lines item (NoRoom back) → back ≡ item
-back_with_no_room (Some first) block lines item back is = elim is [ ]
-back_with_no_room None block lines item back is = is.0
+-- the item of an error is the one that was offered
+pub back_item : {I : Type 0} (end : Option SourceEnd) (block : ℕ) (lines : List I) (item : I) (fault : OfferFault I) → IsRefusal end block lines item fault
+    → item_of fault ≡ item
+back_item (Some first) block lines item (Closed back) is = is
+back_item (Some first) block lines item (NoRoom back) is = elim is [ ]
+back_item None block lines item (Closed back) is = elim is [ ]
+back_item None block lines item (NoRoom back) is = is.0
 
 module _ {M I O IS OS : Type 0} {ghosts : Ghosts M I O IS OS} where
   -- the endpoints of each lane are replaced by the same endpoints

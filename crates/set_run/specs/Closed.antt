@@ -85,3 +85,32 @@ module _ {S : Type 0} where
   -- if there is no refusal, each lane has ended
   abbrev pub IsWhole : RunEnd S → Type 0
   IsWhole run = run.refusal ≡ None → All (λ lane. IsSome lane.end) run.lanes.items
+
+module _ {S : Type 0} where
+  -- each lane is complete
+  abbrev pub AreComplete : List (ClosedLane S) → Type 0
+  AreComplete lanes = All (λ lane. lane.end ≡ Some Complete) lanes
+
+module _ {S M I O : Type 0} where
+  -- sources, each with its maker, of which the first has this number, and their closed lanes: each source returned
+  -- some items and then its end, and the events of its lane are what the maker makes of all these items, in order,
+  -- and then the end `Complete`
+  abbrev pub AreAllMade :
+      (S → Result (Option I) SourceFault → S → Type 0) → (M → I → O) → List (Event O) → ℕ → List (S × M) → List (ClosedLane S) → Type 0
+  AreAllMade gives makes events number [] [] = Unit {0}
+  AreAllMade gives makes events number [] (lane ∷ lanes) = ⊥
+  AreAllMade gives makes events number (source ∷ sources) [] = ⊥
+  AreAllMade gives makes events number (source ∷ sources) (lane ∷ lanes) =
+      ((items : List I) × WasRead gives source.0 items (Some SourceComplete) lane.source
+      × (of_lane number events ≡ lane_events (map (makes source.1) items) (Some Complete)))
+      × AreAllMade gives makes events (number + 1) sources lanes
+
+module _ {S M C I O : Type 0} where
+  -- if a collector had received nothing before a batch with these sources, it has received what is made of all
+  -- items of each source, and the end `Complete` of each, and nothing else
+  abbrev pub IsAllCollectedOf :
+      (S → Result (Option I) SourceFault → S → Type 0) → (M → I → O) → (C → List (Event O) → Type 0) → List (S × M) → RunEnd S → C → C → Type 0
+  IsAllCollectedOf gives makes given sources run before after =
+      given before []
+      → (events : List (Event O)) × given after events × AreAllMade gives makes events 0 sources run.lanes.items
+      × HasNoOthers events (length sources)

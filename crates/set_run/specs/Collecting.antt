@@ -1,7 +1,9 @@
 -- The gatherers of the sources' lanes, compared with the events of these lanes that a collector has received.
 -- This project's own.
-use Rattle.std.specs.Prelude.{◌≡◌, ◌≤◌, ℕ, ◌+◌, Bool, true, false, List, [], ◌∷◌, length, None, is_some}
+use Rattle.std.specs.Prelude.{◌≡◌, ◌≤◌, ℕ, ◌+◌, Bool, true, false, List, [], ◌∷◌, length, None, Some, IsSome, is_some}
 use Rattle.line_lane.specs.Rings.{IsFirstOf}
+use Rattle.line_lane.specs.declared.ending.LaneEnd.TheVariants.{GaveUp}
+use Rattle.dealt_lanes.specs.Takers.{HaveEnded}
 use Rattle.dealt_lanes.specs.Dealt.{SameGatherer, gathered, gatherer_end}
 use Rattle.set_run.specs.Events.{Event, LaneEvent, answers_among, lane_events, of_lane}
 use Rattle.set_run.specs.declared.lane_taker.LaneTaker.{LaneTaker}
@@ -14,6 +16,11 @@ module _ {O OS : Type 0} where
   -- nothing was taken from the lane yet
   abbrev pub IsFreshTaker : LaneTaker O OS → Type 0
   IsFreshTaker t = (gathered t.gatherer ≡ []) × (gatherer_end t.gatherer ≡ None) × (t.end ≡ None)
+
+  -- nothing is left to be taken: the collector has received the end, and if a lane was abandoned, each lane of the
+  -- source has returned its end
+  abbrev pub IsOver : LaneTaker O OS → Type 0
+  IsOver t = IsSome t.end × (t.end ≡ Some GaveUp → HaveEnded t.gatherer.takers.items)
 
   -- these events of a lane are all results that were taken, and the end if it was taken
   abbrev pub IsTold : List (LaneEvent O) → LaneTaker O OS → Type 0

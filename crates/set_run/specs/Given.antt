@@ -4,7 +4,15 @@ use Rattle.std.specs.Prelude.{◌≡◌, [], Option, None, Result}
 use Rattle.dealt_lanes.specs.Dealt.{SameDealer, dealer_end, dealt}
 use Rattle.line_lane.specs.declared.fault.SourceFault.{SourceFault}
 use Rattle.set_run.specs.Calls.{IsFedFrom}
+use Rattle.line_lane.specs.declared.offer_fault.OfferFault.{OfferFault}
+use Rattle.line_lane.specs.declared.offer_fault.OfferFault.TheVariants.{Closed, NoRoom}
 use Rattle.set_run.specs.declared.source_thread.Feeding.{Feeding}
+
+module _ {I : Type 0} where
+  -- the item that an error returns
+  abbrev pub item_of : OfferFault I → I
+  item_of (Closed item) = item
+  item_of (NoRoom item) = item
 
 module _ {S I O IS : Type 0} where
   -- a source and its dealer, as they were given to a thread and as the thread returned them: the dealer is of

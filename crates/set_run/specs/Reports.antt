@@ -126,6 +126,24 @@ module _ {S C : Type 0} where
       → (events : List (Event AnswerValue)) × given after events × AreClosed to_come failed events 0 sources run.lanes.items × HasNoOthers events (length sources)
 
 module _ {S : Type 0} where
+  -- the events of sources with their settings, of which the first has this number: for each source whose lines are
+  -- known, the results of all its lines, in order, and then the end `Complete`
+  abbrev pub AreAllGiven : (S → Option (List (List ℕ))) → List (Event AnswerValue) → ℕ → List (S × Arc TermsValue Global) → Type 0
+  AreAllGiven to_come events number [] = Unit {0}
+  AreAllGiven to_come events number (source ∷ sources) =
+      IfSome (to_come source.0) (λ lines. of_lane number events ≡ lane_events (answers_of (arc_value source.1) lines) (Some Complete))
+      × AreAllGiven to_come events (number + 1) sources
+
+module _ {S C : Type 0} where
+  -- if a collector had received nothing before a batch with these sources, it has received the results of all lines
+  -- of each source whose lines are known, and its end, and nothing of other lanes
+  abbrev pub IsAllCollected :
+      (S → Option (List (List ℕ))) → (C → List (Event AnswerValue) → Type 0) → List (S × Arc TermsValue Global) → C → C → Type 0
+  IsAllCollected to_come given sources before after =
+      given before []
+      → (events : List (Event AnswerValue)) × given after events × AreAllGiven to_come events 0 sources × HasNoOthers events (length sources)
+
+module _ {S : Type 0} where
   -- the reports of lanes that have all ended; each has the results with the same index
   abbrev pub AreReportsOf : List (ClosedLane S) → List (List AnswerValue) → List (LaneReport S) → Type 0
   AreReportsOf [] [] [] = Unit {0}

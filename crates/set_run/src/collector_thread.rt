@@ -2,7 +2,7 @@
 ghost use Rattle.std.specs.Prelude.{◌≡◌, ◌≤◌, ◌↔◌, All, IsSome, IsTrue, None, is_none, is_ok, vec_len};
 ghost use Rattle.std.specs.List.{AllZip};
 ghost use Rattle.std.specs.Result.{result_err};
-ghost use Rattle.set_run.specs.Collecting.{SameLane, TellsLanes};
+ghost use Rattle.set_run.specs.Collecting.{IsOver, SameLane, TellsLanes};
 ghost use Rattle.set_run.specs.Events.{Keeps};
 
 use crate::backoff::Backoff;
@@ -37,14 +37,9 @@ fn go_round<C: Collector>(
 
 /// Returns whether the collector has received the end of each source, and nothing is left to be taken.
 fn have_ended<O: Stored>(lanes: &[LaneTaker<O>]) -> bool
-    ensures { IsTrue result → All (λ lane. IsSome lane.end) lanes.now }
+    ensures { IsTrue result ↔ All IsOver lanes.now }
 {
-    for lane in lanes {
-        if !lane.is_over() {
-            return false;
-        }
-    }
-    true
+    lanes.iter().all(|lane| lane.is_over())
 }
 
 /// Sleeps until there may be results. Nothing that the collector has received may be waiting to be written.

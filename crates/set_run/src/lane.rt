@@ -48,7 +48,6 @@ fn open_source<M: Shared>(
     let taker = LaneTaker {
         gatherer,
         end: None,
-        drained: false,
     };
     Ok((dealer, setters, taker))
 }

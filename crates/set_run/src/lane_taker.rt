@@ -1,8 +1,8 @@
 //! The endpoint of the lanes of a source in the collecting thread.
-ghost use Rattle.std.specs.Prelude.{◌≡◌, ◌<◌, IsSome, IsTrue, None, is_ok};
+ghost use Rattle.std.specs.Prelude.{◌≡◌, ◌↔◌, ◌<◌, IsTrue, None, is_ok};
 ghost use Rattle.std.specs.Result.{result_err};
 ghost use Rattle.dealt_lanes.specs.Dealt.{SameGatherer, gathered, gatherer_end};
-ghost use Rattle.set_run.specs.Collecting.{TellsLane};
+ghost use Rattle.set_run.specs.Collecting.{IsOver, TellsLane};
 
 use crate::{Collector, Refusal};
 use dealt_lanes::Gatherer;
@@ -13,17 +13,15 @@ use line_lane::{LaneEnd, Made, Stored, Took};
 pub(crate) struct LaneTaker<O: Stored> {
     pub gatherer: Gatherer<O>,
     pub end: Option<LaneEnd>,
-    /// Whether each lane has returned its end, if a lane was abandoned.
-    pub drained: bool,
 }
 
 impl<O: Stored> LaneTaker<O> {
     /// Returns whether nothing is left to be taken.
     pub fn is_over(&self) -> bool
-        ensures { IsTrue result → IsSome self.now.end }
+        ensures { IsTrue result ↔ IsOver self.now }
     {
         match self.end {
-            Some(LaneEnd::GaveUp) => self.drained,
+            Some(LaneEnd::GaveUp) => self.gatherer.have_ended(),
             Some(_) => true,
             None => false,
         }
@@ -72,7 +70,7 @@ impl<O: Made + Stored> LaneTaker<O> {
         if self.end.is_none() || self.is_over() {
             return false;
         }
-        self.drained = self.gatherer.drop_rest(most);
+        self.gatherer.drop_rest(most);
         true
     }
 

@@ -29,7 +29,7 @@ impl ListSource {
 }
 
 impl LineSource for ListSource {
-    ghost use Rattle.std.specs.Prelude.{ℕ, List, Some, None};
+    ghost use Rattle.std.specs.Prelude.{ℕ, IsTrue, List, Some, None};
     ghost use Rattle.std.specs.Vec.Iter.{into_iter_items};
 
     ghost to_come = { λ source. Some (into_iter_items source.lines) };
@@ -44,7 +44,9 @@ impl LineSource for ListSource {
         Ok(self.lines.next())
     }
 
-    fn is_ready(&self) -> bool {
+    fn is_ready(&self) -> bool
+        ensures { IsTrue result }
+    {
         true
     }
 }

@@ -87,7 +87,9 @@ impl<R: Read> ReaderSource<R> {
 }
 
 impl<R: Read> LineSource for ReaderSource<R> {
+    ghost use Rattle.std.specs.Prelude.{◌↔◌, IsTrue};
     ghost use Rattle.std.specs.Io.KnownBytes.{prepend_known};
+    ghost use Rattle.set_run.specs.Buffered.{HasWholeLine};
     ghost use Rattle.set_run.specs.Reading.{fault_of, lines_to_come};
 
     ghost to_come = { λ source.
@@ -115,8 +117,11 @@ impl<R: Read> LineSource for ReaderSource<R> {
         }
     }
 
-    /// Returns whether the bytes that were read last contain the end of the next line.
-    fn is_ready(&self) -> bool {
+    /// Returns whether the bytes that were read last contain the end of the next line. If they do, the next
+    /// call of `next_line` reads nothing.
+    fn is_ready(&self) -> bool
+        ensures { IsTrue result ↔ HasWholeLine self.now }
+    {
         self.buffer.has_feed()
     }
 }

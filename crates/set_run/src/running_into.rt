@@ -2,8 +2,8 @@
 ghost use Rattle.std.specs.Prelude.{◌≡◌, ◌+◌, ◌<◌, ◌≤◌, ◌⊎◌, [], None, Err, IfOk, IfErr, IsOk, map, vec_capacity, vec_len};
 ghost use Rattle.set_run.specs.declared.run_fault.RunFault.TheVariants.{TooManySources, OutOfMemory as NoMemory, Thread};
 ghost use Rattle.set_run.specs.Gathering.{Gathers};
-ghost use Rattle.set_run.specs.Closed.{AreBack, IsCollectedOf, IsWhole};
-ghost use Rattle.set_run.specs.Reports.{IsCollected};
+ghost use Rattle.set_run.specs.Closed.{AreBack, AreComplete, IsAllCollectedOf, IsCollectedOf, IsWhole};
+ghost use Rattle.set_run.specs.Reports.{IsAllCollected, IsCollected};
 
 use crate::collector_thread::Collected;
 use crate::context::Context;
@@ -194,6 +194,8 @@ pub fn run_into<
     ensures collected { IfOk result.1 (λ run.
         IsCollected S.to_come S.failed C.given sources.items run collector result.0) }
     ensures whole { IfOk result.1 (λ run. IsWhole run) }
+    ensures finished { IfOk result.1 (λ run. AreComplete run.lanes.items
+        → IsAllCollected S.to_come C.given sources.items collector result.0) }
     ensures sources { IfOk result.1 (λ run.
         AreBack S.origin sources.items (map (λ lane. lane.source) run.lanes.items)) }
     ensures refused { IfOk result.1 (λ run. C.refused result.0 run.refusal) }
@@ -262,6 +264,8 @@ where
     ensures collected { IfOk result.1 (λ run. IsCollectedOf S.next_gives M.makes
         C.given sources.items run collector result.0) }
     ensures whole { IfOk result.1 (λ run. IsWhole run) }
+    ensures finished { IfOk result.1 (λ run. AreComplete run.lanes.items → IsAllCollectedOf S.next_gives M.makes
+        C.given sources.items run collector result.0) }
     ensures sources { IfOk result.1 (λ run.
         AreBack S.origin sources.items (map (λ lane. lane.source) run.lanes.items)) }
     ensures refused { IfOk result.1 (λ run. C.refused result.0 run.refusal) }

@@ -1,10 +1,10 @@
 //! The thread of a source: it reads the items of the source and deals them over its lanes.
-ghost use Rattle.std.specs.Prelude.{◌≡◌, ◌++◌, ◌∷◌, [], None, Some, IsTrue, if◌then◌else◌};
+ghost use Rattle.std.specs.Prelude.{◌≡◌, ◌++◌, ◌∷◌, [], None, Some, IfErr, IsTrue, OnOk, if◌then◌else◌};
 ghost use Rattle.dealt_lanes.specs.Feeders.{AreFlushed};
 ghost use Rattle.dealt_lanes.specs.Dealt.{SameDealer, dealer_end, dealt};
 ghost use Rattle.line_lane.specs.Messages.{first_end};
 ghost use Rattle.set_run.specs.Calls.{IsFedFrom};
-ghost use Rattle.set_run.specs.Given.{HandsBack};
+ghost use Rattle.set_run.specs.Given.{HandsBack, item_of};
 
 use crate::backoff::Backoff;
 use crate::signals::Signals;
@@ -31,6 +31,19 @@ impl<I: Stored, S: ItemSource<I>> Promise<Feeding<S, I>> for FedFrom<S, I> {
     ghost kept_by = { λ p r. HandsBack S.next_gives S.origin p.0.value r };
 }
 
+/// Deals an item, unless it should be dealt later. The error returns the item.
+fn offer_now<I: Stored>(dealer: &mut Dealer<I>, item: I) -> Result<(), OfferFault<I>>
+    ensures lanes { SameDealer dealer.old dealer.new }
+    ensures end { dealer_end dealer.new ≡ dealer_end dealer.old }
+    ensures dealt { OnOk result (dealt dealer.new ≡ dealt dealer.old ++ item ∷ []) }
+    ensures refused { IfErr result (λ fault. (dealt dealer.new ≡ dealt dealer.old) × (item_of fault ≡ item)) }
+{
+    if dealer.holds_back(&item) {
+        return Err(OfferFault::NoRoom(item));
+    }
+    dealer.offer(item)
+}
+
 /// Deals an item, as soon as there is room for it. Returns false, with the item dropped, if the batch is
 /// stopped before or the dealer is closed.
 fn offer<R: Wait, I: Stored>(
@@ -47,7 +60,7 @@ fn offer<R: Wait, I: Stored>(
     let mut item = item;
     let mut backoff = Backoff::new();
     for _ in rt.forever() {
-        match dealer.offer(item) {
+        match offer_now(dealer, item) {
             Ok(()) => return true,
             Err(OfferFault::NoRoom(back)) => item = back,
             Err(OfferFault::Closed(_)) => return false,

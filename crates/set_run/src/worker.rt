@@ -40,7 +40,7 @@ impl<T> Model for Worker<T> {
 }
 
 /// Makes one turn of a setter. If an allocation fails in it, abandons the lane.
-fn turn<M: Making>(setter: &mut Setter<M>) -> Turn
+fn turn_now<M: Making>(setter: &mut Setter<M>) -> Turn
     ensures lane { SameSetter setter.old setter.new }
     ensures turn { Turns (state_of setter.old) result (state_of setter.new)
         ⊎ (state_of setter.new ≡ given_up (state_of setter.old)) }
@@ -53,6 +53,19 @@ fn turn<M: Making>(setter: &mut Setter<M>) -> Turn
             Turn::Moved
         }
     }
+}
+
+/// Makes one turn of a setter as `turn_now` does, unless its results should be sent later.
+fn turn<M: Making>(setter: &mut Setter<M>) -> Turn
+    ensures lane { SameSetter setter.old setter.new }
+    ensures turn { Turns (state_of setter.old) result (state_of setter.new)
+        ⊎ (state_of setter.new ≡ given_up (state_of setter.old)) }
+    ensures seen { HadSeenAnItem (state_of setter.old) → HadSeenAnItem (state_of setter.new) }
+{
+    if setter.holds_back() {
+        return Turn::Blocked;
+    }
+    turn_now(setter)
 }
 
 /// Makes turns of a setter, up to one that doesn't move, and at most `most`.

@@ -8,10 +8,8 @@ use std::thread::Threads;
 use std::time::Clock;
 use test_support::plan;
 
-/// How many sources there are, and of how many lines each.
-const SOURCES: u32 = 3;
-
-const LINES: u32 = 60;
+/// How many lines all sources have together, at most.
+const LINES: usize = 180;
 
 /// Who takes its time: the pause before a line, the pause before an answer is taken, and how long the
 /// collecting thread is kept waiting at first, in microseconds.
@@ -23,33 +21,35 @@ static PAUSES: [(&str, u64, u64, u64); 5] = [
     ("the collector at first", 0, 0, 20_000),
 ];
 
-/// Rings and messages, workers, and lanes of a source.
-static PLANS: [((usize, usize), usize, usize); 6] = [
-    ((1, 1), 1, 1),
-    ((1, 1), 3, 1),
-    ((2, 1), 2, 1),
-    ((1, 8), 1, 1),
-    ((1, 1), 3, 3),
-    ((2, 1), 2, 2),
+/// Rings and messages; sources, workers, and lanes of a source.
+static PLANS: [((usize, usize), (usize, usize, usize)); 9] = [
+    ((1, 1), (3, 1, 1)),
+    ((1, 1), (3, 3, 1)),
+    ((2, 1), (3, 2, 1)),
+    ((1, 8), (3, 1, 1)),
+    ((1, 1), (3, 3, 3)),
+    ((2, 1), (3, 2, 2)),
+    ((1, 1), (3, 5, 2)),
+    ((1, 1), (40, 16, 1)),
+    ((1, 1), (4, 16, 16)),
 ];
 
 /// A run of this plan comes to its end while somebody takes his time.
 fn ends<R: Threads + Wait + Clock + Abort + AllocGlobal + Sync>(
     rt: &R,
     (who, before_line, before_answer, late): (&str, u64, u64, u64),
-    (size, workers, lanes): ((usize, usize), usize, usize),
+    (size, (count, workers, lanes)): ((usize, usize), (usize, usize, usize)),
 ) -> Result<(), Fail> {
     let plan = plan(size.0, size.1, workers)?;
-    let sources = sources(rt, rt.alloc(), SOURCES as usize, (LINES, before_line)).ok_or(
-        "out of memory",
-    )?;
+    let lines = u32::try_from(LINES / count.max(1)).unwrap_or(0);
+    let sources = sources(rt, rt.alloc(), count, (lines, before_line)).ok_or("out of memory")?;
     if sources.len() > 64 {
         return Err("too many sources".into());
     }
     let collector = SlowCollector {
         rt,
         pause: before_answer,
-        left: SOURCES * LINES,
+        left: u32::MAX,
         answers: 0,
         ends: 0,
         wrong: false,
@@ -63,8 +63,12 @@ fn ends<R: Threads + Wait + Clock + Abort + AllocGlobal + Sync>(
     let (collector, ended) = run_items(rt, rt.alloc(), sources, options, collector);
     let run = ended?;
     assert_eq!(rt; run.refusal, None, "{who}");
-    assert_eq!(rt; collector.answers, SOURCES * LINES, "{who}");
-    assert_eq!(rt; collector.ends, SOURCES, "{who}");
+    assert_eq!(rt;
+        u64::from(collector.answers),
+        (count as u64).wrapping_mul(u64::from(lines)),
+        "{who}"
+    );
+    assert_eq!(rt; u64::from(collector.ends), count as u64, "{who}");
     assert!(rt; !collector.wrong, "{who}");
     Ok(())
 }

@@ -1,4 +1,4 @@
-ghost use Rattle.std.specs.Prelude.{◌≡◌, ◌==◌, ◌+◌, ◌<◌, ◌≤◌, ◌^◌, [], OnOk, IfOk};
+ghost use Rattle.std.specs.Prelude.{◌≡◌, ◌==◌, ◌↔◌, ◌+◌, ◌<◌, ◌≤◌, ◌^◌, [], Contains, IsTrue, OnOk, IfOk};
 ghost use Rattle.std.specs.List.{position};
 ghost use Rattle.std.specs.Io.KnownBytes.{Consumes, IsAtEnd};
 ghost use Rattle.set_run.specs.Reading.{MovesKept};
@@ -74,7 +74,9 @@ impl Buffer {
     }
 
     /// Returns whether the buffer contains a line feed.
-    pub(crate) fn has_feed(&self) -> bool {
+    pub(crate) fn has_feed(&self) -> bool
+        ensures { IsTrue result ↔ Contains self.now 10 }
+    {
         first_feed(&self.space[self.start..self.end]).is_some()
     }
 

@@ -4,7 +4,10 @@ use Rattle.std.proofs.lemmas.List.Elements.{AllWithin-more_set, AllWithin-none, 
 use Rattle.std.specs.Prelude.{[]}
 use Rattle.line_lane.specs.Ends.{SameFeeder, fed, open_lines}
 use Rattle.dealt_lanes.proofs.SameEnds.{ends_kept, feeder_refl, feeder_trans}
+use Rattle.dealt_lanes.specs.Feeders.{IsFlushedIfRoom}
 use Rattle.dealt_lanes.proofs.Zips.{map_kept, zip_change, zip_refl}
+use Rattle.dealt_lanes.proofs.Rounds.{first_all, first_more, within_before}
+use Rattle.dealt_lanes.proofs.IfRoom.{flush_done, flush_if_room}
 use Rattle.dealt_lanes.proofs.feeding.flush_all.Goals as goal
 use Rattle.dealt_lanes.proofs.feeding.flush_all.Goals.{then-all, else-all}
 
@@ -14,6 +17,8 @@ loop-lane-init g c = record {
   fed = refl;
   ends = λ end have. have;
   flushed = λ _. AllWithin-none (λ f. open_lines f ≡ []) c.args.feeders.now.items 0;
+  all = λ _. refl;
+  room = refl;
 }
 
 pub loop-lane-preserved : goal.loop-lane-preserved
@@ -36,4 +41,17 @@ loop-lane-preserved g c =
       flushed = λ is.
           AllWithin-more_set now i new below (λ f. open_lines f ≡ []) (c.loop-lane.invariant.flushed (both is).0)
           (c.flush-flushed.ensures.flushed (both is).1).0;
+      all = λ within.
+          let (before, here) = within_before (λ f. open_lines f ≡ []) now i new below within in
+          elim c.if-all.branch [
+            | then-all w ↦ w.all-is ∙ flush_done c.index_mut.result.now new c.flush-flushed.result c.flush-flushed.ensures.refused here
+            | else-all w ↦ w.all-is ∙ c.loop-lane.invariant.all before
+          ];
+      room = first_more IsFlushedIfRoom i old now c.index_mut.result.now new c.index_mut.ensures.value below c.loop-lane.invariant.room
+          (flush_if_room c.index_mut.result.now new c.flush-flushed.result c.flush-flushed.ensures.flushed c.flush-flushed.ensures.refused
+          c.flush-flushed.ensures.room);
     }
+
+pub returns-clause-room : goal.returns-clause-room
+returns-clause-room g c =
+    first_all IsFlushedIfRoom c.loop-lane.lane c.args.feeders.now.items c.loop-lane.feeders.items (search rules) c.loop-lane.invariant.room

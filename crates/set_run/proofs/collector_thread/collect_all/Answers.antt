@@ -1,6 +1,6 @@
 use Rattle.std.proofs.Common.{rules, arith, ◌≡◌, true, false, length, refl, sym, subst, ◌∙◌}
-use Rattle.std.specs.Prelude.{is_ok}
-use Rattle.set_run.specs.Collecting.{SameLane, TellsLanes}
+use Rattle.std.specs.Prelude.{All, is_ok}
+use Rattle.set_run.specs.Collecting.{IsOver, SameLane, TellsLanes}
 use Rattle.set_run.proofs.Zips.{zip_refl, zip_trans, zip_length}
 use Rattle.set_run.proofs.SameEnds.{lane_refl, lane_trans}
 use Rattle.set_run.proofs.TakerLemmas.{tells_all_kept, tells_all_same, tells_all_then}
@@ -83,3 +83,8 @@ loop-preserved g c =
           c.wait.ensures.given;
       willing = c.in_ok-wait.ensures.refused;
     }
+
+pub returns-then-have_ended-clause-whole : goal.returns-then-have_ended-clause-whole
+returns-then-have_ended-clause-whole g c =
+    let over : All IsOver c.go_round.new.lanes.items = subst (All IsOver) c.as_slice.ensures.value (c.have_ended.ensures.0 c.if-have_ended.true) in
+    λ _ k d below. (over k d below).0
