@@ -45,6 +45,23 @@ module _ (choices : AllChoices) where
     pub faults : {T : Type 0} (r : Result T Error) → (is_simple_and_free app ≡ true → FailsBy (fault_of app words) r) → FailsBy (fault_of (tfmset_app choices) words) r
     faults r fails = subst (λ a. is_simple_and_free a ≡ true → FailsBy (fault_of a words) r) is fails free
 
+-- `list` states no request without a font
+no_list : (rows : List Row) → ((any : Bor Text) → ¬ (first_of (codes "FONT") rows ≡ Some any.now)) → (any : Request) → ¬ AsksFor rows (codes "list") any
+no_list rows none (ListFont font size all verbose) asks = none font asks.1
+no_list rows none (Counts font verbose) asks = let is = asks.0 in absurd (search rules)
+no_list rows none (Pairs font size format verbose) asks = let is = asks.0 in absurd (search rules)
+no_list rows none (Check asked) asks = let is = asks.0 in absurd (search rules)
+no_list rows none (Set asked) asks = let is = asks.0 in absurd (search rules)
+no_list rows none (Stream asked) asks = let is = asks.0 in absurd (search rules)
+no_list rows none (Each asked) asks = let is = asks.0 in absurd (search rules)
+
+pub list_none : (rows : List Row) (found : Option (Bor Text)) (result : Option Request)
+    → Finds (λ (text : Bor Text). first_of (codes "FONT") rows ≡ Some text.now) found → found ≡ None → result ≡ None
+    → Finds (AsksFor rows (codes "list")) result
+list_none rows found (Some request) finds none is = absurd (none-some request (sym is))
+list_none rows (Some font) None finds none is = absurd (none-some font (sym none))
+list_none rows None None finds none is = no_list rows finds
+
 -- the font and the format that the arguments of `pairs` have
 abbrev AreFontFormat : List Row → Bor Text × PairsFormat → Type 0
 AreFontFormat rows found = (first_of (codes "FONT") rows ≡ Some found.0.now) × (first_of (codes "format") rows ≡ Some (format_word found.1))
@@ -53,7 +70,7 @@ AreFontFormat rows found = (first_of (codes "FONT") rows ≡ Some found.0.now) �
 no_pairs : (rows : List Row) → ((any : Bor Text × PairsFormat) → ¬ AreFontFormat rows any) → (any : Request) → ¬ AsksFor rows (codes "pairs") any
 no_pairs rows none (Pairs font size format verbose) asks = none (font, format) (asks.1, asks.3)
 no_pairs rows none (Counts font verbose) asks = let is = asks.0 in absurd (search rules)
-no_pairs rows none (ListFont font all verbose) asks = let is = asks.0 in absurd (search rules)
+no_pairs rows none (ListFont font size all verbose) asks = let is = asks.0 in absurd (search rules)
 no_pairs rows none (Check asked) asks = let is = asks.0 in absurd (search rules)
 no_pairs rows none (Set asked) asks = let is = asks.0 in absurd (search rules)
 no_pairs rows none (Stream asked) asks = let is = asks.0 in absurd (search rules)

@@ -1,4 +1,5 @@
 pub mod CommandLemmas
 pub mod ValueLemmas
+pub mod EncodingLemmas
 pub mod AskedLemmas
 pub mod WorkedRows

@@ -46,6 +46,14 @@ module _ (choices : AllChoices) where
   unfolding clap_on_literals
   stream_crlf = refl
 
+  stream_encoding : text_in (codes "encoding") (codes "stream" ∷ codes "--encoding" ∷ codes "t1" ∷ codes "f.tfm" ∷ []) ≡ Some (Some (codes "t1"))
+  unfolding clap_on_literals
+  stream_encoding = refl
+
+  list_size : text_in (codes "size") (codes "list" ∷ codes "--size=12pt" ∷ codes "f.tfm" ∷ []) ≡ Some (Some (codes "12pt"))
+  unfolding clap_on_literals
+  list_size = refl
+
   check_verbose : read_in (codes "verbose") (codes "check" ∷ codes "-v" ∷ codes "f.tfm" ∷ []) ≡ Some (Some (codes "true"))
   unfolding clap_on_literals
   check_verbose = refl
@@ -85,6 +93,14 @@ module _ (choices : AllChoices) where
   set_not_crlf : read_in (codes "crlf") set ≡ Some (Some (codes "false"))
   unfolding clap_on_literals
   set_not_crlf = refl
+
+  set_encoding : text_in (codes "encoding") set ≡ Some (Some (codes "bytes"))
+  unfolding clap_on_literals
+  set_encoding = refl
+
+  each_encoding : text_in (codes "encoding") (codes "each" ∷ codes "f.tfm" ∷ codes "100" ∷ codes "a" ∷ []) ≡ Some (Some (codes "bytes"))
+  unfolding clap_on_literals
+  each_encoding = refl
 
   set_not_verbose : read_in (codes "verbose") set ≡ Some (Some (codes "false"))
   unfolding clap_on_literals
@@ -151,6 +167,10 @@ module _ (choices : AllChoices) where
   larger_size : wrong_size_in (codes "check" ∷ codes "--size" ∷ codes "134217728" ∷ codes "f.tfm" ∷ []) ≡ Some true
   unfolding clap_on_literals
   larger_size = refl
+
+  wrong_size_of_a_list : wrong_size_in (codes "list" ∷ codes "--size=12em" ∷ codes "f.tfm" ∷ []) ≡ Some true
+  unfolding clap_on_literals
+  wrong_size_of_a_list = refl
 
   no_option : fault_in (codes "counts" ∷ codes "--size" ∷ codes "1" ∷ codes "f.tfm" ∷ []) ≡ UnknownArgument ∷ []
   unfolding clap_on_literals

@@ -8,6 +8,7 @@ use Rattle.clap.specs.Words.{HasKind, Row, Text, all_of, fault_of, first_of, kin
 use Rattle.clap.specs.declared.error.Error.{Error}
 use Rattle.clap.specs.declared.error.kind.ErrorKind.{ErrorKind}
 use Rattle.clap.specs.declared.error.kind.ErrorKind.TheVariants.{MissingSubcommand, OutOfMemory, ValueValidation}
+use Rattle.encodings.specs.Names.{name_of}
 use Rattle.tex_sizes.specs.Sizes.{is_plain, size_of}
 use Rattle.font_texts.specs.declared.pairs_format.PairsFormat.{PairsFormat}
 use Rattle.font_texts.specs.declared.pairs_format.PairsFormat.TheVariants.{Text as TextFormat, Csv, Json as JsonFormat}
@@ -104,6 +105,7 @@ module _ (rows : List Row) where
       × (layout.plain_size ≡ has_plain_size)
       × (first_of (codes "missing") rows ≡ Some (policy_word layout.policy))
       × IsFlag (one_of (codes "crlf") rows) layout.crlf
+      × (first_of (codes "encoding") rows ≡ Some (name_of layout.encoding))
       × IsPlan layout.plan
       × (layout.whole_reads ≡ has_no_block)
       × (first_of (codes "record") rows ≡ Some (version_word layout.version))
@@ -132,9 +134,10 @@ module _ (rows : List Row) where
   abbrev pub AsksFor : Text → Request → Type 0
   AsksFor name (Counts font verbose) =
       (name ≡ codes "counts") × (first_of (codes "FONT") rows ≡ Some font.now) × IsVerbose verbose
-  AsksFor name (ListFont font all verbose) =
+  AsksFor name (ListFont font size all verbose) =
       (name ≡ codes "list")
       × (first_of (codes "FONT") rows ≡ Some font.now)
+      × IsSize size
       × IsFlag (one_of (codes "all") rows) all
       × IsVerbose verbose
   AsksFor name (Pairs font size format verbose) =

@@ -10,6 +10,7 @@ use Rattle.clap.specs.declared.builder.command.Command.TheViews.{out-Command as 
 use Rattle.clap.specs.declared.builder.action.ArgAction.TheVariants.{SetTrue}
 use Rattle.clap.specs.declared.builder.value_parser.ValueParser.{ValueParser}
 use Rattle.clap.specs.declared.builder.value_parser.ValueParser.TheVariants as parser
+use Rattle.encodings.specs.Names.{encodings, name_of}
 
 -- ---- arguments
 
@@ -52,6 +53,10 @@ TakesWords words _ = ⊥
 abbrev pub missing_words : List Text
 missing_words = codes "refuse" ∷ codes "skip" ∷ []
 
+-- the values of `--encoding`: the names of the encodings
+abbrev pub encoding_words : List Text
+encoding_words = map name_of encodings
+
 -- the values of `--record`
 abbrev pub record_words : List Text
 record_words = codes "1" ∷ codes "2" ∷ codes "json" ∷ []
@@ -60,11 +65,13 @@ record_words = codes "1" ∷ codes "2" ∷ codes "json" ∷ []
 abbrev pub format_words : List Text
 format_words = codes "text" ∷ codes "csv" ∷ codes "json" ∷ []
 
--- the parsers of `--missing` and `--record`
+-- the parsers of `--missing`, `--encoding` and `--record`
 pub record Choices : Type 0 where
   pub missing : ValueParser
+  pub encodings : ValueParser
   pub records : ValueParser
   pub missing_taken : TakesWords missing_words missing
+  pub encodings_taken : TakesWords encoding_words encodings
   pub records_taken : TakesWords record_words records
 
 -- the option `--size`, whose value is any text for a parse
@@ -80,6 +87,7 @@ abbrev pub run_rules : Rule → Choices → List Rule
 run_rules block choices =
     with_default (codes "refuse") (choice_rule (codes "missing") choices.missing)
     ∷ flag_rule (codes "crlf")
+    ∷ with_default (codes "bytes") (choice_rule (codes "encoding") choices.encodings)
     ∷ with_default (codes "2") (number_rule (codes "workers") 16)
     ∷ with_default (codes "16") (number_rule (codes "capacity") 65536)
     ∷ block
@@ -102,9 +110,9 @@ subcommand_with name rules = record (new_app name).top { rules = rules }
 abbrev pub counts_shape : Shape
 counts_shape = subcommand_with (codes "counts") (verbose_rule ∷ needed (new_rule (codes "FONT")) ∷ [])
 
--- `list` takes the flags `--all` and `--verbose`, and one font
+-- `list` takes `--size`, the flags `--all` and `--verbose`, and one font
 abbrev pub list_shape : Shape
-list_shape = subcommand_with (codes "list") (flag_rule (codes "all") ∷ verbose_rule ∷ needed (new_rule (codes "FONT")) ∷ [])
+list_shape = subcommand_with (codes "list") (size_rule ∷ flag_rule (codes "all") ∷ verbose_rule ∷ needed (new_rule (codes "FONT")) ∷ [])
 
 -- `pairs` takes `--size`, `--format` with this parser, the flag `--verbose`, and one font
 abbrev pub pairs_shape : ValueParser → Shape

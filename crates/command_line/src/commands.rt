@@ -3,15 +3,15 @@ ghost use Rattle.std.specs.Prelude.{codes, IfOk, IsOkAnd};
 ghost use Rattle.clap.specs.declared.builder.value_parser.ValueParser.{ValueParser};
 ghost use Rattle.clap.specs.declared.builder.value_parser.ValueParser.TheVariants.{Names};
 ghost use Rattle.clap.specs.Words.{App, Rule, Shape, new_app, new_rule, with_rule, with_subcommand};
-ghost use Rattle.command_line.specs.Commands.{AllChoices, Choices, IsArgument, IsCommandOf, IsSubcommand, TakesWords, bare_app, block_rule, check_shape, choice_rule, counts_shape, each_shape, flag_rule, format_words, list_shape, missing_words, needed, number_rule, pairs_shape, record_words, run_rules, set_shape, setting_rules, size_rule, stream_shape, tfmset_app, verbose_rule, with_default, with_rules, words_rule};
+ghost use Rattle.command_line.specs.Commands.{AllChoices, Choices, IsArgument, IsCommandOf, IsSubcommand, TakesWords, bare_app, block_rule, check_shape, choice_rule, counts_shape, each_shape, encoding_words, flag_rule, format_words, list_shape, missing_words, needed, number_rule, pairs_shape, record_words, run_rules, set_shape, setting_rules, size_rule, stream_shape, tfmset_app, verbose_rule, with_default, with_rules, words_rule};
 
 use crate::help::{
     ABOUT, AFTER_HELP, ALL_HELP, BLOCK_HELP, CAPACITY_HELP, CAUSES_HELP, CHECK_ABOUT,
     CHECK_AFTER_HELP, COUNTS_ABOUT, COUNTS_AFTER_HELP, CRLF_HELP, EACH_ABOUT, EACH_AFTER_HELP,
-    FILE_HELP, FONT_HELP, FONTS_HELP, FORMAT_HELP, LIMIT_HELP, LIST_ABOUT, LIST_AFTER_HELP,
-    MISSING_HELP, PAIRS_ABOUT, PAIRS_AFTER_HELP, RECORD_HELP, SET_ABOUT, SET_AFTER_HELP, SIZE_HELP,
-    STREAM_ABOUT, STREAM_AFTER_HELP, STREAM_BLOCK_HELP, STREAM_FILE_HELP, VERBOSE_HELP, WORDS_HELP,
-    WORKERS_HELP,
+    ENCODING_HELP, FILE_HELP, FONT_HELP, FONTS_HELP, FORMAT_HELP, LIMIT_HELP, LIST_ABOUT,
+    LIST_AFTER_HELP, MISSING_HELP, PAIRS_ABOUT, PAIRS_AFTER_HELP, RECORD_HELP, SET_ABOUT,
+    SET_AFTER_HELP, SIZE_HELP, STREAM_ABOUT, STREAM_AFTER_HELP, STREAM_BLOCK_HELP,
+    STREAM_FILE_HELP, VERBOSE_HELP, WORDS_HELP, WORKERS_HELP,
 };
 use clap::{Arg, ArgAction, Command, value_parser};
 use std::alloc::{AllocError, Global};
@@ -71,6 +71,7 @@ fn list_command<'a>(alloc: Global) -> Result<Command<'a>, AllocError>
     ensures { IfOk result (IsSubcommand list_shape) }
 {
     let command = subcommand(alloc, "list", LIST_ABOUT, LIST_AFTER_HELP);
+    let command = with_argument(command, size_option(alloc))?;
     let command = with_argument(command, flag_option(alloc, "all", ALL_HELP))?;
     let command = with_argument(command, verbose_option(alloc, CAUSES_HELP))?;
     with_argument(command, font_argument(alloc))
@@ -162,6 +163,7 @@ fn run_options<'a>(
 {
     let command = with_argument(command, missing_option(alloc))?;
     let command = with_argument(command, flag_option(alloc, "crlf", CRLF_HELP))?;
+    let command = with_argument(command, encoding_option(alloc))?;
     let workers = number_option(alloc, "workers", WORKERS_HELP, 16).default_value("2");
     let command = with_argument(command, workers)?;
     let capacity = number_option(alloc, "capacity", CAPACITY_HELP, 65_536).default_value("16");
@@ -202,6 +204,14 @@ fn missing_option<'a>(alloc: Global) -> Arg<'a>
 {
     let words = &["refuse", "skip"];
     choice_option(alloc, "missing", "P", MISSING_HELP, words).default_value("refuse")
+}
+
+fn encoding_option<'a>(alloc: Global) -> Arg<'a>
+    ensures { (parser : ValueParser) × TakesWords encoding_words parser
+        × IsArgument (with_default (codes "bytes") (choice_rule (codes "encoding") parser)) result }
+{
+    let words = &["bytes", "ot1", "t1", "ly1", "latin1"];
+    choice_option(alloc, "encoding", "E", ENCODING_HELP, words).default_value("bytes")
 }
 
 fn record_option<'a>(alloc: Global) -> Arg<'a>

@@ -52,9 +52,9 @@ pub(crate) const LIST_AFTER_HELP: &str = "Example, in the directory examples of 
 
 Prints the header, the boundaries, the characters with their dimensions, the
 instructions of the lig/kern program, the kerns and the parameters. Dimensions
-are in scaled points (65536 sp = 1pt) at the design size. With --all, the
-twelve counts are printed first, and the extensible recipes and every word
-(four bytes) of the file, in hexadecimal, are printed last.
+are in scaled points (65536 sp = 1pt), at the design size without --size. With
+--all, the twelve counts are printed first, and the extensible recipes and
+every word (four bytes) of the file, in hexadecimal, are printed last.
 
 Exit status:
   0  The contents were printed.
@@ -124,10 +124,15 @@ why the line was refused. If the lines of a FILE could not all be read and set,
 its end line states the reason, and the other FILEs are set. For output as it
 is produced, and for large inputs, use `tfmset stream`.
 
-A FILE named - is a file of that name; /dev/stdin is standard input. Bytes are
-character codes of the font, not Unicode. Byte 32 is a space, byte 10 ends a
-line, and a carriage return (13) is a code like any other; with --crlf, one
-before each byte 10 is left out. A line has at most 65535 bytes.
+A FILE named - is a file of that name; /dev/stdin is standard input. Byte 10
+ends a line; with --crlf, one carriage return (13) before each byte 10 is left
+out. A line has at most 65535 bytes.
+
+Without --encoding, bytes are character codes of the font, not Unicode. Byte 32
+is a space, and a carriage return is a code like any other. With the encoding
+of the font (ot1 for cmr10, t1 for ecrm1000; ly1; latin1), the lines are text
+in UTF-8, and each character is set with its codes. A character without codes
+in the encoding is treated as a missing character.
 
 Without --size, the font is set at its design size. A size is a number directly
 followed by pt, in, pc, cm, mm, bp, dd, cc or sp, such as 10.95pt or 4mm, and
@@ -135,7 +140,7 @@ is rounded as TeX rounds it. Without a unit it is a whole number of scaled
 points: 10pt is 655360. A size is 1 to 134217727 scaled points.
 
 A line that needs more steps than --limit is refused; this stops lig/kern
-programs that never end. A missing character is a byte, other than the space,
+programs that never end. A missing character is a code, other than the space,
 for which the font has no character. Record format 2 adds the number of steps
 to each record; json prints the same data as one JSON object per line.
 
@@ -178,8 +183,9 @@ that are being set, but not the whole output. If `stream` fails, every complete
 line that it has printed is valid. With both commands, if the lines of a FILE
 could not all be read and set, its end line states the reason.
 
-A size is as for `tfmset set`. If it has no unit and is below 65536, which is
-less than 1pt, a warning is printed on standard error.
+The lines are bytes, or text in UTF-8 with --encoding, as for `tfmset set`. A
+size is as there. If it has no unit and is below 65536, which is less than 1pt,
+a warning is printed on standard error.
 
 --block is the largest number of lines that threads pass on together. Without
 it, they pass on the lines of each read together, which takes the least time. A
@@ -215,10 +221,10 @@ lines. Here - is always the name of a file, and never standard input. All fonts
 are set at --size; without it, each font is set at its own design size.
 
 Prints the same records and end lines as `tfmset set`, once every FILE is set.
-Bytes are character codes of the font, not Unicode. Byte 32 is a space, byte 10
-ends a line, and a carriage return (13) is a code like any other; with --crlf,
-one before each byte 10 is left out. A line has at most 65535 bytes. A size is
-as for `tfmset set`, and so are --workers, --block and --verbose.
+Byte 10 ends a line; with --crlf, one carriage return (13) before each byte 10
+is left out. A line has at most 65535 bytes. The lines are bytes, or text in
+UTF-8 with --encoding, which is that of all FONTs. This option is as for
+`tfmset set`, and so are sizes, --workers, --block and --verbose.
 
 Exit status:
   0  Every line of every FILE was set, and the output was written.
@@ -255,6 +261,8 @@ pub(crate) const LIMIT_HELP: &str = "Maximum steps per line, 1 to 16777216";
 pub(crate) const MISSING_HELP: &str = "On a missing character: refuse or skip";
 
 pub(crate) const CRLF_HELP: &str = "Leave out one carriage return before each line feed";
+
+pub(crate) const ENCODING_HELP: &str = "Encoding: bytes, ot1, t1, ly1 or latin1";
 
 pub(crate) const RECORD_HELP: &str = "Record format: 1, 2 or json; 1 omits steps";
 

@@ -1,6 +1,7 @@
 //! Returns the request that the arguments state, from the values that a parse finds for them.
 ghost use Rattle.std.specs.Prelude.{◌≡◌, [], map, IfErr, IfOk, Some, codes, option_map, unwrap_or};
 ghost use Rattle.clap.specs.Words.{all_of, first_of, found_of, kind_of, one_of, rows_of, subcommand_rows_of};
+ghost use Rattle.encodings.specs.Names.{name_of};
 ghost use Rattle.command_line.specs.Commands.{AllChoices, IsCommandOf, tfmset_app};
 ghost use Rattle.command_line.specs.Asked.{AreJobs, AsksFor, Finds, format_word, has_no_block, has_plain_size, IsAskedBy, IsAskedOf, IsAskedWith, IsBlock, IsChecking, IsFlag, IsLayout, IsNumberIn, IsPlan, IsRefusedBy, IsRefusedWith, IsSetting, IsSize, IsVerbose, kind_without_request, misstates_size, policy_word, texts, version_word};
 
@@ -9,6 +10,7 @@ use crate::help::SIZE_ERROR;
 use crate::request::{Checking, Jobs, Layout, Request, Setting};
 use clap::error::ErrorKind;
 use clap::{ArgMatches, Command, Error};
+use encodings::Encoding;
 use font_texts::PairsFormat;
 use run_plan::{Block, Capacity, Plan, Workers};
 use set_line::{Limit, Policy, Version};
@@ -107,10 +109,7 @@ fn asked_by<'a>(
             let verbose = asked_verbose(matches);
             Ok(text(matches, "FONT").map(|font| Request::Counts { font, verbose }))
         }
-        "list" => {
-            let (all, verbose) = (flag(matches, "all"), asked_verbose(matches));
-            Ok(text(matches, "FONT").map(|font| Request::List { font, all, verbose }))
-        }
+        "list" => Ok(asked_list(matches)),
         "pairs" => Ok(asked_pairs(matches)),
         "check" => Ok(asked_fonts(alloc, matches)?.map(Request::Check)),
         "set" => Ok(asked_setting(alloc, matches)?.map(Request::Set)),
@@ -118,6 +117,21 @@ fn asked_by<'a>(
         "each" => Ok(asked_jobs(alloc, matches)?.map(Request::Each)),
         _ => Ok(None),
     }
+}
+
+/// Returns the request of `list`.
+fn asked_list<'a>(matches: &ArgMatches<'a>) -> Option<Request<'a>>
+    ensures { Finds (AsksFor (rows_of (found_of matches.now)) (codes "list")) result }
+{
+    let font = text(matches, "FONT")?;
+    let size = asked_size(matches)?;
+    let (all, verbose) = (flag(matches, "all"), asked_verbose(matches));
+    Some(Request::List {
+        font,
+        size,
+        all,
+        verbose,
+    })
 }
 
 /// Returns the request of `pairs`.
@@ -232,6 +246,7 @@ fn asked_layout(matches: &ArgMatches<'_>) -> Option<Layout>
         plain_size: asked_plain_size(matches),
         policy: asked_policy(matches)?,
         crlf: flag(matches, "crlf"),
+        encoding: asked_encoding(matches)?,
         plan: asked_plan(matches)?,
         whole_reads: asked_whole_reads(matches),
         version: asked_version(matches)?,
@@ -254,6 +269,13 @@ fn asked_policy(matches: &ArgMatches<'_>) -> Option<Policy>
         "skip" => Some(Policy::Skip),
         _ => None,
     }
+}
+
+fn asked_encoding(matches: &ArgMatches<'_>) -> Option<Encoding>
+    ensures { Finds (λ encoding. first_of (codes "encoding") (rows_of (found_of matches.now))
+        ≡ Some (name_of encoding)) result }
+{
+    Encoding::from_name(text(matches, "encoding")?)
 }
 
 fn asked_version(matches: &ArgMatches<'_>) -> Option<Version>

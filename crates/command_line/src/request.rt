@@ -1,4 +1,5 @@
 //! The requests that arguments can state.
+use encodings::Encoding;
 use font_texts::PairsFormat;
 use run_plan::Plan;
 use set_line::{Limit, Policy, Version};
@@ -14,10 +15,12 @@ pub enum Request<'a> {
         /// Whether the causes of errors are printed on standard error.
         verbose: bool,
     },
-    /// Prints the contents of a font at its design size.
+    /// Prints the contents of a font.
     List {
         /// The name of the font; `-` is standard input.
         font: &'a str,
+        /// The size of the font, in sp; `None` means its design size.
+        size: Option<Size>,
         /// Whether the counts, the extensible recipes and all words of the file are printed, too.
         all: bool,
         /// Whether the causes of errors are printed on standard error.
@@ -56,6 +59,8 @@ pub struct Layout {
     pub policy: Policy,
     /// Whether one carriage return before each line feed is stripped from the files with lines.
     pub crlf: bool,
+    /// What the lines are: bytes that are codes of the font, or text in UTF-8 for a font with this encoding.
+    pub encoding: Encoding,
     /// The capacity and the block of each lane, and the largest number of workers.
     pub plan: Plan,
     /// Whether a block has the whole lines of one read, and not the plan's number of lines: `stream` without

@@ -8,7 +8,7 @@ use std::snapshot::Snapshot;
 
 /// The records of the lines of a block, the number of these lines, and the number of refused lines among
 /// them. An invariant of the type states that these are the defined ones (`block_text`) for the block, the
-/// settings, the number of the source, and the record format, which the contract of a text names.
+/// settings, the number of the source, the encoding and the record format, which the contract of a text names.
 #[derive(Drop)]
 pub struct BlockText {
     text: Vec<u8>,

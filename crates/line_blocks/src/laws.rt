@@ -1,31 +1,44 @@
 //! Laws of the definitions. Each is the contract of a function with an empty body.
-ghost use Rattle.std.specs.Prelude.{◌≡◌, ℕ, List, flat_map, map, count_by};
+ghost use Rattle.std.specs.Prelude.{◌≡◌, ◌==◌, ℕ, List, flat_map, map, count_by};
 ghost use Rattle.set_line.specs.Terms.{TermsValue};
 ghost use Rattle.set_line.specs.Answer.{answer_of, outcome_of};
+ghost use Rattle.set_line.specs.Record.{record_text};
 ghost use Rattle.line_lane.specs.Lane.{answers_of};
 ghost use Rattle.set_run.specs.Closed.{IsClosedOf};
 ghost use Rattle.set_run.specs.Cuts.{cut};
 ghost use Rattle.set_run.specs.Sources.{gives_line};
 ghost use Rattle.set_run.specs.declared.run_end.ClosedLane.{ClosedLane as Closed};
+ghost use Rattle.encodings.specs.declared.encoding.Encoding.{Encoding};
+ghost use Rattle.encodings.specs.declared.encoding.Encoding.TheVariants.{Bytes};
+ghost use Rattle.encoded_lines.specs.declared.outcome.EncodedOutcome.TheVariants.{Plain};
+ghost use Rattle.encoded_lines.specs.Answer.{encoded_outcome};
+ghost use Rattle.encoded_lines.specs.Record.{is_refused};
 ghost use Rattle.line_blocks.specs.Blocks.{BlockValue, lines_of_block, numbered_cuts};
 ghost use Rattle.line_blocks.specs.Gathering.{AreTextsOf, GathersFrom, gives_block, source_of};
 ghost use Rattle.line_blocks.specs.declared.gathering.LineBlocks.{LineBlocks};
-ghost use Rattle.line_blocks.specs.BlockText.{BlockTextValue, MakerValue, block_text, is_refusal, line_records, outcome_in, records_in, refused_in};
+ghost use Rattle.line_blocks.specs.BlockText.{BlockTextValue, MakerValue, block_text, is_refusal, line_outcomes, line_records, outcome_in, record_in, records_in, refused_in};
 
 use set_run::LineSource;
 
 /// States that a line has the same result in a block as elsewhere, even if the block keeps only its length;
-/// and that as many lines are refused in a block as elsewhere.
+/// and that as many lines are refused in a block as elsewhere. The results of lines of bytes are those of
+/// `outcome_of`.
 #[tactic(auto, using(crate::proofs::TextLemmas::kept))]
 pub fn kept_lines()
-    ensures outcome { (terms : TermsValue) (line : List ℕ)
-        → outcome_in terms (cut line) ≡ outcome_of terms line }
-    ensures refused { (terms : TermsValue) (lines : List (List ℕ)) → refused_in terms (map cut lines)
+    ensures outcome { (terms : TermsValue) (encoding : Encoding) (number : ℕ) (line : List ℕ)
+        → outcome_in terms encoding number (cut line) ≡ encoded_outcome terms encoding (number == 1) line }
+    ensures bytes { (terms : TermsValue) (number : ℕ) (line : List ℕ)
+        → outcome_in terms Bytes number (cut line) ≡ Plain (outcome_of terms line) }
+    ensures refused { (terms : TermsValue) (encoding : Encoding) (first : ℕ) (lines : List (List ℕ))
+        → refused_in terms encoding (numbered_cuts first lines)
+        ≡ count_by is_refused (line_outcomes terms encoding first lines) }
+    ensures refused_bytes { (terms : TermsValue) (first : ℕ) (lines : List (List ℕ))
+        → refused_in terms Bytes (numbered_cuts first lines)
         ≡ count_by (λ line. is_refusal (outcome_of terms line)) lines }
 {}
 
-/// States that the texts of blocks, joined, are the records of all their lines; and that the records of lines
-/// are the same in blocks as elsewhere.
+/// States that the texts of blocks, joined, are the records of all their lines; that the records of lines are
+/// the same in blocks as elsewhere; and that those of lines of bytes are the records of `record_text`.
 #[tactic(auto, using(crate::proofs::TextLemmas::records))]
 pub fn records_of_blocks()
     ensures joined { (maker : MakerValue) (blocks : List BlockValue)
@@ -33,6 +46,9 @@ pub fn records_of_blocks()
         ≡ records_in maker (flat_map lines_of_block blocks) }
     ensures lines { (maker : MakerValue) (first : ℕ) (lines : List (List ℕ))
         → records_in maker (numbered_cuts first lines) ≡ line_records maker first lines }
+    ensures bytes { (maker : MakerValue) (number : ℕ) (line : List ℕ) → maker.style.encoding ≡ Bytes
+        → record_in maker (number, cut line)
+        ≡ record_text maker.source number (outcome_of maker.terms line) maker.style.version }
 {}
 
 /// States that a lane that was fed with blocks of lines agrees with the source of the lines: the texts of the

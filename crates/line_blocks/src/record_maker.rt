@@ -1,14 +1,21 @@
-ghost use Rattle.std.specs.Prelude.{◌≡◌, ◌+◌, ◌++◌, [], ◌∷◌, count_by, IfErr, IfOk, OnOk};
+ghost use Rattle.std.specs.Prelude.{◌≡◌, ◌≢◌, ◌+◌, ◌++◌, [], ◌∷◌, true, false, IfErr, IfOk, MatchBool, OnOk};
 ghost use Rattle.std.specs.Arc.{arc_value};
-ghost use Rattle.line_blocks.specs.BlockText.{block_text, is_refusal, outcome_in, record_in, records_in, refused_in};
+ghost use Rattle.encodings.specs.declared.encoding.Encoding.TheVariants.{Bytes};
+ghost use Rattle.encoded_lines.specs.Record.{is_refused};
+ghost use Rattle.set_run.specs.Cuts.{too_long, whole};
+ghost use Rattle.line_blocks.specs.BlockText.{block_text, outcome_in, record_in, records_in, refused_in};
 ghost use Rattle.line_blocks.specs.Blocks.{lines_of_block};
+ghost use Rattle.line_blocks.specs.Coded.{AreCodesOf};
 ghost use Rattle.line_blocks.specs.Visited.{value_of};
 
 use crate::{BlockLineRef, BlockText, LineBlock};
 use dealt_lanes::Shared;
+use encoded_lines::{EncodedRoom, RecordSettings, SourceLine, encoded_record};
+use encodings::{EncodedLine, Encoding, encode_line};
 use line_lane::Making;
 use pair_texts::{LineWriter, RecordForm};
 use set_line::{LineRefusal, OutOfMemory, Outcome, RecordNumber, Terms, Version, record_outcome};
+use set_run::MOST_BYTES;
 use std::alloc::Global;
 use std::marker::Model;
 use std::sync::Arc;
@@ -19,9 +26,12 @@ use std::sync::Arc;
 pub struct RecordMaker {
     terms: Arc<Terms>,
     source: u64,
+    encoding: Encoding,
     version: Version,
-    /// Sets the lines, and has the memory that is used for each of them.
+    /// Sets lines of bytes and of codes, and has the memory that is used for each of them.
     writer: LineWriter,
+    /// The memory that is used for each line in UTF-8.
+    room: EncodedRoom,
     /// The number of bytes of the last text.
     last: usize,
     /// The allocator of the makers that `share` returns.
@@ -35,7 +45,11 @@ impl Model for RecordMaker {
 
     ghost Value = { MakerValue };
 
-    ghost view = { λ m. record { terms = arc_value m.terms; source = m.source; version = m.version } };
+    ghost view = { λ m. record {
+      terms = arc_value m.terms;
+      source = m.source;
+      style = record { encoding = m.encoding; version = m.version };
+    } };
 
     ghost invariant = { λ m. m.writer ≡ (arc_value m.terms).font };
 }
@@ -50,21 +64,55 @@ fn with_room(alloc: Global, room: usize) -> Vec<u8>
     }
 }
 
+/// Encodes a line into `codes`, whose memory is used again. Returns whether the line isn't too long, is UTF-8,
+/// and has only characters that have codes; otherwise the contents of `codes` are unspecified.
+fn encodes(encoding: Encoding, first: bool, line: &[u8], codes: &mut EncodedLine) -> bool
+    ensures { result ≡ true → AreCodesOf encoding first line.now codes.new }
+{
+    if line.len() > MOST_BYTES {
+        return false;
+    }
+    match encode_line(encoding, first, line, codes) {
+        Ok(()) => !codes.has_uncoded(),
+        Err(_) => false,
+    }
+}
+
 impl RecordMaker {
-    /// Returns a maker of the records of the source with this number, in this format, for lines that are set
-    /// with these settings. This allocates no memory.
+    /// Returns a maker of the records of the source with this number, in this format, for lines of bytes that
+    /// are set with these settings. This allocates no memory.
     pub fn new(alloc: Global, terms: Arc<Terms>, source: u64, version: Version) -> Self
-        ensures { result ≡ record { terms = arc_value terms; source = source; version = version } }
+        ensures { result ≡ record {
+          terms = arc_value terms;
+          source = source;
+          style = record { encoding = Bytes; version = version };
+        } }
     {
         let writer = LineWriter::new(alloc, terms.font());
         RecordMaker {
             terms,
             source,
+            encoding: Encoding::Bytes,
             version,
             writer,
+            room: EncodedRoom::new(alloc),
             last: 0,
             alloc,
         }
+    }
+
+    /// Returns this maker for lines with this encoding. The lines are in UTF-8 unless it is
+    /// [`Encoding::Bytes`], and a byte order mark at the front of the line with the number 1 is left out.
+    pub fn with_encoding(self, encoding: Encoding) -> Self
+        ensures { result ≡ record {
+          terms = self.terms;
+          source = self.source;
+          style = record { encoding = encoding; version = self.style.version };
+        } }
+    {
+        let mut maker = self;
+        maker.encoding = encoding;
+        maker
     }
 
     /// Prepares the writer, except for records in JSON, for which a table of texts isn't used.
@@ -76,8 +124,137 @@ impl RecordMaker {
         }
     }
 
+    /// Returns the numbers in front of the record of a line.
+    fn numbered(&self, line: u64) -> RecordNumber
+        ensures source { result.source ≡ self.now.source }
+        ensures line { result.line ≡ line }
+    {
+        RecordNumber {
+            source: self.source,
+            line,
+        }
+    }
+
+    /// Appends the record of a line of bytes. Returns whether the line was refused.
+    #[tactic(auto, using(crate::proofs::TextLemmas::of_bytes))]
+    fn append_bytes(
+        &mut self,
+        number: u64,
+        line: &[u8],
+        text: &mut Vec<u8>,
+    ) -> Result<bool, OutOfMemory>
+        requires { self.old.style.encoding ≡ Bytes }
+        ensures kept { self.new ≡ self.old }
+        ensures appended { OnOk result (text.new.items
+            ≡ text.old.items ++ record_in self.old (number, whole line.now)) }
+        ensures refused { IfOk result (λ refused. refused ≡ is_refused
+            (outcome_in self.old.terms self.old.style.encoding number (whole line.now))) }
+    {
+        let form = RecordForm {
+            number: self.numbered(number),
+            version: self.version,
+        };
+        self.writer.append(&self.terms, line, form, text)
+    }
+
+    /// Sets a line in UTF-8 as the line of its codes, which is faster than the general way, and appends its
+    /// record. Returns false, with nothing appended, if the line has to be set in the general way: it is
+    /// refused, or a character has no codes.
+    #[tactic(auto, using(crate::proofs::TextLemmas::of_codes))]
+    fn append_codes(
+        &mut self,
+        number: u64,
+        line: &[u8],
+        text: &mut Vec<u8>,
+    ) -> Result<bool, OutOfMemory>
+        requires { self.old.style.encoding ≢ Bytes }
+        ensures kept { self.new ≡ self.old }
+        ensures appended { IfOk result (λ is_set. MatchBool is_set
+            (text.new.items ≡ text.old.items ++ record_in self.old (number, whole line.now))
+            (text.new.items ≡ text.old.items)) }
+        ensures set { IfOk result (λ is_set. is_set ≡ true → is_refused
+            (outcome_in self.old.terms self.old.style.encoding number (whole line.now)) ≡ false) }
+    {
+        if !encodes(self.encoding, number == 1, line, &mut self.room.line) {
+            return Ok(false);
+        }
+        let before = text.len();
+        let form = RecordForm {
+            number: self.numbered(number),
+            version: self.version,
+        };
+        let codes = self.room.line.codes();
+        if self.writer.append(&self.terms, codes, form, text)? {
+            text.truncate(before);
+            return Ok(false);
+        }
+        Ok(true)
+    }
+
+    /// Appends the record of a line in UTF-8, which is set in the general way. Returns whether the line was
+    /// refused.
+    fn append_generally(
+        &mut self,
+        number: u64,
+        line: &[u8],
+        text: &mut Vec<u8>,
+    ) -> Result<bool, OutOfMemory>
+        ensures kept { self.new ≡ self.old }
+        ensures appended { OnOk result (text.new.items
+            ≡ text.old.items ++ record_in self.old (number, whole line.now)) }
+        ensures refused { IfOk result (λ refused. refused ≡ is_refused
+            (outcome_in self.old.terms self.old.style.encoding number (whole line.now))) }
+    {
+        let line = SourceLine {
+            number: self.numbered(number),
+            first: number == 1,
+            bytes: line,
+        };
+        let settings = RecordSettings {
+            terms: &self.terms,
+            encoding: self.encoding,
+            version: self.version,
+        };
+        encoded_record(settings, line, None, &mut self.room, text)
+    }
+
+    /// Appends the record of a line in UTF-8. Returns whether the line was refused.
+    fn append_encoded(
+        &mut self,
+        number: u64,
+        line: &[u8],
+        text: &mut Vec<u8>,
+    ) -> Result<bool, OutOfMemory>
+        requires { self.old.style.encoding ≢ Bytes }
+        ensures kept { self.new ≡ self.old }
+        ensures appended { OnOk result (text.new.items
+            ≡ text.old.items ++ record_in self.old (number, whole line.now)) }
+        ensures refused { IfOk result (λ refused. refused ≡ is_refused
+            (outcome_in self.old.terms self.old.style.encoding number (whole line.now))) }
+    {
+        if self.append_codes(number, line, text)? {
+            return Ok(false);
+        }
+        self.append_generally(number, line, text)
+    }
+
+    /// Appends the record of a line of this length, which is too long.
+    #[tactic(auto, using(crate::proofs::TextLemmas::of_bytes))]
+    fn append_too_long(
+        &self,
+        number: u64,
+        length: usize,
+        text: &mut Vec<u8>,
+    ) -> Result<(), OutOfMemory>
+        ensures appended { OnOk result (text.new.items
+            ≡ text.old.items ++ record_in self.now (number, too_long length)) }
+    {
+        let outcome = Outcome::Refused(LineRefusal::TooLong(length));
+        record_outcome(text, self.numbered(number), &outcome, self.version, None)
+    }
+
     /// Appends the record of a line. Returns whether the line was refused.
-    #[tactic(auto, using(crate::proofs::TextLemmas::same_refusal))]
+    #[tactic(auto, using(crate::proofs::TextLemmas::of_bytes))]
     fn append(
         &mut self,
         number: u64,
@@ -87,22 +264,19 @@ impl RecordMaker {
         ensures kept { self.new ≡ self.old }
         ensures appended { OnOk result (text.new.items
             ≡ text.old.items ++ record_in self.old (number, value_of line.entry)) }
-        ensures refused { IfOk result (λ refused.
-            refused ≡ is_refusal (outcome_in self.old.terms (value_of line.entry))) }
+        ensures refused { IfOk result (λ refused. refused ≡ is_refused
+            (outcome_in self.old.terms self.old.style.encoding number (value_of line.entry))) }
     {
-        let number = RecordNumber {
-            source: self.source,
-            line: number,
-        };
-        let version = self.version;
         match line {
             BlockLineRef::Whole(bytes) => {
-                let form = RecordForm { number, version };
-                self.writer.append(&self.terms, bytes, form, text)
+                if self.encoding == Encoding::Bytes {
+                    self.append_bytes(number, bytes, text)
+                } else {
+                    self.append_encoded(number, bytes, text)
+                }
             }
             BlockLineRef::TooLong(length) => {
-                let outcome = Outcome::Refused(LineRefusal::TooLong(length));
-                record_outcome(text, number, &outcome, version, None)?;
+                self.append_too_long(number, length, text)?;
                 Ok(true)
             }
         }
@@ -114,7 +288,7 @@ impl RecordMaker {
         ensures appended { OnOk result (text.new.items
             ≡ text.old.items ++ records_in self.old (lines_of_block block.now)) }
         ensures refused { IfOk result (λ refused.
-            refused ≡ refused_in self.old.terms block.now.lines) }
+            refused ≡ refused_in self.old.terms self.old.style.encoding (lines_of_block block.now)) }
     {
         let mut number = block.first();
         let mut refused = 0;
@@ -169,6 +343,7 @@ impl Making for RecordMaker {
 impl Shared for RecordMaker {
     fn share(&self) -> Result<RecordMaker, OutOfMemory> {
         let terms = Arc::try_clone(&self.terms)?;
-        Ok(RecordMaker::new(self.alloc, terms, self.source, self.version))
+        let maker = RecordMaker::new(self.alloc, terms, self.source, self.version);
+        Ok(maker.with_encoding(self.encoding))
     }
 }

@@ -1,5 +1,5 @@
 -- The records of blocks, and the results of the lines in them.
-use Rattle.std.proofs.Common.{arith, ◌≡◌, ◌≤◌, ℕ, ◌+◌, List, [], ◌∷◌, ◌++◌, length, map, count_by, refl, ap, sym, ◌∙◌}
+use Rattle.std.proofs.Common.{arith, ◌≡◌, ◌≤◌, ℕ, suc, ◌+◌, ◌==◌, List, [], ◌∷◌, ◌++◌, length, map, count_by, refl, ap, sym, ◌∙◌}
 use Rattle.std.proofs.lemmas.List.{length-map, length-append, map-append}
 use Rattle.std.proofs.lemmas.List.Sums.{sum_by-cons, sum_by-append, count_by-le-length}
 use Rattle.std.proofs.Math.Bool.{cond}
@@ -7,13 +7,17 @@ use Rattle.std.specs.Prelude.{flat_map}
 use Rattle.std.specs.List.{concat}
 use Rattle.set_line.specs.Terms.{TermsValue}
 use Rattle.set_line.specs.Answer.{answer_of, outcome_of}
-use Rattle.set_line.specs.Record.{record_text}
+use Rattle.encodings.specs.declared.encoding.Encoding.{Encoding}
+use Rattle.encodings.specs.declared.encoding.Encoding.TheVariants.{Bytes, Ot1, T1, Ly1, Latin1}
+use Rattle.encoded_lines.specs.declared.outcome.EncodedOutcome.TheVariants.{Plain}
+use Rattle.encoded_lines.specs.Answer.{encoded_outcome}
+use Rattle.encoded_lines.specs.Record.{encoded_record_text, is_refused as is_refused_with}
 use Rattle.line_lane.specs.Lane.{answers_of}
-use Rattle.set_run.specs.Cuts.{cut}
-use Rattle.line_blocks.specs.Blocks.{BlockValue, lines_of_block, numbered_cuts}
-use Rattle.line_blocks.specs.BlockText.{BlockTextValue, IsBlockText, MakerValue, block_text, is_refusal, outcome_in, record_in, refused_in}
+use Rattle.set_run.specs.Cuts.{BlockLine, cut}
+use Rattle.line_blocks.specs.Blocks.{BlockValue, NumberedLine, lines_of_block, numbered, numbered_cuts}
+use Rattle.line_blocks.specs.BlockText.{BlockTextValue, IsBlockText, MakerValue, block_text, outcome_in, record_in, refused_in}
 use Rattle.line_blocks.specs.Gathering.{AreTextsOf}
-use Rattle.run_texts.specs.RunText.{is_refused}
+use Rattle.run_texts.specs.RunText.{record_of, result_of, results_from}
 use Rattle.run_texts.specs.LaneText.{block_lines, records_of, refused_of}
 use Rattle.run_texts.specs.Streaming.{record_lines}
 use Rattle.run_texts.specs.BlockLanes.{AreRecordsOf}
@@ -37,45 +41,61 @@ records_counted maker (block ∷ blocks) =
 
 -- and as many refused lines
 refused_counted : (maker : MakerValue) (blocks : List BlockValue)
-    → refused_of (map (block_text maker) blocks) ≡ refused_in maker.terms (flat_map (λ block. block.lines) blocks)
+    → refused_of (map (block_text maker) blocks) ≡ refused_in maker.terms maker.style.encoding (flat_map lines_of_block blocks)
 refused_counted maker [] = refl
 refused_counted maker (block ∷ blocks) =
     sum_by-cons (λ (text : BlockTextValue). text.refused) (block_text maker block) (map (block_text maker) blocks)
-    ∙ ap (λ n. refused_in maker.terms block.lines + n) (refused_counted maker blocks)
-    ∙ sym (sum_by-append (λ line. cond (is_refusal (outcome_in maker.terms line)) 1 0) block.lines (flat_map (λ b. b.lines) blocks))
-
--- refused lines are refused results
-refused_answers : (terms : TermsValue) (lines : List (List ℕ)) → count_by (λ line. is_refusal (outcome_of terms line)) lines ≡ count_by is_refused (answers_of terms lines)
-refused_answers terms [] = refl
-refused_answers terms (line ∷ lines) =
-    sum_by-cons (λ l. cond (is_refusal (outcome_of terms l)) 1 0) line lines
-    ∙ ap (λ n. cond (is_refusal (outcome_of terms line)) 1 0 + n) (refused_answers terms lines)
-    ∙ sym (sum_by-cons (λ a. cond (is_refused a) 1 0) (answer_of terms line) (answers_of terms lines))
+    ∙ ap (λ n. refused_in maker.terms maker.style.encoding (lines_of_block block) + n) (refused_counted maker blocks)
+    ∙ sym (sum_by-append (λ (line : NumberedLine). cond (is_refused_with (outcome_in maker.terms maker.style.encoding line.0 line.1)) 1 0) (lines_of_block block) (flat_map lines_of_block blocks))
 
 length-cuts : (lines : List (List ℕ)) → length (map cut lines) ≡ length lines
 length-cuts lines = length-map lines cut
 
-module _ (same : (terms : TermsValue) (line : List ℕ) → outcome_in terms (cut line) ≡ outcome_of terms line)
-    (refused : (terms : TermsValue) (lines : List (List ℕ)) → refused_in terms (map cut lines) ≡ count_by (λ line. is_refusal (outcome_of terms line)) lines) where
+module _ (same : (terms : TermsValue) (encoding : Encoding) (number : ℕ) (line : List ℕ) → outcome_in terms encoding number (cut line) ≡ encoded_outcome terms encoding (number == 1) line)
+    (bytes : (terms : TermsValue) (number : ℕ) (line : List ℕ) → outcome_in terms Bytes number (cut line) ≡ Plain (outcome_of terms line)) where
+  -- the result of a line in a block
+  result_of_cut : (terms : TermsValue) (encoding : Encoding) (number : ℕ) (line : List ℕ)
+      → outcome_in terms encoding number (cut line) ≡ result_of encoding number (answer_of terms line)
+  result_of_cut terms Bytes number line = bytes terms number line
+  result_of_cut terms Ot1 number line = same terms Ot1 number line
+  result_of_cut terms T1 number line = same terms T1 number line
+  result_of_cut terms Ly1 number line = same terms Ly1 number line
+  result_of_cut terms Latin1 number line = same terms Latin1 number line
+
   -- the records of lines in blocks
   records_of_cuts : (maker : MakerValue) (first : ℕ) (lines : List (List ℕ))
-      → map (record_in maker) (numbered_cuts first lines) ≡ record_lines maker.source first maker.version (answers_of maker.terms lines)
+      → map (record_in maker) (numbered_cuts first lines) ≡ record_lines maker.source first maker.style (answers_of maker.terms lines)
   records_of_cuts maker first [] = refl
   records_of_cuts maker first (line ∷ lines) =
-      ap (λ outcome. record_text maker.source first outcome maker.version ∷ map (record_in maker) (numbered_cuts (first + 1) lines)) (same maker.terms line)
-      ∙ ap (λ more. record_text maker.source first (outcome_of maker.terms line) maker.version ∷ more) (records_of_cuts maker (first + 1) lines)
+      ap (λ outcome. encoded_record_text maker.source first outcome maker.style.version ∷ map (record_in maker) (numbered_cuts (first + 1) lines))
+      (result_of_cut maker.terms maker.style.encoding first line)
+      ∙ ap (λ more. record_of maker.style maker.source first (answer_of maker.terms line) ∷ more) (records_of_cuts maker (first + 1) lines)
+
+  -- and the refused lines among them
+  refused_of_cuts : (terms : TermsValue) (encoding : Encoding) (first : ℕ) (lines : List (List ℕ))
+      → refused_in terms encoding (numbered_cuts first lines) ≡ count_by is_refused_with (results_from encoding first (answers_of terms lines))
+  refused_of_cuts terms encoding first [] = refl
+  refused_of_cuts terms encoding first (line ∷ lines) =
+      sum_by-cons (λ (l : NumberedLine). cond (is_refused_with (outcome_in terms encoding l.0 l.1)) 1 0) (first, cut line) (numbered_cuts (first + 1) lines)
+      ∙ ap (λ n. cond (is_refused_with (outcome_in terms encoding first (cut line))) 1 0 + n) (refused_of_cuts terms encoding (first + 1) lines)
+      ∙ ap (λ o. cond (is_refused_with o) 1 0 + count_by is_refused_with (results_from encoding (first + 1) (answers_of terms lines))) (result_of_cut terms encoding first line)
+      ∙ sym (sum_by-cons (λ o. cond (is_refused_with o) 1 0) (result_of encoding first (answer_of terms line)) (results_from encoding (first + 1) (answers_of terms lines)))
 
   -- the texts of blocks have the records of the results of their lines
   pub texts_recorded : (maker : MakerValue) (lines : List (List ℕ)) (texts : List BlockTextValue) → AreTextsOf maker lines texts
-      → AreRecordsOf maker.source maker.version (answers_of maker.terms lines) texts
+      → AreRecordsOf maker.source maker.style (answers_of maker.terms lines) texts
   texts_recorded maker lines texts (blocks, are, cuts, numbers) =
       let long : length (answers_of maker.terms lines) ≡ length lines = length-map lines (answer_of maker.terms) in (
         ap records_of are ∙ records_counted maker blocks ∙ ap length cuts ∙ length-cuts lines ∙ sym long,
-        ap refused_of are ∙ refused_counted maker blocks ∙ ap (refused_in maker.terms) cuts ∙ refused maker.terms lines ∙ refused_answers maker.terms lines,
         (λ fits.
-            ap (flat_map block_lines) are ∙ lines_joined maker blocks
-            ∙ ap (map (record_in maker)) (numbers (omega (arith, fits, long)))
-            ∙ records_of_cuts maker 1 lines),
+            let numbered = numbers (omega (arith, fits, long)) in (
+              ap refused_of are ∙ refused_counted maker blocks
+                  ∙ ap (refused_in maker.terms maker.style.encoding) numbered
+                  ∙ refused_of_cuts maker.terms maker.style.encoding 1 lines,
+              ap (flat_map block_lines) are ∙ lines_joined maker blocks
+                  ∙ ap (map (record_in maker)) numbered
+                  ∙ records_of_cuts maker 1 lines,
+            )),
       )
 
 -- ---- a text that is right
@@ -88,10 +108,15 @@ flat_is_joined f (x ∷ xs) = ap (λ t. f x ++ t) (flat_is_joined f xs)
 pub text_lined : (text : BlockTextValue) → IsBlockText text → text.text ≡ concat (block_lines text)
 text_lined text right = ap (λ t. t.text) right ∙ flat_is_joined (record_in text.maker) (lines_of_block text.block)
 
+length-numbered : (first : ℕ) (lines : List BlockLine) → length (numbered first lines) ≡ length lines
+length-numbered first [] = refl
+length-numbered first (line ∷ lines) = ap suc (length-numbered (first + 1) lines)
+
 -- there aren't more refused lines than lines
 pub refused_few : (text : BlockTextValue) → IsBlockText text → text.refused ≤ text.lines
 refused_few text right =
-    let few = count_by-le-length (λ line. is_refusal (outcome_in text.maker.terms line)) text.block.lines in
-    omega (arith, few, ap (λ (t : BlockTextValue). t.lines) right, ap (λ (t : BlockTextValue). t.refused) right)
+    let few = count_by-le-length (λ (line : NumberedLine). is_refused_with (outcome_in text.maker.terms text.maker.style.encoding line.0 line.1)) (lines_of_block text.block) in
+    let long = length-numbered text.block.first text.block.lines in
+    omega (arith, few, long, ap (λ (t : BlockTextValue). t.lines) right, ap (λ (t : BlockTextValue). t.refused) right)
 
 pub ruleset texts = (text_lined, refused_few)

@@ -7,10 +7,9 @@ use Rattle.std.specs.declared.sync.Arc.{Arc}
 use Rattle.std.specs.declared.alloc.Global.{Global}
 use Rattle.set_line.specs.Terms.{TermsValue}
 use Rattle.set_line.specs.Answer.{AnswerValue, answer_of}
-use Rattle.set_line.specs.declared.version.Version.{Version}
 use Rattle.line_lane.specs.Lane.{answers_of}
 use Rattle.line_lane.specs.declared.fault.SourceFault.{SourceFault}
-use Rattle.line_blocks.specs.BlockText.{BlockTextValue, MakerValue, block_text}
+use Rattle.line_blocks.specs.BlockText.{BlockTextValue, MakerValue, RecordStyle, block_text}
 use Rattle.line_blocks.specs.Gathering.{AreTextsOf, GathersFrom, gives_block, source_of}
 use Rattle.line_blocks.specs.declared.gathering.LineBlocks.{LineBlocks}
 use Rattle.set_run.specs.Closed.{AreBack, AreClosedOf, IsClosedOf}
@@ -22,24 +21,24 @@ use Rattle.run_texts.specs.BlockLanes.{AreClosedIn, AreRecordsOf, AreWrapped, ma
 
 module _ {S : Type 0} where
   -- as many
-  pub wrapped_length : (version : Version) (number : ℕ) (sources : List (S × Arc TermsValue Global)) (wrapped : List (LineBlocks S × MakerValue))
-      → AreWrapped version number sources wrapped → length wrapped ≡ length sources
-  wrapped_length version number [] [] are = refl
-  wrapped_length version number [] (w ∷ others) are = absurd are
-  wrapped_length version number (s ∷ sources) [] are = absurd are
-  wrapped_length version number (s ∷ sources) (w ∷ others) are = ap suc (wrapped_length version (number + 1) sources others are.2)
+  pub wrapped_length : (style : RecordStyle) (number : ℕ) (sources : List (S × Arc TermsValue Global)) (wrapped : List (LineBlocks S × MakerValue))
+      → AreWrapped style number sources wrapped → length wrapped ≡ length sources
+  wrapped_length style number [] [] are = refl
+  wrapped_length style number [] (w ∷ others) are = absurd are
+  wrapped_length style number (s ∷ sources) [] are = absurd are
+  wrapped_length style number (s ∷ sources) (w ∷ others) are = ap suc (wrapped_length style (number + 1) sources others are.2)
 
   -- one more
-  pub wrapped_more : (version : Version) (number next : ℕ) (sources : List (S × Arc TermsValue Global)) (wrapped : List (LineBlocks S × MakerValue))
-      (source : S × Arc TermsValue Global) (one : LineBlocks S × MakerValue) → next ≡ number + length sources → AreWrapped version number sources wrapped
-      → GathersFrom source.0 one.0 → one.1 ≡ maker_of version next (arc_value source.1)
-      → AreWrapped version number (sources ++ source ∷ []) (wrapped ++ one ∷ [])
-  wrapped_more version number next [] [] source one at are from made =
-      let same : next ≡ number = omega (arith, at) in (from, made ∙ ap (λ n. maker_of version n (arc_value source.1)) same, tt)
-  wrapped_more version number next [] (w ∷ others) source one at are from made = absurd are
-  wrapped_more version number next (s ∷ sources) [] source one at are from made = absurd are
-  wrapped_more version number next (s ∷ sources) (w ∷ others) source one at are from made =
-      (are.0, are.1, wrapped_more version (number + 1) next sources others source one (omega (arith, at)) are.2 from made)
+  pub wrapped_more : (style : RecordStyle) (number next : ℕ) (sources : List (S × Arc TermsValue Global)) (wrapped : List (LineBlocks S × MakerValue))
+      (source : S × Arc TermsValue Global) (one : LineBlocks S × MakerValue) → next ≡ number + length sources → AreWrapped style number sources wrapped
+      → GathersFrom source.0 one.0 → one.1 ≡ maker_of style next (arc_value source.1)
+      → AreWrapped style number (sources ++ source ∷ []) (wrapped ++ one ∷ [])
+  wrapped_more style number next [] [] source one at are from made =
+      let same : next ≡ number = omega (arith, at) in (from, made ∙ ap (λ n. maker_of style n (arc_value source.1)) same, tt)
+  wrapped_more style number next [] (w ∷ others) source one at are from made = absurd are
+  wrapped_more style number next (s ∷ sources) [] source one at are from made = absurd are
+  wrapped_more style number next (s ∷ sources) (w ∷ others) source one at are from made =
+      (are.0, are.1, wrapped_more style (number + 1) next sources others source one (omega (arith, at)) are.2 from made)
 
   -- the sources of the lanes
   sources_unwrapped : {O : Type 0} (origin : S → O) (lanes : List (ClosedLane (LineBlocks S)))
@@ -47,21 +46,21 @@ module _ {S : Type 0} where
   sources_unwrapped origin [] = refl
   sources_unwrapped origin (l ∷ lanes) = ap (λ more. origin (source_of l.source) ∷ more) (sources_unwrapped origin lanes)
 
-  origins_wrapped : {O : Type 0} (origin : S → O) (version : Version) (number : ℕ) (sources : List (S × Arc TermsValue Global)) (wrapped : List (LineBlocks S × MakerValue))
-      → AreWrapped version number sources wrapped → map (λ w. origin (source_of w.0)) wrapped ≡ map (λ s. origin s.0) sources
-  origins_wrapped origin version number [] [] are = refl
-  origins_wrapped origin version number [] (w ∷ others) are = absurd are
-  origins_wrapped origin version number (s ∷ sources) [] are = absurd are
-  origins_wrapped origin version number (s ∷ sources) (w ∷ others) are =
+  origins_wrapped : {O : Type 0} (origin : S → O) (style : RecordStyle) (number : ℕ) (sources : List (S × Arc TermsValue Global)) (wrapped : List (LineBlocks S × MakerValue))
+      → AreWrapped style number sources wrapped → map (λ w. origin (source_of w.0)) wrapped ≡ map (λ s. origin s.0) sources
+  origins_wrapped origin style number [] [] are = refl
+  origins_wrapped origin style number [] (w ∷ others) are = absurd are
+  origins_wrapped origin style number (s ∷ sources) [] are = absurd are
+  origins_wrapped origin style number (s ∷ sources) (w ∷ others) are =
       ap (λ o. o ∷ map (λ w. origin (source_of w.0)) others) (ap origin are.0.0)
-      ∙ ap (λ more. origin s.0 ∷ more) (origins_wrapped origin version (number + 1) sources others are.2)
+      ∙ ap (λ more. origin s.0 ∷ more) (origins_wrapped origin style (number + 1) sources others are.2)
 
-  pub back_unwrapped : {O : Type 0} (origin : S → O) (version : Version) (sources : List (S × Arc TermsValue Global)) (wrapped : List (LineBlocks S × MakerValue))
-      (lanes : List (ClosedLane (LineBlocks S))) → AreWrapped version 1 sources wrapped
+  pub back_unwrapped : {O : Type 0} (origin : S → O) (style : RecordStyle) (sources : List (S × Arc TermsValue Global)) (wrapped : List (LineBlocks S × MakerValue))
+      (lanes : List (ClosedLane (LineBlocks S))) → AreWrapped style 1 sources wrapped
       → AreBack (λ blocks. origin (source_of blocks)) wrapped (map (λ lane. lane.source) lanes)
       → AreBack origin sources (map (λ lane. lane.source) (map unwrapped lanes))
-  back_unwrapped origin version sources wrapped lanes are back =
-      sources_unwrapped origin lanes ∙ back ∙ origins_wrapped origin version 1 sources wrapped are
+  back_unwrapped origin style sources wrapped lanes are back =
+      sources_unwrapped origin lanes ∙ back ∙ origins_wrapped origin style 1 sources wrapped are
 
   -- each lane still has its end
   pub whole_unwrapped : (lanes : List (ClosedLane (LineBlocks S))) → All (λ lane. IsSome lane.end) lanes → All (λ lane. IsSome lane.end) (map unwrapped lanes)
@@ -71,25 +70,25 @@ module _ {S : Type 0} where
       (whole_unwrapped lanes (All-tail (λ lane. IsSome lane.end) l lanes whole))
 
 module _ {S : Type 0} (to_come : S → Option (List (List ℕ))) (failed : S → Option SourceFault)
-    (recorded : (maker : MakerValue) (lines : List (List ℕ)) (texts : List BlockTextValue) → AreTextsOf maker lines texts → AreRecordsOf maker.source maker.version (answers_of maker.terms lines) texts)
+    (recorded : (maker : MakerValue) (lines : List (List ℕ)) (texts : List BlockTextValue) → AreTextsOf maker lines texts → AreRecordsOf maker.source maker.style (answers_of maker.terms lines) texts)
     (in_lines : (maker : MakerValue) (source : S) (blocks : LineBlocks S) (texts : List BlockTextValue) (lane : ClosedLane (LineBlocks S))
     → GathersFrom source blocks → IsClosedOf (gives_block (gives_line to_come failed)) (block_text maker) blocks texts lane
     → (lines : List (List ℕ)) × AreTextsOf maker lines texts × IsClosedOf (gives_line to_come failed) (answer_of maker.terms) source (answers_of maker.terms lines) (unwrapped lane))
     (is_true : (terms : TermsValue) (source : S) (answers : List AnswerValue) (lane : ClosedLane S)
     → IsClosedOf (gives_line to_come failed) (answer_of terms) source answers lane → IsClosed to_come failed terms source answers lane) where
   -- the closed lanes of the sources of lines
-  pub closed_in : (version : Version) (events : List (Event BlockTextValue)) (number next : ℕ) (sources : List (S × Arc TermsValue Global))
-      (wrapped : List (LineBlocks S × MakerValue)) (lanes : List (ClosedLane (LineBlocks S))) → next ≡ number + 1 → AreWrapped version next sources wrapped
+  pub closed_in : (style : RecordStyle) (events : List (Event BlockTextValue)) (number next : ℕ) (sources : List (S × Arc TermsValue Global))
+      (wrapped : List (LineBlocks S × MakerValue)) (lanes : List (ClosedLane (LineBlocks S))) → next ≡ number + 1 → AreWrapped style next sources wrapped
       → AreClosedOf (gives_block (gives_line to_come failed)) block_text events number wrapped lanes
-      → AreClosedIn to_come failed version events number sources (map unwrapped lanes)
-  closed_in version events number next [] [] [] at are closed = tt
-  closed_in version events number next [] [] (l ∷ lanes) at are closed = absurd closed
-  closed_in version events number next [] (w ∷ others) lanes at are closed = absurd are
-  closed_in version events number next (s ∷ sources) [] lanes at are closed = absurd are
-  closed_in version events number next (s ∷ sources) (w ∷ others) [] at are closed = absurd closed
-  closed_in version events number next (s ∷ sources) (w ∷ others) (l ∷ lanes) at are closed =
-      let maker : MakerValue = maker_of version (number + 1) (arc_value s.1) in
-      let same : w.1 ≡ maker = are.1 ∙ ap (λ n. maker_of version n (arc_value s.1)) at in
+      → AreClosedIn to_come failed style events number sources (map unwrapped lanes)
+  closed_in style events number next [] [] [] at are closed = tt
+  closed_in style events number next [] [] (l ∷ lanes) at are closed = absurd closed
+  closed_in style events number next [] (w ∷ others) lanes at are closed = absurd are
+  closed_in style events number next (s ∷ sources) [] lanes at are closed = absurd are
+  closed_in style events number next (s ∷ sources) (w ∷ others) [] at are closed = absurd closed
+  closed_in style events number next (s ∷ sources) (w ∷ others) (l ∷ lanes) at are closed =
+      let maker : MakerValue = maker_of style (number + 1) (arc_value s.1) in
+      let same : w.1 ≡ maker = are.1 ∙ ap (λ n. maker_of style n (arc_value s.1)) at in
       let own = subst (λ m. IsClosedOf (gives_block (gives_line to_come failed)) (block_text m) w.0 (answers_in number events) l) same closed.1 in
       let (lines, texts, lane) = in_lines maker s.0 w.0 (answers_in number events) l are.0 own in (
         closed.0,
@@ -98,5 +97,5 @@ module _ {S : Type 0} (to_come : S → Option (List (List ℕ))) (failed : S →
           recorded maker lines (answers_in number events) texts,
           is_true maker.terms s.0 (answers_of maker.terms lines) (unwrapped l) lane,
         ),
-        closed_in version events (number + 1) (next + 1) sources others lanes (omega (arith, at)) are.2 closed.2,
+        closed_in style events (number + 1) (next + 1) sources others lanes (omega (arith, at)) are.2 closed.2,
       )

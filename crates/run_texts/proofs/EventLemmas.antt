@@ -8,11 +8,10 @@ use Rattle.std.proofs.lemmas.List.Folds.{concat-append}
 use Rattle.std.proofs.lemmas.List.Sums.{sum_by-cons, sum_by-append}
 use Rattle.set_line.specs.declared.version.Version.{Version}
 use Rattle.set_line.specs.Answer.{AnswerValue}
-use Rattle.set_line.specs.Record.{record_text}
 use Rattle.line_lane.specs.declared.ending.LaneEnd.{LaneEnd}
-use Rattle.line_blocks.specs.BlockText.{BlockTextValue}
+use Rattle.line_blocks.specs.BlockText.{BlockTextValue, RecordStyle}
 use Rattle.set_run.specs.Events.{Event, LaneEvent, Answered, Ended, answers_among, lane_events, of_lane}
-use Rattle.run_texts.specs.RunText.{end_text, lane_text, records_from, why_of}
+use Rattle.run_texts.specs.RunText.{end_text, lane_text, record_of, records_from, why_of}
 use Rattle.run_texts.specs.LaneText.{block_lines, event_lines, events_lines, records_of, refused_of}
 use Rattle.run_texts.specs.Streaming.{end_lines, lane_lines, record_lines}
 use Rattle.run_texts.specs.BlockLanes.{AreRecordsOf}
@@ -97,14 +96,14 @@ lines_of_lane source version before count (text ∷ texts) end is =
     ∙ sym (append_assoc (block_lines text) (flat_map block_lines texts) (end_lines source version end count))
 
 -- the lines of a lane are those of its results
-pub lane_lined : (source : ℕ) (version : Version) (events : List (LaneEvent BlockTextValue)) (answers : List AnswerValue) (end : Option LaneEnd)
-    → events ≡ lane_events (answers_among events) end → AreRecordsOf source version answers (answers_among events) → 1 + length answers < 2 ^ 64
-    → events_lines source version 0 events ≡ lane_lines source version answers end
-lane_lined source version events answers end came are fits =
-    ap (events_lines source version 0) came
-    ∙ lines_of_lane source version 0 (records_of (answers_among events)) (answers_among events) end (omega arith)
-    ∙ ap (λ n. flat_map block_lines (answers_among events) ++ end_lines source version end n) are.0
-    ∙ ap (λ lines. lines ++ end_lines source version end (length answers)) (are.2 fits)
+pub lane_lined : (source : ℕ) (style : RecordStyle) (events : List (LaneEvent BlockTextValue)) (answers : List AnswerValue) (end : Option LaneEnd)
+    → events ≡ lane_events (answers_among events) end → AreRecordsOf source style answers (answers_among events) → 1 + length answers < 2 ^ 64
+    → events_lines source style.version 0 events ≡ lane_lines source style answers end
+lane_lined source style events answers end came are fits =
+    ap (events_lines source style.version 0) came
+    ∙ lines_of_lane source style.version 0 (records_of (answers_among events)) (answers_among events) end (omega arith)
+    ∙ ap (λ n. flat_map block_lines (answers_among events) ++ end_lines source style.version end n) are.0
+    ∙ ap (λ lines. lines ++ end_lines source style.version end (length answers)) (are.1 fits).1
 
 -- the output of one event more
 pub text_more : (source : ℕ) (version : Version) (events : List (LaneEvent BlockTextValue)) (event : LaneEvent BlockTextValue)
@@ -116,13 +115,13 @@ text_more source version events event =
 
 -- ---- the lines of a lane, joined
 
-records_joined : (source place : ℕ) (version : Version) (answers : List AnswerValue) (last : List ℕ)
-    → concat (record_lines source place version answers ++ last ∷ []) ≡ records_from source place version answers ++ last
-records_joined source place version [] last = append-nil last
-records_joined source place version (answer ∷ answers) last =
-    ap (λ t. record_text source place answer.outcome version ++ t) (records_joined source (place + 1) version answers last)
-    ∙ sym (append_assoc (record_text source place answer.outcome version) (records_from source (place + 1) version answers) last)
+records_joined : (source place : ℕ) (style : RecordStyle) (answers : List AnswerValue) (last : List ℕ)
+    → concat (record_lines source place style answers ++ last ∷ []) ≡ records_from source place style answers ++ last
+records_joined source place style [] last = append-nil last
+records_joined source place style (answer ∷ answers) last =
+    ap (λ t. record_of style source place answer ++ t) (records_joined source (place + 1) style answers last)
+    ∙ sym (append_assoc (record_of style source place answer) (records_from source (place + 1) style answers) last)
 
-pub lane_joined : (source : ℕ) (version : Version) (answers : List AnswerValue) (end : LaneEnd)
-    → concat (lane_lines source version answers (Some end)) ≡ lane_text source version answers (why_of end)
-lane_joined source version answers end = records_joined source 1 version answers (end_text source version (why_of end) (length answers))
+pub lane_joined : (source : ℕ) (style : RecordStyle) (answers : List AnswerValue) (end : LaneEnd)
+    → concat (lane_lines source style answers (Some end)) ≡ lane_text source style answers (why_of end)
+lane_joined source style answers end = records_joined source 1 style answers (end_text source style.version (why_of end) (length answers))

@@ -11,3 +11,4 @@ pub mod StreamEvents
 pub mod StreamSteps
 pub mod StreamReports
 pub mod StreamedSettingLemmas
+pub mod LawLemmas

@@ -1,5 +1,5 @@
 -- The reports of a run: those of lanes that have ended, with the answers that came of them.
-use Rattle.std.proofs.Common.{◌≡◌, ℕ, suc, ◌+◌, Bool, false, ◌||◌, List, [], ◌∷◌, length, map, All, Option, Some, None, arith, refl, ap, sym, subst, ◌∙◌, sum_by, count_by}
+use Rattle.std.proofs.Common.{◌≡◌, ℕ, suc, ◌+◌, ◌<◌, ◌^◌, Bool, false, ◌||◌, List, [], ◌∷◌, length, map, All, Option, Some, None, arith, refl, ap, sym, subst, ◌∙◌, sum_by}
 use Rattle.std.proofs.lemmas.List.Sums.{sum_by-cons}
 use Rattle.std.proofs.lemmas.List.Elements.{All-head, All-tail}
 use Rattle.std.specs.Prelude.{IsSome}
@@ -12,16 +12,15 @@ use Rattle.set_line.specs.Terms.{TermsValue}
 use Rattle.line_lane.specs.declared.fault.SourceFault.{SourceFault}
 use Rattle.line_lane.specs.declared.ending.LaneEnd.{LaneEnd}
 use Rattle.line_lane.specs.declared.ending.LaneEnd.TheVariants.{Complete}
-use Rattle.line_blocks.specs.BlockText.{BlockTextValue}
-use Rattle.set_line.specs.declared.version.Version.{Version}
+use Rattle.line_blocks.specs.BlockText.{BlockTextValue, RecordStyle}
 use Rattle.set_run.specs.Events.{Event, answers_in}
 use Rattle.set_run.specs.Closed.{AreBack}
 use Rattle.set_run.specs.Reports.{AreReported, IsTrueToSource}
 use Rattle.set_run.specs.declared.report.LaneReport.{LaneReport}
 use Rattle.set_run.specs.declared.run_end.ClosedLane.{ClosedLane}
 use Rattle.run_texts.specs.BlockLanes.{AreClosedIn}
-use Rattle.run_texts.specs.LaneText.{refused_of}
-use Rattle.run_texts.specs.RunText.{is_refused}
+use Rattle.run_texts.specs.LaneText.{records_of, refused_of}
+use Rattle.run_texts.specs.RunText.{refused_lines}
 use Rattle.run_texts.specs.Setting.{AreOwnReports}
 use Rattle.run_texts.specs.declared.summary.Summary.{Summary}
 
@@ -46,15 +45,16 @@ module _ {S : Type 0} where
   abbrev pub HasEnd : ClosedLane S → Type 0
   HasEnd lane = IsSome lane.end
 
--- these are the numbers of refused lines of lanes, of which the first has this number
+-- these are the numbers of refused lines of lanes, whose line numbers fit in 64 bits; the first lane has this
+-- number
 abbrev pub AreRefused : {T : Type 0} → List (Event BlockTextValue) → (T → ℕ) → ℕ → List T → Type 0
 AreRefused events count number [] = Unit {0}
-AreRefused events count number (c ∷ counts) = (count c ≡ refused_of (answers_in number events)) × AreRefused events count (number + 1) counts
+AreRefused events count number (c ∷ counts) = (count c ≡ refused_of (answers_in number events)) × (1 + records_of (answers_in number events) < 2 ^ 64) × AreRefused events count (number + 1) counts
 
-module _ {S : Type 0} (to_come : S → Option (List (List ℕ))) (failed : S → Option SourceFault) (version : Version) (events : List (Event BlockTextValue)) where
+module _ {S : Type 0} (to_come : S → Option (List (List ℕ))) (failed : S → Option SourceFault) (style : RecordStyle) (events : List (Event BlockTextValue)) where
   -- the reports of lanes, of which the first has this number, with the results whose records came
   abbrev pub reports_of : (number : ℕ) (sources : List (S × Arc TermsValue Global)) (lanes : List (ClosedLane S))
-      → AreClosedIn to_come failed version events number sources lanes → List (LaneReport S)
+      → AreClosedIn to_come failed style events number sources lanes → List (LaneReport S)
   reports_of number [] [] closed = []
   reports_of number [] (l ∷ lanes) closed = absurd closed
   reports_of number (s ∷ sources) [] closed = absurd closed
@@ -62,7 +62,7 @@ module _ {S : Type 0} (to_come : S → Option (List (List ℕ))) (failed : S →
       record { source = l.source; answers = closed.1.0; end = end_or l.end } ∷ reports_of (number + 1) sources lanes closed.2
 
   are_reported : (number : ℕ) (sources : List (S × Arc TermsValue Global)) (lanes : List (ClosedLane S))
-      (closed : AreClosedIn to_come failed version events number sources lanes) → All (λ lane. IsSome lane.end) lanes
+      (closed : AreClosedIn to_come failed style events number sources lanes) → All (λ lane. IsSome lane.end) lanes
       → AreReported to_come failed sources (reports_of number sources lanes closed)
   are_reported number [] [] closed whole = tt
   are_reported number [] (l ∷ lanes) closed whole = absurd closed
@@ -82,7 +82,7 @@ module _ {S : Type 0} (to_come : S → Option (List (List ℕ))) (failed : S →
 
   -- they have the lanes' sources
   pub sources_of_reports : (number : ℕ) (sources : List (S × Arc TermsValue Global)) (lanes : List (ClosedLane S))
-      (closed : AreClosedIn to_come failed version events number sources lanes)
+      (closed : AreClosedIn to_come failed style events number sources lanes)
       → map (λ report. report.source) (reports_of number sources lanes closed) ≡ map (λ lane. lane.source) lanes
   sources_of_reports number [] [] closed = refl
   sources_of_reports number [] (l ∷ lanes) closed = absurd closed
@@ -90,7 +90,7 @@ module _ {S : Type 0} (to_come : S → Option (List (List ℕ))) (failed : S →
   sources_of_reports number (s ∷ sources) (l ∷ lanes) closed = ap (λ more. l.source ∷ more) (sources_of_reports (number + 1) sources lanes closed.2)
 
   pub own_reports : {O : Type 0} (origin : S → O) (sources : List (S × Arc TermsValue Global)) (lanes : List (ClosedLane S))
-      (closed : AreClosedIn to_come failed version events 0 sources lanes)
+      (closed : AreClosedIn to_come failed style events 0 sources lanes)
       → All (λ lane. IsSome lane.end) lanes → AreBack origin sources (map (λ lane. lane.source) lanes)
       → AreOwnReports to_come failed origin sources (reports_of 0 sources lanes closed)
   own_reports origin sources lanes closed whole back =
@@ -98,14 +98,14 @@ module _ {S : Type 0} (to_come : S → Option (List (List ℕ))) (failed : S →
 
   -- how many reports there are
   pub as_many : (number : ℕ) (sources : List (S × Arc TermsValue Global)) (lanes : List (ClosedLane S))
-      (closed : AreClosedIn to_come failed version events number sources lanes) → length (reports_of number sources lanes closed) ≡ length sources
+      (closed : AreClosedIn to_come failed style events number sources lanes) → length (reports_of number sources lanes closed) ≡ length sources
   as_many number [] [] closed = refl
   as_many number [] (l ∷ lanes) closed = absurd closed
   as_many number (s ∷ sources) [] closed = absurd closed
   as_many number (s ∷ sources) (l ∷ lanes) closed = ap suc (as_many (number + 1) sources lanes closed.2)
 
   pub ends_of : (is : LaneEnd → Bool) (number : ℕ) (sources : List (S × Arc TermsValue Global)) (lanes : List (ClosedLane S))
-      (closed : AreClosedIn to_come failed version events number sources lanes) → All (λ lane. IsSome lane.end) lanes
+      (closed : AreClosedIn to_come failed style events number sources lanes) → All (λ lane. IsSome lane.end) lanes
       → list_any (λ lane. option_map_or is lane.end false) lanes ≡ list_any (λ lane. is lane.end) (reports_of number sources lanes closed)
   ends_of is number [] [] closed whole = refl
   ends_of is number [] (l ∷ lanes) closed whole = absurd closed
@@ -116,8 +116,8 @@ module _ {S : Type 0} (to_come : S → Option (List (List ℕ))) (failed : S →
 
   -- the refused lines of the lanes, by their counts
   pub refusals_of : {T : Type 0} (count : T → ℕ) (number : ℕ) (sources : List (S × Arc TermsValue Global)) (lanes : List (ClosedLane S)) (counts : List T)
-      (closed : AreClosedIn to_come failed version events number sources lanes) → AreRefused events count number counts → length counts ≡ length sources
-      → sum_by count counts ≡ sum_by (λ lane. count_by is_refused lane.answers) (reports_of number sources lanes closed)
+      (closed : AreClosedIn to_come failed style events number sources lanes) → AreRefused events count number counts → length counts ≡ length sources
+      → sum_by count counts ≡ sum_by (λ lane. refused_lines style.encoding lane.answers) (reports_of number sources lanes closed)
   refusals_of count number [] [] [] closed are long = refl
   refusals_of count number [] [] (c ∷ counts) closed are long = absurd (omega (arith, long))
   refusals_of count number [] (l ∷ lanes) counts closed are long = absurd closed
@@ -125,7 +125,7 @@ module _ {S : Type 0} (to_come : S → Option (List (List ℕ))) (failed : S →
   refusals_of count number (s ∷ sources) (l ∷ lanes) [] closed are long = absurd (omega (arith, long))
   refusals_of count number (s ∷ sources) (l ∷ lanes) (c ∷ counts) closed are long =
       sum_by-cons count c counts
-      ∙ ap (λ more. count c + more) (refusals_of count (number + 1) sources lanes counts closed.2 are.1 (omega (arith, long)))
-      ∙ ap (λ n. n + sum_by (λ lane. count_by is_refused lane.answers) (reports_of (number + 1) sources lanes closed.2)) (are.0 ∙ closed.1.1.1)
-      ∙ sym (sum_by-cons (λ (lane : LaneReport S). count_by is_refused lane.answers)
+      ∙ ap (λ more. count c + more) (refusals_of count (number + 1) sources lanes counts closed.2 are.2 (omega (arith, long)))
+      ∙ ap (λ n. n + sum_by (λ lane. refused_lines style.encoding lane.answers) (reports_of (number + 1) sources lanes closed.2)) (are.0 ∙ (closed.1.1.1 (omega (arith, are.1, closed.1.1.0))).0)
+      ∙ sym (sum_by-cons (λ (lane : LaneReport S). refused_lines style.encoding lane.answers)
       (record { source = l.source; answers = closed.1.0; end = end_or l.end }) (reports_of (number + 1) sources lanes closed.2))

@@ -1,5 +1,5 @@
 -- The reports of a run whose texts were kept, and their text.
-use Rattle.std.proofs.Common.{◌≡◌, ◌<◌, ℕ, ◌+◌, ◌-◌, ◌^◌, List, [], ◌∷◌, ◌++◌, length, map, min, sum_by, flat_map, All, Option, None, arith, refl, ap, sym, subst, ◌∙◌}
+use Rattle.std.proofs.Common.{◌≡◌, ◌<◌, ℕ, ◌+◌, ◌-◌, ◌^◌, List, [], ◌∷◌, ◌++◌, length, map, min, sum_by, flat_map, All, Option, None, arith, refl, ap, subst, ◌∙◌}
 use Rattle.std.proofs.lemmas.List.Elements.{All-head, All-tail}
 use Rattle.std.specs.Prelude.{IsSome}
 use Rattle.std.specs.List.{concat}
@@ -11,7 +11,7 @@ use Rattle.set_line.specs.Answer.{AnswerValue}
 use Rattle.set_line.specs.Terms.{TermsValue}
 use Rattle.line_lane.specs.declared.fault.SourceFault.{SourceFault}
 use Rattle.line_lane.specs.declared.ending.LaneEnd.{LaneEnd}
-use Rattle.line_blocks.specs.BlockText.{BlockTextValue}
+use Rattle.line_blocks.specs.BlockText.{BlockTextValue, RecordStyle}
 use Rattle.set_run.specs.Events.{Event, LaneEvent, answers_among, answers_in, lane_events, of_lane}
 use Rattle.set_run.specs.Closed.{AreBack, IsWhole}
 use Rattle.set_run.specs.declared.report.LaneReport.{LaneReport}
@@ -30,26 +30,30 @@ use Rattle.run_texts.proofs.LaneTextLemmas.{Given}
 
 -- ---- the text of a lane
 
-kept_text : (source : ℕ) (version : Version) (events : List (LaneEvent BlockTextValue)) (answers : List AnswerValue) (end : Option LaneEnd)
-    → events ≡ lane_events (answers_among events) end → AreRecordsOf source version answers (answers_among events)
+kept_text : (source : ℕ) (style : RecordStyle) (events : List (LaneEvent BlockTextValue)) (answers : List AnswerValue) (end : Option LaneEnd)
+    → events ≡ lane_events (answers_among events) end → AreRecordsOf source style answers (answers_among events)
     → 1 + records_of (answers_among events) < 2 ^ 64 → IsSome end
-    → concat (events_lines source version 0 events) ≡ lane_text source version answers (why_of (end_or end))
-kept_text source version events answers end came are fits ended =
-    ap concat (lane_lined source version events answers end came are (omega (arith, fits, are.0)))
-    ∙ ap (λ e. concat (lane_lines source version answers e)) (some_end end ended)
-    ∙ lane_joined source version answers (end_or end)
+    → concat (events_lines source style.version 0 events) ≡ lane_text source style answers (why_of (end_or end))
+kept_text source style events answers end came are fits ended =
+    ap concat (lane_lined source style events answers end came are (omega (arith, fits, are.0)))
+    ∙ ap (λ e. concat (lane_lines source style answers e)) (some_end end ended)
+    ∙ lane_joined source style answers (end_or end)
 
 -- the refused lines that are kept
 kept_refused : (version : Version) (events : List (Event BlockTextValue)) (number : ℕ) (texts : List LaneTextValue) → AreKept version events number texts
     → AreRefused events (λ (text : LaneTextValue). text.refused) number texts
 kept_refused version events number [] kept = tt
-kept_refused version events number (t ∷ texts) kept = (ap (λ (v : LaneTextValue). v.refused) kept.0, kept_refused version events (number + 1) texts kept.2)
+kept_refused version events number (t ∷ texts) kept = (
+  ap (λ (v : LaneTextValue). v.refused) kept.0,
+  subst (λ (v : LaneTextValue). 1 + v.records < 2 ^ 64) kept.0 kept.1,
+  kept_refused version events (number + 1) texts kept.2,
+)
 
-module _ {S : Type 0} (to_come : S → Option (List (List ℕ))) (failed : S → Option SourceFault) (version : Version) (events : List (Event BlockTextValue)) where
+module _ {S : Type 0} (to_come : S → Option (List (List ℕ))) (failed : S → Option SourceFault) (style : RecordStyle) (events : List (Event BlockTextValue)) where
   texts_of : (number : ℕ) (sources : List (S × Arc TermsValue Global)) (lanes : List (ClosedLane S)) (texts : List LaneTextValue)
-      → length texts ≡ length sources → (closed : AreClosedIn to_come failed version events number sources lanes) → All (λ lane. IsSome lane.end) lanes
-      → AreKept version events number texts
-      → flat_map (λ text. text.text) texts ≡ lanes_text (number + 1) version (reports_of to_come failed version events number sources lanes closed)
+      → length texts ≡ length sources → (closed : AreClosedIn to_come failed style events number sources lanes) → All (λ lane. IsSome lane.end) lanes
+      → AreKept style.version events number texts
+      → flat_map (λ text. text.text) texts ≡ lanes_text (number + 1) style (reports_of to_come failed style events number sources lanes closed)
   texts_of number [] [] [] long closed whole kept = refl
   texts_of number [] [] (t ∷ texts) long closed whole kept = absurd (omega (arith, long))
   texts_of number [] (l ∷ lanes) texts long closed whole kept = absurd closed
@@ -58,39 +62,38 @@ module _ {S : Type 0} (to_come : S → Option (List (List ℕ))) (failed : S →
   texts_of number (s ∷ sources) (l ∷ lanes) (t ∷ texts) long closed whole kept =
       let fits : 1 + records_of (answers_in number events) < 2 ^ 64 = subst (λ (v : LaneTextValue). 1 + v.records < 2 ^ 64) kept.0 kept.1 in
       ap (λ more. t.text ++ more) (texts_of (number + 1) sources lanes texts (omega (arith, long)) closed.2 (All-tail HasEnd l lanes whole) kept.2)
-      ∙ ap (λ own. own ++ lanes_text (number + 1 + 1) version (reports_of to_come failed version events (number + 1) sources lanes closed.2))
+      ∙ ap (λ own. own ++ lanes_text (number + 1 + 1) style (reports_of to_come failed style events (number + 1) sources lanes closed.2))
       (ap (λ (v : LaneTextValue). v.text) kept.0
-      ∙ kept_text (number + 1) version (of_lane number events) closed.1.0 l.end closed.0 closed.1.1 fits (All-head HasEnd l lanes whole))
+      ∙ kept_text (number + 1) style (of_lane number events) closed.1.0 l.end closed.0 closed.1.1 fits (All-head HasEnd l lanes whole))
 
 module _ {S O C : Type 0} (version_of : C → Version) (lanes_of : C → List LaneTextValue) (version : Version) where
   -- the texts that were kept of a run are the text of its reports
   pub kept_run : (to_come : S → Option (List (List ℕ))) (failed : S → Option SourceFault) (origin : S → O) (sources : List (S × Arc TermsValue Global))
-      (run : RunEnd S) (before after : C) (form : Version) (count : ℕ) (w w' : Option (List ℕ)) (summary : Summary)
-      → version ≡ form → count ≡ length sources → Given version_of lanes_of version count before [] → run.refusal ≡ None → IsWhole run
-      → IsCollectedIn to_come failed form (Given version_of lanes_of version count) sources run before after → AreBack origin sources (map (λ lane. lane.source) run.lanes.items)
+      (run : RunEnd S) (before after : C) (style : RecordStyle) (count : ℕ) (w w' : Option (List ℕ)) (summary : Summary)
+      → version ≡ style.version → count ≡ length sources → Given version_of lanes_of version count before [] → run.refusal ≡ None → IsWhole run
+      → IsCollectedIn to_come failed style (Given version_of lanes_of version count) sources run before after → AreBack origin sources (map (λ lane. lane.source) run.lanes.items)
       → Appends w w' (head_text (version_of after) ++ flat_map (λ text. text.text) (lanes_of after))
       → summary ≡ summary_of_lanes (sum_by (λ text. text.refused) (lanes_of after)) run.lanes.items
-      → (reports : List (LaneReport S)) × AreOwnReports to_come failed origin sources reports × IsWritten form reports w w' summary
-  kept_run to_come failed origin sources run before after form count w w' summary asked many begun none whole collected back written is =
+      → (reports : List (LaneReport S)) × AreOwnReports to_come failed origin sources reports × IsWritten style reports w w' summary
+  kept_run to_come failed origin sources run before after style count w w' summary asked many begun none whole collected back written is =
       let came = collected begun in
       let events : List (Event BlockTextValue) = came.0 in
-      let closed : AreClosedIn to_come failed version events 0 sources run.lanes.items =
-      subst (λ v. AreClosedIn to_come failed v events 0 sources run.lanes.items) (sym asked) came.2 in
-      let reports : List (LaneReport S) = reports_of to_come failed version events 0 sources run.lanes.items closed in
+      let closed : AreClosedIn to_come failed style events 0 sources run.lanes.items = came.2 in
+      let kept : AreKept style.version events 0 (lanes_of after) = subst (λ v. AreKept v events 0 (lanes_of after)) asked came.1.2 in
+      let reports : List (LaneReport S) = reports_of to_come failed style events 0 sources run.lanes.items closed in
       let ended = whole none in
       let long : length (lanes_of after) ≡ length sources = came.1.1 ∙ many in
-      let texts : flat_map (λ text. text.text) (lanes_of after) ≡ lanes_text 1 form reports =
-      texts_of to_come failed version events 0 sources run.lanes.items (lanes_of after) long closed ended came.1.2
-      ∙ ap (λ v. lanes_text 1 v reports) asked in (
+      let texts : flat_map (λ text. text.text) (lanes_of after) ≡ lanes_text 1 style reports =
+      texts_of to_come failed style events 0 sources run.lanes.items (lanes_of after) long closed ended kept in (
         reports,
-        own_reports to_come failed version events origin sources run.lanes.items closed ended back,
+        own_reports to_come failed style events origin sources run.lanes.items closed ended back,
         (
           subst (Appends w w')
-              (ap (λ v. head_text v ++ flat_map (λ text. text.text) (lanes_of after)) (came.1.0 ∙ asked) ∙ ap (λ t. head_text form ++ t) texts) written,
+              (ap (λ v. head_text v ++ flat_map (λ text. text.text) (lanes_of after)) (came.1.0 ∙ asked) ∙ ap (λ t. head_text style.version ++ t) texts) written,
           is ∙ same_summary _ _ _ _ _ _
-              (ap (min (2 ^ 64 - 1)) (refusals_of to_come failed version events (λ (text : LaneTextValue). text.refused) 0 sources run.lanes.items (lanes_of after) closed
-              (kept_refused version events 0 (lanes_of after) came.1.2) long))
-              (ends_of to_come failed version events is_unread 0 sources run.lanes.items closed ended)
-              (ends_of to_come failed version events is_wanting 0 sources run.lanes.items closed ended),
+              (ap (min (2 ^ 64 - 1)) (refusals_of to_come failed style events (λ (text : LaneTextValue). text.refused) 0 sources run.lanes.items (lanes_of after) closed
+              (kept_refused style.version events 0 (lanes_of after) kept) long))
+              (ends_of to_come failed style events is_unread 0 sources run.lanes.items closed ended)
+              (ends_of to_come failed style events is_wanting 0 sources run.lanes.items closed ended),
         ),
       )

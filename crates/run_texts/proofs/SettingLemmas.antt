@@ -8,10 +8,10 @@ use Rattle.std.specs.declared.alloc.Global.{Global}
 use Rattle.set_line.specs.Terms.{TermsValue}
 use Rattle.tfm_tables.specs.Font.{FontValue, IsFontOf}
 use Rattle.set_line.specs.declared.policy.Policy.{Policy}
-use Rattle.set_line.specs.declared.version.Version.{Version}
 use Rattle.line_lane.specs.declared.fault.SourceFault.{SourceFault}
 use Rattle.set_run.specs.Reports.{IsReported, AreReported}
 use Rattle.set_run.specs.declared.report.LaneReport.{LaneReport}
+use Rattle.line_blocks.specs.BlockText.{RecordStyle}
 use Rattle.run_texts.specs.Setting.{AreOwnReports, AreOwnReportsWith, AreReportedWith, HasTerms, IsWritten}
 use Rattle.run_texts.specs.declared.summary.Summary.{Summary}
 use Rattle.run_texts.specs.declared.fault.ToolFault.{ToolFault}
@@ -61,13 +61,13 @@ module _ {S : Type 0} where
 
   -- a run whose sources share their terms
   pub all_set : {O : Type 0} (to_come : S → Option (List (List ℕ))) (failed : S → Option SourceFault) (origin : S → O) (bytes : List ℕ) (size : Option ℕ) (font : FontValue)
-      (limit : ℕ) (policy : Policy) (version : Version) (sources : List S) (pairs : List (S × Arc TermsValue Global))
+      (limit : ℕ) (policy : Policy) (style : RecordStyle) (sources : List S) (pairs : List (S × Arc TermsValue Global))
       (before after : Option (List ℕ)) (r : Result Summary ToolFault) → IsFontOf bytes size font
       → AllZip (HasTerms (record { font = font; limit = limit; policy = policy })) sources pairs
-      → IfOk r (λ summary. (reports : List (LaneReport S)) × AreOwnReports to_come failed origin pairs reports × IsWritten version reports before after summary)
+      → IfOk r (λ summary. (reports : List (LaneReport S)) × AreOwnReports to_come failed origin pairs reports × IsWritten style reports before after summary)
       → IfOk r (λ summary. (f : FontValue) × (reports : List (LaneReport S)) × IsFontOf bytes size f
       × AreOwnReportsWith to_come failed origin (record { font = f; limit = limit; policy = policy }) sources reports
-      × IsWritten version reports before after summary)
-  all_set to_come failed origin bytes size font limit policy version sources pairs before after (Ok summary) is have (reports, are, written) =
+      × IsWritten style reports before after summary)
+  all_set to_come failed origin bytes size font limit policy style sources pairs before after (Ok summary) is have (reports, are, written) =
       (font, reports, is, own_with to_come failed origin (record { font = font; limit = limit; policy = policy }) sources pairs reports have are, written)
-  all_set to_come failed origin bytes size font limit policy version sources pairs before after (Err fault) is have all = all
+  all_set to_come failed origin bytes size font limit policy style sources pairs before after (Err fault) is have all = all

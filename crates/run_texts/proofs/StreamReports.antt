@@ -15,7 +15,7 @@ use Rattle.set_line.specs.Answer.{AnswerValue}
 use Rattle.set_line.specs.Terms.{TermsValue}
 use Rattle.line_lane.specs.declared.fault.SourceFault.{SourceFault}
 use Rattle.line_lane.specs.declared.ending.LaneEnd.{LaneEnd}
-use Rattle.line_blocks.specs.BlockText.{BlockTextValue}
+use Rattle.line_blocks.specs.BlockText.{BlockTextValue, RecordStyle}
 use Rattle.set_run.specs.Events.{Event, answers_in, lane_events, of_lane}
 use Rattle.set_run.specs.Closed.{AreBack, HasNoOthers, IsWhole}
 use Rattle.set_run.specs.declared.report.LaneReport.{LaneReport}
@@ -41,16 +41,16 @@ use Rattle.run_texts.proofs.StreamSteps.{StandsSo}
 counts_refused : (events : List (Event BlockTextValue)) (number : ℕ) (counts : List LaneCount) → AreCounts events number counts
     → AreRefused events (λ (count : LaneCount). count.refused) number counts
 counts_refused events number [] are = tt
-counts_refused events number (c ∷ counts) are = (are.0.1, counts_refused events (number + 1) counts are.1)
+counts_refused events number (c ∷ counts) are = (are.0.1, omega (arith, c.few, are.0.0), counts_refused events (number + 1) counts are.1)
 
 -- the lines of a source of which this came
-own_lines : (version : Version) (events : List (Event BlockTextValue)) (lines : List SourceLine) (number : ℕ) (answers : List AnswerValue) (end : Option LaneEnd) (count : LaneCount)
-    → AreLinesOf version events lines → of_lane number events ≡ lane_events (answers_in number events) end
-    → AreRecordsOf (number + 1) version answers (answers_in number events) → IsCountOf count (answers_in number events)
-    → of_source (number + 1) lines ≡ lane_lines (number + 1) version answers end
-own_lines version events lines number answers end count are came recorded counted =
+own_lines : (style : RecordStyle) (events : List (Event BlockTextValue)) (lines : List SourceLine) (number : ℕ) (answers : List AnswerValue) (end : Option LaneEnd) (count : LaneCount)
+    → AreLinesOf style.version events lines → of_lane number events ≡ lane_events (answers_in number events) end
+    → AreRecordsOf (number + 1) style answers (answers_in number events) → IsCountOf count (answers_in number events)
+    → of_source (number + 1) lines ≡ lane_lines (number + 1) style answers end
+own_lines style events lines number answers end count are came recorded counted =
     let fits : 1 + length answers < 2 ^ 64 = omega (arith, count.few, counted.0, recorded.0) in
-    are.1 number ∙ lane_lined (number + 1) version (of_lane number events) answers end came recorded fits
+    are.1 number ∙ lane_lined (number + 1) style (of_lane number events) answers end came recorded fits
 
 -- ---- no other lines
 
@@ -85,92 +85,92 @@ of_sources version events lines sources are none =
 
 module _ {S : Type 0} where
   -- the lines of the reports
-  have_lines : (to_come : S → Option (List (List ℕ))) (failed : S → Option SourceFault) (version : Version) (events : List (Event BlockTextValue)) (lines : List SourceLine)
+  have_lines : (to_come : S → Option (List (List ℕ))) (failed : S → Option SourceFault) (style : RecordStyle) (events : List (Event BlockTextValue)) (lines : List SourceLine)
       (number next : ℕ) (sources : List (S × Arc TermsValue Global)) (lanes : List (ClosedLane S)) (counts : List LaneCount) → next ≡ number + 1
-      → (closed : AreClosedIn to_come failed version events number sources lanes) → All (λ lane. IsSome lane.end) lanes → AreLinesOf version events lines
+      → (closed : AreClosedIn to_come failed style events number sources lanes) → All (λ lane. IsSome lane.end) lanes → AreLinesOf style.version events lines
       → length counts ≡ length sources → AreCounts events number counts
-      → HaveLines next version (reports_of to_come failed version events number sources lanes closed) lines
-  have_lines to_come failed version events lines number next [] [] counts at closed whole are long counted = tt
-  have_lines to_come failed version events lines number next [] (l ∷ lanes) counts at closed whole are long counted = absurd closed
-  have_lines to_come failed version events lines number next (s ∷ sources) [] counts at closed whole are long counted = absurd closed
-  have_lines to_come failed version events lines number next (s ∷ sources) (l ∷ lanes) [] at closed whole are long counted = absurd (omega (arith, long))
-  have_lines to_come failed version events lines number next (s ∷ sources) (l ∷ lanes) (c ∷ counts) at closed whole are long counted =
+      → HaveLines next style (reports_of to_come failed style events number sources lanes closed) lines
+  have_lines to_come failed style events lines number next [] [] counts at closed whole are long counted = tt
+  have_lines to_come failed style events lines number next [] (l ∷ lanes) counts at closed whole are long counted = absurd closed
+  have_lines to_come failed style events lines number next (s ∷ sources) [] counts at closed whole are long counted = absurd closed
+  have_lines to_come failed style events lines number next (s ∷ sources) (l ∷ lanes) [] at closed whole are long counted = absurd (omega (arith, long))
+  have_lines to_come failed style events lines number next (s ∷ sources) (l ∷ lanes) (c ∷ counts) at closed whole are long counted =
       let answers = closed.1.0 in
-      let own : of_source next lines ≡ lane_lines next version answers (Some (end_or l.end)) =
-      subst (λ n. of_source n lines ≡ lane_lines n version answers (Some (end_or l.end))) (sym at)
-      (own_lines version events lines number answers (Some (end_or l.end)) c are
+      let own : of_source next lines ≡ lane_lines next style answers (Some (end_or l.end)) =
+      subst (λ n. of_source n lines ≡ lane_lines n style answers (Some (end_or l.end))) (sym at)
+      (own_lines style events lines number answers (Some (end_or l.end)) c are
       (closed.0 ∙ ap (lane_events (answers_in number events)) (some_end l.end (All-head HasEnd l lanes whole))) closed.1.1 counted.0) in (
         own,
-        ap concat own ∙ lane_joined next version answers (end_or l.end),
-        have_lines to_come failed version events lines (number + 1) (next + 1) sources lanes counts (omega arith) closed.2 (All-tail HasEnd l lanes whole) are
+        ap concat own ∙ lane_joined next style answers (end_or l.end),
+        have_lines to_come failed style events lines (number + 1) (next + 1) sources lanes counts (omega arith) closed.2 (All-tail HasEnd l lanes whole) are
             (omega (arith, long)) counted.1,
       )
 
   -- the lines as far as they came
-  have_come : (to_come : S → Option (List (List ℕ))) (failed : S → Option SourceFault) (version : Version) (events : List (Event BlockTextValue)) (lines : List SourceLine)
+  have_come : (to_come : S → Option (List (List ℕ))) (failed : S → Option SourceFault) (style : RecordStyle) (events : List (Event BlockTextValue)) (lines : List SourceLine)
       (number next : ℕ) (sources : List (S × Arc TermsValue Global)) (lanes : List (ClosedLane S)) (counts : List LaneCount) → next ≡ number + 1
-      → AreClosedIn to_come failed version events number sources lanes → AreLinesOf version events lines
+      → AreClosedIn to_come failed style events number sources lanes → AreLinesOf style.version events lines
       → length counts ≡ length sources → AreCounts events number counts
-      → HaveCome to_come failed version next (with_own_terms sources) lines
-  have_come to_come failed version events lines number next [] [] counts at closed are long counted = tt
-  have_come to_come failed version events lines number next [] (l ∷ lanes) counts at closed are long counted = absurd closed
-  have_come to_come failed version events lines number next (s ∷ sources) [] counts at closed are long counted = absurd closed
-  have_come to_come failed version events lines number next (s ∷ sources) (l ∷ lanes) [] at closed are long counted = absurd (omega (arith, long))
-  have_come to_come failed version events lines number next (s ∷ sources) (l ∷ lanes) (c ∷ counts) at closed are long counted = (
+      → HaveCome to_come failed style next (with_own_terms sources) lines
+  have_come to_come failed style events lines number next [] [] counts at closed are long counted = tt
+  have_come to_come failed style events lines number next [] (l ∷ lanes) counts at closed are long counted = absurd closed
+  have_come to_come failed style events lines number next (s ∷ sources) [] counts at closed are long counted = absurd closed
+  have_come to_come failed style events lines number next (s ∷ sources) (l ∷ lanes) [] at closed are long counted = absurd (omega (arith, long))
+  have_come to_come failed style events lines number next (s ∷ sources) (l ∷ lanes) (c ∷ counts) at closed are long counted = (
     (
       closed.1.0,
       l,
       closed.1.2,
-      subst (λ n. of_source n lines ≡ lane_lines n version closed.1.0 l.end) (sym at)
-          (own_lines version events lines number closed.1.0 l.end c are closed.0 closed.1.1 counted.0),
+      subst (λ n. of_source n lines ≡ lane_lines n style closed.1.0 l.end) (sym at)
+          (own_lines style events lines number closed.1.0 l.end c are closed.0 closed.1.1 counted.0),
     ),
-    have_come to_come failed version events lines (number + 1) (next + 1) sources lanes counts (omega arith) closed.2 are (omega (arith, long)) counted.1,
+    have_come to_come failed style events lines (number + 1) (next + 1) sources lanes counts (omega arith) closed.2 are (omega (arith, long)) counted.1,
   )
 
-  module _ (to_come : S → Option (List (List ℕ))) (failed : S → Option SourceFault) (version : Version) (events : List (Event BlockTextValue))
+  module _ (to_come : S → Option (List (List ℕ))) (failed : S → Option SourceFault) (style : RecordStyle) (events : List (Event BlockTextValue))
       (sources : List (S × Arc TermsValue Global)) (lanes : List (ClosedLane S)) (counts : List LaneCount) (before : Option (List ℕ)) (block : List ℕ)
-      (closed : AreClosedIn to_come failed version events 0 sources lanes) (none : HasNoOthers events (length sources))
+      (closed : AreClosedIn to_come failed style events 0 sources lanes) (none : HasNoOthers events (length sources))
       (long : length counts ≡ length sources) (are : AreCounts events 0 counts) where
     -- all was written
     pub all_streamed : {O : Type 0} (origin : S → O) (after : Option (List ℕ)) (summary : Summary)
         → All (λ lane. IsSome lane.end) lanes → AreBack origin sources (map (λ lane. lane.source) lanes)
-        → AreOut version events before after block → block ≡ []
+        → AreOut style.version events before after block → block ≡ []
         → summary ≡ summary_of_lanes (sum_by (λ count. count.refused) counts) lanes
-        → (reports : List (LaneReport S)) × AreOwnReports to_come failed origin sources reports × IsStreamed version reports before after × (summary ≡ summary_of_run reports)
+        → (reports : List (LaneReport S)) × AreOwnReports to_come failed origin sources reports × IsStreamed style reports before after × (summary ≡ summary_of_run style.encoding reports)
     all_streamed origin after summary whole back (lines, lined, (written, appends, all)) empty is =
-        let reports : List (LaneReport S) = reports_of to_come failed version events 0 sources lanes closed in
-        let text : written ≡ head_text version ++ merged_text lines = sym (append-nil written) ∙ ap (λ b. written ++ b) (sym empty) ∙ all in (
+        let reports : List (LaneReport S) = reports_of to_come failed style events 0 sources lanes closed in
+        let text : written ≡ head_text style.version ++ merged_text lines = sym (append-nil written) ∙ ap (λ b. written ++ b) (sym empty) ∙ all in (
           reports,
-          own_reports to_come failed version events origin sources lanes closed whole back,
+          own_reports to_come failed style events origin sources lanes closed whole back,
           (
             lines,
             (
-              have_lines to_come failed version events lines 0 1 sources lanes counts (omega arith) closed whole lined long are,
-              subst (λ n. AreOfSources n lines) (sym (as_many to_come failed version events 0 sources lanes closed)) (of_sources version events lines (length sources) lined none),
+              have_lines to_come failed style events lines 0 1 sources lanes counts (omega arith) closed whole lined long are,
+              subst (λ n. AreOfSources n lines) (sym (as_many to_come failed style events 0 sources lanes closed)) (of_sources style.version events lines (length sources) lined none),
             ),
             subst (Appends before after) text appends,
           ),
           is ∙ same_summary _ _ _ _ _ _
-              (ap (min (2 ^ 64 - 1)) (refusals_of to_come failed version events (λ (count : LaneCount). count.refused) 0 sources lanes counts closed (counts_refused events 0 counts are) long))
-              (ends_of to_come failed version events is_unread 0 sources lanes closed whole)
-              (ends_of to_come failed version events is_wanting 0 sources lanes closed whole),
+              (ap (min (2 ^ 64 - 1)) (refusals_of to_come failed style events (λ (count : LaneCount). count.refused) 0 sources lanes counts closed (counts_refused events 0 counts are) long))
+              (ends_of to_come failed style events is_unread 0 sources lanes closed whole)
+              (ends_of to_come failed style events is_wanting 0 sources lanes closed whole),
         )
 
-    come_so_far : (lines : List SourceLine) → AreLinesOf version events lines → IsPartOfMerge to_come failed version (with_own_terms sources) lines
+    come_so_far : (lines : List SourceLine) → AreLinesOf style.version events lines → IsPartOfMerge to_come failed style (with_own_terms sources) lines
     come_so_far lines lined = (
-      have_come to_come failed version events lines 0 1 sources lanes counts (omega arith) closed lined long are,
-      subst (λ n. AreOfSources n lines) (sym (length-map sources (λ source. (arc_value source.1, source.0)))) (of_sources version events lines (length sources) lined none),
+      have_come to_come failed style events lines 0 1 sources lanes counts (omega arith) closed lined long are,
+      subst (λ n. AreOfSources n lines) (sym (length-map sources (λ source. (arc_value source.1, source.0)))) (of_sources style.version events lines (length sources) lined none),
     )
 
     -- some was written
-    pub cut_short : (after : Option (List ℕ)) → AreOut version events before after block → IsCutShort to_come failed version (with_own_terms sources) before after
+    pub cut_short : (after : Option (List ℕ)) → AreOut style.version events before after block → IsCutShort to_come failed style (with_own_terms sources) before after
     cut_short after (lines, lined, (written, appends, all)) =
         (lines, written, block, come_so_far lines lined, all, appends)
 
     -- whole lines were written
-    pub cut_at_line : (after : Option (List ℕ)) → AreOut version events before after block → block ≡ [] → IsCutAtLine to_come failed version (with_own_terms sources) before after
+    pub cut_at_line : (after : Option (List ℕ)) → AreOut style.version events before after block → block ≡ [] → IsCutAtLine to_come failed style (with_own_terms sources) before after
     cut_at_line after (lines, lined, (written, appends, all)) empty =
-        let text : written ≡ head_text version ++ merged_text lines = sym (append-nil written) ∙ ap (λ b. written ++ b) (sym empty) ∙ all in
+        let text : written ≡ head_text style.version ++ merged_text lines = sym (append-nil written) ∙ ap (λ b. written ++ b) (sym empty) ∙ all in
         inr (lines, come_so_far lines lined, subst (Appends before after) text appends)
 
 -- what holds of what was answered
@@ -192,29 +192,29 @@ module _ {S : Type 0} (to_come : S → Option (List (List ℕ))) (failed : S →
   Came =
       (events : List (Event BlockTextValue))
       × StandsSo start name version counts w block events
-      × AreClosedIn to_come failed start.version events 0 sources lanes
+      × AreClosedIn to_come failed start.style events 0 sources lanes
       × HasNoOthers events (length sources)
 
   pub same_name : Came → name ≡ start.name
   same_name (events, stands, closed, none) = stands.0
 
-  pub ends_short : Came → start.lanes ≡ length sources → MovesOut w block w' left → IsCutShort to_come failed start.version (with_own_terms sources) start.before w'
+  pub ends_short : Came → start.lanes ≡ length sources → MovesOut w block w' left → IsCutShort to_come failed start.style (with_own_terms sources) start.before w'
   ends_short (events, stands, closed, none) long moves =
-      cut_short to_come failed start.version events sources lanes counts start.before left closed none (stands.2 ∙ long) stands.3 w'
-      (more_out start.version events start.before w w' block left moves stands.4)
+      cut_short to_come failed start.style events sources lanes counts start.before left closed none (stands.2 ∙ long) stands.3 w'
+      (more_out start.style.version events start.before w w' block left moves stands.4)
 
-  pub ends_at_line : Came → start.lanes ≡ length sources → MovesOut w block w' left → left ≡ [] → IsCutAtLine to_come failed start.version (with_own_terms sources) start.before w'
+  pub ends_at_line : Came → start.lanes ≡ length sources → MovesOut w block w' left → left ≡ [] → IsCutAtLine to_come failed start.style (with_own_terms sources) start.before w'
   ends_at_line (events, stands, closed, none) long moves empty =
-      cut_at_line to_come failed start.version events sources lanes counts start.before left closed none (stands.2 ∙ long) stands.3 w'
-      (more_out start.version events start.before w w' block left moves stands.4) empty
+      cut_at_line to_come failed start.style events sources lanes counts start.before left closed none (stands.2 ∙ long) stands.3 w'
+      (more_out start.style.version events start.before w w' block left moves stands.4) empty
 
   pub ends_whole : {O : Type 0} (origin : S → O) (r : Result Summary ToolFault) → AreBack origin sources (map (λ lane. lane.source) lanes) → Came → start.lanes ≡ length sources → MovesOut w block w' left → OnOk r (left ≡ [])
       → OnOk r (All (λ lane. IsSome lane.end) lanes) → IfOk r (λ summary. summary ≡ summary_of_lanes (sum_by (λ count. count.refused) counts) lanes)
       → IfOk r (λ summary. (reports : List (LaneReport S)) × AreOwnReports to_come failed origin sources reports
-      × IsStreamed start.version reports start.before w' × (summary ≡ summary_of_run reports))
+      × IsStreamed start.style reports start.before w' × (summary ≡ summary_of_run start.style.encoding reports))
   ends_whole origin (Ok summary) back (events, stands, closed, none) long moves empty whole is =
-      all_streamed to_come failed start.version events sources lanes counts start.before left closed none (stands.2 ∙ long) stands.3 origin w' summary whole back
-      (more_out start.version events start.before w w' block left moves stands.4) empty is
+      all_streamed to_come failed start.style events sources lanes counts start.before left closed none (stands.2 ∙ long) stands.3 origin w' summary whole back
+      (more_out start.style.version events start.before w w' block left moves stands.4) empty is
   ends_whole origin (Err fault) back came long moves empty whole is = empty
 
 -- a run that was refused nothing

@@ -7,7 +7,7 @@ use Rattle.std.specs.Io.KnownBytes.{Keeps}
 use Rattle.set_line.specs.declared.version.Version.{Version}
 use Rattle.line_lane.specs.declared.ending.LaneEnd.{LaneEnd}
 use Rattle.set_run.specs.Events.{Event, LaneEvent, Answered, Ended, answers_in}
-use Rattle.line_blocks.specs.BlockText.{BlockTextValue}
+use Rattle.line_blocks.specs.BlockText.{BlockTextValue, RecordStyle}
 use Rattle.run_texts.specs.RunText.{end_text, head_text, why_of}
 use Rattle.run_texts.specs.Streaming.{merged_text}
 use Rattle.run_texts.specs.LaneText.{block_lines, event_lines, records_of}
@@ -20,10 +20,10 @@ use Rattle.run_texts.proofs.StreamEvents.{count_answered, count_ended, counts_at
 abbrev pub StandsSo : StreamStart → ℕ → Version → List LaneCount → Option (List ℕ) → List ℕ → List (Event BlockTextValue) → Type 0
 StandsSo start name version counts written block events =
     (name ≡ start.name)
-    × (version ≡ start.version)
+    × (version ≡ start.style.version)
     × (length counts ≡ start.lanes)
     × AreCounts events 0 counts
-    × AreOut start.version events start.before written block
+    × AreOut start.style.version events start.before written block
 
 -- the lines of one event more
 out_more : (version : Version) (events : List (Event BlockTextValue)) (before after : Option (List ℕ)) (block block' : List ℕ) (lane : ℕ) (event : LaneEvent BlockTextValue) (texts : List (List ℕ))
@@ -49,7 +49,7 @@ goes_on start name name' version version' counts counts' w w' b b' events same_n
   same_version ∙ form,
   ap length same_counts ∙ lanes,
   subst (AreCounts events 0) (sym same_counts) are,
-  (lines, lined, moves_more start.before w w' (head_text start.version ++ merged_text lines) b b' out moves),
+  (lines, lined, moves_more start.before w w' (head_text start.style.version ++ merged_text lines) b b' out moves),
 )
 
 -- the writer was flushed
@@ -59,10 +59,10 @@ flushed start name version counts w w' b events keeps stands =
     goes_on start name name version version counts counts w w' b b events refl refl refl ([], nothing_appended w w' keeps, refl) stands
 
 -- a stream begins
-pub begins : (name : ℕ) (version : Version) (counts : List LaneCount) (w : Option (List ℕ)) (block : List ℕ) → AreCounts [] 0 counts → block ≡ head_text version
-    → StandsSo (record { before = w; name = name; version = version; lanes = length counts }) name version counts w block []
-begins name version counts w block none is =
-    (refl, refl, refl, none, ([], (refl, λ lane. refl), ([], appends_nothing w, is ∙ sym (append-nil (head_text version)))))
+pub begins : (name : ℕ) (style : RecordStyle) (counts : List LaneCount) (w : Option (List ℕ)) (block : List ℕ) → AreCounts [] 0 counts → block ≡ head_text style.version
+    → StandsSo (record { before = w; name = name; style = style; lanes = length counts }) name style.version counts w block []
+begins name style counts w block none is =
+    (refl, refl, refl, none, ([], (refl, λ lane. refl), ([], appends_nothing w, is ∙ sym (append-nil (head_text style.version)))))
 
 -- the text of a block was taken
 pub taken : (start : StreamStart) (name : ℕ) (version : Version) (counts : List LaneCount) (w : Option (List ℕ)) (b b' : List ℕ) (events : List (Event BlockTextValue))
@@ -78,7 +78,7 @@ taken start name version counts w b b' events lane block count new within at mor
       form,
       length-set counts lane new ∙ lanes,
       counts_set events 0 lane lane counts (Answered block) new (omega arith) within (count_answered count new lane events block was records refused) are,
-      out_more start.version events start.before w b b' lane (Answered block) (block_lines block) refl more out,
+      out_more start.style.version events start.before w b b' lane (Answered block) (block_lines block) refl more out,
     )
 
 -- an end was taken
@@ -90,7 +90,7 @@ pub ended : (start : StreamStart) (name : ℕ) (version : Version) (counts : Lis
 ended start name version counts w b b' events lane end count within at more (named, form, lanes, are, out) =
     let was : IsCountOf count (answers_in lane events) =
     subst (λ n. IsCountOf n (answers_in lane events)) (sym at) (counts_at events 0 lane lane counts count (omega arith) within are) in
-    let line : end_text (lane + 1) version (why_of end) count.records ∷ [] ≡ event_lines (lane + 1) start.version (records_of (answers_in lane events)) (Ended end) =
+    let line : end_text (lane + 1) version (why_of end) count.records ∷ [] ≡ event_lines (lane + 1) start.style.version (records_of (answers_in lane events)) (Ended end) =
     ap (λ n. end_text (lane + 1) version (why_of end) n ∷ []) was.0 ∙ ap (λ v. end_text (lane + 1) v (why_of end) (records_of (answers_in lane events)) ∷ []) form in
     let same : set counts lane count ≡ counts = ap (set counts lane) at ∙ set-get_or counts lane count in (
       named,
@@ -98,6 +98,6 @@ ended start name version counts w b b' events lane end count within at more (nam
       lanes,
       subst (AreCounts (events ++ (lane, Ended end) ∷ []) 0) same
           (counts_set events 0 lane lane counts (Ended end) count (omega arith) within (count_ended count lane events end was) are),
-      out_more start.version events start.before w b b' lane (Ended end) (end_text (lane + 1) version (why_of end) count.records ∷ []) line
+      out_more start.style.version events start.before w b b' lane (Ended end) (end_text (lane + 1) version (why_of end) count.records ∷ []) line
           (more ∙ ap (λ t. b ++ t) (sym (append-nil (end_text (lane + 1) version (why_of end) count.records)))) out,
     )

@@ -7,9 +7,9 @@ use Rattle.std.specs.declared.alloc.Global.{Global}
 use Rattle.set_line.specs.Terms.{TermsValue}
 use Rattle.tfm_tables.specs.Font.{FontValue, IsFontOf}
 use Rattle.set_line.specs.declared.policy.Policy.{Policy}
-use Rattle.set_line.specs.declared.version.Version.{Version}
 use Rattle.line_lane.specs.declared.fault.SourceFault.{SourceFault}
 use Rattle.set_run.specs.declared.report.LaneReport.{LaneReport}
+use Rattle.line_blocks.specs.BlockText.{RecordStyle}
 use Rattle.run_texts.specs.ReportText.{summary_of_run}
 use Rattle.run_texts.specs.Setting.{AreOwnReports, AreOwnReportsWith, HasTerms}
 use Rattle.run_texts.specs.Streaming.{IsStreamed, with_own_terms, with_these_terms}
@@ -34,13 +34,13 @@ module _ {S : Type 0} where
 
   -- a run whose sources share their terms
   pub all_streamed_with : {O : Type 0} (to_come : S → Option (List (List ℕ))) (failed : S → Option SourceFault) (origin : S → O) (bytes : List ℕ) (size : Option ℕ) (font : FontValue)
-      (limit : ℕ) (policy : Policy) (version : Version) (sources : List S) (pairs : List (S × Arc TermsValue Global))
+      (limit : ℕ) (policy : Policy) (style : RecordStyle) (sources : List S) (pairs : List (S × Arc TermsValue Global))
       (before after : Option (List ℕ)) (r : Result Summary ToolFault) → IsFontOf bytes size font
       → AllZip (HasTerms (record { font = font; limit = limit; policy = policy })) sources pairs
-      → IfOk r (λ summary. (reports : List (LaneReport S)) × AreOwnReports to_come failed origin pairs reports × IsStreamed version reports before after × (summary ≡ summary_of_run reports))
+      → IfOk r (λ summary. (reports : List (LaneReport S)) × AreOwnReports to_come failed origin pairs reports × IsStreamed style reports before after × (summary ≡ summary_of_run style.encoding reports))
       → IfOk r (λ summary. (f : FontValue) × (reports : List (LaneReport S)) × IsFontOf bytes size f
       × AreOwnReportsWith to_come failed origin (record { font = f; limit = limit; policy = policy }) sources reports
-      × IsStreamed version reports before after × (summary ≡ summary_of_run reports))
-  all_streamed_with to_come failed origin bytes size font limit policy version sources pairs before after (Ok summary) is have (reports, are, streamed, short) =
+      × IsStreamed style reports before after × (summary ≡ summary_of_run style.encoding reports))
+  all_streamed_with to_come failed origin bytes size font limit policy style sources pairs before after (Ok summary) is have (reports, are, streamed, short) =
       (font, reports, is, own_with to_come failed origin (record { font = font; limit = limit; policy = policy }) sources pairs reports have are, streamed, short)
-  all_streamed_with to_come failed origin bytes size font limit policy version sources pairs before after (Err fault) is have all = all
+  all_streamed_with to_come failed origin bytes size font limit policy style sources pairs before after (Err fault) is have all = all

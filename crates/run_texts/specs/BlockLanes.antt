@@ -1,14 +1,13 @@
 -- The closed lanes of a batch whose results are the texts of blocks, compared with the lines of the sources.
 -- This project's own.
-use Rattle.std.specs.Prelude.{◌≡◌, ◌<◌, ℕ, ◌+◌, ◌^◌, List, [], ◌∷◌, length, flat_map, count_by, Option}
+use Rattle.std.specs.Prelude.{◌≡◌, ◌<◌, ℕ, ◌+◌, ◌^◌, List, [], ◌∷◌, length, flat_map, Option}
 use Rattle.std.specs.Arc.{arc_value}
 use Rattle.std.specs.declared.sync.Arc.{Arc}
 use Rattle.std.specs.declared.alloc.Global.{Global}
 use Rattle.set_line.specs.Terms.{TermsValue}
 use Rattle.set_line.specs.Answer.{AnswerValue}
-use Rattle.set_line.specs.declared.version.Version.{Version}
 use Rattle.line_lane.specs.declared.fault.SourceFault.{SourceFault}
-use Rattle.line_blocks.specs.BlockText.{BlockTextValue, MakerValue}
+use Rattle.line_blocks.specs.BlockText.{BlockTextValue, MakerValue, RecordStyle}
 use Rattle.line_blocks.specs.Gathering.{GathersFrom, source_of}
 use Rattle.line_blocks.specs.declared.gathering.LineBlocks.{LineBlocks}
 use Rattle.set_run.specs.Closed.{HasNoOthers}
@@ -16,60 +15,60 @@ use Rattle.set_run.specs.Events.{Event, answers_in, lane_events, of_lane}
 use Rattle.set_run.specs.Reports.{IsClosed}
 use Rattle.set_run.specs.declared.run_end.ClosedLane.{ClosedLane}
 use Rattle.set_run.specs.declared.run_end.RunEnd.{RunEnd}
-use Rattle.run_texts.specs.RunText.{is_refused}
+use Rattle.run_texts.specs.RunText.{refused_lines}
 use Rattle.run_texts.specs.LaneText.{block_lines, records_of, refused_of}
 use Rattle.run_texts.specs.Streaming.{record_lines}
 
 -- the texts of the blocks of a source have the records of these results, each as a line, and are counted right;
--- nothing is stated about the records if a line number doesn't fit in 64 bits
-abbrev pub AreRecordsOf : ℕ → Version → List AnswerValue → List BlockTextValue → Type 0
-AreRecordsOf source version answers texts =
+-- nothing is stated about the records and the refused lines if a line number doesn't fit in 64 bits
+abbrev pub AreRecordsOf : ℕ → RecordStyle → List AnswerValue → List BlockTextValue → Type 0
+AreRecordsOf source style answers texts =
     (records_of texts ≡ length answers)
-    × (refused_of texts ≡ count_by is_refused answers)
-    × (1 + length answers < 2 ^ 64 → flat_map block_lines texts ≡ record_lines source 1 version answers)
+    × (1 + length answers < 2 ^ 64
+    → (refused_of texts ≡ refused_lines style.encoding answers) × (flat_map block_lines texts ≡ record_lines source 1 style answers))
 
 module _ {S : Type 0} (to_come : S → Option (List (List ℕ))) (failed : S → Option SourceFault) where
   -- the texts of blocks of a closed lane have the records of some results, and with these results the lane
   -- agrees with its source
-  abbrev pub IsClosedIn : ℕ → Version → TermsValue → S → List BlockTextValue → ClosedLane S → Type 0
-  IsClosedIn number version terms source texts lane =
-      (answers : List AnswerValue) × AreRecordsOf number version answers texts × IsClosed to_come failed terms source answers lane
+  abbrev pub IsClosedIn : ℕ → RecordStyle → TermsValue → S → List BlockTextValue → ClosedLane S → Type 0
+  IsClosedIn number style terms source texts lane =
+      (answers : List AnswerValue) × AreRecordsOf number style answers texts × IsClosed to_come failed terms source answers lane
 
   -- the same for the closed lanes of sources, of which the first has the lane with this index; the events of
   -- each lane are its results and then its end, if it has one
   abbrev pub AreClosedIn :
-      Version → List (Event BlockTextValue) → ℕ → List (S × Arc TermsValue Global) → List (ClosedLane S) → Type 0
-  AreClosedIn version events number [] [] = Unit {0}
-  AreClosedIn version events number [] (lane ∷ lanes) = ⊥
-  AreClosedIn version events number (source ∷ sources) [] = ⊥
-  AreClosedIn version events number (source ∷ sources) (lane ∷ lanes) =
+      RecordStyle → List (Event BlockTextValue) → ℕ → List (S × Arc TermsValue Global) → List (ClosedLane S) → Type 0
+  AreClosedIn style events number [] [] = Unit {0}
+  AreClosedIn style events number [] (lane ∷ lanes) = ⊥
+  AreClosedIn style events number (source ∷ sources) [] = ⊥
+  AreClosedIn style events number (source ∷ sources) (lane ∷ lanes) =
       (of_lane number events ≡ lane_events (answers_in number events) lane.end)
-      × IsClosedIn (number + 1) version (arc_value source.1) source.0 (answers_in number events) lane
-      × AreClosedIn version events (number + 1) sources lanes
+      × IsClosedIn (number + 1) style (arc_value source.1) source.0 (answers_in number events) lane
+      × AreClosedIn style events (number + 1) sources lanes
 
   -- if a collector had received nothing before a batch with these sources, it has received the events of
   -- their lanes and no others
   abbrev pub IsCollectedIn :
-      {C : Type 0} → Version → (C → List (Event BlockTextValue) → Type 0) → List (S × Arc TermsValue Global) → RunEnd S → C → C → Type 0
-  IsCollectedIn version given sources run before after =
+      {C : Type 0} → RecordStyle → (C → List (Event BlockTextValue) → Type 0) → List (S × Arc TermsValue Global) → RunEnd S → C → C → Type 0
+  IsCollectedIn style given sources run before after =
       given before []
-      → (events : List (Event BlockTextValue)) × given after events × AreClosedIn version events 0 sources run.lanes.items
+      → (events : List (Event BlockTextValue)) × given after events × AreClosedIn style events 0 sources run.lanes.items
       × HasNoOthers events (length sources)
 
 -- the maker of the records of the source with this number
-abbrev pub maker_of : Version → ℕ → TermsValue → MakerValue
-maker_of version number terms = record { terms = terms; source = number; version = version }
+abbrev pub maker_of : RecordStyle → ℕ → TermsValue → MakerValue
+maker_of style number terms = record { terms = terms; source = number; style = style }
 
 module _ {S : Type 0} where
   -- each source as a source of blocks, with the maker of its records; the first source has this number
-  abbrev pub AreWrapped : Version → ℕ → List (S × Arc TermsValue Global) → List (LineBlocks S × MakerValue) → Type 0
-  AreWrapped version number [] [] = Unit {0}
-  AreWrapped version number [] (wrapped ∷ others) = ⊥
-  AreWrapped version number (source ∷ sources) [] = ⊥
-  AreWrapped version number (source ∷ sources) (wrapped ∷ others) =
+  abbrev pub AreWrapped : RecordStyle → ℕ → List (S × Arc TermsValue Global) → List (LineBlocks S × MakerValue) → Type 0
+  AreWrapped style number [] [] = Unit {0}
+  AreWrapped style number [] (wrapped ∷ others) = ⊥
+  AreWrapped style number (source ∷ sources) [] = ⊥
+  AreWrapped style number (source ∷ sources) (wrapped ∷ others) =
       GathersFrom source.0 wrapped.0
-      × (wrapped.1 ≡ maker_of version number (arc_value source.1))
-      × AreWrapped version (number + 1) sources others
+      × (wrapped.1 ≡ maker_of style number (arc_value source.1))
+      × AreWrapped style (number + 1) sources others
 
   -- a closed lane with its source of lines
   abbrev pub unwrapped : ClosedLane (LineBlocks S) → ClosedLane S

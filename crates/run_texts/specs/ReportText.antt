@@ -1,15 +1,16 @@
 -- The output for the report of a batch, and the summary of a batch.
 -- This project's own.
-use Rattle.std.specs.Prelude.{ℕ, ◌+◌, Bool, true, false, List, [], ◌∷◌, ◌++◌, count_by, sum_by, min, ◌-◌, ◌^◌}
+use Rattle.std.specs.Prelude.{ℕ, ◌+◌, Bool, true, false, List, [], ◌∷◌, ◌++◌, sum_by, min, ◌-◌, ◌^◌}
 use Rattle.std.specs.List.{list_any}
 use Rattle.std.specs.Option.{option_map_or}
-use Rattle.set_line.specs.declared.version.Version.{Version}
+use Rattle.encodings.specs.declared.encoding.Encoding.{Encoding}
+use Rattle.line_blocks.specs.BlockText.{RecordStyle}
 use Rattle.line_lane.specs.declared.fault.SourceFault.TheVariants.{Read, OutOfMemory, ReadBound}
 use Rattle.line_lane.specs.declared.ending.LaneEnd.{LaneEnd}
 use Rattle.line_lane.specs.declared.ending.LaneEnd.TheVariants.{Complete, SourceFailed, GaveUp}
 use Rattle.set_run.specs.declared.report.LaneReport.{LaneReport}
 use Rattle.set_run.specs.declared.run_end.ClosedLane.{ClosedLane}
-use Rattle.run_texts.specs.RunText.{head_text, lane_text, is_refused, why_of}
+use Rattle.run_texts.specs.RunText.{head_text, lane_text, refused_lines, why_of}
 use Rattle.run_texts.specs.declared.summary.Summary.{Summary}
 
 -- whether a read of the source of a lane failed, or a line needed too many reads
@@ -30,24 +31,24 @@ is_wanting Complete = false
 
 module _ {S : Type 0} where
   -- the output of lanes, one after the other; the first source has this number
-  abbrev pub lanes_text : ℕ → Version → List (LaneReport S) → List ℕ
-  lanes_text number version [] = []
-  lanes_text number version (lane ∷ lanes) =
-      lane_text number version lane.answers (why_of lane.end) ++ lanes_text (number + 1) version lanes
+  abbrev pub lanes_text : ℕ → RecordStyle → List (LaneReport S) → List ℕ
+  lanes_text number style [] = []
+  lanes_text number style (lane ∷ lanes) =
+      lane_text number style lane.answers (why_of lane.end) ++ lanes_text (number + 1) style lanes
 
   -- the output of a batch: the first line of the record format, if it has one, and the output of all lanes in
   -- order
-  abbrev pub run_text : Version → List (LaneReport S) → List ℕ
-  run_text version lanes = head_text version ++ lanes_text 1 version lanes
+  abbrev pub run_text : RecordStyle → List (LaneReport S) → List ℕ
+  run_text style lanes = head_text style.version ++ lanes_text 1 style lanes
 
   -- the number of refused lines of all lanes, or 2^64 - 1 if it is larger
-  abbrev pub refused_in : List (LaneReport S) → ℕ
-  refused_in lanes = min (2 ^ 64 - 1) (sum_by (λ lane. count_by is_refused lane.answers) lanes)
+  abbrev pub refused_in : Encoding → List (LaneReport S) → ℕ
+  refused_in encoding lanes = min (2 ^ 64 - 1) (sum_by (λ lane. refused_lines encoding lane.answers) lanes)
 
-  -- the summary of a batch with these reports of its lanes
-  abbrev pub summary_of_run : List (LaneReport S) → Summary
-  summary_of_run lanes = record {
-    refused = refused_in lanes;
+  -- the summary of a batch with these reports of its lanes, whose lines have this encoding
+  abbrev pub summary_of_run : Encoding → List (LaneReport S) → Summary
+  summary_of_run encoding lanes = record {
+    refused = refused_in encoding lanes;
     read_failed = list_any (λ lane. is_unread lane.end) lanes;
     memory = list_any (λ lane. is_wanting lane.end) lanes;
   }

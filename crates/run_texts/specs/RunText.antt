@@ -1,21 +1,41 @@
 -- The parts of the output of a batch: the first line, the records of the results of a source, and its end
 -- line.
 -- This project's own.
-use Rattle.std.specs.Prelude.{ℕ, ◌+◌, List, [], ◌∷◌, ◌++◌, length, codes, decimal, Bool}
+use Rattle.std.specs.Prelude.{ℕ, ◌+◌, ◌==◌, List, [], ◌∷◌, ◌++◌, length, count_by, codes, decimal, Bool}
 use Rattle.set_line.specs.declared.version.Version.{Version}
 use Rattle.set_line.specs.declared.version.Version.TheVariants.{One, Two, Json}
 use Rattle.set_line.specs.Answer.{AnswerValue}
 use Rattle.line_lane.specs.declared.fault.SourceFault.TheVariants.{Read, OutOfMemory, ReadBound}
 use Rattle.line_lane.specs.declared.ending.LaneEnd.{LaneEnd}
 use Rattle.line_lane.specs.declared.ending.LaneEnd.TheVariants.{Complete, SourceFailed, GaveUp}
-use Rattle.set_line.specs.Record.{record_text}
-use Rattle.line_blocks.specs.BlockText.{is_refusal}
+use Rattle.encodings.specs.declared.encoding.Encoding.{Encoding}
+use Rattle.encodings.specs.declared.encoding.Encoding.TheVariants.{Bytes}
+use Rattle.encoded_lines.specs.declared.outcome.EncodedOutcome.{EncodedOutcome}
+use Rattle.encoded_lines.specs.declared.outcome.EncodedOutcome.TheVariants.{Plain}
+use Rattle.encoded_lines.specs.Answer.{encoded_outcome}
+use Rattle.encoded_lines.specs.Record.{encoded_record_text, is_refused as is_refused_with}
+use Rattle.line_blocks.specs.BlockText.{RecordStyle, is_refusal}
+use Rattle.run_texts.specs.declared.options.OutputOptions.{OutputOptions}
 
--- the records of results; the first one has this line number
-abbrev pub records_from : ℕ → ℕ → Version → List AnswerValue → List ℕ
-records_from source place version [] = []
-records_from source place version (answer ∷ answers) =
-    record_text source place answer.outcome version ++ records_from source (place + 1) version answers
+-- the encoding and the record format of an output with these options
+abbrev pub style_of : {G : Type 0} → OutputOptions G → RecordStyle
+style_of options = record { encoding = options.encoding; version = options.version }
+
+-- the result of the line with this number, with an encoding: that of a line of bytes is the one of the answer,
+-- and a line in UTF-8 is set with the settings of the answer
+abbrev pub result_of : Encoding → ℕ → AnswerValue → EncodedOutcome
+result_of Bytes place answer = Plain answer.outcome
+result_of encoding place answer = encoded_outcome answer.terms encoding (place == 1) answer.line
+
+-- the record of the line with this number
+abbrev pub record_of : RecordStyle → ℕ → ℕ → AnswerValue → List ℕ
+record_of style source place answer = encoded_record_text source place (result_of style.encoding place answer) style.version
+
+-- the records of lines; the first one has this line number
+abbrev pub records_from : ℕ → ℕ → RecordStyle → List AnswerValue → List ℕ
+records_from source place style [] = []
+records_from source place style (answer ∷ answers) =
+    record_of style source place answer ++ records_from source (place + 1) style answers
 
 -- the reason for the end of a lane, as the end line states it
 unfoldable pub why_of : LaneEnd → List ℕ
@@ -47,9 +67,21 @@ head_text Two = codes "records 2\n"
 head_text Json = []
 
 -- the records and the end line of a source
-abbrev pub lane_text : ℕ → Version → List AnswerValue → List ℕ → List ℕ
-lane_text source version answers why = records_from source 1 version answers ++ end_text source version why (length answers)
+abbrev pub lane_text : ℕ → RecordStyle → List AnswerValue → List ℕ → List ℕ
+lane_text source style answers why = records_from source 1 style answers ++ end_text source style.version why (length answers)
 
--- whether a line was refused
+-- ---- refused lines
+
+-- the results of lines; the first one has this line number
+abbrev pub results_from : Encoding → ℕ → List AnswerValue → List EncodedOutcome
+results_from encoding place [] = []
+results_from encoding place (answer ∷ answers) =
+    result_of encoding place answer ∷ results_from encoding (place + 1) answers
+
+-- the number of refused lines of a source
+abbrev pub refused_lines : Encoding → List AnswerValue → ℕ
+refused_lines encoding answers = count_by is_refused_with (results_from encoding 1 answers)
+
+-- whether a line of bytes was refused
 abbrev pub is_refused : AnswerValue → Bool
 is_refused answer = is_refusal answer.outcome

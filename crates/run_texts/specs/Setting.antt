@@ -7,7 +7,7 @@ use Rattle.std.specs.declared.sync.Arc.{Arc}
 use Rattle.std.specs.declared.alloc.Global.{Global}
 use Rattle.std.specs.Io.KnownBytes.{Appends}
 use Rattle.set_line.specs.Terms.{TermsValue}
-use Rattle.set_line.specs.declared.version.Version.{Version}
+use Rattle.line_blocks.specs.BlockText.{RecordStyle}
 use Rattle.line_lane.specs.declared.fault.SourceFault.{SourceFault}
 use Rattle.set_run.specs.Closed.{AreBack}
 use Rattle.set_run.specs.Reports.{AreReported, IsReported}
@@ -17,9 +17,9 @@ use Rattle.run_texts.specs.declared.summary.Summary.{Summary}
 
 module _ {S : Type 0} where
   -- the output for these reports was written, and this is their summary
-  abbrev pub IsWritten : Version → List (LaneReport S) → Option (List ℕ) → Option (List ℕ) → Summary → Type 0
-  IsWritten version reports before after summary =
-      Appends before after (run_text version reports) × (summary ≡ summary_of_run reports)
+  abbrev pub IsWritten : RecordStyle → List (LaneReport S) → Option (List ℕ) → Option (List ℕ) → Summary → Type 0
+  IsWritten style reports before after summary =
+      Appends before after (run_text style reports) × (summary ≡ summary_of_run style.encoding reports)
 
   -- reports of these sources, in the same order; all sources have these settings
   abbrev pub AreReportedWith :

@@ -4,7 +4,7 @@ use Rattle.std.specs.Prelude.{◌≡◌, ℕ, ◌+◌, List, [], ◌∷◌, ◌+
 use Rattle.std.specs.Io.KnownBytes.{Appends}
 use Rattle.set_line.specs.declared.version.Version.{Version}
 use Rattle.set_run.specs.Events.{Event, answers_in, of_lane}
-use Rattle.line_blocks.specs.BlockText.{BlockTextValue}
+use Rattle.line_blocks.specs.BlockText.{BlockTextValue, RecordStyle}
 use Rattle.run_texts.specs.RunText.{head_text}
 use Rattle.run_texts.specs.LaneText.{events_lines, records_of, refused_of}
 use Rattle.run_texts.specs.Streaming.{SourceLine, merged_text, of_source}
@@ -39,11 +39,11 @@ AreOut version events before after block =
     × MovesOut before (head_text version ++ merged_text lines) after block
 
 -- the state of a stream at its start: the contents of its writer, the name of the reference to the writer,
--- the record format, and the number of lanes
+-- the encoding and the record format, and the number of lanes
 pub record StreamStart : Type 0 where
   pub before : Option (List ℕ)
   pub name : ℕ
-  pub version : Version
+  pub style : RecordStyle
   pub lanes : ℕ
 
 module _ {W : Type 0} where
@@ -51,7 +51,7 @@ module _ {W : Type 0} where
   abbrev pub IsStreamOf : (W → Option (List ℕ)) → StreamStart → Stream W → List (Event BlockTextValue) → Type 0
   IsStreamOf contents start stream events =
       (stream.out.ghost_name ≡ start.name)
-      × (stream.version ≡ start.version)
+      × (stream.version ≡ start.style.version)
       × (length stream.counts.items ≡ start.lanes)
       × AreCounts events 0 stream.counts.items
-      × AreOut start.version events start.before (contents stream.out.now) stream.block.items
+      × AreOut start.style.version events start.before (contents stream.out.now) stream.block.items

@@ -8,20 +8,20 @@ use Rattle.std.specs.declared.alloc.Global.{Global}
 use Rattle.std.specs.Io.KnownBytes.{Appends, Keeps}
 use Rattle.set_line.specs.Terms.{TermsValue}
 use Rattle.set_line.specs.Answer.{AnswerValue}
-use Rattle.set_line.specs.Record.{record_text}
 use Rattle.set_line.specs.declared.version.Version.{Version}
+use Rattle.line_blocks.specs.BlockText.{RecordStyle}
 use Rattle.line_lane.specs.declared.ending.LaneEnd.{LaneEnd}
 use Rattle.line_lane.specs.declared.fault.SourceFault.{SourceFault}
 use Rattle.set_run.specs.Reports.{IsClosed}
 use Rattle.set_run.specs.declared.run_end.ClosedLane.{ClosedLane}
 use Rattle.set_run.specs.declared.report.LaneReport.{LaneReport}
-use Rattle.run_texts.specs.RunText.{end_text, head_text, lane_text, why_of}
+use Rattle.run_texts.specs.RunText.{end_text, head_text, lane_text, record_of, why_of}
 
 -- the records of results, each as a line; the first one has this line number
-abbrev pub record_lines : ℕ → ℕ → Version → List AnswerValue → List (List ℕ)
-record_lines source place version [] = []
-record_lines source place version (answer ∷ answers) =
-    record_text source place answer.outcome version ∷ record_lines source (place + 1) version answers
+abbrev pub record_lines : ℕ → ℕ → RecordStyle → List AnswerValue → List (List ℕ)
+record_lines source place style [] = []
+record_lines source place style (answer ∷ answers) =
+    record_of style source place answer ∷ record_lines source (place + 1) style answers
 
 -- the end line of a source with this many results, if the source has ended
 abbrev pub end_lines : ℕ → Version → Option LaneEnd → ℕ → List (List ℕ)
@@ -30,8 +30,8 @@ end_lines source version (Some end) answers = end_text source version (why_of en
 
 -- the output lines of a source: the record of each of its results, and then its end line, if the source has
 -- ended
-abbrev pub lane_lines : ℕ → Version → List AnswerValue → Option LaneEnd → List (List ℕ)
-lane_lines source version answers end = record_lines source 1 version answers ++ end_lines source version end (length answers)
+abbrev pub lane_lines : ℕ → RecordStyle → List AnswerValue → Option LaneEnd → List (List ℕ)
+lane_lines source style answers end = record_lines source 1 style answers ++ end_lines source style.version end (length answers)
 
 -- a line of the output, with the number of its source
 abbrev pub SourceLine : Type 0
@@ -54,22 +54,22 @@ AreOfSources sources lines = All (λ line. (1 ≤ line.0) × (line.0 ≤ sources
 module _ {S : Type 0} where
   -- the lines of each source are those of its report, and joined together they are the part of this source in
   -- the output that is written in the order of the sources; the first source has this number
-  abbrev pub HaveLines : ℕ → Version → List (LaneReport S) → List SourceLine → Type 0
-  HaveLines number version [] lines = Unit {0}
-  HaveLines number version (report ∷ reports) lines =
-      (of_source number lines ≡ lane_lines number version report.answers (Some report.end))
-      × (concat (of_source number lines) ≡ lane_text number version report.answers (why_of report.end))
-      × HaveLines (number + 1) version reports lines
+  abbrev pub HaveLines : ℕ → RecordStyle → List (LaneReport S) → List SourceLine → Type 0
+  HaveLines number style [] lines = Unit {0}
+  HaveLines number style (report ∷ reports) lines =
+      (of_source number lines ≡ lane_lines number style report.answers (Some report.end))
+      × (concat (of_source number lines) ≡ lane_text number style report.answers (why_of report.end))
+      × HaveLines (number + 1) style reports lines
 
   -- these are the lines of all reports, merged in some order, and no others
-  abbrev pub IsMerge : Version → List (LaneReport S) → List SourceLine → Type 0
-  IsMerge version reports lines = HaveLines 1 version reports lines × AreOfSources (length reports) lines
+  abbrev pub IsMerge : RecordStyle → List (LaneReport S) → List SourceLine → Type 0
+  IsMerge style reports lines = HaveLines 1 style reports lines × AreOfSources (length reports) lines
 
   -- the first line of the record format, if it has one, was written, and then the lines of all reports,
   -- merged
-  abbrev pub IsStreamed : Version → List (LaneReport S) → Option (List ℕ) → Option (List ℕ) → Type 0
-  IsStreamed version reports before after =
-      (lines : List SourceLine) × IsMerge version reports lines × Appends before after (head_text version ++ merged_text lines)
+  abbrev pub IsStreamed : RecordStyle → List (LaneReport S) → Option (List ℕ) → Option (List ℕ) → Type 0
+  IsStreamed style reports before after =
+      (lines : List SourceLine) × IsMerge style reports lines × Appends before after (head_text style.version ++ merged_text lines)
 
 module _ {S : Type 0} where
   -- each source with the settings that it is paired with
@@ -83,42 +83,42 @@ module _ {S : Type 0} where
   -- the lines of a source, as far as they arrived: those of some closed lane of this source; it isn't stated
   -- which source the lane returns
   abbrev pub HasCome :
-      (S → Option (List (List ℕ))) → (S → Option SourceFault) → Version → ℕ → TermsValue × S → List SourceLine → Type 0
-  HasCome to_come failed version number source lines =
+      (S → Option (List (List ℕ))) → (S → Option SourceFault) → RecordStyle → ℕ → TermsValue × S → List SourceLine → Type 0
+  HasCome to_come failed style number source lines =
       (answers : List AnswerValue)
       × (lane : ClosedLane S)
       × IsClosed to_come failed source.0 source.1 answers lane
-      × (of_source number lines ≡ lane_lines number version answers lane.end)
+      × (of_source number lines ≡ lane_lines number style answers lane.end)
 
   -- the same for all sources; the first source has this number
   abbrev pub HaveCome :
-      (S → Option (List (List ℕ))) → (S → Option SourceFault) → Version → ℕ → List (TermsValue × S) → List SourceLine → Type 0
-  HaveCome to_come failed version number [] lines = Unit {0}
-  HaveCome to_come failed version number (source ∷ sources) lines =
-      HasCome to_come failed version number source lines × HaveCome to_come failed version (number + 1) sources lines
+      (S → Option (List (List ℕ))) → (S → Option SourceFault) → RecordStyle → ℕ → List (TermsValue × S) → List SourceLine → Type 0
+  HaveCome to_come failed style number [] lines = Unit {0}
+  HaveCome to_come failed style number (source ∷ sources) lines =
+      HasCome to_come failed style number source lines × HaveCome to_come failed style (number + 1) sources lines
 
   -- these are the lines of the sources, as far as they arrived, merged in some order, and no others
   abbrev pub IsPartOfMerge :
-      (S → Option (List (List ℕ))) → (S → Option SourceFault) → Version → List (TermsValue × S) → List SourceLine → Type 0
-  IsPartOfMerge to_come failed version sources lines =
-      HaveCome to_come failed version 1 sources lines × AreOfSources (length sources) lines
+      (S → Option (List (List ℕ))) → (S → Option SourceFault) → RecordStyle → List (TermsValue × S) → List SourceLine → Type 0
+  IsPartOfMerge to_come failed style sources lines =
+      HaveCome to_come failed style 1 sources lines × AreOfSources (length sources) lines
 
   -- a first part of such an output was written; it may end within a line
   abbrev pub IsCutShort :
-      (S → Option (List (List ℕ))) → (S → Option SourceFault) → Version → List (TermsValue × S) → Option (List ℕ) → Option (List ℕ) → Type 0
-  IsCutShort to_come failed version sources before after =
+      (S → Option (List (List ℕ))) → (S → Option SourceFault) → RecordStyle → List (TermsValue × S) → Option (List ℕ) → Option (List ℕ) → Type 0
+  IsCutShort to_come failed style sources before after =
       (lines : List SourceLine)
       × (written : List ℕ)
       × (unwritten : List ℕ)
-      × IsPartOfMerge to_come failed version sources lines
-      × (written ++ unwritten ≡ head_text version ++ merged_text lines)
+      × IsPartOfMerge to_come failed style sources lines
+      × (written ++ unwritten ≡ head_text style.version ++ merged_text lines)
       × Appends before after written
 
   -- nothing was written, or all of such an output, which ends with a whole line
   abbrev pub IsCutAtLine :
-      (S → Option (List (List ℕ))) → (S → Option SourceFault) → Version → List (TermsValue × S) → Option (List ℕ) → Option (List ℕ) → Type 0
-  IsCutAtLine to_come failed version sources before after =
+      (S → Option (List (List ℕ))) → (S → Option SourceFault) → RecordStyle → List (TermsValue × S) → Option (List ℕ) → Option (List ℕ) → Type 0
+  IsCutAtLine to_come failed style sources before after =
       Keeps before after
       ⊎ ((lines : List SourceLine)
-      × IsPartOfMerge to_come failed version sources lines
-      × Appends before after (head_text version ++ merged_text lines))
+      × IsPartOfMerge to_come failed style sources lines
+      × Appends before after (head_text style.version ++ merged_text lines))

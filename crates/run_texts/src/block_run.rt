@@ -3,8 +3,10 @@ ghost use Rattle.std.specs.Prelude.{◌≡◌, ◌+◌, ◌≤◌, ◌⊎◌, �
 ghost use Rattle.set_run.specs.declared.run_fault.RunFault.TheVariants.{OutOfMemory as NoMemory, Thread};
 ghost use Rattle.set_run.specs.Closed.{AreBack, IsWhole};
 ghost use Rattle.run_texts.specs.BlockLanes.{AreWrapped, IsCollectedIn, unwrapped};
+ghost use Rattle.run_texts.specs.RunText.{style_of};
 
 use crate::OutputOptions;
+use encodings::Encoding;
 use line_blocks::{BlockText, LineBlocks, RecordMaker, kept_lines, lanes_of_lines};
 use set_line::{Terms, Version};
 use set_run::{
@@ -19,17 +21,20 @@ use std::thread::Threads;
 fn with_makers<S: LineSource + Drop>(
     alloc: Global,
     sources: Vec<(S, Arc<Terms>)>,
+    encoding: Encoding,
     version: Version,
     most: usize,
 ) -> Result<Vec<(LineBlocks<S>, RecordMaker)>, AllocError>
-    ensures { IfOk result (λ wrapped. AreWrapped version 1 sources.items wrapped.items) }
+    ensures { IfOk result (λ wrapped. AreWrapped (record { encoding = encoding; version = version })
+        1 sources.items wrapped.items) }
 {
     let mut wrapped = Vec::with_capacity(alloc, sources.len())?;
     for pair in sources {
         let (source, terms) = pair;
         let number = wrapped.len() as u64 + 1;
         let blocks = LineBlocks::new(alloc, source, most);
-        wrapped.push((blocks, RecordMaker::new(alloc, terms, number, version)))?;
+        let maker = RecordMaker::new(alloc, terms, number, version).with_encoding(encoding);
+        wrapped.push((blocks, maker))?;
     }
     Ok(wrapped)
 }
@@ -71,7 +76,7 @@ where
     C: Collector<Item = BlockText> + Drop,
     requires lanes { vec_len sources ≤ C.lanes collector }
     requires willing { C.refused collector None }
-    ensures collected { IfOk result.1 (λ run. IsCollectedIn S.to_come S.failed options.now.version
+    ensures collected { IfOk result.1 (λ run. IsCollectedIn S.to_come S.failed (style_of options.now)
         C.given sources.items run collector result.0) }
     ensures whole { IfOk result.1 (λ run. IsWhole run) }
     ensures sources { IfOk result.1 (λ run.
@@ -85,7 +90,8 @@ where
     let Ok(closed) = Vec::with_capacity(alloc, sources.len()) else {
         return (collector, Err(RunFault::OutOfMemory));
     };
-    let Ok(wrapped) = with_makers(alloc, sources, options.version, options.most_lines()) else {
+    let (encoding, most) = (options.encoding, options.most_lines());
+    let Ok(wrapped) = with_makers(alloc, sources, encoding, options.version, most) else {
         return (collector, Err(RunFault::OutOfMemory));
     };
     // For the proof: laws of lines in blocks, and of lanes of lines.

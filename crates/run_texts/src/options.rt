@@ -1,3 +1,4 @@
+use encodings::Encoding;
 use run_plan::{Block, Plan};
 use set_line::Version;
 use set_run::ItemOptions;
@@ -13,6 +14,10 @@ pub struct OutputOptions<'a, G> {
     pub plan: Plan,
     /// The record format.
     pub version: Version,
+    /// The encoding of the font, if the lines are in UTF-8: they are set with the codes of their characters, and
+    /// offsets in records count bytes of the line before it is encoded. With [`Encoding::Bytes`] a line is
+    /// bytes, and each byte is a code of the font.
+    pub encoding: Encoding,
     /// Whether a block has all lines that one read of its source completes, up to 64 KB, and not at most as many
     /// lines as the plan states.
     pub whole_reads: bool,

@@ -6,6 +6,7 @@ ghost use Rattle.set_run.specs.declared.run_fault.RunFault.TheVariants.{TooManyS
 ghost use Rattle.tfm_tables.specs.declared.fault.FontFault.{FontFault as Refusal};
 ghost use Rattle.tfm_tables.specs.Acceptance.{font_fault_of};
 ghost use Rattle.tfm_tables.specs.Font.{FontValue, IsFontOf};
+ghost use Rattle.run_texts.specs.RunText.{style_of};
 ghost use Rattle.run_texts.specs.Setting.{AreOwnReports, AreOwnReportsWith, IsWritten};
 
 use crate::block_run::run_blocks;
@@ -39,7 +40,7 @@ where
     requires version { K.version ≡ options.now.version }
     ensures text { IfOk result (λ summary. (reports : List (Lane S))
         × AreOwnReports S.to_come S.failed S.origin sources.items reports
-        × IsWritten options.now.version reports (W.contents out.old) (W.contents out.new) summary) }
+        × IsWritten (style_of options.now) reports (W.contents out.old) (W.contents out.new) summary) }
     ensures few { vec_len sources ≤ 64 → (fault : Fault) → result ≡ Err (ToolFault.Run fault)
         → (fault ≡ NoMemory) ⊎ (fault ≡ Thread) }
     ensures run { (fault : Fault) → result ≡ Err (ToolFault.Run fault) → out.new ≡ out.old }
@@ -82,7 +83,7 @@ where
     W: Write,
     ensures text { IfOk result (λ summary. (reports : List (Lane S))
         × AreOwnReports S.to_come S.failed S.origin sources.items reports
-        × IsWritten options.now.version reports (W.contents out.old) (W.contents out.new) summary) }
+        × IsWritten (style_of options.now) reports (W.contents out.old) (W.contents out.new) summary) }
     ensures many { 64 < vec_len sources → result ≡ Err (ToolFault.Run TooManySources) }
     ensures few { vec_len sources ≤ 64 → (fault : Fault) → result ≡ Err (ToolFault.Run fault)
         → (fault ≡ NoMemory) ⊎ (fault ≡ Thread) }
@@ -116,7 +117,7 @@ where
         × IsFontOf font.now.bytes.now font.now.size f
         × AreOwnReportsWith S.to_come S.failed S.origin
         (record { font = f; limit = font.now.limit; policy = font.now.policy }) sources.items reports
-        × IsWritten options.now.version reports (W.contents out.old) (W.contents out.new) summary) }
+        × IsWritten (style_of options.now) reports (W.contents out.old) (W.contents out.new) summary) }
     ensures font { (fault : Refusal) → result ≡ Err (ToolFault.Font fault)
         → (font_fault_of font.now.bytes.now ≡ Some fault) × (out.new ≡ out.old) }
     ensures refused { (fault : Refusal) → font_fault_of font.now.bytes.now ≡ Some fault

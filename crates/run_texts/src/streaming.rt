@@ -9,6 +9,7 @@ ghost use Rattle.tfm_tables.specs.declared.fault.FontFault.{FontFault as FontRef
 ghost use Rattle.tfm_tables.specs.Acceptance.{font_fault_of};
 ghost use Rattle.tfm_tables.specs.Font.{FontValue, IsFontOf};
 ghost use Rattle.run_texts.specs.ReportText.{summary_of_lanes, summary_of_run};
+ghost use Rattle.run_texts.specs.RunText.{style_of};
 ghost use Rattle.run_texts.specs.Endings.{is_text_fault};
 ghost use Rattle.run_texts.specs.Setting.{AreOwnReports, AreOwnReportsWith};
 ghost use Rattle.run_texts.specs.Streaming.{IsCutAtLine, IsCutShort, IsStreamed, with_own_terms, with_these_terms};
@@ -41,9 +42,15 @@ pub(crate) trait Beginning {
 /// A placeholder: the proof of the caller chooses the start.
 impl Beginning for Brand {
     ghost use Rattle.std.specs.Prelude.{None};
+    ghost use Rattle.encodings.specs.declared.encoding.Encoding.TheVariants.{Bytes};
     ghost use Rattle.set_line.specs.declared.version.Version.TheVariants.{One};
 
-    ghost start = { record { before = None; name = 0; version = One; lanes = 0 } };
+    ghost start = { record {
+      before = None;
+      name = 0;
+      style = record { encoding = Bytes; version = One };
+      lanes = 0;
+    } };
 }
 
 /// The stream of a batch. For the proof: `K` has the state in which it began.
@@ -93,7 +100,7 @@ where
     W: Write,
     K: Beginning,
     requires { vec_len sources ≤ length stream.counts.items }
-    ensures collected { IfOk result.1 (λ run. IsCollectedIn S.to_come S.failed options.now.version
+    ensures collected { IfOk result.1 (λ run. IsCollectedIn S.to_come S.failed (style_of options.now)
         (IsStreamOf W.contents K.start) sources.items run stream.entry result.0) }
     ensures whole { IfOk result.1 (λ run. IsWhole run) }
     ensures sources { IfOk result.1 (λ run.
@@ -162,16 +169,16 @@ where
     W: Write,
     ensures text { IfOk result (λ summary. (reports : List (Lane S))
         × AreOwnReports S.to_come S.failed S.origin sources.items reports
-        × IsStreamed options.now.version reports (W.contents out.old) (W.contents out.new)
-        × (summary ≡ summary_of_run reports)) }
+        × IsStreamed (style_of options.now) reports (W.contents out.old) (W.contents out.new)
+        × (summary ≡ summary_of_run options.now.encoding reports)) }
     ensures many { 64 < vec_len sources → result ≡ Err (ToolFault.Run TooManySources) }
     ensures few { vec_len sources ≤ 64 → (fault : Fault) → result ≡ Err (ToolFault.Run fault)
         → (fault ≡ NoMemory) ⊎ (fault ≡ Thread) }
     ensures run { (fault : Fault) → result ≡ Err (ToolFault.Run fault) → out.new ≡ out.old }
     ensures font { (fault : FontRefusal) → result ≡ Err (ToolFault.Font fault) → ⊥ }
-    ensures write { result ≡ Err ToolFault.Write → IsCutShort S.to_come S.failed options.now.version
+    ensures write { result ≡ Err ToolFault.Write → IsCutShort S.to_come S.failed (style_of options.now)
         (with_own_terms sources.items) (W.contents out.old) (W.contents out.new) }
-    ensures memory { result ≡ Err ToolFault.OutOfMemory → IsCutAtLine S.to_come S.failed options.now.version
+    ensures memory { result ≡ Err ToolFault.OutOfMemory → IsCutAtLine S.to_come S.failed (style_of options.now)
         (with_own_terms sources.items) (W.contents out.old) (W.contents out.new) }
 {
     if sources.len() > MOST_SOURCES {
@@ -218,8 +225,8 @@ where
         × IsFontOf font.now.bytes.now font.now.size f
         × AreOwnReportsWith S.to_come S.failed S.origin
         (record { font = f; limit = font.now.limit; policy = font.now.policy }) sources.items reports
-        × IsStreamed options.now.version reports (W.contents out.old) (W.contents out.new)
-        × (summary ≡ summary_of_run reports)) }
+        × IsStreamed (style_of options.now) reports (W.contents out.old) (W.contents out.new)
+        × (summary ≡ summary_of_run options.now.encoding reports)) }
     ensures font { (fault : FontRefusal) → result ≡ Err (ToolFault.Font fault)
         → (font_fault_of font.now.bytes.now ≡ Some fault) × (out.new ≡ out.old) }
     ensures refused { (fault : FontRefusal) → font_fault_of font.now.bytes.now ≡ Some fault
@@ -231,12 +238,12 @@ where
         → (fault ≡ NoMemory) ⊎ (fault ≡ Thread) }
     ensures run { (fault : Fault) → result ≡ Err (ToolFault.Run fault) → out.new ≡ out.old }
     ensures write { result ≡ Err ToolFault.Write → (f : FontValue) × IsFontOf font.now.bytes.now font.now.size f
-        × IsCutShort S.to_come S.failed options.now.version (with_these_terms
+        × IsCutShort S.to_come S.failed (style_of options.now) (with_these_terms
         (record { font = f; limit = font.now.limit; policy = font.now.policy }) sources.items)
         (W.contents out.old) (W.contents out.new) }
     ensures memory { result ≡ Err ToolFault.OutOfMemory → (out.new ≡ out.old)
         ⊎ ((f : FontValue) × IsFontOf font.now.bytes.now font.now.size f
-        × IsCutAtLine S.to_come S.failed options.now.version (with_these_terms
+        × IsCutAtLine S.to_come S.failed (style_of options.now) (with_these_terms
         (record { font = f; limit = font.now.limit; policy = font.now.policy }) sources.items)
         (W.contents out.old) (W.contents out.new)) }
 {

@@ -129,7 +129,7 @@ head_cause_known known bytes failure same is = is
 -- ---- the fonts of jobs
 
 -- a font that was read is accepted
-accepted_job : (known : List ℕ → Option (List ℕ)) (layout : Layout) (job : JobValue) (terms : TermsValue) → AreTermsOf known layout job terms → IsAcceptedJob known layout job
+pub accepted_job : (known : List ℕ → Option (List ℕ)) (layout : Layout) (job : JobValue) (terms : TermsValue) → AreTermsOf known layout job terms → IsAcceptedJob known layout job
 accepted_job known layout job terms are = some (known job.font) are.0
   where
     some : (bytes : Option (List ℕ)) → OfKnown bytes (λ all. IsFontOf all layout.size terms.font) → OfKnown bytes (λ all. (font : FontValue) × IsFontOf all layout.size font)
@@ -137,7 +137,7 @@ accepted_job known layout job terms are = some (known job.font) are.0
     some (Some all) is = (terms.font, is)
 
 -- the jobs before a place have their terms, so their fonts are accepted
-accepted_before : (known : List ℕ → Option (List ℕ)) (layout : Layout) (jobs : List Job) (pairs : List (Bor (List ℕ) × Arc TermsValue Global)) (i : ℕ) (job : Job)
+pub accepted_before : (known : List ℕ → Option (List ℕ)) (layout : Layout) (jobs : List Job) (pairs : List (Bor (List ℕ) × Arc TermsValue Global)) (i : ℕ) (job : Job)
     → i < length jobs → job ≡ get_or jobs i job → AllZip (HasTermsOf known layout) (take i jobs) pairs
     → (before : List JobValue) × (after : List JobValue)
     × (map job_value jobs ≡ before ++ job_value job ∷ after) × All (IsAcceptedJob known layout) before × (length before ≡ length pairs)
@@ -222,7 +222,7 @@ module _ (known : List ℕ → Option (List ℕ)) (input : Option (List ℕ)) wh
   -- no failure is both
   not_of_font : (request : Request) (failure : Failure) → IsFaultOf request failure → IsFontFaultOf known input request failure → ⊥
   not_of_font (Counts font verbose) failure fault is = fault
-  not_of_font (ListFont font all verbose) failure fault is = fault
+  not_of_font (ListFont font size all verbose) failure fault is = fault
   not_of_font (Pairs font size format verbose) failure fault is = fault
   not_of_font (Check asked) failure fault is = is
   not_of_font (Set setting) failure fault is = not_of_font_set setting (font_bytes_of known input setting.font.now) failure fault is
@@ -232,7 +232,7 @@ module _ (known : List ℕ → Option (List ℕ)) (input : Option (List ℕ)) wh
   -- refused memory is no fault of a font
   memory_not_of_font : (request : Request) → IsFontFaultOf known input request (Tool OutOfMemory) → ⊥
   memory_not_of_font (Counts font verbose) is = is
-  memory_not_of_font (ListFont font all verbose) is = is
+  memory_not_of_font (ListFont font size all verbose) is = is
   memory_not_of_font (Pairs font size format verbose) is = is
   memory_not_of_font (Check asked) is = is
   memory_not_of_font (Set setting) is = is

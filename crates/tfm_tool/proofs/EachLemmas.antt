@@ -14,13 +14,13 @@ use Rattle.tfm_tables.specs.Font.{FontValue, IsFontOf}
 use Rattle.set_line.specs.Terms.{TermsValue}
 use Rattle.run_texts.specs.Setting.{HasTerms}
 use Rattle.tfm_tool.specs.Jobs.{AreTermsFor, AreTermsOf, HasTermsOf, IsOpenedWith, IsSourceOfJob, JobValue, job_value, jobs_in, told_with_terms}
-use Rattle.tfm_tool.specs.Kept.{HaveSameFont, kept_of}
-use Rattle.tfm_tool.specs.Named.{OfKnown, file_bytes_of}
+use Rattle.tfm_tool.specs.Kept.{HaveSameFont}
+use Rattle.tfm_tool.specs.Named.{file_bytes_of}
 use Rattle.tfm_tool.specs.Requests.{IsSourceWith}
 use Rattle.tfm_tool.specs.Told.{IsSourceOf, Told, text_in}
 use Rattle.command_line.specs.declared.request.Layout.{Layout}
 use Rattle.tfm_tool.specs.declared.jobs.Job.{Job}
-use Rattle.tfm_tool.proofs.KnownLemmas.{of_known, same_of_kept}
+use Rattle.tfm_tool.proofs.KnownLemmas.{of_known}
 
 -- ---- words
 

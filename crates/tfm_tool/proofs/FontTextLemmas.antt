@@ -1,5 +1,5 @@
 -- Lemmas on the errors of the texts of fonts.
-use Rattle.std.proofs.Common.{rules, ◌≡◌, ℕ, List, Option, Some, None, Result, Ok, Err, refl, ap, sym, subst, ◌∙◌}
+use Rattle.std.proofs.Common.{rules, ◌≡◌, ℕ, List, Option, Some, None, Result, Ok, Err, refl, ap, ◌∙◌}
 use Rattle.std.specs.Prelude.{OnOk}
 use Rattle.std.specs.Result.{IsErrAnd}
 use Rattle.font_texts.specs.CountsText.{IsHeadRefusalOf, head_fault_of}

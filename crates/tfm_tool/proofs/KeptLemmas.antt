@@ -1,8 +1,8 @@
 -- What follows the bytes that a font can have changes neither its fault, nor the font, nor the text of its counts.
 use Rattle.std.proofs.Common.{◌≡◌, ℕ, ◌+◌, ◌-◌, ◌*◌, ◌^◌, ◌<◌, ◌≤◌, Bool, true, false, List, [], ◌∷◌, ◌++◌, take, drop, length, get_or, min, zero, suc, Option, Some, None, inl, inr, arith, lit≤, refl, sym, ◌∙◌, ap, subst}
 use Rattle.std.proofs.lemmas.Bool.{cases_lt, le-ltb, leb-false}
-use Rattle.std.specs.Prelude.{IfOk, IfSome, OnOk, Result, Ok, Err, is_ok}
-use Rattle.std.specs.Io.KnownBytes.{Appends, Consumes, IsAtEnd}
+use Rattle.std.specs.Prelude.{IfSome, OnOk, Result, Ok, Err, is_ok}
+use Rattle.std.specs.Io.KnownBytes.{Consumes, IsAtEnd}
 use Rattle.std.proofs.lemmas.List.{append-nil, append_assoc, get_or-take, get_or-drop, length-take-le, take_all, take_min, take-take, drop-take}
 use Rattle.tfm_words.specs.declared.numbers.Numbers.{Numbers}
 use Rattle.tfm_words.specs.declared.count_fault.CountFault.{CountFault}
@@ -13,7 +13,6 @@ use Rattle.tfm_words.specs.Word.{word_at}
 use Rattle.tfm_tables.specs.declared.fault.FontFault.TheVariants.{Counts}
 use Rattle.tfm_tables.specs.Acceptance.{after_counts, font_fault_of, words_of}
 use Rattle.tfm_tables.specs.Font.{FontValue, IsFontOf}
-use Rattle.font_texts.specs.CountsText.{counts_text_of}
 use Rattle.tfm_tool.specs.Kept.{HaveSameFont, kept_of}
 
 -- ---- the first n bytes

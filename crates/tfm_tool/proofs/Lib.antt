@@ -6,10 +6,12 @@ pub mod CheckingLemmas
 pub mod NamedLemmas
 pub mod SourceLemmas
 pub mod KnownLemmas
+pub mod StoppedLemmas
 pub mod ReaderLemmas
 pub mod EachLemmas
 pub mod WordLemmas
 pub mod CauseLemmas
+pub mod OrderLemmas
 pub mod WorkedRows
 pub mod WarningLemmas
 pub mod VerboseLemmas

@@ -1,10 +1,10 @@
 -- Output, exit statuses and reasons are the same with and without `--verbose`.
-use Rattle.std.proofs.Common.{◌≡◌, ◌⊎◌, ℕ, Bool, List, Option, inl, inr}
+use Rattle.std.proofs.Common.{ℕ, Bool, List, Option, inl, inr}
 use Rattle.command_line.specs.declared.request.Checking.{Checking}
 use Rattle.command_line.specs.declared.request.Setting.{Setting}
 use Rattle.command_line.specs.declared.request.Request.{Request}
 use Rattle.command_line.specs.declared.request.Request.TheVariants.{Counts, List as ListFont, Pairs, Check, Set, Stream, Each}
-use Rattle.tfm_tool.specs.Faults.{HasNoFault, IsCauseOf, IsFaultOf, IsFaultOfCheck, IsFaultOfSet, IsFaultOfStream, IsFontFaultOf}
+use Rattle.tfm_tool.specs.Faults.{IsCauseOf, IsFaultOf, IsFaultOfCheck, IsFaultOfSet, IsFaultOfStream, IsFontFaultOf}
 use Rattle.tfm_tool.specs.Requests.{IsDone}
 use Rattle.tfm_tool.specs.Verbose.{layout_with, with_verbose}
 use Rattle.tfm_tool.specs.declared.failure.Failure.{Failure}
@@ -44,7 +44,7 @@ module _ (verbose : Bool) where
 
   fault : (request : Request) (failure : Failure) → IsFaultOf (with_verbose verbose request) failure → IsFaultOf request failure
   fault (Counts font flag) failure is = is
-  fault (ListFont font all flag) failure is = is
+  fault (ListFont font size all flag) failure is = is
   fault (Pairs font size format flag) failure is = is
   fault (Check asked) failure is = check_fault asked failure is
   fault (Set setting) failure is = set_fault setting failure is
@@ -53,7 +53,7 @@ module _ (verbose : Bool) where
 
   to_fault : (request : Request) (failure : Failure) → IsFaultOf request failure → IsFaultOf (with_verbose verbose request) failure
   to_fault (Counts font flag) failure is = is
-  to_fault (ListFont font all flag) failure is = is
+  to_fault (ListFont font size all flag) failure is = is
   to_fault (Pairs font size format flag) failure is = is
   to_fault (Check asked) failure is = to_check asked failure is
   to_fault (Set setting) failure is = to_set setting failure is
@@ -65,7 +65,7 @@ module _ (verbose : Bool) where
 font_fault : (known : List ℕ → Option (List ℕ)) (input : Option (List ℕ)) (request : Request) (verbose : Bool) (failure : Failure)
     → IsFontFaultOf known input (with_verbose verbose request) failure → IsFontFaultOf known input request failure
 font_fault known input (Counts font flag) verbose failure is = is
-font_fault known input (ListFont font all flag) verbose failure is = is
+font_fault known input (ListFont font size all flag) verbose failure is = is
 font_fault known input (Pairs font size format flag) verbose failure is = is
 font_fault known input (Check asked) verbose failure is = is
 font_fault known input (Set setting) verbose failure is = is
@@ -76,7 +76,7 @@ pub same_done : (known : List ℕ → Option (List ℕ)) (input : Option (List �
     (request : Request) (verbose : Bool) (status : ℕ) → IsDone known input before after (with_verbose verbose request) status
     → IsDone known input before after request status
 same_done known input before after (Counts font flag) verbose status is = is
-same_done known input before after (ListFont font all flag) verbose status is = is
+same_done known input before after (ListFont font size all flag) verbose status is = is
 same_done known input before after (Pairs font size format flag) verbose status is = is
 same_done known input before after (Check asked) verbose status is = is
 same_done known input before after (Set setting) verbose status is = is

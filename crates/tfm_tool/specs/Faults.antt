@@ -8,7 +8,7 @@ use Rattle.command_line.specs.declared.request.Request.{Request}
 use Rattle.command_line.specs.declared.request.Request.TheVariants.{Counts, List as ListFont, Pairs, Check, Set, Stream, Each}
 use Rattle.command_line.specs.declared.request.Setting.{Setting}
 use Rattle.tfm_tool.specs.Checking.{dashes_in}
-use Rattle.tfm_tool.specs.FontFaults.{IsFirstRefused, IsRefusedFont, IsRefusedHead}
+use Rattle.tfm_tool.specs.FontFaults.{HasRefusedJob, IsFirstRefused, IsFirstUnread, IsKnownRefused, IsRefusedFont, IsRefusedHead}
 use Rattle.tfm_tool.specs.Jobs.{IsFaultOfWords, jobs_in}
 use Rattle.tfm_tool.specs.Named.{font_bytes_of}
 use Rattle.tfm_tool.specs.declared.failure.Failure.{Failure}
@@ -32,7 +32,7 @@ IsFaultOfStream setting failure = IsFaultOfSet setting failure
 -- a usage error of a request; `counts`, `list` and `pairs` have none
 abbrev pub IsFaultOf : Request → Failure → Type 0
 IsFaultOf (Counts _ _) failure = ⊥
-IsFaultOf (ListFont _ _ _) failure = ⊥
+IsFaultOf (ListFont _ _ _ _) failure = ⊥
 IsFaultOf (Pairs _ _ _ _) failure = ⊥
 IsFaultOf (Check asked) failure = IsFaultOfCheck asked failure
 IsFaultOf (Set setting) failure = IsFaultOfSet setting failure
@@ -52,12 +52,32 @@ module _ (known : List ℕ → Option (List ℕ)) (input : Option (List ℕ)) wh
   -- standard input; with `check` a refused font isn't a failure
   abbrev pub IsFontFaultOf : Request → Failure → Type 0
   IsFontFaultOf (Counts font _) failure = IsRefusedHead (font_bytes_of known input font.now) failure
-  IsFontFaultOf (ListFont font _ _) failure = IsRefusedFont (font_bytes_of known input font.now) failure
+  IsFontFaultOf (ListFont font _ _ _) failure = IsRefusedFont (font_bytes_of known input font.now) failure
   IsFontFaultOf (Pairs font _ _ _) failure = IsRefusedFont (font_bytes_of known input font.now) failure
   IsFontFaultOf (Check _) failure = ⊥
   IsFontFaultOf (Set setting) failure = IsRefusedFont (font_bytes_of known input setting.font.now) failure
   IsFontFaultOf (Stream setting) failure = IsRefusedFont (font_bytes_of known input setting.font.now) failure
   IsFontFaultOf (Each jobs) failure = IsFirstRefused known jobs.layout (jobs_in jobs.words.items) failure
+
+  -- the bytes of a font of a request that sets lines are known, and the font has a font error
+  abbrev pub HasRefusedFont : Request → Type 0
+  HasRefusedFont (Counts _ _) = ⊥
+  HasRefusedFont (ListFont _ _ _ _) = ⊥
+  HasRefusedFont (Pairs _ _ _ _) = ⊥
+  HasRefusedFont (Check _) = ⊥
+  HasRefusedFont (Set setting) = IsKnownRefused (font_bytes_of known input setting.font.now)
+  HasRefusedFont (Stream setting) = IsKnownRefused (font_bytes_of known input setting.font.now)
+  HasRefusedFont (Each jobs) = HasRefusedJob known (jobs_in jobs.words.items)
+
+  -- font n of a request of `each` may be the first that wasn't read; no other request numbers its fonts
+  abbrev pub IsUnreadFontOf : Request → ℕ → Type 0
+  IsUnreadFontOf (Counts _ _) n = ⊥
+  IsUnreadFontOf (ListFont _ _ _ _) n = ⊥
+  IsUnreadFontOf (Pairs _ _ _ _) n = ⊥
+  IsUnreadFontOf (Check _) n = ⊥
+  IsUnreadFontOf (Set _) n = ⊥
+  IsUnreadFontOf (Stream _) n = ⊥
+  IsUnreadFontOf (Each jobs) n = IsFirstUnread known jobs.layout (jobs_in jobs.words.items) n
 
   -- the reason why a request ends with exit status 2 or 3; usage errors come before font errors
   abbrev pub IsCauseOf : Request → Failure → Type 0
@@ -66,7 +86,7 @@ module _ (known : List ℕ → Option (List ℕ)) (input : Option (List ℕ)) wh
 -- a request doesn't use standard input
 abbrev pub IsWithoutInput : Request → Type 0
 IsWithoutInput (Counts font _) = font.now ≢ codes "-"
-IsWithoutInput (ListFont font _ _) = font.now ≢ codes "-"
+IsWithoutInput (ListFont font _ _ _) = font.now ≢ codes "-"
 IsWithoutInput (Pairs font _ _ _) = font.now ≢ codes "-"
 IsWithoutInput (Check asked) = dashes_in asked.fonts.items ≡ 0
 IsWithoutInput (Set setting) = setting.font.now ≢ codes "-"

@@ -3,6 +3,7 @@
 use Rattle.std.specs.Prelude.{◌≡◌, ℕ, ◌+◌, List, ◌∷◌, ◌++◌, length, All, Option, Some}
 use Rattle.tfm_tables.specs.Acceptance.{font_fault_of}
 use Rattle.tfm_tables.specs.Font.{FontValue, IsFontOf}
+use Rattle.tfm_tables.specs.declared.fault.FontFault.{FontFault}
 use Rattle.font_texts.specs.CountsText.{head_fault_of}
 use Rattle.run_texts.specs.declared.fault.ToolFault.TheVariants.{Font}
 use Rattle.command_line.specs.declared.request.Layout.{Layout}
@@ -20,6 +21,10 @@ IsRefusedHead bytes _ = ⊥
 abbrev pub IsRefusedFont : Option (List ℕ) → Failure → Type 0
 IsRefusedFont bytes (Tool (Font fault)) = OfKnown bytes (λ all. font_fault_of all ≡ Some fault)
 IsRefusedFont bytes _ = ⊥
+
+-- these bytes are known, and the font in them has a font error
+abbrev pub IsKnownRefused : Option (List ℕ) → Type 0
+IsKnownRefused bytes = (all : List ℕ) × (fault : FontFault) × (bytes ≡ Some all) × (font_fault_of all ≡ Some fault)
 
 module _ (known : List ℕ → Option (List ℕ)) where
   -- the failure is the first font error of the font of the job with this number
@@ -39,3 +44,19 @@ module _ (known : List ℕ → Option (List ℕ)) where
       × (jobs ≡ before ++ job ∷ after)
       × All (IsAcceptedJob layout) before
       × IsRefusedJob (length before + 1) job failure
+
+  -- job n of these, counted from 1, may be the first whose font wasn't read: the fonts of the jobs before it are
+  -- accepted
+  abbrev pub IsFirstUnread : Layout → List JobValue → ℕ → Type 0
+  IsFirstUnread layout jobs n =
+      (before : List JobValue) × (job : JobValue) × (after : List JobValue)
+      × (jobs ≡ before ++ job ∷ after)
+      × All (IsAcceptedJob layout) before
+      × (n ≡ length before + 1)
+
+  -- the bytes of the font of some of these jobs are known and have a font error
+  abbrev pub HasRefusedJob : List JobValue → Type 0
+  HasRefusedJob jobs =
+      (before : List JobValue) × (job : JobValue) × (after : List JobValue)
+      × (jobs ≡ before ++ job ∷ after)
+      × IsKnownRefused (known job.font)

@@ -6,6 +6,7 @@ pub mod Kept
 pub mod Jobs
 pub mod Checking
 pub mod Requests
+pub mod Stopped
 pub mod FontFaults
 pub mod Faults
 pub mod Served

@@ -13,7 +13,7 @@ use Rattle.set_line.specs.Terms.{TermsValue}
 use Rattle.tfm_tool.specs.Checking.{AreChecked}
 use Rattle.tfm_tool.specs.Named.{OfKnown, file_bytes_of, font_bytes_of, stream_bytes_of}
 use Rattle.tfm_tool.specs.Jobs.{AreTermsFor, IsSourceOfJob, jobs_in}
-use Rattle.tfm_tool.specs.Runs.{IsPrinted}
+use Rattle.tfm_tool.specs.Runs.{IsPrinted, layout_style}
 use Rattle.tfm_tool.specs.Told.{IsSourceOf, Told, text_in}
 use Rattle.tfm_tool.specs.declared.delivery.Delivery.{Delivery}
 use Rattle.tfm_tool.specs.declared.delivery.Delivery.TheVariants.{AtTheEnd, AsTheyCome}
@@ -51,11 +51,11 @@ module _ (known : List ℕ → Option (List ℕ)) (input before after : Option (
       OfKnown (font_bytes_of known input name) (λ all. (head_fault_of all ≡ None) × Appends before after (counts_text_of all))
       × (status ≡ 0)
 
-  -- the listing of the font at its design size was written
-  abbrev pub IsListed : List ℕ → Bool → ℕ → Type 0
-  IsListed name all_of_it status =
+  -- the listing of the font at this size, or at its design size, was written
+  abbrev pub IsListed : List ℕ → Option ℕ → Bool → ℕ → Type 0
+  IsListed name size all_of_it status =
       OfKnown (font_bytes_of known input name) (λ all. (font : FontValue)
-      × IsFontOf all None font
+      × IsFontOf all size font
       × Appends before after (list_text_of all_of_it font))
       × (status ≡ 0)
 
@@ -72,7 +72,7 @@ module _ (known : List ℕ → Option (List ℕ)) (input before after : Option (
   IsSetFrom delivery bytes setting status =
       (sources : List (Told × TermsValue))
       × AreSetSources known input setting bytes sources
-      × IsPrinted delivery sources setting.layout.version before after status
+      × IsPrinted delivery sources (layout_style setting.layout) before after status
 
 module _ (known : List ℕ → Option (List ℕ)) (before after : Option (List ℕ)) where
   -- the output of a batch was written; its sources are the files of the jobs, in order, each with the
@@ -81,13 +81,13 @@ module _ (known : List ℕ → Option (List ℕ)) (before after : Option (List �
   IsEachSet asked status =
       (sources : List (Told × TermsValue))
       × AllZip (IsSourceOfJob known asked.layout) (jobs_in asked.words.items) sources
-      × IsPrinted AtTheEnd sources asked.layout.version before after status
+      × IsPrinted AtTheEnd sources (layout_style asked.layout) before after status
 
 module _ (known : List ℕ → Option (List ℕ)) (input before after : Option (List ℕ)) where
   -- the output of a request was written, and this is its exit status
   abbrev pub IsDone : Request → ℕ → Type 0
   IsDone (Counts font _) status = CountsAreTold known input before after font.now status
-  IsDone (ListFont font all_of_it _) status = IsListed known input before after font.now all_of_it status
+  IsDone (ListFont font size all_of_it _) status = IsListed known input before after font.now size all_of_it status
   IsDone (Pairs font size format _) status = ArePairsTold known input before after font.now size format status
   IsDone (Check asked) status = AreChecked known input asked.fonts.items before after status
   IsDone (Set setting) status = IsSetFrom known input before after AtTheEnd (file_bytes_of known setting.files.items) setting status

@@ -63,6 +63,24 @@ is_after_text FileNotEnded = true
 is_after_text SomeFontNotRead = true
 is_after_text _ = false
 
+-- whether a failure can come before the lines of a request are set: the arguments or a font are refused, a font
+-- wasn't read, a file wasn't opened, or an allocation failed
+abbrev pub is_before_batch : Failure → Bool
+is_before_batch SomeFontNotRead = false
+is_before_batch FileNotEnded = false
+is_before_batch (Tool (Run _)) = false
+is_before_batch (Tool Write) = false
+is_before_batch _ = true
+
+-- whether a failure can come before the files with lines are opened: the same, except that a file wasn't opened
+abbrev pub is_before_files : Failure → Bool
+is_before_files SomeFontNotRead = false
+is_before_files FileNotEnded = false
+is_before_files (FileNotOpened _) = false
+is_before_files (Tool (Run _)) = false
+is_before_files (Tool Write) = false
+is_before_files _ = true
+
 -- a property of the exit status of a request, if its whole output was written
 abbrev pub AfterText : Result ℕ Failure → (ℕ → Type 0) → Type 0
 AfterText result P = MatchResult result P (λ failure. is_after_text failure ≡ true → P (status_of failure))

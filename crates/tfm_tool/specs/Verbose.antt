@@ -1,6 +1,6 @@
 -- The requests with `--verbose`.
 -- This project's own.
-use Rattle.std.specs.Prelude.{◌≡◌, ℕ, List, Bool, true}
+use Rattle.std.specs.Prelude.{◌≡◌, List, Bool, true}
 use Rattle.clap.specs.Words.{Text}
 use Rattle.command_line.specs.Asked.{IsAskedBy}
 use Rattle.command_line.specs.declared.request.Layout.{Layout}
@@ -10,7 +10,7 @@ use Rattle.command_line.specs.declared.request.Request.TheVariants.{Counts, List
 -- whether a request has `--verbose`
 abbrev pub is_verbose : Request → Bool
 is_verbose (Counts _ verbose) = verbose
-is_verbose (ListFont _ _ verbose) = verbose
+is_verbose (ListFont _ _ _ verbose) = verbose
 is_verbose (Pairs _ _ _ verbose) = verbose
 is_verbose (Check asked) = asked.verbose
 is_verbose (Set setting) = setting.layout.verbose
@@ -28,7 +28,7 @@ layout_with verbose layout = record layout { verbose = verbose }
 -- the request with `--verbose` if the flag is true, and without it otherwise
 abbrev pub with_verbose : Bool → Request → Request
 with_verbose verbose (Counts font _) = Counts font verbose
-with_verbose verbose (ListFont font all _) = ListFont font all verbose
+with_verbose verbose (ListFont font size all _) = ListFont font size all verbose
 with_verbose verbose (Pairs font size format _) = Pairs font size format verbose
 with_verbose verbose (Check asked) = Check (record asked { verbose = verbose })
 with_verbose verbose (Set setting) = Set (record setting { layout = layout_with verbose setting.layout })

@@ -1,12 +1,14 @@
 //! The subcommand `check`: writes a line for each font, and returns the exit status.
-ghost use Rattle.std.specs.Prelude.{◌≡◌, ◌≢◌, ◌<◌, ◌≤◌, ◌⊎◌, true, false, [], ◌∷◌, codes, max, Contains, Err, IfErr, IfOk, IfSome};
+ghost use Rattle.std.specs.Prelude.{◌≡◌, ◌≢◌, ◌<◌, ◌≤◌, ◌⊎◌, ℕ, true, false, [], ◌∷◌, codes, max, take, Contains, Err, IfErr, IfOk, IfSome};
 ghost use Rattle.std.specs.Io.KnownBytes.{Appends};
 ghost use Rattle.font_texts.specs.Findings.{finding_line};
 ghost use Rattle.tfm_tool.specs.Checking.{AreChecked, IsFound, dashes_in, finding_status};
 ghost use Rattle.tfm_tool.specs.Faults.{IsFaultOfCheck};
 ghost use Rattle.tfm_tool.specs.Named.{font_bytes_of};
 ghost use Rattle.tfm_tool.specs.Status.{AfterText, BeforeText, is_after_text, is_without_text, status_of};
-ghost use Rattle.tfm_tool.specs.declared.failure.Failure.TheVariants.{SomeFontNotRead, TwoFonts};
+ghost use Rattle.tfm_tool.specs.declared.failure.Failure.TheVariants.{FontNotRead, SomeFontNotRead, Tool, TwoFonts};
+ghost use Rattle.run_texts.specs.declared.fault.ToolFault.TheVariants.{OutOfMemory, Run, Write as Unwritten};
+ghost use Rattle.set_run.specs.declared.run_fault.RunFault.{RunFault};
 
 use crate::failure::Failure;
 use crate::files::{ReadFault, font_bytes};
@@ -47,6 +49,11 @@ where
         asked.now.fonts.items (O.contents out.old) (O.contents out.new) 4 }
     ensures status { IfOk result (λ status. Contains (0 ∷ 1 ∷ []) status) }
     ensures untouched { IfErr result (λ failure. is_without_text failure ≡ true → out.new ≡ out.old) }
+    ensures run { (fault : RunFault) → result ≢ Err (Tool (Run fault)) }
+    ensures number { (n : ℕ) → result ≢ Err (FontNotRead n) }
+    ensures memory { result ≡ Err (Tool OutOfMemory)
+        → (count : ℕ) × (status : ℕ) × AreChecked (F.known files.now) (I.remaining input.old)
+        (take count asked.now.fonts.items) (O.contents out.old) (O.contents out.new) status }
 {
     if dashes(asked.fonts.as_slice()) > 1 {
         return Err(Failure::TwoFonts);
@@ -87,6 +94,10 @@ where
     ensures none { dashes_in asked.now.fonts.items ≡ 0 → input.new ≡ input.old }
     ensures told { IfErr result (λ failure. status_of failure ≡ 5) }
     ensures fault { IfErr result (λ failure. is_after_text failure ≡ false) }
+    ensures which { IfErr result (λ failure. (failure ≡ Tool OutOfMemory) ⊎ (failure ≡ Tool Unwritten)) }
+    ensures memory { result ≡ Err (Tool OutOfMemory) → dashes_in asked.now.fonts.items ≤ 1
+        → (count : ℕ) × (status : ℕ) × AreChecked (F.known files.now) (I.remaining input.old)
+        (take count asked.now.fonts.items) (O.contents out.old) (O.contents out.new) status }
 {
     let mut highest = 0;
     for name in &asked.fonts {
@@ -142,6 +153,8 @@ where
     ensures other { font.now.name.now ≢ codes "-" → input.new ≡ input.old }
     ensures told { IfErr result (λ failure. status_of failure ≡ 5) }
     ensures fault { IfErr result (λ failure. is_after_text failure ≡ false) }
+    ensures which { IfErr result (λ failure. (failure ≡ Tool OutOfMemory) ⊎ (failure ≡ Tool Unwritten)) }
+    ensures memory { result ≡ Err (Tool OutOfMemory) → out.new ≡ out.old }
 {
     match font_bytes(alloc, files, font.name, input) {
         Ok(bytes) => {

@@ -1,5 +1,5 @@
 //! Sets the lines of the sources of a request in one batch, writes the output, and returns the exit status.
-ghost use Rattle.std.specs.Prelude.{◌≡◌, ◌⊎◌, ◌≤◌, true, false, List, [], ◌∷◌, length, map, Contains, Err, IfErr, IfOk, vec_len};
+ghost use Rattle.std.specs.Prelude.{◌≡◌, ◌≢◌, ◌⊎◌, ◌≤◌, ℕ, true, false, List, [], ◌∷◌, length, map, Contains, Err, IfErr, IfOk, vec_len};
 ghost use Rattle.std.specs.Io.KnownBytes.{Keeps};
 ghost use Rattle.set_run.specs.declared.report.LaneReport.{LaneReport as Lane};
 ghost use Rattle.set_run.specs.declared.run_fault.RunFault.{RunFault as Fault};
@@ -9,10 +9,12 @@ ghost use Rattle.run_texts.specs.Endings.{summary_status};
 ghost use Rattle.run_texts.specs.ReportText.{summary_of_run};
 ghost use Rattle.run_texts.specs.Setting.{AreOwnReports};
 ghost use Rattle.tfm_tool.specs.Jobs.{told_with_terms};
-ghost use Rattle.tfm_tool.specs.Runs.{IsDelivered, IsPrinted};
+ghost use Rattle.tfm_tool.specs.Runs.{IsDelivered, IsPrinted, layout_style};
+ghost use Rattle.run_texts.specs.Streaming.{with_own_terms};
+ghost use Rattle.tfm_tool.specs.Stopped.{IsBroken, IsHalted, IsStopped, IsUnwritten};
 ghost use Rattle.tfm_tool.specs.Status.{AfterText, is_refusal, is_unread, is_without_text, status_of};
 ghost use Rattle.tfm_tool.specs.Told.{told_by};
-ghost use Rattle.tfm_tool.specs.declared.failure.Failure.TheVariants.{Tool};
+ghost use Rattle.tfm_tool.specs.declared.failure.Failure.TheVariants.{FontNotRead, Tool};
 
 use crate::failure::Failure;
 use command_line::Layout;
@@ -47,16 +49,21 @@ where
     O: Write,
     ensures text { IfOk result (λ summary. (reports : List (Lane S))
         × AreOwnReports S.to_come S.failed S.origin sources.items reports
-        × IsDelivered delivery layout.now.version reports (O.contents out.old) (O.contents out.new)
-        × (summary ≡ summary_of_run reports)) }
+        × IsDelivered delivery (layout_style layout.now) reports (O.contents out.old) (O.contents out.new)
+        × (summary ≡ summary_of_run layout.now.encoding reports)) }
     ensures few { vec_len sources ≤ 64 → (fault : Fault) → result ≡ Err (ToolFault.Run fault)
         → (fault ≡ NoMemory) ⊎ (fault ≡ Thread) }
     ensures run { (fault : Fault) → result ≡ Err (ToolFault.Run fault) → out.new ≡ out.old }
     ensures font { (fault : Refusal) → result ≡ Err (ToolFault.Font fault) → ⊥ }
+    ensures memory { result ≡ Err ToolFault.OutOfMemory → IsHalted S.to_come S.failed delivery
+        (layout_style layout.now) (with_own_terms sources.items) (O.contents out.old) (O.contents out.new) }
+    ensures write { result ≡ Err ToolFault.Write → IsBroken S.to_come S.failed delivery
+        (layout_style layout.now) (with_own_terms sources.items) (O.contents out.old) (O.contents out.new) }
 {
     let options = OutputOptions {
         plan: layout.plan,
         version: layout.version,
+        encoding: layout.encoding,
         whole_reads: layout.whole_reads,
         gate: &NoGate,
     };
@@ -81,10 +88,18 @@ where
     O: Write,
     ensures text { AfterText result (IsPrinted delivery
         (map (told_with_terms (told_by S.to_come S.failed)) sources.items)
-        layout.now.version (O.contents out.old) (O.contents out.new)) }
+        (layout_style layout.now) (O.contents out.old) (O.contents out.new)) }
     ensures status { IfOk result (λ status. Contains (0 ∷ 1 ∷ []) status) }
     ensures untouched { IfErr result (λ failure. is_without_text failure ≡ true → out.new ≡ out.old) }
     ensures later { length sources.items ≤ 64 → IfErr result (λ failure. is_refusal failure ≡ false) }
+    ensures run { (fault : Fault) → result ≡ Err (Tool (ToolFault.Run fault)) → out.new ≡ out.old }
+    ensures font { (n : ℕ) → result ≢ Err (FontNotRead n) }
+    ensures memory { result ≡ Err (Tool ToolFault.OutOfMemory) → IsStopped delivery
+        (map (told_with_terms (told_by S.to_come S.failed)) sources.items)
+        (layout_style layout.now) (O.contents out.old) (O.contents out.new) }
+    ensures write { result ≡ Err (Tool ToolFault.Write) → IsUnwritten delivery
+        (map (told_with_terms (told_by S.to_come S.failed)) sources.items)
+        (layout_style layout.now) (O.contents out.old) (O.contents out.new) }
 {
     let summary = deliver(rt, sources, layout, delivery, out)?;
     finish(&summary, out)
@@ -100,6 +115,8 @@ fn finish<O: Write>(summary: &Summary, out: &mut O) -> Result<u8, Failure>
     ensures written { IfErr result (λ failure. is_unread failure ≡ false) }
     ensures status_told { IfErr result (λ failure. (failure ≡ Tool ToolFault.Write)
         ⊎ (status_of failure ≡ summary_status summary.now)) }
+    ensures run { (fault : Fault) → result ≡ Err (Tool (ToolFault.Run fault)) → ⊥ }
+    ensures font { (n : ℕ) → result ≢ Err (FontNotRead n) }
 {
     out.flush().map_err(|_| Failure::Tool(ToolFault::Write))?;
     match status(summary) {

@@ -1,11 +1,17 @@
 //! The subcommand `each`: sets the lines of the files of its jobs in one batch, and returns the exit status.
-ghost use Rattle.std.specs.Prelude.{◌≡◌, ◌⊎◌, ◌≤◌, true, false, [], ◌∷◌, length, map, Contains, IfErr, IfOk};
+ghost use Rattle.std.specs.Prelude.{◌≡◌, ◌⊎◌, ◌≤◌, ℕ, true, false, [], ◌∷◌, length, map, Contains, Err, IfErr, IfOk, IsErrAnd};
 ghost use Rattle.std.specs.List.{AllZip};
 ghost use Rattle.tfm_tool.specs.Faults.{IsRefused};
-ghost use Rattle.tfm_tool.specs.FontFaults.{IsFirstRefused};
+ghost use Rattle.tfm_tool.specs.FontFaults.{HasRefusedJob, IsFirstRefused, IsFirstUnread};
 ghost use Rattle.tfm_tool.specs.Jobs.{IsFaultOfWords, IsSourceOfJob, jobs_in, told_with_terms};
 ghost use Rattle.tfm_tool.specs.Requests.{IsEachSet};
-ghost use Rattle.tfm_tool.specs.Status.{AfterText, BeforeText, is_after_text, is_without_text};
+ghost use Rattle.tfm_tool.specs.Status.{AfterText, BeforeText, is_after_text, is_before_batch, is_before_files, is_without_text};
+ghost use Rattle.tfm_tool.specs.Stopped.{IsEachUntil, IsStopped};
+ghost use Rattle.run_texts.specs.declared.fault.ToolFault.TheVariants.{OutOfMemory, Run};
+ghost use Rattle.set_run.specs.declared.run_fault.RunFault.{RunFault};
+ghost use Rattle.tfm_tool.specs.declared.delivery.Delivery.TheVariants.{AtTheEnd};
+ghost use Rattle.tfm_tool.specs.declared.failure.Failure.TheVariants.{FontNotRead, Tool};
+ghost use Rattle.std.specs.Io.KnownBytes.{Keeps};
 ghost use Rattle.tfm_tool.specs.Told.{told_by};
 
 use crate::Opens;
@@ -33,6 +39,11 @@ fn job_sources<F: Opens>(
         (map (told_with_terms (told_by ⟦<TextSource<F::File> as LineSource>⟧.to_come
         ⟦<TextSource<F::File> as LineSource>⟧.failed)) sources.items)) }
     ensures fault { IfErr result (λ failure. is_after_text failure ≡ false) }
+    ensures early { IfErr result (λ failure. is_before_batch failure ≡ true) }
+    ensures unread { (n : ℕ) → result ≡ Err (FontNotRead n)
+        → IsFirstUnread (F.known files.now) asked.now.layout (jobs_in asked.now.words.items) n }
+    ensures order { HasRefusedJob (F.known files.now) (jobs_in asked.now.words.items)
+        → IsErrAnd result (λ failure. is_before_files failure ≡ true) }
     ensures cause { BeforeText result (λ failure. IsFaultOfWords asked.now.words.items failure
         ⊎ IsFirstRefused (F.known files.now) asked.now.layout (jobs_in asked.now.words.items) failure) }
     ensures refused { (fault : Failure) → IsFaultOfWords asked.now.words.items fault
@@ -65,6 +76,13 @@ where
         ⊎ IsFirstRefused (F.known files.now) asked.now.layout (jobs_in asked.now.words.items) failure) }
     ensures refused { (fault : Failure) → IsFaultOfWords asked.now.words.items fault
         → IsRefused (IsFaultOfWords asked.now.words.items) result × (out.new ≡ out.old) }
+    ensures run { (fault : RunFault) → result ≡ Err (Tool (Run fault)) → out.new ≡ out.old }
+    ensures memory { result ≡ Err (Tool OutOfMemory) → Keeps (O.contents out.old) (O.contents out.new)
+        ⊎ IsEachUntil (F.known files.now) (O.contents out.old) (O.contents out.new) (IsStopped AtTheEnd) asked.now }
+    ensures unread { (n : ℕ) → result ≡ Err (FontNotRead n)
+        → IsFirstUnread (F.known files.now) asked.now.layout (jobs_in asked.now.words.items) n }
+    ensures order { HasRefusedJob (F.known files.now) (jobs_in asked.now.words.items)
+        → IsErrAnd result (λ failure. is_before_files failure ≡ true) }
 {
     let sources = job_sources(rt.alloc(), files, asked)?;
     set_sources(rt, sources, &asked.layout, Delivery::AtTheEnd, out)

@@ -1,11 +1,12 @@
 //! Reads the fonts of a request to their end, and opens its files with lines.
-ghost use Rattle.std.specs.Prelude.{◌≡◌, ◌≢◌, ℕ, ◌++◌, List, Some, false, codes, IfErr, IfOk, IfSome, OnOk};
+ghost use Rattle.std.specs.Prelude.{◌≡◌, ◌≢◌, ℕ, ◌++◌, List, Some, true, false, codes, Err, IfErr, IfOk, IfSome, OnOk};
 ghost use Rattle.std.specs.Io.KnownBytes.{IsAtEnd};
 ghost use Rattle.std.specs.List.{AllZip};
 ghost use Rattle.tfm_tool.specs.Jobs.{IsOpenedWith};
 ghost use Rattle.tfm_tool.specs.Kept.{HaveSameFont, kept_of};
 ghost use Rattle.tfm_tool.specs.Named.{font_bytes_of};
-ghost use Rattle.tfm_tool.specs.Status.{is_after_text, is_refusal};
+ghost use Rattle.tfm_tool.specs.declared.failure.Failure.TheVariants.{FontNotRead};
+ghost use Rattle.tfm_tool.specs.Status.{is_after_text, is_before_batch, is_refusal};
 ghost use Rattle.tfm_tool.specs.Told.{IsSourceOf, text_in, told_by};
 
 use crate::failure::Failure;
@@ -139,6 +140,8 @@ fn open_file<F: Opens>(
         ⟦<TextSource<F::File> as LineSource>⟧.failed source)) }
     ensures fault { IfErr result (λ failure. is_after_text failure ≡ false) }
     ensures later { IfErr result (λ failure. is_refusal failure ≡ false) }
+    ensures early { IfErr result (λ failure. is_before_batch failure ≡ true) }
+    ensures font { (n : ℕ) → result ≢ Err (FontNotRead n) }
 {
     match opened(files, name) {
         Ok(file) => Ok(text_source(alloc, file, layout)),
@@ -160,6 +163,8 @@ pub(crate) fn open_each<F: Opens>(
         ⟦<TextSource<F::File> as LineSource>⟧.failed)) jobs.entry.items sources.items) }
     ensures fault { IfErr result (λ failure. is_after_text failure ≡ false) }
     ensures later { IfErr result (λ failure. is_refusal failure ≡ false) }
+    ensures early { IfErr result (λ failure. is_before_batch failure ≡ true) }
+    ensures font { (n : ℕ) → result ≢ Err (FontNotRead n) }
 {
     let mut sources = Vec::new(alloc);
     for (name, terms) in jobs {

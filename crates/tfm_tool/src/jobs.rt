@@ -1,15 +1,15 @@
 //! The jobs of `each`: triples of a font, a limit and a file.
 
-ghost use Rattle.std.specs.Prelude.{◌≡◌, ◌⊎◌, false, map, IfErr, IfOk};
+ghost use Rattle.std.specs.Prelude.{◌≡◌, ◌⊎◌, ℕ, true, false, map, Err, IfErr, IfOk};
 ghost use Rattle.std.specs.Arc.{arc_value};
 ghost use Rattle.std.specs.Char.{is_ascii_digit};
 ghost use Rattle.std.specs.List.{AllZip, list_all};
 ghost use Rattle.command_line.specs.Asked.{Finds};
 ghost use Rattle.run_texts.specs.declared.fault.ToolFault.TheVariants.{OutOfMemory};
-ghost use Rattle.tfm_tool.specs.FontFaults.{IsFirstRefused, IsRefusedJob};
+ghost use Rattle.tfm_tool.specs.FontFaults.{IsFirstRefused, IsFirstUnread, IsRefusedJob};
 ghost use Rattle.tfm_tool.specs.Jobs.{AreTermsOf, AreWordsOfJobs, HasTermsOf, IsFaultOfWords, IsLimitOf, job_value, jobs_in};
-ghost use Rattle.tfm_tool.specs.Status.{BeforeText, is_after_text};
-ghost use Rattle.tfm_tool.specs.declared.failure.Failure.TheVariants.{Tool};
+ghost use Rattle.tfm_tool.specs.Status.{BeforeText, is_after_text, is_before_batch, is_before_files};
+ghost use Rattle.tfm_tool.specs.declared.failure.Failure.TheVariants.{FontNotRead, Tool};
 
 use crate::Opens;
 use crate::failure::Failure;
@@ -57,6 +57,8 @@ pub(crate) fn jobs<'a>(alloc: Global, words: &[&'a str]) -> Result<Vec<Job<'a>>,
     ensures lawful { IfOk result (λ _. AreWordsOfJobs words.now) }
     ensures refused { IfErr result (λ failure. (failure ≡ Tool OutOfMemory) ⊎ IsFaultOfWords words.now failure) }
     ensures fault { IfErr result (λ failure. is_after_text failure ≡ false) }
+    ensures early { IfErr result (λ failure. is_before_batch failure ≡ true) }
+    ensures first { IfErr result (λ failure. is_before_files failure ≡ true) }
 {
     if words.len() % 3 != 0 {
         return Err(Failure::NotInThrees);
@@ -90,6 +92,9 @@ fn job_terms<F: Opens>(
     ensures terms { IfOk result (λ terms.
         AreTermsOf (F.known files.now) layout.now (job_value job.now) (arc_value terms)) }
     ensures fault { IfErr result (λ failure. is_after_text failure ≡ false) }
+    ensures early { IfErr result (λ failure. is_before_batch failure ≡ true) }
+    ensures first { IfErr result (λ failure. is_before_files failure ≡ true) }
+    ensures unread { (n : ℕ) → result ≡ Err (FontNotRead n) → n ≡ number }
     ensures cause { BeforeText result
         (IsRefusedJob (F.known files.now) number (job_value job.now)) }
 {
@@ -122,6 +127,10 @@ pub(crate) fn all_terms<'a, F: Opens>(
     ensures terms { IfOk result (λ all.
         AllZip (HasTermsOf (F.known files.now) layout.now) jobs.now all.items) }
     ensures fault { IfErr result (λ failure. is_after_text failure ≡ false) }
+    ensures early { IfErr result (λ failure. is_before_batch failure ≡ true) }
+    ensures first { IfErr result (λ failure. is_before_files failure ≡ true) }
+    ensures unread { (n : ℕ) → result ≡ Err (FontNotRead n)
+        → IsFirstUnread (F.known files.now) layout.now (map job_value jobs.now) n }
     ensures cause { BeforeText result
         (IsFirstRefused (F.known files.now) layout.now (map job_value jobs.now)) }
 {

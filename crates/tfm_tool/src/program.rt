@@ -1,4 +1,4 @@
-ghost use Rattle.std.specs.Prelude.{◌≡◌, ◌≢◌, ◌⊎◌, ◌<◌, ℕ, true, List, [], ◌∷◌, codes, map, Contains, Option, Some, None, Err, IfErr, IfOk, IfSome, OnOk};
+ghost use Rattle.std.specs.Prelude.{◌≡◌, ◌≢◌, ◌⊎◌, ◌<◌, ℕ, true, List, [], ◌∷◌, codes, map, Contains, Option, Some, None, Err, IfErr, IfOk, IfSome, IsErrAnd, OnOk};
 ghost use Rattle.std.specs.Io.KnownBytes.{Appends, Keeps};
 ghost use Rattle.std.specs.IoError.{error_kind};
 ghost use Rattle.clap.specs.Words.{kind_of};
@@ -6,16 +6,17 @@ ghost use Rattle.set_run.specs.declared.run_fault.RunFault.{RunFault};
 ghost use Rattle.tfm_tables.specs.Acceptance.{font_fault_of};
 ghost use Rattle.tfm_tables.specs.Font.{FontValue, IsFontOf};
 ghost use Rattle.tfm_tables.specs.declared.fault.FontFault.{FontFault};
-ghost use Rattle.tfm_tool.specs.Faults.{IsCauseOf, IsFaultOf, IsRefused, IsWithoutInput};
+ghost use Rattle.tfm_tool.specs.Faults.{HasRefusedFont, IsCauseOf, IsFaultOf, IsRefused, IsUnreadFontOf, IsWithoutInput};
 ghost use Rattle.tfm_tool.specs.FailureTexts.{failure_text};
 ghost use Rattle.tfm_tool.specs.FontFaults.{IsRefusedFont, IsRefusedHead};
 ghost use Rattle.tfm_tool.specs.Named.{font_bytes_of};
 ghost use Rattle.tfm_tool.specs.Requests.{ArePairsTold, CountsAreTold, IsDone, IsListed, list_text_of};
 ghost use Rattle.tfm_tool.specs.Served.{IsServed, IsTurnedDown, IsTurnedDownBy, is_answer, is_usage};
-ghost use Rattle.tfm_tool.specs.declared.failure.Failure.TheVariants.{Usage};
+ghost use Rattle.tfm_tool.specs.declared.failure.Failure.TheVariants.{FontNotRead, Tool, Usage};
+ghost use Rattle.tfm_tool.specs.Stopped.{HasBroken, HasStopped};
 ghost use Rattle.tfm_tool.specs.Verbose.{IsVerbose};
 ghost use Rattle.tfm_tool.specs.Warnings.{IsWarned};
-ghost use Rattle.tfm_tool.specs.Status.{AfterText, BeforeText, is_refusal, is_without_text, status_of};
+ghost use Rattle.tfm_tool.specs.Status.{AfterText, BeforeText, is_before_files, is_refusal, is_without_text, status_of};
 
 use crate::checking::check;
 use crate::each::set_jobs;
@@ -132,7 +133,11 @@ where
 /// lines of `stream` if it names no file.
 ///
 /// `out` is unchanged after an error with exit status 2 or 3, and if a font of the request wasn't read or a
-/// file wasn't opened (except with `check`, which writes a line for a font that wasn't read).
+/// file wasn't opened (except with `check`, which writes a line for a font that wasn't read). After a failed
+/// allocation, nothing, the whole output, or, with `stream` and `check`, whole lines of its beginning were
+/// written. After a failed thread start nothing was written, and after a failed write of `stream` the beginning
+/// of its output, possibly up to a point within a line. Fonts are read before files are opened: if a font is
+/// refused, the error is never `FileNotOpened`.
 pub fn perform<R, F, I, O>(
     rt: &R,
     files: &F,
@@ -154,11 +159,30 @@ where
         (IsCauseOf (F.known files.now) (I.remaining input.old) request.now) }
     ensures refused { (fault : Failure) → IsFaultOf request.now fault
         → IsRefused (IsFaultOf request.now) result × (out.new ≡ out.old) }
+    ensures number { (n : ℕ) → result ≡ Err (FontNotRead n)
+        → IsUnreadFontOf (F.known files.now) (I.remaining input.old) request.now n }
+    ensures order { HasRefusedFont (F.known files.now) (I.remaining input.old) request.now
+        → IsErrAnd result (λ failure. is_before_files failure ≡ true) }
+    ensures run { (fault : RunFault) → result ≡ Err (Tool (ToolFault.Run fault)) → out.new ≡ out.old }
+    ensures memory { result ≡ Err (Tool ToolFault.OutOfMemory) → Keeps (O.contents out.old) (O.contents out.new)
+        ⊎ HasStopped (F.known files.now) (I.remaining input.old)
+        (O.contents out.old) (O.contents out.new) request.now }
+    ensures write { result ≡ Err (Tool ToolFault.Write) → HasBroken (F.known files.now) (I.remaining input.old)
+        (O.contents out.old) (O.contents out.new) request.now }
 {
     match request {
         Request::Counts { font, .. } => counts(rt.alloc(), files, font, input, out),
-        Request::List { font, all, .. } => {
-            let listed = Listed { font, all: *all };
+        Request::List {
+            font,
+            size,
+            all,
+            ..
+        } => {
+            let listed = Listed {
+                font,
+                size: *size,
+                all: *all,
+            };
             list(rt.alloc(), files, &listed, input, out)
         }
         Request::Pairs {
@@ -198,6 +222,9 @@ where
         (O.contents out.old) (O.contents out.new) font.now) }
     ensures status { IfOk result (λ status. status ≡ 0) }
     ensures untouched { IfErr result (λ failure. is_without_text failure ≡ true → out.new ≡ out.old) }
+    ensures memory { result ≡ Err (Tool ToolFault.OutOfMemory) → out.new ≡ out.old }
+    ensures number { (n : ℕ) → result ≢ Err (FontNotRead n) }
+    ensures run { (fault : RunFault) → result ≢ Err (Tool (ToolFault.Run fault)) }
     ensures unread { font.now ≢ codes "-" → input.new ≡ input.old }
     ensures cause { BeforeText result
         (IsRefusedHead (font_bytes_of (F.known files.now) (I.remaining input.old) font.now)) }
@@ -212,11 +239,13 @@ where
 struct Listed<'a> {
     /// The name of the font; `-` is standard input.
     font: &'a str,
+    /// The size of the font; `None` means its design size.
+    size: Option<Size>,
     /// Whether the full listing is requested.
     all: bool,
 }
 
-/// Does what `list` requests: writes a listing of the font at its design size.
+/// Does what `list` requests: writes a listing of the font at its size.
 #[tactic(auto, using(crate::proofs::KnownLemmas::unread_before))]
 fn list<F, I, O>(
     alloc: Global,
@@ -230,35 +259,38 @@ where
     I: Read,
     O: Write,
     ensures text { AfterText result (IsListed (F.known files.now) (I.remaining input.old)
-        (O.contents out.old) (O.contents out.new) listed.now.font.now listed.now.all) }
+        (O.contents out.old) (O.contents out.new) listed.now.font.now listed.now.size listed.now.all) }
     ensures status { IfOk result (λ status. status ≡ 0) }
     ensures untouched { IfErr result (λ failure. is_without_text failure ≡ true → out.new ≡ out.old) }
+    ensures memory { result ≡ Err (Tool ToolFault.OutOfMemory) → out.new ≡ out.old }
+    ensures number { (n : ℕ) → result ≢ Err (FontNotRead n) }
+    ensures run { (fault : RunFault) → result ≢ Err (Tool (ToolFault.Run fault)) }
     ensures unread { listed.now.font.now ≢ codes "-" → input.new ≡ input.old }
     ensures cause { BeforeText result
         (IsRefusedFont (font_bytes_of (F.known files.now) (I.remaining input.old) listed.now.font.now)) }
 {
     let bytes = font_bytes(alloc, files, listed.font, input)?;
-    list_bytes(alloc, bytes.as_slice(), listed.all, out)?;
+    list_bytes(alloc, bytes.as_slice(), listed, out)?;
     Ok(0)
 }
 
-/// Writes the listing of the font in these bytes at its design size, or the full listing if `all` is true.
+/// Writes the listing of the font in these bytes, or its full listing, at the size that is requested.
 fn list_bytes<O: Write>(
     alloc: Global,
     bytes: &[u8],
-    all: bool,
+    listed: &Listed<'_>,
     out: &mut O,
 ) -> Result<(), ToolFault>
-    ensures text { OnOk result ((f : FontValue) × IsFontOf bytes.now None f
-        × Appends (O.contents out.old) (O.contents out.new) (list_text_of all f)) }
+    ensures text { OnOk result ((f : FontValue) × IsFontOf bytes.now listed.now.size f
+        × Appends (O.contents out.old) (O.contents out.new) (list_text_of listed.now.all f)) }
     ensures untouched { IfErr result (λ fault. fault ≢ ToolFault.Write → out.new ≡ out.old) }
     ensures font { (f : FontFault) → result ≡ Err (ToolFault.Font f) → font_fault_of bytes.now ≡ Some f }
     ensures run { (f : RunFault) → result ≢ Err (ToolFault.Run f) }
 {
-    if all {
-        return list_all_text(alloc, bytes, None, out);
+    if listed.all {
+        return list_all_text(alloc, bytes, listed.size, out);
     }
-    list_file_text(alloc, bytes, None, out)
+    list_file_text(alloc, bytes, listed.size, out)
 }
 
 /// A font whose pairs are to be written.
@@ -289,6 +321,9 @@ where
         (O.contents out.old) (O.contents out.new) asked.now.font.now asked.now.size asked.now.format) }
     ensures status { IfOk result (λ status. status ≡ 0) }
     ensures untouched { IfErr result (λ failure. is_without_text failure ≡ true → out.new ≡ out.old) }
+    ensures memory { result ≡ Err (Tool ToolFault.OutOfMemory) → out.new ≡ out.old }
+    ensures number { (n : ℕ) → result ≢ Err (FontNotRead n) }
+    ensures run { (fault : RunFault) → result ≢ Err (Tool (ToolFault.Run fault)) }
     ensures unread { asked.now.font.now ≢ codes "-" → input.new ≡ input.old }
     ensures cause { BeforeText result
         (IsRefusedFont (font_bytes_of (F.known files.now) (I.remaining input.old) asked.now.font.now)) }

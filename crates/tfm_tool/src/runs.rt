@@ -1,18 +1,22 @@
 //! The subcommands `set` and `stream`: each reads its font, opens its sources, sets their lines in one batch,
 //! and returns the exit status.
-ghost use Rattle.std.specs.Prelude.{◌≡◌, ◌≢◌, ◌⊎◌, ◌<◌, ◌≤◌, true, false, [], ◌∷◌, codes, length, map, Contains, Err, IfErr, IfOk};
+ghost use Rattle.std.specs.Prelude.{◌≡◌, ◌≢◌, ◌⊎◌, ◌<◌, ◌≤◌, ℕ, true, false, [], ◌∷◌, codes, length, map, Contains, Err, IfErr, IfOk, IsErrAnd};
 ghost use Rattle.std.specs.Arc.{arc_value};
 ghost use Rattle.std.specs.List.{AllZip};
 ghost use Rattle.run_texts.specs.Setting.{HasTerms};
 ghost use Rattle.tfm_tool.specs.Faults.{IsFaultOfSet, IsFaultOfStream};
-ghost use Rattle.tfm_tool.specs.FontFaults.{IsRefusedFont};
+ghost use Rattle.tfm_tool.specs.FontFaults.{IsKnownRefused, IsRefusedFont};
 ghost use Rattle.tfm_tool.specs.Jobs.{AreTermsFor, told_with_terms};
 ghost use Rattle.tfm_tool.specs.Named.{file_bytes_of, font_bytes_of, stream_bytes_of};
 ghost use Rattle.tfm_tool.specs.Requests.{AreSetSources, IsSetFrom, IsSourceWith};
+ghost use Rattle.tfm_tool.specs.Stopped.{IsSetUntil, IsStopped, IsUnwritten};
+ghost use Rattle.run_texts.specs.declared.fault.ToolFault.TheVariants.{OutOfMemory, Run, Write as Unwritten};
+ghost use Rattle.set_run.specs.declared.run_fault.RunFault.{RunFault};
+ghost use Rattle.std.specs.Io.KnownBytes.{Keeps};
 ghost use Rattle.tfm_tool.specs.Told.{told_by};
 ghost use Rattle.tfm_tool.specs.declared.delivery.Delivery.TheVariants.{AtTheEnd, AsTheyCome};
-ghost use Rattle.tfm_tool.specs.declared.failure.Failure.TheVariants.{FontAndText, TooManyFiles};
-ghost use Rattle.tfm_tool.specs.Status.{AfterText, BeforeText, is_after_text, is_refusal, is_without_text};
+ghost use Rattle.tfm_tool.specs.declared.failure.Failure.TheVariants.{FontAndText, FontNotRead, TooManyFiles, Tool};
+ghost use Rattle.tfm_tool.specs.Status.{AfterText, BeforeText, is_after_text, is_before_batch, is_before_files, is_refusal, is_without_text};
 
 use crate::Opens;
 use crate::delivery::{Delivery, set_sources};
@@ -28,7 +32,7 @@ use std::sync::{Arc, Wait};
 use std::thread::Threads;
 
 /// Reads the font of a request, and returns the settings of its lines.
-#[tactic(auto, using(crate::proofs::KnownLemmas::unread_before))]
+#[tactic(auto, using(crate::proofs::KnownLemmas::unread_before, crate::proofs::StoppedLemmas::unread_early, crate::proofs::StoppedLemmas::unread_first))]
 fn setting_terms<F, I>(
     alloc: Global,
     files: &F,
@@ -43,6 +47,9 @@ where
         setting.now.layout setting.now.limit (arc_value terms)) }
     ensures unread { setting.now.font.now ≢ codes "-" → input.new ≡ input.old }
     ensures fault { IfErr result (λ failure. is_after_text failure ≡ false) }
+    ensures early { IfErr result (λ failure. is_before_batch failure ≡ true) }
+    ensures first { IfErr result (λ failure. is_before_files failure ≡ true) }
+    ensures number { (n : ℕ) → result ≢ Err (FontNotRead n) }
     ensures cause { BeforeText result (IsRefusedFont
         (font_bytes_of (F.known files.now) (I.remaining input.old) setting.now.font.now)) }
 {
@@ -73,6 +80,10 @@ where
         (map (told_with_terms (told_by ⟦<TextSource<F::File> as LineSource>⟧.to_come
         ⟦<TextSource<F::File> as LineSource>⟧.failed)) sources.items)) }
     ensures fault { IfErr result (λ failure. is_after_text failure ≡ false) }
+    ensures early { IfErr result (λ failure. is_before_batch failure ≡ true) }
+    ensures order { IsKnownRefused (font_bytes_of (F.known files.now) (I.remaining input.old) setting.now.font.now)
+        → IsErrAnd result (λ failure. is_before_files failure ≡ true) }
+    ensures number { (n : ℕ) → result ≢ Err (FontNotRead n) }
     ensures cause { BeforeText result (λ failure. IsFaultOfSet setting.now failure
         ⊎ IsRefusedFont (font_bytes_of (F.known files.now) (I.remaining input.old) setting.now.font.now)
         failure) }
@@ -111,6 +122,8 @@ fn open_all<F: Opens>(
         (map (told_with_terms (told_by ⟦<TextSource<F::File> as LineSource>⟧.to_come
         ⟦<TextSource<F::File> as LineSource>⟧.failed)) sources.items)) }
     ensures fault { IfErr result (λ failure. is_after_text failure ≡ false) }
+    ensures early { IfErr result (λ failure. is_before_batch failure ≡ true) }
+    ensures number { (n : ℕ) → result ≢ Err (FontNotRead n) }
     ensures later { IfErr result (λ failure. is_refusal failure ≡ false) }
 {
     match with_shared(alloc, setting.files.as_slice(), terms) {
@@ -144,6 +157,13 @@ where
         failure) }
     ensures many { 64 < length setting.now.files.items
         → (result ≡ Err TooManyFiles) × (out.new ≡ out.old) }
+    ensures run { (fault : RunFault) → result ≡ Err (Tool (Run fault)) → out.new ≡ out.old }
+    ensures order { IsKnownRefused (font_bytes_of (F.known files.now) (I.remaining input.old) setting.now.font.now)
+        → IsErrAnd result (λ failure. is_before_files failure ≡ true) }
+    ensures number { (n : ℕ) → result ≢ Err (FontNotRead n) }
+    ensures memory { result ≡ Err (Tool OutOfMemory) → Keeps (O.contents out.old) (O.contents out.new)
+        ⊎ IsSetUntil (F.known files.now) (I.remaining input.old) (O.contents out.old) (O.contents out.new)
+        (IsStopped AtTheEnd) (file_bytes_of (F.known files.now) setting.now.files.items) setting.now }
 {
     let sources = font_and_files(rt.alloc(), files, setting, input)?;
     set_sources(rt, sources, &setting.layout, Delivery::AtTheEnd, out)
@@ -178,6 +198,16 @@ where
         → (result ≡ Err TooManyFiles) × (out.new ≡ out.old) }
     ensures both { setting.now.files.items ≡ [] → setting.now.font.now ≡ codes "-"
         → (result ≡ Err FontAndText) × (out.new ≡ out.old) }
+    ensures run { (fault : RunFault) → result ≡ Err (Tool (Run fault)) → out.new ≡ out.old }
+    ensures order { IsKnownRefused (font_bytes_of (F.known files.now) (I.remaining input.old) setting.now.font.now)
+        → IsErrAnd result (λ failure. is_before_files failure ≡ true) }
+    ensures number { (n : ℕ) → result ≢ Err (FontNotRead n) }
+    ensures memory { result ≡ Err (Tool OutOfMemory) → Keeps (O.contents out.old) (O.contents out.new)
+        ⊎ IsSetUntil (F.known files.now) (I.remaining input.old) (O.contents out.old) (O.contents out.new)
+        (IsStopped AsTheyCome) (stream_bytes_of (F.known files.now) (I.remaining input.old) setting.now.files.items) setting.now }
+    ensures write { result ≡ Err (Tool Unwritten)
+        → IsSetUntil (F.known files.now) (I.remaining input.old) (O.contents out.old) (O.contents out.new)
+        (IsUnwritten AsTheyCome) (stream_bytes_of (F.known files.now) (I.remaining input.old) setting.now.files.items) setting.now }
 {
     if setting.files.is_empty() {
         return stream_input(rt, files, setting, input, out);
@@ -198,6 +228,8 @@ fn input_source<'a, I: Read>(
         (map (told_with_terms (told_by ⟦<TextSource<&'a mut I> as LineSource>⟧.to_come
         ⟦<TextSource<&'a mut I> as LineSource>⟧.failed)) sources.items)) }
     ensures fault { IfErr result (λ failure. is_after_text failure ≡ false) }
+    ensures early { IfErr result (λ failure. is_before_batch failure ≡ true) }
+    ensures number { (n : ℕ) → result ≢ Err (FontNotRead n) }
     ensures few { IfOk result (λ sources. length sources.items ≤ 64) }
     ensures status { IfErr result (λ failure. is_refusal failure ≡ false) }
 {
@@ -232,6 +264,16 @@ where
         ((failure ≡ FontAndText) × (setting.now.font.now ≡ codes "-"))
         ⊎ IsRefusedFont (font_bytes_of (F.known files.now) (I.remaining input.old) setting.now.font.now)
         failure) }
+    ensures run { (fault : RunFault) → result ≡ Err (Tool (Run fault)) → out.new ≡ out.old }
+    ensures order { IsKnownRefused (font_bytes_of (F.known files.now) (I.remaining input.old) setting.now.font.now)
+        → IsErrAnd result (λ failure. is_before_files failure ≡ true) }
+    ensures number { (n : ℕ) → result ≢ Err (FontNotRead n) }
+    ensures memory { result ≡ Err (Tool OutOfMemory) → Keeps (O.contents out.old) (O.contents out.new)
+        ⊎ IsSetUntil (F.known files.now) (I.remaining input.old) (O.contents out.old) (O.contents out.new)
+        (IsStopped AsTheyCome) (I.remaining input.old ∷ []) setting.now }
+    ensures write { result ≡ Err (Tool Unwritten)
+        → IsSetUntil (F.known files.now) (I.remaining input.old) (O.contents out.old) (O.contents out.new)
+        (IsUnwritten AsTheyCome) (I.remaining input.old ∷ []) setting.now }
 {
     if setting.font == "-" {
         return Err(Failure::FontAndText);

@@ -8,6 +8,8 @@ const HEAD: usize = 80;
 enum Kind {
     Set,
     TooLong,
+    NotUtf8,
+    Uncoded,
     Missing,
     Steps,
 }
@@ -18,6 +20,8 @@ pub(crate) struct Tally {
     /// The number of records of lines that were set.
     pub set: u64,
     too_long: u64,
+    not_utf8: u64,
+    uncoded: u64,
     missing: u64,
     steps: u64,
     /// The first bytes of the line that isn't complete yet, and their number.
@@ -31,6 +35,8 @@ impl Tally {
         Tally {
             set: 0,
             too_long: 0,
+            not_utf8: 0,
+            uncoded: 0,
             missing: 0,
             steps: 0,
             head: [0; HEAD],
@@ -41,6 +47,8 @@ impl Tally {
     /// Returns the number of refused lines.
     pub fn refused(&self) -> u64 {
         self.too_long
+            .saturating_add(self.not_utf8)
+            .saturating_add(self.uncoded)
             .saturating_add(self.missing)
             .saturating_add(self.steps)
     }
@@ -51,9 +59,11 @@ impl Tally {
     }
 
     /// Returns the number of refused lines for each reason, with its word in a record.
-    pub fn reasons(&self) -> [(u64, &'static str); 3] {
+    pub fn reasons(&self) -> [(u64, &'static str); 5] {
         [
             (self.too_long, "too-long"),
+            (self.not_utf8, "encoding"),
+            (self.uncoded, "uncoded"),
             (self.missing, "missing"),
             (self.steps, "steps"),
         ]
@@ -86,6 +96,8 @@ impl Tally {
         match kind {
             Some(Kind::Set) => self.set = self.set.saturating_add(1),
             Some(Kind::TooLong) => self.too_long = self.too_long.saturating_add(1),
+            Some(Kind::NotUtf8) => self.not_utf8 = self.not_utf8.saturating_add(1),
+            Some(Kind::Uncoded) => self.uncoded = self.uncoded.saturating_add(1),
             Some(Kind::Missing) => self.missing = self.missing.saturating_add(1),
             Some(Kind::Steps) => self.steps = self.steps.saturating_add(1),
             None => (),
@@ -118,6 +130,10 @@ fn kind_at(head: &[u8]) -> Option<Kind> {
 fn refused_for(reason: &[u8]) -> Option<Kind> {
     if reason.starts_with(b"too-long") {
         Some(Kind::TooLong)
+    } else if reason.starts_with(b"encoding") {
+        Some(Kind::NotUtf8)
+    } else if reason.starts_with(b"uncoded") {
+        Some(Kind::Uncoded)
     } else if reason.starts_with(b"missing") {
         Some(Kind::Missing)
     } else if reason.starts_with(b"steps") {

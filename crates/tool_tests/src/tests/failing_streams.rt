@@ -3,6 +3,7 @@ use super::reads_and_writes::FAILED;
 use super::set_text_calls::two_sources;
 use super::settings::file_name;
 use super::*;
+use encodings::Encoding;
 use set_line::{Limit, Policy, Version};
 use set_run::NoGate;
 use std::test::Fail;
@@ -101,6 +102,44 @@ fn a_stream_whose_output_is_refused(rt: HostRuntime) -> Result<(), Fail> {
     Ok(())
 }
 
+/// The status of a run over a writer that can be flushed or not, and what is on standard error.
+fn flushed<R: Abort + Files + Env + Threads + Wait + Sync + AllocGlobal>(
+    rt: &R,
+    words: &[&str],
+    flushes: bool,
+) -> (u8, Vec<u8>)
+where
+    R::File: Send,
+{
+    let mut input = b"".as_slice();
+    let mut out = FailingWriter::new(rt.alloc(), 4096, usize::MAX, flushes);
+    let mut err = Vec::new(rt.alloc());
+    let status = tool(rt, words, &mut input, &mut out, &mut err);
+    (status, err)
+}
+
+// Mutants: `finish` of `delivery.rt` and `check` of `checking.rt` return the failure for exit status 4 before
+// they flush the output.
+#[test]
+fn a_flush_that_fails_is_told_after_a_file_that_was_not_read(rt: HostRuntime) -> Result<(), Fail> {
+    let font = plain_file(&rt, "unflushed", process::id(rt.process()))?;
+    let font = font.as_str();
+    let words: [&[&str]; 4] = [
+        &["set", font, "."],
+        &["each", font, "9", "."],
+        &["stream", font, "."],
+        &["check", font, "no/such/font.tfm"],
+    ];
+    for words in words {
+        let (status, _) = flushed(&rt, words, true);
+        assert_eq!(rt; status, 4, "{words:?}");
+        let (status, err) = flushed(&rt, words, false);
+        assert!(rt; status == 5 && err.as_slice() == FAILED, "{words:?}");
+    }
+    fs::remove_file(&rt, font)?;
+    Ok(())
+}
+
 /// The lines of two sources, as they come.
 fn stream_two<R: Abort + Threads + Wait + Sync + AllocGlobal>(
     rt: &R,
@@ -116,6 +155,7 @@ fn stream_two<R: Abort + Threads + Wait + Sync + AllocGlobal>(
     let options = OutputOptions {
         plan: small_plan().expect(rt, "a plan"),
         version: Version::One,
+        encoding: Encoding::Bytes,
         whole_reads: false,
         gate: &NoGate,
     };

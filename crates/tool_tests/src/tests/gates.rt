@@ -1,5 +1,6 @@
 //! The gate and the plan that the texts of runs are handed.
 use super::*;
+use encodings::Encoding;
 use set_line::{Limit, Policy, Version};
 use set_run::ReaderSource;
 use std::test::Fail;
@@ -27,6 +28,7 @@ where
     let options = OutputOptions {
         plan: plan(1, 1, workers)?,
         version: Version::One,
+        encoding: Encoding::Bytes,
         whole_reads: false,
         gate: &gate,
     };

@@ -1,6 +1,7 @@
 //! A stream whose source gives a line only once the record of the line before was written, as a program
 //! does that asks for one line after another at the other end of two pipes.
 use super::*;
+use encodings::Encoding;
 use set_line::{Limit, Policy, Version};
 use set_run::{NoGate, ReaderSource};
 use std::io::{ErrorKind, Read, Write};
@@ -99,6 +100,7 @@ fn each_record_is_written_before_the_next_line_is_there(rt: HostRuntime) -> Resu
     let options = OutputOptions {
         plan: plan(16, 1, 2)?,
         version: Version::One,
+        encoding: Encoding::Bytes,
         whole_reads: true,
         gate: &NoGate,
     };

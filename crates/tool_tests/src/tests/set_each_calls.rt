@@ -1,5 +1,6 @@
 //! The texts of lanes, kept while answers come, in blocks.
 use super::*;
+use encodings::Encoding;
 use set_line::{Policy, Terms, Version};
 use set_run::{ListSource, NoGate};
 use std::io::Write;
@@ -72,6 +73,7 @@ where
     let options = OutputOptions {
         plan,
         version: Version::Two,
+        encoding: Encoding::Bytes,
         whole_reads: false,
         gate: &NoGate,
     };

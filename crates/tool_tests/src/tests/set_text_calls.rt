@@ -1,5 +1,6 @@
 //! `set_text` itself: two sizes, sources that fail, writers that fail, and refused memory.
 use super::*;
+use encodings::Encoding;
 use set_line::{Limit, Policy, Version};
 use set_run::{LineSource, NoGate, ReaderSource};
 use std::io::Write;
@@ -61,6 +62,7 @@ where
     let options = OutputOptions {
         plan: small_plan().expect(rt, "a plan"),
         version,
+        encoding: Encoding::Bytes,
         whole_reads: false,
         gate: &NoGate,
     };

@@ -1,5 +1,6 @@
 //! `stream_text` itself: lines of several sources as they come, writers that fail, and sources that fail.
 use super::*;
+use encodings::Encoding;
 use set_line::{Limit, Policy, Version};
 use set_run::{NoGate, ReaderSource, RunFault};
 use std::io::Write;
@@ -42,6 +43,7 @@ where
     let options = OutputOptions {
         plan,
         version,
+        encoding: Encoding::Bytes,
         whole_reads: true,
         gate: &NoGate,
     };

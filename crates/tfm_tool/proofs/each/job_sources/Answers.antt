@@ -1,8 +1,12 @@
-use Rattle.std.proofs.Common.{◌≡◌, map, subst}
+use Rattle.std.proofs.Common.{◌≡◌, ◌∙◌, Err, ap, map, subst}
 use Rattle.std.proofs.lemmas.Result.{IfOk-weaker}
 use Rattle.std.specs.List.{AllZip}
 use Rattle.tfm_tool.specs.Faults.{IsRefused}
 use Rattle.tfm_tool.specs.Jobs.{AreWordsOfJobs, HasTermsOf, IsFaultOfWords, job_value, jobs_in}
+use Rattle.tfm_tool.specs.FontFaults.{IsFirstUnread}
+use Rattle.tfm_tool.specs.declared.failure.Failure.TheVariants.{FontNotRead}
+use Rattle.tfm_tool.proofs.OrderLemmas.{order_handed, sound_jobs, words_not_unread}
+use Rattle.tfm_tool.proofs.StoppedLemmas.{handed_as}
 use Rattle.tfm_tool.proofs.EachLemmas.{sources_of_jobs}
 use Rattle.tfm_tool.proofs.ReaderLemmas.{reader_told}
 use Rattle.tfm_tool.proofs.CauseLemmas.{few_of_jobs, refused_on}
@@ -37,3 +41,34 @@ returns-clause-few g c =
     c.as_slice.result.now c.in_ok-given.given.items c.in_ok-with_terms.with_terms.items sources.items c.in_ok-given.ensures.lawful c.in_ok-given.ensures.jobs
     (subst (λ jobs. AllZip (HasTermsOf (g.F.Opens.known c.args.files.now) c.args.asked.now.layout) jobs c.in_ok-with_terms.with_terms.items)
     c.as_slice-2.ensures.value c.in_ok-with_terms.ensures.terms)) c.open_each.ensures.sources
+
+pub returns-in_err-given-clause-unread : goal.returns-in_err-given-clause-unread
+returns-in_err-given-clause-unread g c = λ n same. absurd (words_not_unread c.as_slice.result.now c.in_err-given.field-0.0 n c.in_err-given.ensures.refused
+    (handed_as c.from_residual.result c.in_err-given.field-0.0 (FontNotRead n) c.from_residual.ensures.1 same))
+
+pub returns-in_err-given-clause-order : goal.returns-in_err-given-clause-order
+returns-in_err-given-clause-order g c = λ has.
+    order_handed c.from_residual.result c.in_err-given.field-0.0 c.from_residual.ensures.1 c.in_err-given.ensures.first
+
+pub returns-in_err-with_terms-clause-unread : goal.returns-in_err-with_terms-clause-unread
+returns-in_err-with_terms-clause-unread g c = λ n same.
+    let jobs : map job_value c.as_slice-2.result.now ≡ jobs_in c.args.asked.now.words.items =
+    ap (map job_value) c.as_slice-2.ensures.value ∙ (c.in_ok-given.ensures.jobs ∙ ap jobs_in c.as_slice.ensures.value) in
+    let told : c.in_err-with_terms.field-0.0 ≡ FontNotRead n =
+    handed_as c.from_residual-in_err-with_terms.result c.in_err-with_terms.field-0.0 (FontNotRead n) c.from_residual-in_err-with_terms.ensures.1 same in
+    subst (λ values. IsFirstUnread (g.F.Opens.known c.args.files.now) c.args.asked.now.layout values n) jobs
+    (c.all_terms.ensures.unread n (c.in_err-with_terms.was ∙ ap Err told))
+
+pub returns-in_err-with_terms-clause-order : goal.returns-in_err-with_terms-clause-order
+returns-in_err-with_terms-clause-order g c = λ has.
+    order_handed c.from_residual-in_err-with_terms.result c.in_err-with_terms.field-0.0 c.from_residual-in_err-with_terms.ensures.1 c.in_err-with_terms.ensures.first
+
+pub returns-clause-unread : goal.returns-clause-unread
+returns-clause-unread g c = λ n same. absurd (c.open_each.ensures.font n same)
+
+pub returns-clause-order : goal.returns-clause-order
+returns-clause-order g c = λ has.
+    absurd (sound_jobs (g.F.Opens.known c.args.files.now) c.args.asked.now.layout c.in_ok-given.given.items (jobs_in c.args.asked.now.words.items)
+    c.in_ok-with_terms.with_terms.items (c.in_ok-given.ensures.jobs ∙ ap jobs_in c.as_slice.ensures.value)
+    (subst (λ jobs. AllZip (HasTermsOf (g.F.Opens.known c.args.files.now) c.args.asked.now.layout) jobs c.in_ok-with_terms.with_terms.items)
+    c.as_slice-2.ensures.value c.in_ok-with_terms.ensures.terms) has)

@@ -1,6 +1,5 @@
-use Rattle.std.proofs.Common.{rules, ◌≡◌, ◌∙◌, Some, None, sym}
-use Rattle.font_texts.specs.CountsText.{counts_text_of, head_fault_of}
-use Rattle.std.specs.Io.KnownBytes.{Appends}
+use Rattle.std.proofs.Common.{rules, ◌≡◌, None}
+use Rattle.font_texts.specs.CountsText.{head_fault_of}
 use Rattle.tfm_tool.proofs.FontTextLemmas.{first_told, of_head, told_first, told_no_run}
 use Rattle.tfm_tool.proofs.font_output.counts_text.Goals as goal
 

@@ -1,4 +1,4 @@
-use Rattle.std.proofs.Common.{◌≡◌, ◌∙◌, None, Some, Err, ap, refl, subst}
+use Rattle.std.proofs.Common.{◌≡◌, ◌∙◌, Some, Err, ap, refl, subst}
 use Rattle.std.specs.Io.KnownBytes.{Appends}
 use Rattle.tfm_tables.specs.Font.{FontValue, IsFontOf}
 use Rattle.run_texts.specs.declared.fault.ToolFault.{ToolFault}
@@ -12,9 +12,9 @@ use Rattle.tfm_tool.proofs.program.list.Goals as goal
 
 pub returns-clause-text : goal.returns-clause-text
 returns-clause-text g c = (
-  of_font (font_bytes_of (g.F.Opens.known c.args.files.now) (g.I.Read.remaining c.args.input.now) c.args.listed.now.font.now) c.in_ok-bytes.bytes.items None
+  of_font (font_bytes_of (g.F.Opens.known c.args.files.now) (g.I.Read.remaining c.args.input.now) c.args.listed.now.font.now) c.in_ok-bytes.bytes.items c.args.listed.now.size
       (λ f. Appends (g.O.Write.contents c.args.out.now) (g.O.Write.contents c.list_bytes.new.out) (list_text_of c.args.listed.now.all f)) c.in_ok-bytes.ensures.bytes
-      (subst (λ b. (f : FontValue) × IsFontOf b None f × Appends (g.O.Write.contents c.args.out.now) (g.O.Write.contents c.list_bytes.new.out) (list_text_of c.args.listed.now.all f))
+      (subst (λ b. (f : FontValue) × IsFontOf b c.args.listed.now.size f × Appends (g.O.Write.contents c.args.out.now) (g.O.Write.contents c.list_bytes.new.out) (list_text_of c.args.listed.now.all f))
       c.as_slice.ensures.value c.in_ok-list_bytes.ensures.text),
   refl,
 )

@@ -1,11 +1,14 @@
-use Rattle.std.proofs.Common.{◌≡◌, ℕ, List, Option, inl, inr, refl, subst, sym}
+use Rattle.std.proofs.Common.{◌≡◌, ◌⊎◌, ℕ, List, Option, inl, inr, refl, subst, sym}
+use Rattle.std.specs.Io.KnownBytes.{Keeps}
 use Rattle.command_line.specs.declared.request.Request.TheVariants.{Set, Stream, Each}
-use Rattle.tfm_tool.specs.Faults.{IsCauseOf, IsFaultOf, IsRefused, IsWithoutInput}
+use Rattle.tfm_tool.specs.Faults.{HasRefusedFont, IsCauseOf, IsFaultOf, IsRefused, IsUnreadFontOf, IsWithoutInput}
 use Rattle.tfm_tool.specs.Requests.{IsDone}
 use Rattle.tfm_tool.specs.Status.{AfterText, BeforeText}
+use Rattle.tfm_tool.specs.Stopped.{HasBroken, HasStopped}
 use Rattle.tfm_tool.specs.declared.failure.Failure.{Failure}
 use Rattle.tfm_tool.proofs.CauseLemmas.{before_map, cause_of, refused_check, refused_set, refused_stream}
 use Rattle.tfm_tool.proofs.StatusLemmas.{zero_listed}
+use Rattle.tfm_tool.proofs.StoppedLemmas.{kept_by}
 use Rattle.tfm_tool.proofs.program.perform.Goals as goal
 
 pub returns-in-Counts-clause-text : goal.returns-in-Counts-clause-text
@@ -201,3 +204,168 @@ pub returns-in-Each-clause-refused : goal.returns-in-Each-clause-refused
 returns-in-Each-clause-refused g c =
     subst (λ request. (failure : Failure) → IsFaultOf request failure → IsRefused (IsFaultOf request) c.set_jobs.result × (c.set_jobs.new.out ≡ c.args.out.now)) (sym c.in-Each.is)
     (c.set_jobs.ensures.refused)
+
+pub returns-in-Counts-clause-run : goal.returns-in-Counts-clause-run
+returns-in-Counts-clause-run g c = λ fault same. absurd (c.counts.ensures.run fault same)
+
+pub returns-in-Counts-clause-memory : goal.returns-in-Counts-clause-memory
+returns-in-Counts-clause-memory g c = λ same. inl (kept_by g.O.Write.contents c.args.out.now c.counts.new.out (c.counts.ensures.memory same))
+
+pub returns-in-Counts-clause-write : goal.returns-in-Counts-clause-write
+returns-in-Counts-clause-write g c = λ same.
+    let known : List ℕ → Option (List ℕ) = g.F.Opens.known c.args.files.now in
+    let input : Option (List ℕ) = g.I.Read.remaining c.args.input.now in
+    subst (HasBroken known input (g.O.Write.contents c.args.out.now) (g.O.Write.contents c.counts.new.out)) (sym c.in-Counts.is) tt
+
+pub returns-in-List-clause-run : goal.returns-in-List-clause-run
+returns-in-List-clause-run g c = λ fault same. absurd (c.list.ensures.run fault same)
+
+pub returns-in-List-clause-memory : goal.returns-in-List-clause-memory
+returns-in-List-clause-memory g c = λ same. inl (kept_by g.O.Write.contents c.args.out.now c.list.new.out (c.list.ensures.memory same))
+
+pub returns-in-List-clause-write : goal.returns-in-List-clause-write
+returns-in-List-clause-write g c = λ same.
+    let known : List ℕ → Option (List ℕ) = g.F.Opens.known c.args.files.now in
+    let input : Option (List ℕ) = g.I.Read.remaining c.args.input.now in
+    subst (HasBroken known input (g.O.Write.contents c.args.out.now) (g.O.Write.contents c.list.new.out)) (sym c.in-List.is) tt
+
+pub returns-in-Pairs-clause-run : goal.returns-in-Pairs-clause-run
+returns-in-Pairs-clause-run g c = λ fault same. absurd (c.pairs.ensures.run fault same)
+
+pub returns-in-Pairs-clause-memory : goal.returns-in-Pairs-clause-memory
+returns-in-Pairs-clause-memory g c = λ same. inl (kept_by g.O.Write.contents c.args.out.now c.pairs.new.out (c.pairs.ensures.memory same))
+
+pub returns-in-Pairs-clause-write : goal.returns-in-Pairs-clause-write
+returns-in-Pairs-clause-write g c = λ same.
+    let known : List ℕ → Option (List ℕ) = g.F.Opens.known c.args.files.now in
+    let input : Option (List ℕ) = g.I.Read.remaining c.args.input.now in
+    subst (HasBroken known input (g.O.Write.contents c.args.out.now) (g.O.Write.contents c.pairs.new.out)) (sym c.in-Pairs.is) tt
+
+pub returns-in-Check-clause-run : goal.returns-in-Check-clause-run
+returns-in-Check-clause-run g c = λ fault same. absurd (c.check.ensures.run fault same)
+
+pub returns-in-Check-clause-memory : goal.returns-in-Check-clause-memory
+returns-in-Check-clause-memory g c = λ same.
+    let known : List ℕ → Option (List ℕ) = g.F.Opens.known c.args.files.now in
+    let input : Option (List ℕ) = g.I.Read.remaining c.args.input.now in
+    inr (subst (HasStopped known input (g.O.Write.contents c.args.out.now) (g.O.Write.contents c.check.new.out)) (sym c.in-Check.is) (c.check.ensures.memory same))
+
+pub returns-in-Check-clause-write : goal.returns-in-Check-clause-write
+returns-in-Check-clause-write g c = λ same.
+    let known : List ℕ → Option (List ℕ) = g.F.Opens.known c.args.files.now in
+    let input : Option (List ℕ) = g.I.Read.remaining c.args.input.now in
+    subst (HasBroken known input (g.O.Write.contents c.args.out.now) (g.O.Write.contents c.check.new.out)) (sym c.in-Check.is) tt
+
+pub returns-in-Set-clause-run : goal.returns-in-Set-clause-run
+returns-in-Set-clause-run g c = c.set_files.ensures.run
+
+pub returns-in-Set-clause-memory : goal.returns-in-Set-clause-memory
+returns-in-Set-clause-memory g c = λ same.
+    let known : List ℕ → Option (List ℕ) = g.F.Opens.known c.args.files.now in
+    let input : Option (List ℕ) = g.I.Read.remaining c.args.input.now in
+    subst (λ request. Keeps (g.O.Write.contents c.args.out.now) (g.O.Write.contents c.set_files.new.out) ⊎ HasStopped known input (g.O.Write.contents c.args.out.now) (g.O.Write.contents c.set_files.new.out) request) (sym c.in-Set.is)
+    (c.set_files.ensures.memory same)
+
+pub returns-in-Set-clause-write : goal.returns-in-Set-clause-write
+returns-in-Set-clause-write g c = λ same.
+    let known : List ℕ → Option (List ℕ) = g.F.Opens.known c.args.files.now in
+    let input : Option (List ℕ) = g.I.Read.remaining c.args.input.now in
+    subst (HasBroken known input (g.O.Write.contents c.args.out.now) (g.O.Write.contents c.set_files.new.out)) (sym c.in-Set.is) tt
+
+pub returns-in-Stream-clause-run : goal.returns-in-Stream-clause-run
+returns-in-Stream-clause-run g c = c.stream.ensures.run
+
+pub returns-in-Stream-clause-memory : goal.returns-in-Stream-clause-memory
+returns-in-Stream-clause-memory g c = λ same.
+    let known : List ℕ → Option (List ℕ) = g.F.Opens.known c.args.files.now in
+    let input : Option (List ℕ) = g.I.Read.remaining c.args.input.now in
+    subst (λ request. Keeps (g.O.Write.contents c.args.out.now) (g.O.Write.contents c.stream.new.out) ⊎ HasStopped known input (g.O.Write.contents c.args.out.now) (g.O.Write.contents c.stream.new.out) request) (sym c.in-Stream.is)
+    (c.stream.ensures.memory same)
+
+pub returns-in-Stream-clause-write : goal.returns-in-Stream-clause-write
+returns-in-Stream-clause-write g c = λ same.
+    let known : List ℕ → Option (List ℕ) = g.F.Opens.known c.args.files.now in
+    let input : Option (List ℕ) = g.I.Read.remaining c.args.input.now in
+    subst (HasBroken known input (g.O.Write.contents c.args.out.now) (g.O.Write.contents c.stream.new.out)) (sym c.in-Stream.is) (c.stream.ensures.write same)
+
+pub returns-in-Each-clause-run : goal.returns-in-Each-clause-run
+returns-in-Each-clause-run g c = c.set_jobs.ensures.run
+
+pub returns-in-Each-clause-memory : goal.returns-in-Each-clause-memory
+returns-in-Each-clause-memory g c = λ same.
+    let known : List ℕ → Option (List ℕ) = g.F.Opens.known c.args.files.now in
+    let input : Option (List ℕ) = g.I.Read.remaining c.args.input.now in
+    subst (λ request. Keeps (g.O.Write.contents c.args.out.now) (g.O.Write.contents c.set_jobs.new.out) ⊎ HasStopped known input (g.O.Write.contents c.args.out.now) (g.O.Write.contents c.set_jobs.new.out) request) (sym c.in-Each.is)
+    (c.set_jobs.ensures.memory same)
+
+pub returns-in-Each-clause-write : goal.returns-in-Each-clause-write
+returns-in-Each-clause-write g c = λ same.
+    let known : List ℕ → Option (List ℕ) = g.F.Opens.known c.args.files.now in
+    let input : Option (List ℕ) = g.I.Read.remaining c.args.input.now in
+    subst (HasBroken known input (g.O.Write.contents c.args.out.now) (g.O.Write.contents c.set_jobs.new.out)) (sym c.in-Each.is) tt
+
+pub returns-in-Counts-clause-number : goal.returns-in-Counts-clause-number
+returns-in-Counts-clause-number g c = λ n same. absurd (c.counts.ensures.number n same)
+
+pub returns-in-List-clause-number : goal.returns-in-List-clause-number
+returns-in-List-clause-number g c = λ n same. absurd (c.list.ensures.number n same)
+
+pub returns-in-Pairs-clause-number : goal.returns-in-Pairs-clause-number
+returns-in-Pairs-clause-number g c = λ n same. absurd (c.pairs.ensures.number n same)
+
+pub returns-in-Check-clause-number : goal.returns-in-Check-clause-number
+returns-in-Check-clause-number g c = λ n same. absurd (c.check.ensures.number n same)
+
+pub returns-in-Set-clause-number : goal.returns-in-Set-clause-number
+returns-in-Set-clause-number g c = λ n same. absurd (c.set_files.ensures.number n same)
+
+pub returns-in-Stream-clause-number : goal.returns-in-Stream-clause-number
+returns-in-Stream-clause-number g c = λ n same. absurd (c.stream.ensures.number n same)
+
+pub returns-in-Each-clause-number : goal.returns-in-Each-clause-number
+returns-in-Each-clause-number g c = λ n same.
+    let known : List ℕ → Option (List ℕ) = g.F.Opens.known c.args.files.now in
+    let input : Option (List ℕ) = g.I.Read.remaining c.args.input.now in
+    subst (λ request. IsUnreadFontOf known input request n) (sym c.in-Each.is) (c.set_jobs.ensures.unread n same)
+
+pub returns-in-Counts-clause-order : goal.returns-in-Counts-clause-order
+returns-in-Counts-clause-order g c = λ has.
+    let known : List ℕ → Option (List ℕ) = g.F.Opens.known c.args.files.now in
+    let input : Option (List ℕ) = g.I.Read.remaining c.args.input.now in
+    absurd (subst (HasRefusedFont known input) c.in-Counts.is has)
+
+pub returns-in-List-clause-order : goal.returns-in-List-clause-order
+returns-in-List-clause-order g c = λ has.
+    let known : List ℕ → Option (List ℕ) = g.F.Opens.known c.args.files.now in
+    let input : Option (List ℕ) = g.I.Read.remaining c.args.input.now in
+    absurd (subst (HasRefusedFont known input) c.in-List.is has)
+
+pub returns-in-Pairs-clause-order : goal.returns-in-Pairs-clause-order
+returns-in-Pairs-clause-order g c = λ has.
+    let known : List ℕ → Option (List ℕ) = g.F.Opens.known c.args.files.now in
+    let input : Option (List ℕ) = g.I.Read.remaining c.args.input.now in
+    absurd (subst (HasRefusedFont known input) c.in-Pairs.is has)
+
+pub returns-in-Check-clause-order : goal.returns-in-Check-clause-order
+returns-in-Check-clause-order g c = λ has.
+    let known : List ℕ → Option (List ℕ) = g.F.Opens.known c.args.files.now in
+    let input : Option (List ℕ) = g.I.Read.remaining c.args.input.now in
+    absurd (subst (HasRefusedFont known input) c.in-Check.is has)
+
+pub returns-in-Set-clause-order : goal.returns-in-Set-clause-order
+returns-in-Set-clause-order g c = λ has.
+    let known : List ℕ → Option (List ℕ) = g.F.Opens.known c.args.files.now in
+    let input : Option (List ℕ) = g.I.Read.remaining c.args.input.now in
+    c.set_files.ensures.order (subst (HasRefusedFont known input) c.in-Set.is has)
+
+pub returns-in-Stream-clause-order : goal.returns-in-Stream-clause-order
+returns-in-Stream-clause-order g c = λ has.
+    let known : List ℕ → Option (List ℕ) = g.F.Opens.known c.args.files.now in
+    let input : Option (List ℕ) = g.I.Read.remaining c.args.input.now in
+    c.stream.ensures.order (subst (HasRefusedFont known input) c.in-Stream.is has)
+
+pub returns-in-Each-clause-order : goal.returns-in-Each-clause-order
+returns-in-Each-clause-order g c = λ has.
+    let known : List ℕ → Option (List ℕ) = g.F.Opens.known c.args.files.now in
+    let input : Option (List ℕ) = g.I.Read.remaining c.args.input.now in
+    c.set_jobs.ensures.order (subst (HasRefusedFont known input) c.in-Each.is has)

@@ -2,6 +2,8 @@ use Rattle.std.proofs.Common.{rules, ◌≤◌, inr, length}
 use Rattle.std.proofs.lemmas.Result.{IfOk-weaker}
 use Rattle.std.specs.Arc.{arc_value}
 use Rattle.tfm_tool.specs.Jobs.{told_with_terms}
+use Rattle.tfm_tool.proofs.OrderLemmas.{order_handed, sound_terms}
+use Rattle.tfm_tool.specs.Named.{font_bytes_of}
 use Rattle.tfm_tool.proofs.CauseLemmas.{before_none, few_sources, told_on}
 use Rattle.tfm_tool.proofs.ReaderLemmas.{reader_told}
 use Rattle.tfm_tool.proofs.runs.font_and_files.Goals as goal
@@ -22,3 +24,12 @@ returns-clause-cause g c = before_none c.open_all.result _ c.open_all.ensures.la
 pub returns-in_err-terms-clause-cause : goal.returns-in_err-terms-clause-cause
 returns-in_err-terms-clause-cause g c =
     told_on c.from_residual.result c.in_err-terms.field-0.0 _ c.from_residual.ensures.1 (λ before. inr (c.in_err-terms.ensures.cause before))
+
+pub returns-in_err-terms-clause-order : goal.returns-in_err-terms-clause-order
+returns-in_err-terms-clause-order g c = λ has.
+    order_handed c.from_residual.result c.in_err-terms.field-0.0 c.from_residual.ensures.1 c.in_err-terms.ensures.first
+
+pub returns-clause-order : goal.returns-clause-order
+returns-clause-order g c = λ has.
+    absurd (sound_terms (font_bytes_of (g.F.Opens.known c.args.files.now) (g.I.Read.remaining c.args.input.now) c.args.setting.now.font.now) c.args.setting.now.layout
+    c.args.setting.now.limit (arc_value c.in_ok-terms.terms) c.in_ok-terms.ensures.terms has)

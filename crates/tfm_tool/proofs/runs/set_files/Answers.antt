@@ -1,5 +1,7 @@
-use Rattle.std.proofs.Common.{map}
+use Rattle.std.proofs.Common.{inl, inr, map}
 use Rattle.tfm_tool.specs.Jobs.{told_with_terms}
+use Rattle.tfm_tool.proofs.OrderLemmas.{not_ok, order_handed}
+use Rattle.tfm_tool.proofs.StoppedLemmas.{keeps_same}
 use Rattle.tfm_tool.proofs.CauseLemmas.{before_none, told_on}
 use Rattle.tfm_tool.proofs.KnownLemmas.{after_map}
 use Rattle.tfm_tool.proofs.ReaderLemmas.{reader_told}
@@ -15,3 +17,17 @@ returns-clause-cause g c = before_none c.set_sources.result _ (c.set_sources.ens
 
 pub returns-in_err-sources-clause-cause : goal.returns-in_err-sources-clause-cause
 returns-in_err-sources-clause-cause g c = told_on c.from_residual.result c.in_err-sources.field-0.0 _ c.from_residual.ensures.1 c.in_err-sources.ensures.cause
+
+pub returns-in_err-sources-clause-memory : goal.returns-in_err-sources-clause-memory
+returns-in_err-sources-clause-memory g c = λ same. inl (keeps_same (g.O.Write.contents c.args.out.now))
+
+pub returns-clause-memory : goal.returns-clause-memory
+returns-clause-memory g c = λ same.
+    inr (map (told_with_terms (reader_told g.F.File.Read.remaining)) c.in_ok-sources.sources.items, c.in_ok-sources.ensures.sources, c.set_sources.ensures.memory same)
+
+pub returns-in_err-sources-clause-order : goal.returns-in_err-sources-clause-order
+returns-in_err-sources-clause-order g c = λ has.
+    order_handed c.from_residual.result c.in_err-sources.field-0.0 c.from_residual.ensures.1 (rw c.in_err-sources.was at (c.font_and_files.ensures.order has))
+
+pub returns-clause-order : goal.returns-clause-order
+returns-clause-order g c = λ has. absurd (not_ok c.font_and_files.result c.in_ok-sources.sources _ c.in_ok-sources.was (c.font_and_files.ensures.order has))

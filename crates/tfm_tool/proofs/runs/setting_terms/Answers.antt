@@ -1,10 +1,12 @@
-use Rattle.std.proofs.Common.{◌≡◌, ◌∙◌, Some, Err, ap, subst}
+use Rattle.std.proofs.Common.{◌≡◌, ◌∙◌, Some, Err, ap, subst, true}
 use Rattle.std.specs.Arc.{arc_value}
 use Rattle.tfm_tables.specs.Font.{FontValue, IsFontOf}
 use Rattle.run_texts.specs.declared.fault.ToolFault.{ToolFault}
 use Rattle.tfm_tool.specs.FontFaults.{IsRefusedFont}
 use Rattle.tfm_tool.specs.Named.{font_bytes_of}
 use Rattle.tfm_tool.specs.declared.failure.Failure.TheVariants.{Tool}
+use Rattle.tfm_tool.proofs.StoppedLemmas.{handed_on, refused_early, refused_first}
+use Rattle.tfm_tool.specs.Status.{is_before_batch, is_before_files}
 use Rattle.tfm_tool.proofs.CauseLemmas.{accepted_cause, font_cause, told_cause, unread_later}
 use Rattle.tfm_tool.proofs.EachLemmas.{known_terms}
 use Rattle.tfm_tool.proofs.runs.setting_terms.Goals as goal
@@ -28,3 +30,13 @@ returns-in_err-terms-clause-cause g c =
 
 pub returns-in_err-bytes-clause-cause : goal.returns-in_err-bytes-clause-cause
 returns-in_err-bytes-clause-cause g c = unread_later c.from_residual.result c.in_err-bytes.field-0.0 _ c.from_residual.ensures.1
+
+pub returns-in_err-terms-clause-early : goal.returns-in_err-terms-clause-early
+returns-in_err-terms-clause-early g c =
+    handed_on c.from_residual-in_err-terms.result (Tool c.in_err-terms.field-0.0) (λ failure. is_before_batch failure ≡ true) c.from_residual-in_err-terms.ensures.1
+    (refused_early c.in_err-terms.field-0.0 c.in_err-terms.ensures.fault)
+
+pub returns-in_err-terms-clause-first : goal.returns-in_err-terms-clause-first
+returns-in_err-terms-clause-first g c =
+    handed_on c.from_residual-in_err-terms.result (Tool c.in_err-terms.field-0.0) (λ failure. is_before_files failure ≡ true) c.from_residual-in_err-terms.ensures.1
+    (refused_first c.in_err-terms.field-0.0 c.in_err-terms.ensures.fault)

@@ -1,8 +1,13 @@
-use Rattle.std.proofs.Common.{rules, ◌≡◌, [], ◌∷◌, ap, map, subst}
+use Rattle.std.proofs.Common.{rules, ◌≡◌, [], ◌∷◌, ap, inl, inr, map, refl, subst}
 use Rattle.std.specs.Arc.{arc_value}
 use Rattle.std.specs.List.{AllZip}
 use Rattle.tfm_tool.specs.Jobs.{told_with_terms}
 use Rattle.tfm_tool.specs.Requests.{IsSourceWith}
+use Rattle.run_texts.specs.declared.fault.ToolFault.TheVariants.{Write}
+use Rattle.tfm_tool.specs.declared.failure.Failure.TheVariants.{Tool}
+use Rattle.tfm_tool.proofs.OrderLemmas.{order_handed, sound_terms}
+use Rattle.tfm_tool.specs.Named.{font_bytes_of}
+use Rattle.tfm_tool.proofs.StoppedLemmas.{keeps_same, not_of_batch}
 use Rattle.tfm_tool.proofs.CauseLemmas.{before_none}
 use Rattle.tfm_tool.proofs.KnownLemmas.{after_map}
 use Rattle.tfm_tool.proofs.ReaderLemmas.{reader_told}
@@ -18,3 +23,47 @@ returns-clause-text g c =
 
 pub returns-clause-cause : goal.returns-clause-cause
 returns-clause-cause g c = before_none c.set_sources.result _ (c.set_sources.ensures.later c.in_ok-sources.ensures.few)
+
+pub returns-in_err-terms-clause-memory : goal.returns-in_err-terms-clause-memory
+returns-in_err-terms-clause-memory g c = λ same. inl (keeps_same (g.O.Write.contents c.args.out.now))
+
+pub returns-in_err-terms-clause-write : goal.returns-in_err-terms-clause-write
+returns-in_err-terms-clause-write g c = λ same.
+    absurd (not_of_batch c.from_residual.result c.in_err-terms.field-0.0 (Tool Write) c.from_residual.ensures.1 c.in_err-terms.ensures.early same refl)
+
+pub returns-in_err-sources-clause-memory : goal.returns-in_err-sources-clause-memory
+returns-in_err-sources-clause-memory g c = λ same. inl (keeps_same (g.O.Write.contents c.args.out.now))
+
+pub returns-in_err-sources-clause-write : goal.returns-in_err-sources-clause-write
+returns-in_err-sources-clause-write g c = λ same.
+    absurd (not_of_batch c.from_residual-in_err-sources.result c.in_err-sources.field-0.0 (Tool Write) c.from_residual-in_err-sources.ensures.1 c.in_err-sources.ensures.early same refl)
+
+pub returns-clause-memory : goal.returns-clause-memory
+returns-clause-memory g c = λ same.
+    let unread : c.setting_terms.new.input ≡ c.args.input.now = search rules in
+    let told = map (told_with_terms (reader_told (λ input. g.I.Read.remaining input.now))) c.in_ok-sources.sources.items in
+    let are = subst (λ remaining. AllZip (IsSourceWith c.args.setting.now.layout (arc_value c.in_ok-terms.terms)) (remaining ∷ []) told) (ap g.I.Read.remaining unread)
+    c.in_ok-sources.ensures.source in
+    inr (told, (arc_value c.in_ok-terms.terms, c.in_ok-terms.ensures.terms, are), c.set_sources.ensures.memory same)
+
+pub returns-clause-write : goal.returns-clause-write
+returns-clause-write g c = λ same.
+    let unread : c.setting_terms.new.input ≡ c.args.input.now = search rules in
+    let told = map (told_with_terms (reader_told (λ input. g.I.Read.remaining input.now))) c.in_ok-sources.sources.items in
+    let are = subst (λ remaining. AllZip (IsSourceWith c.args.setting.now.layout (arc_value c.in_ok-terms.terms)) (remaining ∷ []) told) (ap g.I.Read.remaining unread)
+    c.in_ok-sources.ensures.source in
+    (told, (arc_value c.in_ok-terms.terms, c.in_ok-terms.ensures.terms, are), c.set_sources.ensures.write same)
+
+pub returns-in_err-terms-clause-order : goal.returns-in_err-terms-clause-order
+returns-in_err-terms-clause-order g c = λ has.
+    order_handed c.from_residual.result c.in_err-terms.field-0.0 c.from_residual.ensures.1 c.in_err-terms.ensures.first
+
+pub returns-in_err-sources-clause-order : goal.returns-in_err-sources-clause-order
+returns-in_err-sources-clause-order g c = λ has.
+    absurd (sound_terms (font_bytes_of (g.F.Opens.known c.args.files.now) (g.I.Read.remaining c.args.input.now) c.args.setting.now.font.now) c.args.setting.now.layout
+    c.args.setting.now.limit (arc_value c.in_ok-terms.terms) c.in_ok-terms.ensures.terms has)
+
+pub returns-clause-order : goal.returns-clause-order
+returns-clause-order g c = λ has.
+    absurd (sound_terms (font_bytes_of (g.F.Opens.known c.args.files.now) (g.I.Read.remaining c.args.input.now) c.args.setting.now.font.now) c.args.setting.now.layout
+    c.args.setting.now.limit (arc_value c.in_ok-terms.terms) c.in_ok-terms.ensures.terms has)

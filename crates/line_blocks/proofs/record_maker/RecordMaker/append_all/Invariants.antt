@@ -12,5 +12,5 @@ invariant-loop-line l = record {
   numbers : l.number + length l.line-iterator < 2 ^ 64;
   few : l.refused ≤ l.number;
   text : l.text.items ++ records_in l.fn.self (numbered l.number l.line-iterator) ≡ l.fn.text.items ++ records_in l.fn.self (lines_of_block l.block);
-  refused : l.refused + refused_in l.fn.self.terms l.line-iterator ≡ refused_in l.fn.self.terms l.block.lines;
+  refused : l.refused + refused_in l.fn.self.terms l.fn.self.style.encoding (numbered l.number l.line-iterator) ≡ refused_in l.fn.self.terms l.fn.self.style.encoding (lines_of_block l.block);
 }

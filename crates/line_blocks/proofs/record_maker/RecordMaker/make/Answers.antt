@@ -1,10 +1,11 @@
 use Rattle.std.proofs.Common.{ap, sym, ◌∙◌}
+use Rattle.line_blocks.specs.Blocks.{lines_of_block}
 use Rattle.line_blocks.specs.BlockText.{block_text, refused_in}
 use Rattle.line_blocks.proofs.record_maker.RecordMaker.make.Goals as goal
 
 pub new-requires-clause-refused : goal.new-requires-clause-refused
 new-requires-clause-refused c =
-    c.in-Ok.ensures.refused ∙ ap (λ maker. refused_in maker.terms c.args.block.lines) (sym c.append_all.ensures.kept ∙ sym c.self-2.view_is)
+    c.in-Ok.ensures.refused ∙ ap (λ maker. refused_in maker.terms maker.style.encoding (lines_of_block c.args.block)) (sym c.append_all.ensures.kept ∙ sym c.self-2.view_is)
 
 pub returns-in-Ok-clause-made : goal.returns-in-Ok-clause-made
 returns-in-Ok-clause-made c =

@@ -1,0 +1,131 @@
+-- What was written before a failure.
+use Rattle.std.proofs.Common.{◌≡◌, ◌∙◌, ◌⊎◌, inl, inr, ℕ, suc, ◌+◌, true, false, List, [], ◌∷◌, length, map, Option, Some, None, refl, ap, sym, subst}
+use Rattle.std.proofs.lemmas.Bool.{true≢false}
+use Rattle.std.specs.Prelude.{Result, Ok, Err, IfErr}
+use Rattle.std.specs.Result.{IsErrAnd}
+use Rattle.std.specs.Io.KnownBytes.{Keeps}
+use Rattle.std.specs.declared.alloc.Global.{Global}
+use Rattle.std.specs.declared.sync.Arc.{Arc}
+use Rattle.set_line.specs.Terms.{TermsValue}
+use Rattle.line_blocks.specs.BlockText.{RecordStyle}
+use Rattle.line_lane.specs.declared.fault.SourceFault.{SourceFault}
+use Rattle.set_run.specs.declared.run_end.ClosedLane.{ClosedLane}
+use Rattle.run_texts.specs.Streaming.{AreOfSources, HaveCome, IsCutAtLine, IsCutShort, IsPartOfMerge, SourceLine, with_own_terms}
+use Rattle.run_texts.specs.declared.fault.ToolFault.{ToolFault}
+use Rattle.run_texts.specs.declared.fault.ToolFault.TheVariants.{Font, OutOfMemory, Write}
+use Rattle.tfm_tables.specs.declared.fault.FontFault.{FontFault}
+use Rattle.tfm_tool.specs.Jobs.{told_with_terms}
+use Rattle.tfm_tool.specs.Status.{failure_of, is_before_batch, is_before_files, status_of}
+use Rattle.tfm_tool.specs.Stopped.{IsBroken, IsHalted, with_settings}
+use Rattle.tfm_tool.specs.Told.{Told, told_by}
+use Rattle.tfm_tool.specs.declared.delivery.Delivery.{Delivery}
+use Rattle.tfm_tool.specs.declared.delivery.Delivery.TheVariants.{AtTheEnd, AsTheyCome}
+use Rattle.tfm_tool.specs.declared.failure.Failure.{Failure}
+use Rattle.tfm_tool.specs.declared.failure.Failure.TheVariants.{Tool}
+use Rattle.tfm_tool.specs.declared.files.ReadFault.{ReadFault}
+use Rattle.tfm_tool.specs.declared.files.ReadFault.TheVariants.{NotRead as Unread, OutOfMemory as NoRoom}
+
+-- ---- failures that are handed on
+
+-- a property of a failure, if it is handed on
+pub handed_on : {A : Type 0} (r : Result A Failure) (failure : Failure) (P : Failure → Type 0) → IsErrAnd r (λ told. told ≡ failure) → P failure → IfErr r P
+handed_on (Ok a) failure P is p = tt
+handed_on (Err told) failure P is p = subst P (sym is) p
+
+-- the failure that is returned is the one that was handed on
+pub handed_as : {A : Type 0} (r : Result A Failure) (failure told : Failure) → IsErrAnd r (λ t. t ≡ failure) → r ≡ Err told → failure ≡ told
+handed_as (Ok a) failure told is same = elim is [ ]
+handed_as (Err t) failure told is same = cc
+
+-- a failure of a font or a file is none of the batch
+pub not_of_batch : {A : Type 0} (r : Result A Failure) (failure told : Failure) → IsErrAnd r (λ t. t ≡ failure) → is_before_batch failure ≡ true → r ≡ Err told
+    → is_before_batch told ≡ false → ⊥
+not_of_batch r failure told is early same late = true≢false (sym (subst (λ f. is_before_batch f ≡ true) (handed_as r failure told is same) early) ∙ late)
+
+-- a font that wasn't read is a failure before the batch
+pub unread_early : (fault : ReadFault) → is_before_batch (failure_of fault) ≡ true
+unread_early Unread = refl
+unread_early NoRoom = refl
+
+-- and so is one that isn't accepted
+pub refused_early : (fault : ToolFault) → (fault ≡ OutOfMemory) ⊎ ((f : FontFault) × (fault ≡ Font f)) → is_before_batch (Tool fault) ≡ true
+refused_early fault which =
+    elim which [ inl is ↦ ap (λ f. is_before_batch (Tool f)) is | inr has ↦ ap (λ f. is_before_batch (Tool f)) has.1 ]
+
+-- both come before the files, too
+pub unread_first : (fault : ReadFault) → is_before_files (failure_of fault) ≡ true
+unread_first Unread = refl
+unread_first NoRoom = refl
+
+pub refused_first : (fault : ToolFault) → (fault ≡ OutOfMemory) ⊎ ((f : FontFault) × (fault ≡ Font f)) → is_before_files (Tool fault) ≡ true
+refused_first fault which =
+    elim which [ inl is ↦ ap (λ f. is_before_files (Tool f)) is | inr has ↦ ap (λ f. is_before_files (Tool f)) has.1 ]
+
+-- known bytes are kept if nothing is written
+pub keeps_same : (known : Option (List ℕ)) → Keeps known known
+keeps_same None = tt
+keeps_same (Some bytes) = refl
+
+-- ---- a batch that was cut short
+
+module _ {S : Type 0} (to_come : S → Option (List (List ℕ))) (failed : S → Option SourceFault) where
+  -- what a source tells, with its settings in front
+  abbrev told_sources : List (S × Arc TermsValue Global) → List (TermsValue × Told)
+  told_sources sources = with_settings (map (told_with_terms (told_by to_come failed)) sources)
+
+  as_many_told : (sources : List (S × Arc TermsValue Global)) → length (with_own_terms sources) ≡ length (told_sources sources)
+  as_many_told [] = refl
+  as_many_told (s ∷ sources) = ap suc (as_many_told sources)
+
+  have_come : (number : ℕ) (style : RecordStyle) (sources : List (S × Arc TermsValue Global)) (lines : List SourceLine)
+      → HaveCome to_come failed style number (with_own_terms sources) lines
+      → HaveCome (λ told. told.lines) (λ told. told.fault) style number (told_sources sources) lines
+  have_come number style [] lines come = tt
+  have_come number style (s ∷ sources) lines come =
+      let lane : ClosedLane Told = record { source = told_by to_come failed come.0.1.source; end = come.0.1.end } in
+      ((come.0.0, lane, come.0.2, come.0.3), have_come (number + 1) style sources lines come.1)
+
+  part_as_told : (style : RecordStyle) (sources : List (S × Arc TermsValue Global)) (lines : List SourceLine)
+      → IsPartOfMerge to_come failed style (with_own_terms sources) lines
+      → IsPartOfMerge (λ told. told.lines) (λ told. told.fault) style (told_sources sources) lines
+  part_as_told style sources lines part =
+      (have_come 1 style sources lines part.0, subst (λ many. AreOfSources many lines) (as_many_told sources) part.1)
+
+  at_line_as_told : (style : RecordStyle) (sources : List (S × Arc TermsValue Global)) (w w' : Option (List ℕ))
+      → IsCutAtLine to_come failed style (with_own_terms sources) w w'
+      → IsCutAtLine (λ told. told.lines) (λ told. told.fault) style (told_sources sources) w w'
+  at_line_as_told style sources w w' cut =
+      elim cut [ inl kept ↦ inl kept | inr has ↦ inr (has.0, part_as_told style sources has.0 has.1, has.2) ]
+
+  short_as_told : (style : RecordStyle) (sources : List (S × Arc TermsValue Global)) (w w' : Option (List ℕ))
+      → IsCutShort to_come failed style (with_own_terms sources) w w'
+      → IsCutShort (λ told. told.lines) (λ told. told.fault) style (told_sources sources) w w'
+  short_as_told style sources w w' (lines, written, unwritten, part, both, appended) =
+      (lines, written, unwritten, part_as_told style sources lines part, both, appended)
+
+  -- what a batch had written, by what its sources tell
+  pub halted_as_told : (delivery : Delivery) (style : RecordStyle) (sources : List (S × Arc TermsValue Global)) (w w' : Option (List ℕ))
+      → IsHalted to_come failed delivery style (with_own_terms sources) w w'
+      → IsHalted (λ told. told.lines) (λ told. told.fault) delivery style (told_sources sources) w w'
+  halted_as_told AtTheEnd style sources w w' is = is
+  halted_as_told AsTheyCome style sources w w' is = at_line_as_told style sources w w' is
+
+  pub broken_as_told : (delivery : Delivery) (style : RecordStyle) (sources : List (S × Arc TermsValue Global)) (w w' : Option (List ℕ))
+      → IsBroken to_come failed delivery style (with_own_terms sources) w w'
+      → IsBroken (λ told. told.lines) (λ told. told.fault) delivery style (told_sources sources) w w'
+  broken_as_told AtTheEnd style sources w w' is = tt
+  broken_as_told AsTheyCome style sources w w' is = short_as_told style sources w w' is
+
+-- ---- the end of a batch
+
+-- known bytes are kept by a writer that stays as it was
+pub kept_by : {W : Type 0} (contents : W → Option (List ℕ)) (before after : W) → after ≡ before → Keeps (contents before) (contents after)
+kept_by contents before after same = subst (λ w. Keeps (contents before) (contents w)) (sym same) (keeps_same (contents before))
+
+-- the status of a summary with which an allocation has failed
+pub status_five : {A : Type 0} (r : Result A Failure) (status : ℕ) → r ≡ Err (Tool OutOfMemory)
+    → IfErr r (λ failure. (failure ≡ Tool Write) ⊎ (status_of failure ≡ status)) → 5 ≡ status
+status_five (Ok a) status same told = absurd (cc)
+status_five (Err failure) status same told =
+    let is : failure ≡ Tool OutOfMemory = cc in
+    elim told [ inl written ↦ absurd (cc) | inr five ↦ sym (ap status_of is) ∙ five ]

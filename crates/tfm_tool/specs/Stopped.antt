@@ -1,0 +1,100 @@
+-- What was written by a request that ended with exit status 5, since an allocation, a thread start or the writer
+-- failed.
+-- This project's own; the output of a stream that is cut short is defined in Streaming of `run_texts`.
+use Rattle.std.specs.Prelude.{◌⊎◌, ℕ, List, map, take, Option}
+use Rattle.std.specs.List.{AllZip}
+use Rattle.std.specs.Io.KnownBytes.{Keeps}
+use Rattle.set_line.specs.Terms.{TermsValue}
+use Rattle.line_blocks.specs.BlockText.{RecordStyle}
+use Rattle.line_lane.specs.declared.fault.SourceFault.{SourceFault}
+use Rattle.run_texts.specs.Streaming.{IsCutAtLine, IsCutShort}
+use Rattle.command_line.specs.declared.request.Jobs.{Jobs}
+use Rattle.command_line.specs.declared.request.Request.{Request}
+use Rattle.command_line.specs.declared.request.Request.TheVariants.{Counts, List as ListFont, Pairs, Check, Set, Stream, Each}
+use Rattle.command_line.specs.declared.request.Setting.{Setting}
+use Rattle.tfm_tool.specs.Checking.{AreChecked}
+use Rattle.tfm_tool.specs.Jobs.{IsSourceOfJob, jobs_in}
+use Rattle.tfm_tool.specs.Named.{file_bytes_of, stream_bytes_of}
+use Rattle.tfm_tool.specs.Requests.{AreSetSources}
+use Rattle.tfm_tool.specs.Runs.{IsPrinted, layout_style}
+use Rattle.tfm_tool.specs.Told.{Told}
+use Rattle.tfm_tool.specs.declared.delivery.Delivery.{Delivery}
+use Rattle.tfm_tool.specs.declared.delivery.Delivery.TheVariants.{AtTheEnd, AsTheyCome}
+
+-- ---- a batch
+
+module _ {S : Type 0} (to_come : S → Option (List (List ℕ))) (failed : S → Option SourceFault) where
+  -- what a batch with these sources, each with its settings, had written when an allocation failed: nothing, or
+  -- the beginning of the output of a stream, up to the end of a line
+  abbrev pub IsHalted : Delivery → RecordStyle → List (TermsValue × S) → Option (List ℕ) → Option (List ℕ) → Type 0
+  IsHalted AtTheEnd style sources before after = Keeps before after
+  IsHalted AsTheyCome style sources before after = IsCutAtLine to_come failed style sources before after
+
+  -- what it had written when the writer failed: the beginning of the output of a stream; about output that is
+  -- written at the end, nothing is stated
+  abbrev pub IsBroken : Delivery → RecordStyle → List (TermsValue × S) → Option (List ℕ) → Option (List ℕ) → Type 0
+  IsBroken AtTheEnd style sources before after = Unit {0}
+  IsBroken AsTheyCome style sources before after = IsCutShort to_come failed style sources before after
+
+-- sources, each with its settings in front
+abbrev pub with_settings : List (Told × TermsValue) → List (TermsValue × Told)
+with_settings sources = map (λ source. (source.1, source.0)) sources
+
+-- what was written if an allocation failed in a batch or after it: the whole output, with which the exit status
+-- is 5, or what the batch had written
+abbrev pub IsStopped : Delivery → List (Told × TermsValue) → RecordStyle → Option (List ℕ) → Option (List ℕ) → Type 0
+IsStopped delivery sources style before after =
+    IsPrinted delivery sources style before after 5
+    ⊎ IsHalted (λ told. told.lines) (λ told. told.fault) delivery style (with_settings sources) before after
+
+-- what was written if the writer failed, at a write or at the last flush: the whole output, or what the batch had
+-- written
+abbrev pub IsUnwritten : Delivery → List (Told × TermsValue) → RecordStyle → Option (List ℕ) → Option (List ℕ) → Type 0
+IsUnwritten delivery sources style before after =
+    ((status : ℕ) × IsPrinted delivery sources style before after status)
+    ⊎ IsBroken (λ told. told.lines) (λ told. told.fault) delivery style (with_settings sources) before after
+
+-- ---- requests
+-- The parameters: the known contents of a file, by its name, and of standard input; and the contents of the
+-- output before and after.
+
+module _ (known : List ℕ → Option (List ℕ)) (input before after : Option (List ℕ)) where
+  -- what a request of `set` or `stream` had written, as a property of its sources
+  abbrev pub IsSetUntil :
+      (List (Told × TermsValue) → RecordStyle → Option (List ℕ) → Option (List ℕ) → Type 0) → List (Option (List ℕ)) → Setting → Type 0
+  IsSetUntil Until bytes setting =
+      (sources : List (Told × TermsValue))
+      × AreSetSources known input setting bytes sources
+      × Until sources (layout_style setting.layout) before after
+
+module _ (known : List ℕ → Option (List ℕ)) (before after : Option (List ℕ)) where
+  -- what a request of `each` had written, as a property of its sources
+  abbrev pub IsEachUntil :
+      (List (Told × TermsValue) → RecordStyle → Option (List ℕ) → Option (List ℕ) → Type 0) → Jobs → Type 0
+  IsEachUntil Until asked =
+      (sources : List (Told × TermsValue))
+      × AllZip (IsSourceOfJob known asked.layout) (jobs_in asked.words.items) sources
+      × Until sources (layout_style asked.layout) before after
+
+module _ (known : List ℕ → Option (List ℕ)) (input before after : Option (List ℕ)) where
+  -- what a request had written when an allocation failed, if it had written anything: `check` the lines of some
+  -- of its fonts, from the first one on; `counts`, `list` and `pairs` nothing
+  abbrev pub HasStopped : Request → Type 0
+  HasStopped (Counts _ _) = ⊥
+  HasStopped (ListFont _ _ _ _) = ⊥
+  HasStopped (Pairs _ _ _ _) = ⊥
+  HasStopped (Check asked) =
+      (count : ℕ) × (status : ℕ) × AreChecked known input (take count asked.fonts.items) before after status
+  HasStopped (Set setting) = IsSetUntil known input before after (IsStopped AtTheEnd) (file_bytes_of known setting.files.items) setting
+  HasStopped (Stream setting) = IsSetUntil known input before after (IsStopped AsTheyCome) (stream_bytes_of known input setting.files.items) setting
+  HasStopped (Each jobs) = IsEachUntil known before after (IsStopped AtTheEnd) jobs
+
+  -- what a request had written when the writer failed; this is stated for `stream` only
+  abbrev pub HasBroken : Request → Type 0
+  HasBroken (Counts _ _) = Unit {0}
+  HasBroken (ListFont _ _ _ _) = Unit {0}
+  HasBroken (Pairs _ _ _ _) = Unit {0}
+  HasBroken (Check _) = Unit {0}
+  HasBroken (Set _) = Unit {0}
+  HasBroken (Stream setting) = IsSetUntil known input before after (IsUnwritten AsTheyCome) (stream_bytes_of known input setting.files.items) setting
+  HasBroken (Each _) = Unit {0}
