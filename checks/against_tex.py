@@ -6,7 +6,8 @@ instruction, and the font lacks a few of the bytes. Three of seven fonts are set
 short runs are set with each of 30 small random fonts, whose programs have all eight operations and both
 boundaries. TeX runs once for each font, in batch mode, and \\showbox prints the contents of each box.
 
-Sizes of random texts such as 10.95pt are compared with \\number\\dimen0 after \\dimen0=10.95pt.
+Sizes of random texts such as 10.95pt are compared with \\number\\dimen0 after \\dimen0=10.95pt. The dimensions
+of `list --size` are compared with those of TeX's fonts at the same size.
 
 The differences that docs/TEX.md lists are avoided in these ways. A space is written as \\ , which has the
 width of parameter 2 whatever precedes it, also at both ends. Bytes other than letters are written with
@@ -18,7 +19,7 @@ import os
 import random
 import re
 
-from lib.base import PROGRAM, Case, environment, execute, read, rows
+from lib.base import PROGRAM, Case, environment, execute, output, read, rows
 from lib.clib import DONE, RANGE, U32, LibraryCase, call
 from lib.tex import fonts
 from lib.tfm import Font
@@ -130,6 +131,41 @@ class Sizes(LibraryCase):
             status, size = call(self.prefix, "size", text.encode(), result=U32(0))
             wanted = (DONE, number) if 1 <= number <= LARGEST else (RANGE, 0)
             self.same(text, wanted, (status, size.value))
+
+
+class Listings(Case):
+    """Fonts at a size, as TeX reads them"""
+
+    def dimensions(self, font, size, codes, params):
+        """The width, height and depth of each code, and the parameters, in scaled points."""
+        boxes = (f"\\setbox0=\\hbox{{\\char{code}}}\\message{{[\\number\\wd0 ,\\number\\ht0 ,\\number\\dp0 ]}}\n"
+                 for code in codes)
+        fontdimens = (f"\\message{{[\\number\\fontdimen{number}\\f ]}}\n" for number in params)
+        self.file("list.tex", "\\catcode123=1 \\catcode125=2 \\batchmode\n"
+                  f"\\font\\f={font} at {size}\\relax \\f\n" + "".join((*boxes, *fontdimens)) + "\\end\n")
+        env = environment(TEXINPUTS=".", max_print_line="100000")
+        execute("tex", "-ini", "-interaction=batchmode", "list.tex", cwd=self.room, env=env, timeout=100)
+        found = re.findall(r"\[([-\d,]+)\]", read(os.path.join(self.room, "list.log")))
+        return [tuple(map(int, numbers.split(","))) for numbers in found]
+
+    # Mutants of `list`: at the design size; at a size without its fraction.
+    @rows((f"{font} at {size}", font, size) for font in ("cmr10", "cmmi10", "cmex10")
+          for size in ("12pt", "10.95pt", "4mm", "150pt", "1sp"))
+    def test_sizes(self, font, size):
+        """The dimensions of characters and the parameters of `list --size` are those of TeX."""
+        self.need("tex", "kpsewhich", "cmr10")
+        path = output("kpsewhich", font + ".tfm").strip()
+        status, out, err = execute(PROGRAM, "list", "--size", size, path)
+        self.same("exit status", (0, ""), (status, err))
+        rows_of = [line.split() for line in out.splitlines()]
+        # The box of a character has no negative height or depth.
+        chars = {int(row[1]): (int(row[3]), max(int(row[5]), 0), max(int(row[7]), 0))
+                 for row in rows_of if row[0] == "char"}
+        # Parameter 1 is the slant, which isn't scaled.
+        params = {int(row[1]): (int(row[2]),) for row in rows_of if row[0] == "param" and row[1] != "1"}
+        wanted = self.dimensions(font, size, chars, params)
+        self.same("dimensions", wanted, [*chars.values(), *params.values()])
+        self.same("all", True, len(chars) == 128 and len(params) >= 5)
 
 
 class Boxes(Case):

@@ -43,6 +43,12 @@ class Package(Case):
         self.same("fields", f"tfmset {version} {MAINTAINER}",
                   output("dpkg-deb", "--showformat=${Package} ${Version} ${Maintainer}", "-W", self.package))
 
+    # Mutant of scripts/deb: the oldest version in place of the newest.
+    def test_needed_version_of_the_c_library(self):
+        found = re.findall(rb"GLIBC_([0-9.]*[0-9])", read(PROGRAM, "rb"))
+        newest = max(found, key=lambda version: [int(part) for part in version.split(b".")]).decode()
+        self.same("depends", f"libc6 (>= {newest})", output("dpkg-deb", "--showformat=${Depends}", "-W", self.package))
+
     def test_files_and_checksums(self):
         top = self.top + "/files"
         self.same("files", FILES, files(top, ("DEBIAN",)))

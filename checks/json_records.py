@@ -207,6 +207,22 @@ class Lines(Case):
         """The schema refuses a line."""
         self.assertFalse(is_valid(json.loads(line), SCHEMA))
 
+    # Mutant of docs/records.schema.json: a number has no maximum.
+    def test_each_bound_of_the_schema(self):
+        """Without any minimum, maximum or end of a list, or with other members, a line that is refused is accepted."""
+        def bounds(node):
+            for name, value in list(node.items() if isinstance(node, dict) else enumerate(node)):
+                if name in ("minimum", "maximum", "minItems", "additionalProperties", "required") or value is False:
+                    yield node, name
+                elif isinstance(value, (dict, list)):
+                    yield from bounds(value)
+        count = 0
+        for node, name in bounds(SCHEMA):
+            count, value = count + 1, node.pop(name)
+            self.same((name, value), True, any(is_valid(json.loads(line), SCHEMA) for line in CASES["refused_by_schema"]))
+            node[name] = value
+        self.none([], count, 40)
+
     def test_with_jsonschema(self):
         valid = other_validator()
         if not valid:

@@ -138,6 +138,12 @@ class Functions(LibraryCase):
         header = read(self.prefix + "/include/tfmset.h")
         version = re.search(r"^#define TFMSET_VERSION (\d+)u$", header, re.M)
         self.same("version", (wanted, wanted), (library.tfmset_version(), int(version.group(1))))
+        # Mutants of scripts/library: another version in the pkg-config file, or in the name of the shared library.
+        self.assertIn(f"\nVersion: {'.'.join(numbers)}\n", read(self.lib + "/pkgconfig/tfmset.pc"))
+        links = [os.readlink(f"{self.lib}/libtfmset.so{end}") for end in ("", ".0")]
+        self.same("links", ["libtfmset.so.0", "libtfmset.so." + ".".join(numbers)], links)
+        for name, mode in ((links[1], "755"), ("libtfmset.a", "644"), ("pkgconfig/tfmset.pc", "644")):
+            self.same(f"mode of {name}", mode, f"{os.stat(self.lib + '/' + name).st_mode & 0o777:o}")
         policies = re.findall(r"^#define TFMSET_(?:REFUSE|SKIP) (\d)u$", header, re.M)
         self.same("policies, which library_lines passes as numbers", ["0", "1"], policies)
         self.same("a size too large", RANGE, self.call("check", b"", 1 << 27, result=Fault())[0])

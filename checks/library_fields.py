@@ -9,7 +9,7 @@ import itertools
 import json
 import re
 
-from lib.base import DEMO, PROGRAM, execute, has, output, read
+from lib.base import DEMO, PROGRAM, ROOT, execute, files, has, output, read
 from lib.clib import encode
 from lib.docs import font_errors
 from lib.tfm import BOUNDARY, NAMES, Font, changed, make, sample, scaled
@@ -27,6 +27,13 @@ REFUSALS = {None: "SET", "missing": "MISSING", "too-long": "TOO_LONG", "steps": 
 SAMPLES = ("demo", "left_boundary", "ligature_7", "no_characters")
 # The lines are set, have too many steps, or a missing character, and one is too long.
 TEXT, SETTINGS = b"a b\nab\nab|ac ad\naQ\n" + b"a" * 65536 + b"\n", ((2, "refuse"), (1 << 24, "skip"))
+# Types of the parameters of the exported functions in the sources, in the header and in the module. The header has a
+# length after each array, and for a few parameters another name.
+TYPES = {"u32": ("uint32_t", ctypes.c_uint32), "u64": ("uint64_t", ctypes.c_uint64)}
+POINTERS = {"u8": "uint8_t", "u32": "uint32_t", "usize": "size_t", "TfmsetEncoded": "struct tfmset_encoded",
+            **{"Tfmset" + name.strip("_").title().replace("About", "Font"): "struct tfmset_" + title
+               for name, title in STRUCTS.items()}}
+OTHER_NAMES = {"told": "fault", "report": "encoded"}
 OFFSETS = """#include <stddef.h>
 #include <stdio.h>
 #include <tfmset.h>
@@ -114,6 +121,50 @@ class Fields(LinesCase):
                 sign = 0 if issubclass(kind, ctypes.Structure) else int(kind(-1).value < 0)
                 wanted.append(f"{title} {field} {place.offset} {place.size} {sign}")
         self.same("fields", sorted(wanted), sorted(seen))
+
+    # Mutants: `uint32_t source` in the header, and [_u32, _u32, _u32] for version, source and first line in the module.
+    def test_parameters(self):
+        """The functions of the header and of the module have the parameters of the exported functions."""
+        sources = "".join(read("crates/tfmset_c/src/" + name) for name in files(ROOT + "/crates/tfmset_c/src"))
+        exported = re.findall(r'extern "C" fn tfmset_(\w+)\((.*?),?\s*\) -> u32\n', sources, re.S)
+        declared = dict(re.findall(r"^uint32_t tfmset_(\w+)\((.*?)\);", self.header, re.M | re.S))
+        self.same("functions", set(declared), {name for name, _ in exported})
+        for name, text in exported:
+            wanted, kinds = [], []
+            for parameter, kind in re.findall(r"(\w+): ([^,]+)", re.sub(r"^\s*alloc: Global,?\s*", "", text)):
+                parameter = OTHER_NAMES.get(parameter, parameter)
+                if kind in TYPES:
+                    wanted.append(f"{TYPES[kind][0]} {parameter}")
+                    kinds.append(TYPES[kind][1])
+                    continue
+                changes, array, of = re.fullmatch(r"&(mut )?(\[)?(\w+)\]?", kind).groups()
+                parameter = "length" if parameter == "count" and "records" in name else parameter
+                wanted += [f"{'' if changes else 'const '}{POINTERS[of]} *{parameter}"]
+                wanted += [f"size_t {parameter}_length"] if array else []
+                kinds += [ctypes.c_void_p if changes else ctypes.c_char_p] + [ctypes.c_size_t] * bool(array)
+            self.same(name, wanted or ["void"], [" ".join(one.split()) for one in declared.get(name, "").split(",")])
+            function = getattr(self.tfmset._library, "tfmset_" + name)
+            self.same(f"{name} in the module", (kinds, ctypes.c_uint32), (list(function.argtypes), function.restype))
+
+    def test_largest_numbers(self):
+        """The largest numbers of a source and a line are those of the record, in C and in Python."""
+        source, first = (1 << 64) - 1, (1 << 64) - 2
+        record = f"{source}:{first} set 334233 c111=334233\n".encode()
+        self.same("in Python", record, self.tfmset.Font(read(DEMO, "rb")).records(b"o", source=source, first_line=first))
+        main = """#include <stdio.h>
+#include <tfmset.h>
+int main(void)
+{
+    static uint8_t font[131068], records[99];
+    size_t count = 0, length = fread(font, 1, sizeof font, stdin);
+    unsigned code = tfmset_records(font, length, 0, 9, 0, (const uint8_t *)"o", 1, 1, UINT64_MAX, UINT64_MAX - 1,
+                                   records, sizeof records, &count);
+    fwrite(records, 1, count, stdout);
+    return (int)code;
+}
+"""
+        out = self.built(self.file("largest.c", main), "cc", "-std=c99")
+        self.same("in C", record.decode(), self.output(out, given=DEMO))
 
     def test_constants(self):
         """The constants are the numbers that the library takes and returns."""

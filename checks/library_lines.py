@@ -66,6 +66,8 @@ def jobs():
     for operation in (1, 2, 3, 7, 11):
         yield Job(f"fonts/ligature_{operation}.tfm", b"ab" * 1500 + b"\nab", 655361)
     draw = random.Random(1)
+    # Mutants of tfmset_c: a table of texts is never made; it is made for each line.
+    yield Job("demo.tfm", read("examples/demo.txt", "rb") * 500, missing="skip")
     long_fonts = "left_boundary right_boundary ligature_0 ligature_3 largest without_space no_characters".split()
     for name, missing in itertools.product(["demo", *("fonts/" + name for name in long_fonts)], policies):
         words = (draw.choices(b"abc f\x80", (20, 20, 20, 10, .1, .1), k=draw.randrange(90)) for _ in range(1700))
@@ -181,12 +183,16 @@ class Records(LinesCase):
         job = Job("demo.tfm", text * (20_000_000 // len(text)))
         self.same("20 MB", True, job.records(1) == self.tfmset.Font.from_file(job.font).records(job.text))
 
-    # Mutant of the library: `tfmset_pair` keeps a block that it allocates.
+    # Mutants of the library: `tfmset_pair` keeps a block that it allocates; the list of the items of a line, the codes of
+    # a line in UTF-8, or both lists of an `EncodedRoom`, aren't used for the next line.
     def test_failed_allocations_and_threads_in_c(self):
-        errors = self.in_c(Job("demo.tfm", read("examples/demo.txt", "rb"), missing="skip"), "more")
+        text = read("examples/demo.txt", "rb") * 40
+        errors = self.in_c(Job("demo.tfm", text, missing="skip"), "more")
         counts = [int(field) for field in errors.split() if field.isdigit()]
         self.same("failed allocations", (20, True, 1), (len(counts), all(counts), errors.count("\n")))
-        print(f"allocations that failed: {sum(counts)}")
+        print(f"allocations that failed: {counts}")
+        # If only one fails, the others are made, too.
+        self.same("calls that allocate for each line", [], [count for count in counts[::2] if count > text.count(b"\n") / 2])
 
     @rows((kinds, kinds) for kinds in ("address,undefined", "thread"))
     def test_with_sanitizers(self, kinds):

@@ -1,11 +1,13 @@
 """Lints of errors, of functions that write texts, and of the sizes of requests for memory.
 
 Each value that reports a failed call is in a line that hands on the error of a call. The values report
-failed allocation, a thread that couldn't be started, a failed read, opening or write, and an abandoned lane.
+failed allocation, a thread that couldn't be started, a failed read, opening or write, an abandoned lane, and
+any other error of a reader or a writer.
 Accepted are: a `From`; a `map_err` of a call, the arm `Err(_)` of a match on it, the `else` of a `let Ok(..)`
 of it and an `if` on its `is_err`, if the call can fail in this way only; and the arm of a value of the same
-kind. Each other line needs a row in checks/cases/origins.toml: the file, the line, and the reason. A row
-without a line is an error, too. Errors that `?` passes on aren't written out.
+kind. Each other line needs a row in checks/cases/origins.toml: the file, the head of the block that the line
+is in, the line, and the reason. A row without a line is an error, too. Errors that `?` passes on aren't
+written out. Of a function whose `None` reports a failed call, each line that may return it needs a row.
 
 The lint reads formatted lines and knows no types. Tests and the crates of tests are left out; contracts,
 patterns and comparisons make no value.
@@ -26,7 +28,8 @@ FORMS = "|".join(re.escape(value) if "::" in value or value[0] == "." else r"(?:
 VALUE = re.compile(rf"(?<![\w.])(?:{FORMS})\b(?!::)|\.give_up\(")
 # What has no value: comments, contracts, comparisons, declarations.
 NO_VALUE = re.compile(r"//.*|^.*[≡⊎×].*|^\s*(?:ensures|requires|ghost)\b.*|[=!]= ?(?:Some\()?[\w:]+|-> .*|"
-                      r"^\s*(?:pub )?(?:struct|enum|fn|const fn|impl) .*|^\s*\w+: Result<.*|^\s*\w+,$")
+                      r"^\s*(?:pub )?(?:struct|enum|fn|const fn|impl) .*|^(?:pub )?const \w+: u32 = \d+;|"
+                      r"^\s*\w+: Result<.*|^\s*\w+,$")
 IMPORT = re.compile(r"^(?:pub )?use [^;]*;", re.M)
 # A function that returns a Result, and the type of its error.
 FUNCTION = re.compile(r"\bfn (\w+)(?:<[^>]*>)?\((?:[^()]|\([^()]*\))*\)\s*->\s*Result<(?:[^{;]*?), "
@@ -106,6 +109,11 @@ def heads_of(lines, i):
     return found
 
 
+def head_of(lines, i):
+    """The head of the block that a line is in, in one line."""
+    return " ".join((heads_of(lines, i) + [""])[1].split())
+
+
 def is_handed_on(lines, i, value, file, functions):
     """Whether a value is in one of the accepted forms."""
     own, *heads = heads_of(lines, i)
@@ -127,21 +135,34 @@ def is_handed_on(lines, i, value, file, functions):
 
 
 def origins(text, file, functions):
-    """The lines of a file with such a value, each with whether it is accepted."""
+    """The lines of a file with such a value, each with the head of its block and whether it is accepted."""
     text = IMPORT.sub(lambda found: "\n" * found[0].count("\n"), text)
     plain = [NO_VALUE.sub("", line) if "impl" not in line else line for line in text.split("\n")]
     for i, line in enumerate(plain):
         body = line.partition("=>")[2] if "=>" in line else line
         for value in VALUE.findall(body) if not line.startswith("impl") else ():
             if "matches!(" not in " ".join(heads_of(plain, i)[:2]):
-                yield " ".join(line.split()), is_handed_on(plain, i, value, file, functions)
+                right = is_handed_on(plain, i, value, file, functions)
+                yield head_of(text.split("\n"), i), " ".join(line.split()), right
+
+
+def empty_results(text, names):
+    """The lines by which functions of a file may return `None`, each with the head of its block."""
+    lines, inside = text.split("\n"), False
+    for i, line in enumerate(lines):
+        begins = re.match(r" *(?:pub(?:\(crate\))? )?fn (\w+)", line)
+        inside = begins[1] in names if begins else inside
+        if inside and re.search(r"\bNone\b|\?[;,)]|\.ok\(\)", NO_VALUE.sub("", line)):
+            yield head_of(lines, i), " ".join(line.split())
 
 
 def hiding_imports(text):
     """The imports that rename such a value or its type, or leave out its type."""
-    heads = {value.split("::")[0] for value in KINDS if value[0] != "."}
-    types = "|".join(value.split("::")[0] for value in KINDS if "::" in value)
-    return [found for found in IMPORT.findall(text) if re.search(rf"\b(?:{types}) ?::", found)
+    values = [value for value, kind in KINDS.items() if kind != "io" and value[0] != "."]
+    heads = {value.split("::")[0] for value in values}
+    types = "|".join(value.split("::")[0] for value in values if "::" in value)
+    return [found for found in IMPORT.findall(text)
+            if re.search(rf"\b(?:{types}) ?::|\bio::(?:\{{[^}}]*)?\bError\b", found)
             or any(old in heads and new != "_" for old, new in re.findall(r"(\w+) as (\w+)", found))]
 
 
@@ -181,16 +202,17 @@ class Origins(Case):
     def test_lines(self):
         texts = dict(sources())
         functions, count = Functions(texts), 0
-        rows_left = [tuple(row[:2]) for row in RULES["rows"]]
+        rows_left = [tuple(row[:3]) for row in RULES["rows"]]
         for name, text in texts.items():
-            for line, right in origins(text, name, functions):
+            empty = [(*found, False) for found in empty_results(text, RULES["nothing"].get(name, ()))]
+            for head, line, right in [*origins(text, name, functions), *empty]:
                 count += 1
-                if not right and (name, line) in rows_left:
-                    rows_left.remove((name, line))
+                if not right and (name, head, line) in rows_left:
+                    rows_left.remove((name, head, line))
                 elif not right:
-                    self.wrong.append(f"{name}: no failed call leads to this line: {line}")
+                    self.wrong.append(f"{name}: no failed call leads to this line: {line} in {head}")
             self.wrong += [f"{name}: an import hides such a value: {found}" for found in hiding_imports(text)]
-        self.wrong += [f"a row of the table without its line: {name}: {line}" for name, line in rows_left]
+        self.wrong += [f"a row of the table without its line: {row}" for row in rows_left]
         self.none([], count, 20)
 
     @rows((body, body) for body in RULES["wrong"])
@@ -198,7 +220,17 @@ class Origins(Case):
         """A body in which no call failed is found."""
         text = "fn planted() {\n" + "".join(f"    {line}\n" for line in body.split("\n")) + "}"
         functions = Functions({"here/planted.rt": RULES["first"]})
-        self.assertIn(False, [right for _, right in origins(text, "here/planted.rt", functions)])
+        self.assertIn(False, [right for *_, right in origins(text, "here/planted.rt", functions)])
+
+    @rows((body, body) for body in RULES["wrong_heads"])
+    def test_wrong_head(self, body):
+        """A row doesn't accept its line in a block with another head."""
+        text = "fn planted() {\n" + "".join(f"    {line}\n" for line in body.split("\n")) + "}"
+        found = [(head, line) for head, line, _ in origins(text, "here/planted.rt", Functions({}))]
+        found += list(empty_results(text, ["planted"]))
+        self.assertTrue(found)
+        self.assertFalse({(name, *one) for name in {row[0] for row in RULES["rows"]} for one in found}
+                         & {tuple(row[:3]) for row in RULES["rows"]})
 
 
 class Formats(Case):

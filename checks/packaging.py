@@ -1,9 +1,10 @@
-"""The command table, the man page, the completions and scripts/install.
+"""The command table, the man page, the completions, scripts/install, and ./tfmset.
 
 scripts/commands.toml has to agree with the help of the program and of each subcommand, and with the error
 messages of the parser; scripts/command_pages must change nothing. What the shells complete is computed from
 the table. The examples of the man page are run. scripts/install is run in a copy, in which a short script
-replaces ./tfmset, so that nothing is built.
+replaces ./tfmset, so that nothing is built. ./tfmset is run in a repository of four crates, with a short script in
+place of rt.
 """
 import functools
 import os
@@ -11,6 +12,7 @@ import pty
 import re
 import select
 import shlex
+import shutil
 import signal
 import time
 
@@ -64,7 +66,7 @@ class Help(Case):
     def compare_values(self, command, option, about):
         """The range, the units or the choices are those that the parser prints for the value 0. Ranges, except
         that of a size, and choices are in the help, too."""
-        files = ["x"] * (1 if command == "pairs" else 3)
+        files = ["x"] * (1 if command in ("list", "pairs") else 3)
         message = execute(PROGRAM, command, f"--{option['name']}", "0", *files)[2]
         if "units" in option:
             low, high = option["range"]
@@ -273,3 +275,72 @@ class Install(Case):
         seen = self.install(*words, status=failed)
         self.same("result", (status, "", status == 2), (*seen[:2], seen[2].startswith("usage: ")))
         self.same("files", [], files(self.room, ("copy",)))
+
+
+class Build(Case):
+    """./tfmset, which builds the program if necessary"""
+
+    # Mutants: a program that exists is never built again; after a failed build the old program is run; the time of the
+    # program is that of the end of the build.
+    crates = "# The crates.\nother: base\nbase:\nmiddle: base std\ntfmset: middle\n"
+    rt = """#!/bin/sh
+echo "${PWD##*/} $*" >> ../../calls
+if [ -e ../../fail ]; then echo "no proof of ${PWD##*/}"; exit 1; fi
+if [ -e ../../edit ]; then rm ../../edit; sleep 0.1; touch src/main.rt; fi
+[ "${PWD##*/}" = tfmset ] || exit 0
+mkdir -p out
+printf '#!/bin/sh\\necho "$(cat) $# $*"\\nexit 3\\n' > out/tfmset
+chmod +x out/tfmset
+"""
+    built = ["base lib", "middle lib", "tfmset run -- --version"]
+
+    def setUp(self):
+        super().setUp()
+        self.need("flock")
+        shutil.copy(ROOT + "/tfmset", self.room)
+        self.file("crates.txt", self.crates)
+        os.chmod(self.file("bin/rt", self.rt), 0o755)
+        for name in ("other", "base", "middle", "tfmset"):
+            self.file(f"crates/{name}/src/main.rt", "")
+        self.file("crates/base/specs/Lib.antt", "")
+
+    def call(self, wanted, calls, path=None):
+        """Compares the exit status and the output of ./tfmset, and the calls of rt. Returns standard error."""
+        self.file("calls", "")
+        env = environment(PATH=path or self.room + "/bin:" + os.environ["PATH"])
+        status, out, err = execute(self.room + "/tfmset", "a b", "c", given=b"given", cwd="/", env=env)
+        self.same("result, and calls of rt", (*wanted, calls), (status, out, read(self.room + "/calls").splitlines()))
+        return err
+
+    def test_builds_once(self):
+        self.assertRegex(self.call((3, "given 2 a b c\n"), self.built), "proving and building[^\0]*built")
+        self.same("messages", "", self.call((3, "given 2 a b c\n"), []))
+
+    @rows((name, name) for name in ("crates/base/specs/Lib.antt", "crates/other/src/main.rt", "crates.txt"))
+    def test_builds_again(self, name):
+        """The program is built again after a change, and after a file was removed."""
+        self.call((3, "given 2 a b c\n"), self.built)
+        self.file(name, read(self.room + "/" + name))
+        self.call((3, "given 2 a b c\n"), self.built)
+        self.call((3, "given 2 a b c\n"), [])
+        if name.endswith("Lib.antt"):
+            os.remove(self.room + "/" + name)
+            self.call((3, "given 2 a b c\n"), self.built)
+
+    def test_a_change_during_a_build(self):
+        self.file("edit", "")
+        self.call((3, "given 2 a b c\n"), self.built)
+        self.call((3, "given 2 a b c\n"), self.built)
+
+    def test_a_build_that_fails(self):
+        """The last lines of the log are printed, and an older program isn't run."""
+        self.call((3, "given 2 a b c\n"), self.built)
+        self.file("crates/middle/src/main.rt", "fn")
+        self.file("fail", "")
+        self.assertIn("\nno proof of base\n", self.call((70, ""), ["base lib"]))
+
+    def test_without_rt(self):
+        tools = self.other_room()
+        for name in ("bash", "dirname", "readlink", "find", "flock", "cat", "env", "date", "rm", "mkdir"):
+            os.symlink(shutil.which(name), f"{tools}/{name}")
+        self.assertIn("needs rt", self.call((127, ""), [], tools))

@@ -304,36 +304,34 @@ class Scripts(Case):
                 self.same(f"{code} {glyph}", wanted, letter)
         self.none([], count, 100)
 
+    def encoded(self, name, text):
+        """The codes that the program gives each line in an encoding, and its characters that have none."""
+        self.file("no_characters.tfm", sample("no_characters"))
+        options = ("--encoding", name.lower(), "--crlf", "--missing", "skip")
+        out = output(PROGRAM, "stream", *options, f"{self.room}/no_characters.tfm", given=text.encode())
+        for record in out.splitlines()[:-1]:
+            items = record.split()[3:]
+            yield ("".join(" " if item[0] == "s" else chr(int(item[1:])) for item in items if item[0] != "u"),
+                   [chr(int(item[1:], 16)) for item in items if item[0] == "u"])
+
     @rows((name, name) for name in RULES["encodings"])
-    def test_encode_is_the_inverse_of_letters(self, name):
+    def test_the_program_is_the_inverse_of_letters(self, name):
         # Every code with one letter, in a line of its own, except the codes of the line feed and the space.
         letters = [(code, letter) for code, letter in sorted(ENCODINGS[name].items())
                    if len(letter) == 1 and code not in (10, 32)]
-        given = "".join(f"{letter}\n" for _, letter in letters).encode()
-        status, codes, messages = self.script("encode", name, given=given, text="latin-1")
-        lines = codes.split("\n")[:-1]
-        records = "".join(f"1:1 set 0 {' '.join(f'c{ord(code)}=0' for code in line)}\n" for line in lines)
+        lines = list(self.encoded(name, "".join(f"{letter}\n" for _, letter in letters)))
+        records = "".join(f"1:1 set 0 {' '.join(f'c{ord(code)}=0' for code in line)}\n" for line, _ in lines)
         back = self.script("letters", name, given=records.encode())[1].replace("1:1 0.00 ", "").splitlines()
-        # The ASCII character ` is set as ‘, also where the font has a grave accent.
-        wanted = [letter.replace("`", "‘") for _, letter in letters]
-        self.same("letters", (0, "", wanted), (status, messages, back))
+        wanted = [RULES["set_as"][name].get(letter, letter) for _, letter in letters]
+        self.same("letters", ([], wanted), ([line for line in lines if line[1]], back))
         self.none([], len(lines), max(len(letters), 100))
 
     @rows((f"{row['encoding']} {row['text']}", row) for row in RULES["encoded"])
-    def test_encode(self, row):
-        """A text, its codes by TeX's encoding files, and its characters that have no code."""
-        name, without = row["encoding"], row.get("without", "")
-        given = f"\ufefffirst\r\n{row['text']}\r\nlast".encode()
-        status, codes, messages = self.script("encode", name, given=given, text="latin-1")
-        named = re.findall(rf"^encode: line 2: no code in {name} for U\+([0-9A-F]{{4}}) .*\n", messages, re.M)
-        self.same("characters without a code", (list(without), messages.count("\n")),
-                  ([chr(int(code, 16)) for code in named], len(named)))
-        self.same("codes", (int(bool(without)), f"first\n{row['codes']}\nlast"), (status, codes))
-
-    def test_encode_of_bytes_that_are_not_utf_8(self):
-        message = "encode: line 2: no code in T1 for byte 0x{}, which isn't UTF-8\n"
-        self.same("result", (1, "a\nb", message.format("E9") + message.format("FF")),
-                  self.script("encode", "T1", given=b"a\n\xe9b\xff"))
+    def test_encoded(self, row):
+        """A text, its codes by TeX's encoding files, and its characters that have no codes."""
+        text = f"\ufefffirst\r\n{row['text']}\r\nlast"
+        self.same("codes", [("first", ""), (row["codes"], row.get("without", "")), ("last", "")],
+                  [(codes, "".join(dict.fromkeys(uncoded))) for codes, uncoded in self.encoded(row["encoding"], text)])
 
     @rows((" ".join((row["script"], *row["arguments"], row["given"])), row) for row in RULES["messages"])
     def test_message(self, row):
@@ -353,8 +351,7 @@ class Scripts(Case):
         self.same(name, (4, 1), (status, err.count("\n")))
         self.assertIn(message, err)
 
-    @rows((name, name) for name in ("letters", "encode"))
-    def test_closed_pipe(self, name):
+    def test_closed_pipe(self):
         """A closed pipe ends a script without a message."""
         self.same("result", (0, "a\n141\n", ""),
-                  bash(f"set -o pipefail; yes a | {EXAMPLES}/{name} | head -n 1; echo $?", self.room))
+                  bash(f"set -o pipefail; yes a | {EXAMPLES}/letters | head -n 1; echo $?", self.room))

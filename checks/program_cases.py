@@ -1,7 +1,8 @@
 """The program: its arguments, its help, and its exit status and outputs for fonts and files.
 
 The cases are the tables of checks/cases/program. A font in a table is `@NAME CHANGES`, with the changes of
-docs/ERRORS.md; other contents are written as they are. `checks/run --update` writes the files of checks/help.
+docs/ERRORS.md, and bytes that aren't UTF-8 are `hex DIGITS`; other contents are written as they are.
+`checks/run --update` writes the files of checks/help.
 """
 import itertools
 import os
@@ -11,13 +12,16 @@ import unicodedata
 from lib.base import PROGRAM, ROOT, Case, bash, execute, read, rows, table, write
 from lib.tfm import sample
 
-GROUPS = "counts list pairs check unread_fonts unread_files set stream before_a_stream each crlf verbose".split()
+GROUPS = ("counts list pairs check unread_fonts unread_files set stream before_a_stream each crlf encoding "
+          "verbose").split()
 COMMANDS = ("counts", "list", "pairs", "check", "set", "each", "stream")
 HELP = os.path.join(ROOT, "checks", "help")
 
 
 def content(text):
     """The bytes that a table describes."""
+    if text.startswith("hex "):
+        return bytes.fromhex(text[4:])
     return sample(*text[1:].split(" ", 1)) if text.startswith("@") else text.encode()
 
 
@@ -92,7 +96,7 @@ PLANS = tuple(itertools.product(("1", "2", "3", "16"), ("1", "3", "8", None), ("
 class Plans(Case):
     """The cases of `set`, `each` and `stream`, with other numbers of workers, of lines in a block and of slots"""
 
-    @rows((title, case, files) for group in ("set", "stream", "each", "crlf", "unread_files")
+    @rows((title, case, files) for group in ("set", "stream", "each", "crlf", "encoding", "unread_files")
           for title, case, files in cases_of(group) if not re.search("--(workers|block|capacity)", title))
     def test_same(self, case, files):
         """The exit status and both outputs don't depend on the numbers."""
@@ -103,6 +107,29 @@ class Plans(Case):
         for workers, block, slots in PLANS:
             options = ["--workers", workers, "--capacity", slots] + (["--block", block] if block else [])
             self.same(options, wanted, run([command, *options, *others], content(case.get("stdin", "")), self.room))
+
+
+    # Mutants of set_run: a batch with seven workers, with 100 slots, or with 33 files, is out of memory.
+    @rows((command, command) for command in ("set", "stream", "each"))
+    def test_each_number(self, command):
+        """Each number of workers, of lines in a block and of files, and many numbers of slots, give the same records."""
+        font, text = self.file("T", content("@plain")), self.file("F", b"ab\nad\n\n" * 9)
+        words = [font, *["9"] * (command == "each"), text]
+        wanted = run(["set", font, text])
+        numbers = {"--workers": range(1, 17), "--block": range(1, 9), "--capacity": sorted(
+            {100, *range(50, 65536, 1999), *(min(2 ** i + more, 65536) for i in range(1, 17) for more in (-1, 0, 1))})}
+        for option, values in numbers.items():
+            for value in map(str, values):
+                self.same((option, value), wanted, run([command, option, value, *words]))
+        lines = [line[1:] for line in wanted[1].splitlines()]
+        for count in range(1, 65):
+            several = words * count if command == "each" else [font] + [text] * count
+            seen = run([command, "--workers", str(count % 16 + 1), *several])
+            records = {number: [] for number in map(str, range(1, count + 1))}
+            for line in seen[1].splitlines():
+                number = re.match(r"\d+", line)[0]
+                records[number].append(line[len(number):])
+            self.same(f"{count} files", (1, "", [lines] * count), (seen[0], seen[2], [*records.values()]))
 
 
 class Causes(Case):
@@ -140,6 +167,44 @@ class CarriageReturns(Case):
                   "1:4 refused too-long 65536", "1 end complete 4"]
         found = self.seen(b"\r\n".join((a, many, many + b"\r", a + b"\r")), "--crlf", "--missing", "skip")
         self.same("records", wanted, [line.partition(" c97=")[0] for line in found.splitlines()])
+
+
+class Encoded(Case):
+    """Text in UTF-8, with lines that are too long for a table, and with many lines"""
+
+    def seen(self, text, *options):
+        """The records of `set` and of `stream`, without their items."""
+        font, path = self.file("font", content("@plain 1: 00FD00FF")), self.file("text", text)
+        options = ["--encoding", "t1", *options]
+        found = run(["set", *options, font, path])[1]
+        self.same("stream", found, run(["stream", *options, font], text)[1])
+        return [line.partition(" c255=")[0] for line in found.splitlines()]
+
+    def test_lengths(self):
+        """A length counts the bytes of a line, also those of a byte order mark, and isn't decoded."""
+        sharp, mark, most = "ß".encode(), "\ufeff".encode(), 32767
+        lines = (mark + sharp * (most - 1), sharp * most, sharp * (most + 1), b"\xff" * 65536, b"\xff" * 65535,
+                 sharp * most + b"\xff")
+        wanted = ["1:1 set 16105144320", "1:2 set 16105635840", "1:3 refused too-long 65536",
+                  "1:4 refused too-long 65536", "1:5 refused encoding 0", "1:6 refused encoding 65534",
+                  "1 end complete 6"]
+        self.same("records", wanted, self.seen(b"\n".join(lines)))
+        wanted = ["1:1 refused too-long 65537", "1 end complete 1"]
+        self.same("with a mark", wanted, self.seen(mark + sharp * most))
+
+    # Mutants: a line is taken for the first one of its source if it is the first of its block; the offset of
+    # a block is added to that of a line.
+    @rows((f"--block {block} --workers {workers}", block, workers) for block in (None, "1", "8") for workers in "13")
+    def test_many_lines(self, block, workers):
+        """A mark at the front of any line but the first one is an uncoded character, in any block."""
+        text, wanted = b"", []
+        for number in range(1, 2001):
+            length = number % 7
+            text += ("\ufeff" + "ß" * length + ("€" if number % 3 else "") + "\n").encode()
+            what = "uncoded 0 U+FEFF" if number > 1 else f"uncoded {3 + 2 * length} U+20AC"
+            wanted.append(f"1:{number} refused {what}")
+        options = ["--workers", workers] + (["--block", block] if block else [])
+        self.same("records", [*wanted, "1 end complete 2000"], self.seen(text, *options))
 
 
 class FontErrors(Case):

@@ -63,6 +63,51 @@ lines = font.set(b"ox\\nox")
 lines[0].items[0].width = 7
 print(lines[0].items[0].width, lines[1].items[0].width, lines.items[0].width)
 """, "334233 334233 334233\n"),
+    # Mutants: a slice ignores its step; the length of `Lines` in its text is the number of items.
+    ("Slices of lines, and the texts of objects", """
+lines = font.set(b"o\\nox\\nQ\\n\\nox")
+print([getattr(line, "width", None) for line in lines[::-2]], [line.width for line in lines[-2:9]], lines[3:1])
+print(font, lines, *lines, lines[1].items[1], font.pair(111, 120), font.metrics(111).width, sep="\\n")
+""", "[665189, None, 334233] [0, 665189] []\n<Font of {bytes} bytes at 10pt>\n<Lines: 5>\n<Line of width 334233, 1 items>\n"
+     "<Line of width 665189, 3 items>\nRefusal(reason='missing', place=0, code=81)\n<Line of width 0, 0 items>\n"
+     "<Line of width 665189, 3 items>\nItem(kind=1, code=0, width=-16384)\nKern(width=-16384)\n334233\n"),
+    # Mutants: the ends of a range are swapped; a name of an argument is that of another one.
+    ("The texts of exceptions", """
+for call in (lambda: tfmset.Font(data, 0), lambda: tfmset.Font(data, 1 << 27), lambda: tfmset.Font(data, "1em"),
+             lambda: tfmset.Font("x"), lambda: font.metrics(256), lambda: font.metrics(-1), lambda: font.pair(257, 1),
+             lambda: font.pair(1, 257), lambda: font.set(b"", 0), lambda: font.set(b"", 16777217),
+             lambda: font.set("x"), lambda: font.set(b"", missing="drop"), lambda: font.set(b"x", encoding="t1"),
+             lambda: font.set("x", encoding="T1"), lambda: font.set("x", encoding=1),
+             lambda: font.records(b"", version=4), lambda: font.records(b"", source=-1),
+             lambda: font.records(b"abc", first_line=1 << 64), lambda: font.set(b"x")[1],
+             lambda: tfmset.encode("5 €", "t1"), lambda: tfmset.encode("a\\ud800", "ot1"), lambda: tfmset.Font(data[:9])):
+    try:
+        print("accepted", call())
+    except (IndexError, TypeError, ValueError) as error:
+        print(type(error).__name__ + ":", error)
+""", """ValueError: size is 0, but must be from 1 to 134,217,727
+ValueError: size is 134217728, but must be from 1 to 134,217,727
+ValueError: size is '1em', but must be a number with a unit, such as '10pt' or '4mm', from 1 to 134,217,727 sp
+TypeError: data must be bytes
+ValueError: code is 256, but must be from 0 to 255
+ValueError: code is -1, but must be from 0 to 255
+ValueError: left is 257, but must be from 0 to 256
+ValueError: right is 257, but must be from 0 to 256
+ValueError: limit is 0, but must be from 1 to 16,777,216
+ValueError: limit is 16777217, but must be from 1 to 16,777,216
+TypeError: text must be bytes: a str needs the encoding of the font, as encoding='t1'
+ValueError: missing is 'drop', but must be 'refuse' or 'skip'
+TypeError: text must be a str, since an encoding is given
+ValueError: encoding is 'T1', but must be one of 'ot1', 't1', 'ly1', 'latin1'
+TypeError: encoding must be a str
+ValueError: version is 4, but must be from 1 to 3
+ValueError: source is -1, but must be from 0 to 18,446,744,073,709,551,615
+ValueError: first_line is 18446744073709551616, but must be from 0 to 18,446,744,073,709,551,612
+IndexError: line index out of range
+EncodingError: no code in t1 for U+20AC at index 2
+EncodingError: no code in ot1 for U+D800 at index 1
+FontRefused: 1 truncated, 24 bytes needed
+"""),
     # Mutants: `Line` keeps a pointer instead of the array; `Lines.items` is made from an address.
     ("Items stay after their lines are gone", """
 import gc

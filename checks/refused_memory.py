@@ -251,6 +251,16 @@ class Failures(Case):
                 got = run(command, "telling", 1, True, errno.EIO)
                 self.same("standard error", None, fault_of(command, got, "telling", True, errno.EIO))
 
+    # Mutant of `WatchedWriter` in tfm_tool: the error of an interrupted write is noted.
+    @rows((words, words) for words in ("list -v font.tfm", "set -v font.tfm b", "stream -v font.tfm b"))
+    def test_interrupted(self, words):
+        """With --verbose, nothing is printed about a write that is interrupted and made again."""
+        command = Command(words, 0, "c", "font.tfm", "b")
+        wanted = run(command)
+        for number in (1, 2):
+            got = run(command, "write", number, False, errno.EINTR)
+            self.same(f"write {number} is interrupted", wanted[:3], got[:3])
+
     # Mutant of `set_sources`: a failed write is reported as a file that isn't read to its end.
     @rows((command.name, command) for command in COMMANDS if command.sources and command.status < 4)
     def test_full_device(self, command):

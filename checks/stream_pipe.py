@@ -33,6 +33,7 @@ PIECE = b"".join(b" ".join(WORDS[(line * 7 + i * 3) % 10] for i in range(line % 
                  for line in range(21259))
 MOST_GROWTH = 2 * 1024  # KB
 MOST_MEMORY = 24 * 1024  # KB
+LONG, LONG_LINES, MOST_LONG_MEMORY = b"five " * 6600 + b"\n", 600, 16 * 1024  # 33 KB, the number of lines, KB
 BUSY = 10_000_000  # nanoseconds of processor time of a thread that sets a fourth of ten megabytes; about 80,000,000
 BLOCKS = [("--block 1", ["--block", "1"]), ("--block 8", ["--block", "8"]), ("the default", [])]
 
@@ -100,6 +101,18 @@ class Pipes(Case):
             record = read_line(child.stdout)
             self.same("record", b"1:%d set" % number, record[:record.find(b"set") + 3])
         self.ends(child, lines)
+
+    # Mutant of `is_ready` in set_run: it is true if any byte of the next line has been read.
+    @rows(BLOCKS)
+    def test_part_of_the_next_line(self, options):
+        """A record is printed although a part of the next line has arrived, too."""
+        child = self.start(*options, DEMO)
+        child.stdin.write(b"five\nfi")
+        for number in range(1, 6):
+            self.same("record", [b"1:%d" % number, b"set"], read_line(child.stdout).split()[:2])
+            child.stdin.write(b"ve\nfi" if number < 5 else b"ve\n")
+        self.same("record", [b"1:6", b"set"], read_line(child.stdout).split()[:2])
+        self.ends(child, 6)
 
     @rows(BLOCKS)
     def test_crlf_one_by_one(self, options):
@@ -197,41 +210,47 @@ class Pipes(Case):
         self.same("threads and exit status", (threads, 0), (seen, child.wait(SECONDS)))
 
     # Mutants of `deliver` in tfm_tool: the plan has 16 slots, or blocks of one line, or of eight; blocks of `set` have
-    # the lines of a read, or those of `stream` don't.
-    @rows((f"{command} --workers {workers} --capacity {slots} --block {block}: {reads} reads",
-           command, workers, slots, block, reads) for command, workers, slots, block, reads in (
-               ("set", 1, 40, None, 2), ("each", 1, 40, None, 2), ("stream", 1, 3, None, 4), ("stream", 3, 2, None, 7),
+    # the lines of a read, or those of `stream` don't. Of `LaneCount` in set_run: the lanes of all sources are more than 64.
+    @rows((f"{command} --workers {workers} --capacity {slots} --block {block}, {count} files: {reads} reads",
+           command, workers, slots, block, reads, count) for command, workers, slots, block, reads, count in (
+               ("set", 1, 40, None, 2, 1), ("each", 1, 40, None, 2, 1), ("stream", 1, 3, None, 4, 1),
+               ("stream", 3, 2, None, 7, 1),
                *((command, *row) for command in ("set", "each", "stream") for row in (
-                   (1, 40, 1, 2), (1, 40, 4, 6), (1, 40, 8, 11), (1, 10, 8, 3), (3, 10, 8, 8), (16, 1, 8, 5)))))
-    def test_lines_ahead(self, command, workers, slots, block, reads):
-        """While all other threads are stopped, a source is read until it has filled a ring for each worker, and a
-        block."""
-        # These are workers * slots + 1 blocks. A read returns 32 lines of 128 bytes.
+                   (1, 40, 1, 2, 1), (1, 40, 4, 6, 1), (1, 40, 8, 11, 1), (1, 10, 8, 3, 1), (3, 10, 8, 8, 1),
+                   (16, 1, 8, 5, 1), (16, 1, 8, 5, 4), (16, 1, 8, 3, 8), (16, 10, 8, 3, 33)))))
+    def test_lines_ahead(self, command, workers, slots, block, reads, count):
+        """While all other threads are stopped, each source is read until it has filled the rings of its lanes, and a
+        block. It has a lane for each worker, but all sources have at most 64 lanes, or one each."""
+        # These are lanes * slots + 1 blocks. A read returns 32 lines of 128 bytes.
         options = ["--workers", str(workers), "--capacity", str(slots)] + (["--block", str(block)] if block else [])
-        child, (pipe,) = self.start_with_fifos(command, 1, *options)
+        child, pipes = self.start_with_fifos(command, count, *options)
         text = (b"five " * 25 + b"ox\n") * 512
-        with self.others_stopped(child, 1 + workers):
-            self.assertEqual(len(text), pipe.write(text))
+        with self.others_stopped(child, 1 + workers, count):
+            for pipe in pipes:
+                self.assertEqual(len(text), pipe.write(text))
 
             def done():
-                unread, = struct.unpack("i", fcntl.ioctl(pipe, termios.FIONREAD, bytes(4)))
-                return (len(text) - unread) // 4096
+                unread = [struct.unpack("i", fcntl.ioctl(pipe, termios.FIONREAD, bytes(4)))[0] for pipe in pipes]
+                return {(len(text) - one) // 4096 for one in unread}
 
-            self.same("reads", reads, self.wait_for(reads, done))
+            self.same("reads", {reads}, self.wait_for({reads}, done))
             time.sleep(0.1)
-            self.same("reads, later", reads, done())
-        pipe.close()
+            self.same("reads, later", {reads}, done())
+        for pipe in pipes:
+            pipe.close()
         lines = child.communicate(timeout=SECONDS)[0].splitlines()
-        self.same("lines", (513, b"1 end complete 512", 0), (len(lines), lines[-1], child.returncode))
+        ends = {b"%d end complete 512" % number for number in range(1, count + 1)}
+        self.same("lines", (513 * count, ends, 0), (len(lines), ends.intersection(lines), child.returncode))
 
     @contextlib.contextmanager
-    def others_stopped(self, child, count):
-        """Stops the threads of a batch that don't read its source, so many, when that waits for input."""
+    def others_stopped(self, child, count, sources):
+        """Stops the threads of a batch that don't read its sources, so many, when these wait for input."""
         tasks = f"/proc/{child.pid}/task"
 
         def others():
             calls = {thread: read(f"{tasks}/{thread}/syscall").split()[0] for thread in os.listdir(tasks)}
-            return [int(thread) for thread, call in calls.items() if call != "0"] if len(calls) == 1 + count else []
+            found = [int(thread) for thread, call in calls.items() if call != "0"]
+            return found if len(calls) == sources + count else []
 
         try:
             self.assertEqual(count, self.wait_for(count, lambda: len(others())))
@@ -277,13 +296,38 @@ class Pipes(Case):
         self.ends(child, lines)
         return seen
 
+    def peak(self, child):
+        """The most memory, in KB, of a process."""
+        with open(f"/proc/{child.pid}/status", encoding="ascii") as status:
+            return next(int(line.split()[1]) for line in status if line.startswith("VmHWM:"))
+
     def peak_of(self, times):
         """The most memory, in KB, of a stream that gets a megabyte of text so many times."""
-        def peak(child):
-            with open(f"/proc/{child.pid}/status", encoding="ascii") as status:
-                return next(int(line.split()[1]) for line in status if line.startswith("VmHWM:"))
+        return self.after(times, self.peak, "--block", "8")
 
-        return self.after(times, peak, "--block", "8")
+    # Mutant of line_blocks: no block and no text is large.
+    def test_long_lines_in_the_rings(self):
+        """Lines of 33 KB whose records nobody reads fill only a part of the rings, and later have all records."""
+        child, written = self.start("--workers", "3", DEMO), []
+
+        def feed():
+            with child.stdin, contextlib.suppress(BrokenPipeError):
+                for _ in range(LONG_LINES):
+                    written.append(child.stdin.write(LONG))
+
+        feeder, before = threading.Thread(target=feed, daemon=True), None
+        feeder.start()
+        while len(written) != before:
+            before = len(written)
+            time.sleep(0.5)
+        peak = self.peak(child)
+        records = child.stdout.read().splitlines(True)
+        feeder.join()
+        starts = [b"1:%d set " % number for number in range(1, LONG_LINES + 1)] + [b"1 end complete %d\n" % LONG_LINES]
+        self.none([str(record[:40]) for record, start in zip(records, starts) if not record.startswith(start)])
+        self.same("lines, status", (len(starts), 0), (len(records), child.wait(SECONDS)))
+        print(f"long lines in full rings: {peak} KB")
+        self.assertLess(peak, MOST_LONG_MEMORY)
 
     # Mutant of `options` in run_texts: a source has one lane.
     def test_all_workers_set_the_lines_of_one_source(self):

@@ -10,7 +10,7 @@ import os
 import re
 import unicodedata
 
-from lib.base import environment, execute, output, read, rows
+from lib.base import PROGRAM, environment, execute, output, read, rows
 from lib.clib import DONE, NO_ROOM, RANGE, encode
 from lib.tfm import sample
 from library_lines import LinesCase
@@ -188,7 +188,7 @@ class Encodings(LinesCase):
 
     @rows((name, name, font, metric) for name, font, metric in PAGES)
     def test_page(self, name, font, metric):
-        """The lines of a page have the widths of LaTeX's boxes, in the module and in its records."""
+        """The lines of a page have the widths of LaTeX's boxes, in the module, in its records and in the program."""
         self.need("latex", "kpsewhich", "cmr10")
         text = read(f"checks/cases/encodings/{name}.txt", "rb").decode()
         body = "".join(f"\\setbox0=\\hbox{{{line}}}\\message{{[\\number\\wd0]}}\n"
@@ -203,6 +203,13 @@ class Encodings(LinesCase):
         self.same("records", wanted, [int(record.split()[2]) for record in records])
         codes = self.tfmset.encode(text, encoding)
         self.same("codes", wanted, found.widths(codes))
+        out = output(PROGRAM, "stream", "--encoding", encoding, path, given=text.encode())
+        self.same("program", wanted, [int(record.split()[2]) for record in out.splitlines()[:-1]])
+        page = self.file(f"{name}.txt", text.encode())
+        for version, options in ((3, ("--record", "json", "--crlf")), (1, ("--block", "3", "--workers", "3"))):
+            seen = output(PROGRAM, "set", "--encoding", encoding, *options, path, page).splitlines()[:-1]
+            records = found.records(text, encoding=encoding, version=version).decode()
+            self.same(f"records {options}", records.splitlines(), seen)
 
 
 class Calls(LinesCase):

@@ -1,8 +1,9 @@
-"""The amount of work: processor time, writes and address space.
+"""The amount of work: processor time, reads, writes, requests for memory, and address space.
 
 No contract bounds the work of a call: a body that makes a table anew for each byte, or writes once per
-record, is proved. The bounds are ratios of processor times in one execution of this module, and leave room
-for a busy machine. lib/plain.c only prints for each byte a text that was made before.
+record, is proved. The bounds of time are ratios of processor times in one execution of this module, and leave
+room for a busy machine. lib/plain.c only prints for each byte a text that was made before. Reads and requests
+are counted exactly: lib/refuse.c is preloaded, and makes the one with a number fail, if there are so many.
 """
 import os
 import resource
@@ -10,9 +11,10 @@ import socket
 import subprocess
 import sys
 
+from lib import refuse
 from lib.base import DEMO, PROGRAM, ROOT, Case, output, rows, shared, write
 from lib.clib import LibraryCase
-from lib.tfm import path_of
+from lib.tfm import make, path_of
 from stream_pipe import PIECE
 
 WEIGHT = 6
@@ -20,7 +22,11 @@ SECONDS = 50  # for one execution
 TIMES = 3  # executions, of which the fastest counts
 MB = 1 << 20
 WORDS = b"the office five after all of it affable flow in " * 1400
-TEXTS = {"20 MB": PIECE * 20, "2 MB": PIECE * 2, "short": b"office\n" * 300000, "aa": b"aa\n" * 10000,
+LONG_PROGRAM = {"program": [(0, 0, 128, 0)] * 30000 + [(128, 0, 128, 0)], "kerns": [9], "widths": [0, 1 << 20], "first": 0}
+FONTS = {"one program for all": make([(1, 0, 1, 0)] * 256, **LONG_PROGRAM),
+         "one program for one": make([(1, 0, 1, 0)] + [(1, 0, 0, 0)] * 255, **LONG_PROGRAM)}
+TEXTS = {**FONTS, "20 MB": PIECE * 20, "2 MB": PIECE * 2, "short": b"office\n" * 300000, "aa": b"aa\n" * 10000,
+         "ten reads": b"office\r\n" * 5120, "missing": PIECE.replace(b"affable", b"Affable") * 2,
          "long": (WORDS[:65000] + b"\n") * 60, "usual": (WORDS[:64] + b"\n") * 60000}
 STREAM, SET, CHECK = [PROGRAM, "stream", DEMO], [PROGRAM, "set", DEMO], [PROGRAM, "check"]
 LIMITED = [PROGRAM, "stream", "--limit", "100"]
@@ -32,6 +38,8 @@ RATIOS = [
     ("lines of 65,000 bytes, set", [*SET, "long"], 4, [*SET, "usual"]),
     *((f"a limit of 100, operation {op}", [*LIMITED, path_of(f"endless_{op}"), "aa"], 20,
        [*LIMITED, path_of("plain"), "aa"]) for op in (1, 2, 3, 7)),
+    ("one program for all characters", [PROGRAM, "each", *["one program for all", "9", "aa"] * 20], 4,
+     [PROGRAM, "each", *["one program for one", "9", "aa"] * 20]),
     *((f"the plain program, {name}", [*STREAM, name], 20, ["plain", name]) for name in ("20 MB", "short")),
 ]
 
@@ -71,7 +79,8 @@ class Times(Case):
         """A command takes less than `most` times the processor time of another one.
 
         Mutants: all earlier records are visited for each record; the rest of a line is read for each word;
-        steps beyond the limit are taken; the texts of a font are made for each record.
+        steps beyond the limit are taken; the texts of a font are made for each record; the chain of a program is
+        followed for each character.
         """
         self.need(*["cc"] * ("plain" in other))
         took, little = seconds(command), seconds(other)
@@ -83,9 +92,9 @@ class LibraryTimes(LibraryCase):
     """Processor time of the library"""
 
     def time(self, name, given):
-        """The processor time of a call for all lines of a text, the least of several."""
+        """The processor time of a call of a font, with a text, the least of several."""
         code = ("import sys, time, tfmset; font, text = (open(path, 'rb').read() for path in sys.argv[1:]);"
-                f"begin = time.process_time(); tfmset.Font(font).{name}(text);"
+                f"begin = time.process_time(); tfmset.Font(font).{name};"
                 "print(time.process_time() - begin)")
         command = named([sys.executable, "-B", "-c", code, DEMO, given])
         return min(float(self.output(*command)) for _ in range(TIMES))
@@ -94,10 +103,66 @@ class LibraryTimes(LibraryCase):
     def test_call(self, name):
         """A call takes less than 12 times the time of the plain program. Mutant: a table for each line."""
         for given in ("2 MB", "short", "long"):
-            took, little = self.time(name, given), seconds(["plain", given])
+            took, little = self.time(f"{name}(text)", given), seconds(["plain", given])
             print(f"{name}, {given}: {took:.3f} s, {took / little:.1f} times {little:.3f} s")
             self.assertLess(took, 12 * little)
-        self.assertLess(self.time(name, "20 MB"), 30 * self.time(name, "2 MB"))
+        self.assertLess(self.time(f"{name}(text)", "20 MB"), 30 * self.time(f"{name}(text)", "2 MB"))
+
+    def test_refusals(self):
+        """The places of refused lines of a str. Mutant: the text is cut into its lines for each refusal."""
+        call = "widths(('ä\\n' * {0}), encoding='t1')"
+        many, few = (self.time(call.format(count), "aa") for count in (20000, 2000))
+        print(f"{many:.3f} s, {many / few:.1f} times {few:.3f} s")
+        self.assertLess(many, 30 * few)
+
+
+class Requests(Case):
+    """Reads, and requests for memory"""
+
+    def count(self, words, what, count, out=subprocess.DEVNULL):
+        """A command makes exactly so many requests: the last one can fail, and there is no further one."""
+        self.need("cc")
+        for number, fails in ((count, 1), (count + 1, 0)):
+            if number:
+                got = refuse.execute(named(words), what, number, stdout=out, timeout=SECONDS)
+                self.same((words[1:], what, number), fails, len(got.told))
+
+    # Mutants of `CrlfReader`: a read requests 1,024 bytes. Of `kept_bytes` in tfm_tool: a read requests 16 bytes.
+    @rows((" ".join(words), words) for words in (
+        *([command, *options] for command in ("set", "stream", "each") for options in ([], ["--crlf"], ["--block", "8"])),
+        ["list"], ["check"]))
+    def test_reads(self, words):
+        """A read requests 4,096 bytes, and no file is read again after its end."""
+        fonts, texts = 2, 0
+        command = [PROGRAM, *words, DEMO]
+        if words[0] in ("set", "stream", "each"):
+            command += [*["9"] * (words[0] == "each"), "ten reads"]
+            texts = 11
+        self.count(command, "read", fonts + texts)
+
+    # Mutants of pair_texts and line_blocks: a table isn't made, or is made for each block. If a table isn't made,
+    # the records are the same.
+    @rows((" ".join(words), words, tables) for words, tables in (
+        (["stream"], 2), (["stream", "--workers", "3"], 3), (["stream", "--block", "8"], 2), (["set", "--workers", "1"], 1),
+        (["stream", "--record", "json"], 0)))
+    def test_tables(self, words, tables):
+        """Each lane makes one table of texts, if records aren't in JSON. The font has a table of the same size."""
+        command = [PROGRAM, *words, DEMO, "2 MB"]
+        self.count(command, "table", 1 + tables)
+        if tables == 1:
+            plain, without = (refuse.execute(named(command), "table", number, timeout=SECONDS) for number in (9, 2))
+            self.same("output without the table", True, plain.out == without.out and len(plain.out) > MB)
+
+    # Mutants of `append_generally` in pair_texts and of set_line: the list of a line isn't used for the next one.
+    @rows((" ".join(words), words) for words in (
+        ["stream", "--record", "json"], ["stream", "--missing", "skip"], ["stream"]))
+    def test_memory_is_used_again(self, words):
+        """There are fewer than three requests for memory for two lines. Reading a line takes one."""
+        self.need("cc")
+        most = PIECE.count(b"\n") * 3
+        got = refuse.execute(named([PROGRAM, *words, DEMO, "missing"]), "memory", most, stdout=subprocess.DEVNULL,
+                             timeout=SECONDS)
+        self.same("requests that failed", [], got.told)
 
 
 class Amounts(Case):

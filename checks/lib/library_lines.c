@@ -20,7 +20,8 @@
 #include <tfmset.h>
 #include <unistd.h>
 
-enum { THREADS = 8, ROUNDS = 20, PATTERN = 0xA5 };
+/* A table of texts has 65,792 cells of two bytes. The table of pairs of a font has the same size. */
+enum { THREADS = 8, ROUNDS = 20, PATTERN = 0xA5, TABLE = 131584 };
 
 struct text {
     const uint8_t *bytes;
@@ -41,9 +42,9 @@ static void must(int right, const char *what)
 
 /* Allocations. `granted` is the number of allocations that still succeed, or -1 if all do. The one after them
  * fails, and with `all_fail` all that follow fail, too. `failures` is the number of allocations that failed,
- * and `allocated` the number of blocks that aren't freed yet. */
+ * `allocated` the number of blocks that aren't freed yet, and `tables` that of the requests of the size of a table. */
 
-static _Thread_local long granted = -1, failures, allocated;
+static _Thread_local long granted = -1, failures, allocated, tables;
 static _Thread_local int all_fail;
 
 void *__real_malloc(size_t length);
@@ -63,6 +64,7 @@ void *__wrap_malloc(size_t length)
 {
     void *new = fails() ? NULL : __real_malloc(length);
     allocated += new != NULL;
+    tables += length == TABLE;
     return new;
 }
 
@@ -70,6 +72,7 @@ void *__wrap_realloc(void *old, size_t length)
 {
     void *new = fails() ? NULL : __real_realloc(old, length);
     allocated += old == NULL && new != NULL;
+    tables += length == TABLE;
     return new;
 }
 
@@ -196,15 +199,20 @@ static struct output records_with(uint32_t version, size_t length)
     return output;
 }
 
-/* With the encoding `bytes` the records are those of tfmset_records. */
+/* With the encoding `bytes`, and of printable ASCII with Latin 1, the records are those of tfmset_records. */
 static struct output encoded_records_with(uint32_t version, size_t length)
 {
+    const char *encoding = "latin1";
     struct output output;
+    size_t i;
+    for (i = 0; i < text.length; i++)
+        if (text.bytes[i] != '\n' && (text.bytes[i] < 32 || text.bytes[i] > 126))
+            encoding = "bytes";
     output.bytes = array_of(length);
     output.length = 77;
     output.code = CALLED(encoded_records, (font.bytes, font.length, size, limit, policy,
-                                           (const uint8_t *)"bytes", 5, text.bytes, text.length, version, 1, 1,
-                                           output.bytes.at, length, &output.length));
+                                           (const uint8_t *)encoding, strlen(encoding), text.bytes, text.length,
+                                           version, 1, 1, output.bytes.at, length, &output.length));
     return output;
 }
 
@@ -322,6 +330,24 @@ static void check_lengths(const struct set *whole, const struct output *records)
         if (length > 0)
             check_records(version, &records[version - 1], length - 1);
     }
+}
+
+/* Checks that a call for a long text makes one table of texts, and that one for a short text makes none. */
+static void check_tables(const struct set *whole, const struct output *records)
+{
+    int wanted = text.length > 100000;
+    struct output output;
+    struct set set;
+    if (!wanted && text.length > 10000)
+        return;
+    tables = 0;
+    set = widths_with(whole->counts.lines);
+    must(tables == 1 + wanted, "tables of widths");
+    unmap_set(&set);
+    tables = 0;
+    output = records_with(2, records[1].length);
+    must(tables == 1 + wanted, "tables of records");
+    unmap(&output.bytes);
 }
 
 /* Threads: each calls with its own arrays, and has to get the same results. */
@@ -539,6 +565,7 @@ int main(int count, char **arguments)
     expected.whole = &whole;
     expected.records = records;
     check_lengths(&whole, records);
+    check_tables(&whole, records);
     if (count > 6) {
         check_memory(&expected);
         check_threads(&expected);

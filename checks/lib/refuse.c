@@ -56,7 +56,9 @@ static int gone(void *from, size_t n) {
     return refused("memory", "memory") || (n >= 4096 && refused("large", "memory"));
 }
 #define CALLER __builtin_return_address(0)
-void *malloc(size_t n) { return gone(CALLER, n) ? 0 : __libc_malloc(n); }
+/* A font has a table of 257 rows for pairs, of 512 bytes, and a table of texts has 65,792 cells of two bytes. */
+static int table(size_t n) { return n == 131584 && refused("table", "memory"); }
+void *malloc(size_t n) { return gone(CALLER, n) || table(n) ? 0 : __libc_malloc(n); }
 void *calloc(size_t n, size_t size) { return gone(CALLER, n * size) ? 0 : __libc_calloc(n, size); }
 void *realloc(void *p, size_t n) { return gone(CALLER, n) ? 0 : __libc_realloc(p, n); }
 void *aligned_alloc(size_t to, size_t n) { return gone(CALLER, n) ? 0 : __libc_memalign(to, n); }
