@@ -9,12 +9,12 @@ _tfmset_options() {
     case $1 in
         '') options='-h --help -V --version' ;;
         counts) options='-v --verbose -h --help' ;;
-        list) options='--all -v --verbose -h --help' ;;
+        list) options='--size --all -v --verbose -h --help' ;;
         pairs) options='--size --format -v --verbose -h --help' ;;
         check) options='-v --verbose -h --help' ;;
-        set) options='--size --limit --missing --crlf --workers --capacity --block --record -v --verbose -h --help' ;;
-        each) options='--size --missing --crlf --workers --capacity --block --record -v --verbose -h --help' ;;
-        stream) options='--size --limit --missing --crlf --workers --capacity --block --record -v --verbose -h --help' ;;
+        set) options='--size --limit --missing --crlf --encoding --workers --capacity --block --record -v --verbose -h --help' ;;
+        each) options='--size --missing --crlf --encoding --workers --capacity --block --record -v --verbose -h --help' ;;
+        stream) options='--size --limit --missing --crlf --encoding --workers --capacity --block --record -v --verbose -h --help' ;;
         help) options='' ;;
         *) options='' ;;
     esac
@@ -28,6 +28,7 @@ _tfmset_values() {
         --format) values='text csv json' ;;
         --limit) values='' ;;
         --missing) values='refuse skip' ;;
+        --encoding) values='bytes ot1 t1 ly1 latin1' ;;
         --workers) values='1 2 3 4 5 6 7 8 9 10 11 12 13 14 15 16' ;;
         --capacity) values='' ;;
         --block) values='1 2 3 4 5 6 7 8' ;;

@@ -1,8 +1,7 @@
 """The encodings OT1 (that of cmr10) and T1 (that of ecrm1000), as tables from codes to letters.
 
-`letters` looks codes up in them, and `encode` inverts them. A ligature has several letters, such as "ffi". A
-glyph for which Unicode has no character has its name. checks/pages.py compares the tables with TeX's 7t.enc
-and ec.enc.
+`letters` looks codes up in them. A ligature has several letters, such as "ffi". A glyph for which Unicode has
+no character has its name. checks/pages.py compares the tables with TeX's 7t.enc and ec.enc.
 """
 
 ASCII = {code: chr(code) for code in range(33, 127)} | {39: "’", 96: "‘"}
