@@ -3,7 +3,6 @@ mod callers;
 mod collectors;
 mod failing;
 mod flushing;
-mod large_items;
 mod long_lines;
 mod many_lines;
 mod meeting;
