@@ -1,20 +1,30 @@
--- Decoding a text: plain characters are their own codes, and the text can be cut after them.
-use Rattle.std.proofs.Common.{◌≡◌, ℕ, zero, suc, ◌+◌, ◌-◌, ◌<◌, ◌≤◌, Bool, true, false, List, [], ◌∷◌, ◌++◌, ◌&&◌, length, length-append, get_or, take, drop, map, flat_map, Option, Some, None, arith, refl, ap, sym, ◌∙◌, add-one}
+-- Decoding a text: which bytes have an entry in a table of single codes, and how far a text is decoded.
+use Rattle.std.proofs.Common.{◌≡◌, ◌⊎◌, inl, inr, ℕ, zero, suc, ◌+◌, ◌-◌, ◌*◌, ◌%◌, ◌<◌, ◌≤◌, Bool, true, false, List, [], ◌∷◌, ◌++◌, ◌&&◌, ◌||◌, not, cond, length, length-append, get_or, take, drop, set, map, flat_map, Option, Some, None, arith, refl, ap, sym, subst, ◌∙◌, append-nil}
+use lib.Utf8.{encode, low_scalar}
+use Rattle.std.specs.Prelude.{nat_eq, nat_le, nat_lt}
 use Rattle.std.specs.Char.{encode_utf8}
-use Rattle.std.specs.List.{list_all}
+use Rattle.std.specs.Int.{from_bool}
+use Rattle.std.specs.List.{list_all, range_with_len}
 use Rattle.std.specs.Option.{option_map_or}
-use Rattle.std.specs.Str.{chars, IsUtf8, IsAscii, IsCharBoundary}
-use Rattle.std.proofs.lemmas.Bool.{eqb-true, ltb-true}
+use Rattle.std.specs.Str.{chars, IsUtf8}
+use Rattle.std.proofs.lemmas.Bool.{cases_lt, eqb-true, le-ltb, lt-ltb}
+use Rattle.std.proofs.lemmas.Bool.Decides.{nat_tests}
 use Rattle.std.proofs.lemmas.Grind.{flat_map-append}
 pub use Rattle.std.proofs.lemmas.List.{take-append-drop}
-use Rattle.std.proofs.lemmas.List.{get_or-take}
+use Rattle.std.proofs.lemmas.List.{append_assoc, drop-take, map-append, take-append-le, take_more, take_more_set, take-set, take-take}
+use Rattle.std.proofs.Math.Seq.{drop-append_seam}
+use Rattle.std.proofs.lemmas.Nat.{div-mul-add, mod-mul-add}
 pub use Rattle.std.proofs.lemmas.Str.{chars_past_char}
-use Rattle.std.proofs.lemmas.Str.{length-encode, len_utf8_bounds, chars-nil, IsUtf8-from_ascii, IsCharBoundary-start, IsCharBoundary-after_ascii, chars-IsAscii, chars-append}
+use Rattle.std.proofs.lemmas.Str.{length-encode, len_utf8_bounds, chars-nil, chars-append, encode_ascii, IsUtf8-nil, IsUtf8-append, IsUtf8-encode}
 use Rattle.encodings.specs.declared.encoding.Encoding.{Encoding}
+use Rattle.encodings.specs.declared.encoding.Encoding.TheVariants.{Bytes, Ot1, T1, Ly1, Latin1}
 use Rattle.encodings.specs.declared.coded.Coded.TheVariants.{Code, Uncoded}
+use Rattle.encodings.specs.declared.decoding.TheConstants.{OFFSETS}
+use Rattle.encodings.specs.Codes.{codes_of}
 use Rattle.encodings.specs.Lines.{coded_of}
-use Rattle.encodings.specs.Decoding.{coded_text, is_plain}
-use Rattle.encodings.proofs.TableLemmas.{single_is}
+use Rattle.encodings.specs.Lookup.{index_of, singles_in}
+use Rattle.encodings.specs.Decoding.{coded_text, offset_after, IsFront}
+use Rattle.encodings.proofs.TableLemmas.{at_member, in_range, index_below, index_of_two, single_is}
 
 -- a text without its first character is shorter
 pub shorter_text : (c : ℕ) (text rest : List ℕ) → text ≡ encode_utf8 c ++ rest → length rest < length text
@@ -27,50 +37,307 @@ empty_text (c ∷ text) empty = absurd (omega arith)
 
 pub ruleset first_character = (chars_past_char, shorter_text, empty_text)
 
--- what a plain byte is
+-- ---- texts of characters that have single codes
+
+pub no_front : (encoding : Encoding) → IsFront encoding [] []
+no_front encoding = record { utf8 = IsUtf8-nil; coded = ap (flat_map (coded_of encoding)) chars-nil }
+
+one_character : (c : ℕ) → c < 55296 → chars (encode_utf8 c) ≡ c ∷ []
+one_character c low =
+    chars_past_char (encode_utf8 c) [] c (IsUtf8-encode c (low_scalar c low)) (sym (append-nil (encode_utf8 c))) ∙ ap (λ l. c ∷ l) chars-nil
+
+-- with one more character
+one_more : (encoding : Encoding) (text codes : List ℕ) (c code : ℕ) → c < 55296 → IsFront encoding text codes → codes_of encoding c ≡ Some (code ∷ []) → IsFront encoding (text ++ encode_utf8 c) (codes ++ code ∷ [])
+unfolding coded_of
+one_more encoding text codes c code low front is =
+    let more : chars (text ++ encode_utf8 c) ≡ chars text ++ c ∷ [] = chars-append text (encode_utf8 c) front.utf8 ∙ ap (λ l. chars text ++ l) (one_character c low) in
+    let one : coded_of encoding c ≡ Code code ∷ [] = ap (λ o. option_map_or (map Code) o (Uncoded c ∷ [])) is in
+    record {
+      utf8 = IsUtf8-append text (encode_utf8 c) front.utf8 (IsUtf8-encode c (low_scalar c low));
+      coded = ap (flat_map (coded_of encoding)) more
+          ∙ flat_map-append (coded_of encoding) (chars text) (c ∷ [])
+          ∙ ap (λ l. flat_map (coded_of encoding) (chars text) ++ (l ++ [])) one
+          ∙ ap (λ l. l ++ Code code ∷ []) front.coded
+          ∙ sym (map-append Code codes (code ∷ []));
+    }
+
+-- with a character in ASCII
+one_byte_more : (encoding : Encoding) (text codes : List ℕ) (at code : ℕ) → at < length text → IsFront encoding (take at text) codes → get_or text at 0 < 128
+    → get_or (singles_in encoding) (get_or text at 0) 256 ≡ code → code < 256 → IsFront encoding (take (at + 1) text) (codes ++ code ∷ [])
+one_byte_more encoding text codes at code within front small single below =
+    let c = get_or text at 0 in
+    let is = single_is encoding c code (omega arith) (ap (λ i. get_or (singles_in encoding) i 256) (index_below c small) ∙ single) below in
+    let bytes : take at text ++ encode_utf8 c ≡ take (at + 1) text = ap (λ l. take at text ++ l) (encode_ascii c small) ∙ sym (take_more text at 0 within) in
+    subst (λ l. IsFront encoding l (codes ++ code ∷ [])) bytes (one_more encoding (take at text) codes c code (omega arith) front is)
+
+-- the two bytes of a character
+two_bytes : (block low : ℕ) → 2 ≤ block → block < 6 → low < 64 → encode_utf8 (block * 64 + low) ≡ (192 + block) ∷ (128 + low) ∷ []
+unfolding encode
+two_bytes block low above below small =
+    rw (le-ltb (block * 64 + low) 128 (omega arith), lt-ltb (block * 64 + low) 2048 (omega arith), div-mul-add block 64 low small, mod-mul-add block 64 low small) refl
+
+-- with a character of two bytes
+two_bytes_more : (encoding : Encoding) (text codes : List ℕ) (at code block low : ℕ) → at + 1 < length text → IsFront encoding (take at text) codes
+    → get_or text at 0 ≡ 192 + block → get_or text (at + 1) 0 ≡ 128 + low → 2 ≤ block → block < 6 → low < 64
+    → get_or (singles_in encoding) (256 * (block - 1) + 128 + low) 256 ≡ code → code < 256 → IsFront encoding (take (at + 1 + 1) text) (codes ++ code ∷ [])
+two_bytes_more encoding text codes at code block low within front first second above below small single code_below =
+    let c = block * 64 + low in
+    let is = single_is encoding c code (omega arith) (ap (λ i. get_or (singles_in encoding) i 256) (index_of_two block low above small) ∙ single) code_below in
+    let one : take (at + 1) text ≡ take at text ++ (192 + block) ∷ [] = take_more text at 0 (omega arith) ∙ ap (λ x. take at text ++ x ∷ []) first in
+    let two : take (at + 1 + 1) text ≡ take (at + 1) text ++ (128 + low) ∷ [] = take_more text (at + 1) 0 within ∙ ap (λ x. take (at + 1) text ++ x ∷ []) second in
+    let bytes : take at text ++ encode_utf8 c ≡ take (at + 1 + 1) text =
+    ap (λ l. take at text ++ l) (two_bytes block low above below small)
+    ∙ sym (append_assoc (take at text) ((192 + block) ∷ []) ((128 + low) ∷ []))
+    ∙ ap (λ l. l ++ (128 + low) ∷ []) (sym one)
+    ∙ sym two in
+    subst (λ l. IsFront encoding l (codes ++ code ∷ [])) bytes (one_more encoding (take at text) codes c code (omega arith) front is)
+
+-- ---- which entries of a table of single codes are codes
+
+-- whether an entry can be one: that of a character in ASCII, of a byte from 0xC2 to 0xC5 with which a character
+-- begins, or of a second byte
+abbrev is_placed : ℕ → Bool
+is_placed index = nat_lt index 128 || ((nat_le 0xC2 index && nat_le index 0xC5) || (nat_le 256 index && (nat_le 128 (index % 256) && nat_lt (index % 256) 192)))
+
+abbrev all_placed : ℕ → List ℕ → Bool
+all_placed from [] = true
+all_placed from (single ∷ singles) = (not (nat_lt single 256) || is_placed from) && all_placed (from + 1) singles
+
+placed : (encoding : Encoding) → all_placed 0 (singles_in encoding) ≡ true
+unfolding singles_in
+placed Bytes = refl
+placed Ot1 = refl
+placed T1 = refl
+placed Ly1 = refl
+placed Latin1 = refl
+
 both : (a b : Bool) → a && b ≡ true → (a ≡ true) × (b ≡ true)
 both true b is = (refl, is)
 both false b is = cc
 
-plain_below : (encoding : Encoding) (byte : ℕ) → is_plain encoding byte ≡ true → byte < 128
-plain_below encoding byte is = ltb-true byte 128 (both _ _ is).0
+if_code : (single : ℕ) (placed : Bool) → single < 256 → not (nat_lt single 256) || placed ≡ true → placed ≡ true
+if_code single placed below is = rw (lt-ltb single 256 below) at is
 
-plain_coded : (encoding : Encoding) (byte : ℕ) → is_plain encoding byte ≡ true → coded_of encoding byte ≡ Code byte ∷ []
-unfolding coded_of
-plain_coded encoding byte is =
-    let below = plain_below encoding byte is in
-    let codes = single_is encoding byte byte (omega arith) (eqb-true _ _ (both _ _ is).1) (omega arith) in
-    ap (λ o. option_map_or (map Code) o (Uncoded byte ∷ [])) codes
+placed_at : (singles : List ℕ) (from k : ℕ) → all_placed from singles ≡ true → get_or singles k 256 < 256 → is_placed (from + k) ≡ true
+placed_at [] from k all below = absurd (omega arith)
+placed_at (single ∷ singles) from zero all below =
+    let same : from ≡ from + zero = omega arith in
+    subst (λ i. is_placed i ≡ true) same (if_code single (is_placed from) below (both _ _ all).0)
+placed_at (single ∷ singles) from (suc k) all below =
+    let same : from + 1 + k ≡ from + suc k = omega arith in
+    subst (λ i. is_placed i ≡ true) same (placed_at singles (from + 1) k (both _ _ all).1 below)
 
-plain_text : (encoding : Encoding) (bytes : List ℕ) → list_all (is_plain encoding) bytes ≡ true → flat_map (coded_of encoding) bytes ≡ map Code bytes
-plain_text encoding [] all = refl
-plain_text encoding (byte ∷ bytes) all =
-    let parts = both _ _ all in
-    ap (λ l. l ++ flat_map (coded_of encoding) bytes) (plain_coded encoding byte parts.0) ∙ ap (λ l. Code byte ∷ l) (plain_text encoding bytes parts.1)
+code_placed : (encoding : Encoding) (index code : ℕ) → get_or (singles_in encoding) index 256 ≡ code → code < 256 → is_placed index ≡ true
+code_placed encoding index code is below =
+    let same : 0 + index ≡ index = omega arith in
+    subst (λ i. is_placed i ≡ true) same (placed_at (singles_in encoding) 0 index (placed encoding) (omega (arith, is)))
 
-plain_ascii : (encoding : Encoding) (bytes : List ℕ) → list_all (is_plain encoding) bytes ≡ true → IsAscii bytes
-plain_ascii encoding [] all i = omega arith
-plain_ascii encoding (byte ∷ bytes) all zero = plain_below encoding byte (both _ _ all).0
-plain_ascii encoding (byte ∷ bytes) all (suc i) = plain_ascii encoding bytes (both _ _ all).1 i
+first_placed : (byte : ℕ) → byte < 256 → 128 ≤ byte → is_placed byte ≡ true → (0xC2 ≤ byte) × (byte ≤ 0xC5)
+first_placed byte below above is = grind (arith, nat_tests)
 
--- a text is its plain front and the rest
-pub plain_then : (encoding : Encoding) (text : List ℕ) (n : ℕ) → list_all (is_plain encoding) (take n text) ≡ true → coded_text encoding text ≡ map Code (take n text) ++ coded_text encoding (drop n text)
-plain_then encoding text n all =
-    let ascii = plain_ascii encoding (take n text) all in
-    let cut : chars (take n text ++ drop n text) ≡ take n text ++ chars (drop n text) =
-    chars-append (take n text) (drop n text) (IsUtf8-from_ascii (take n text) ascii) ∙ ap (λ l. l ++ chars (drop n text)) (chars-IsAscii (take n text) ascii) in
+second_placed : (index : ℕ) → 256 ≤ index → is_placed index ≡ true → (128 ≤ index % 256) × (index % 256 < 192)
+second_placed index above is = grind (arith, nat_tests)
+
+-- ---- a text that is decoded byte by byte
+
+none_after : (byte : ℕ) → byte < 0xC2 → offset_after byte ≡ 0
+none_after byte below = grind (arith, nat_tests)
+
+some_after : (byte : ℕ) → 0xC2 ≤ byte → byte ≤ 0xC5 → offset_after byte ≡ 256 * (byte - 0xC1)
+some_after byte above below = grind (arith, nat_tests)
+
+pub after_small : (byte : ℕ) → offset_after byte ≤ 1024
+after_small byte = grind (arith, nat_tests)
+
+all_offsets : list_all (λ byte. nat_eq (get_or (flat_map (λ offsets. offsets) OFFSETS) byte 0) (offset_after byte)) (range_with_len 0 256) ≡ true
+all_offsets = refl
+
+-- the table of offsets
+pub offset_at : (byte : ℕ) → byte < 256 → get_or (flat_map (λ offsets. offsets) OFFSETS) byte 0 ≡ offset_after byte
+offset_at byte below =
+    eqb-true (get_or (flat_map (λ offsets. offsets) OFFSETS) byte 0) (offset_after byte)
+    (at_member (λ k. nat_eq (get_or (flat_map (λ offsets. offsets) OFFSETS) k 0) (offset_after k)) byte (range_with_len 0 256) all_offsets (in_range byte 0 256 (omega arith) (omega arith)))
+
+is_first : (byte : ℕ) → 0 < offset_after byte → (0xC2 ≤ byte) × (byte ≤ 0xC5)
+is_first byte some = grind (arith, nat_tests)
+
+-- the number of bytes of whole characters before an index; the offset is that of the byte at the index
+abbrev pub whole_bytes : ℕ → ℕ → ℕ
+whole_bytes at offset = cond (nat_eq offset 0) at (at - 1)
+
+-- what is decoded before an index: the whole characters there have these codes
+pub record IsDecoded (encoding : Encoding) (text : List ℕ) (at offset : ℕ) (codes : List ℕ) : Type 0 where
+  pub within : at ≤ length text
+  pub start : at ≡ 0 → offset ≡ 0
+  pub after : 0 < at → offset ≡ offset_after (get_or text (at - 1) 0)
+  pub front : IsFront encoding (take (whole_bytes at offset) text) codes
+
+pub not_begun : (encoding : Encoding) (text : List ℕ) → IsDecoded encoding text 0 0 []
+not_begun encoding text = record {
+  within = omega arith;
+  start = λ none. refl;
+  after = λ some. absurd (omega arith);
+  front = no_front encoding;
+}
+
+nonzero : (n : ℕ) → 0 < n → nat_eq n 0 ≡ false
+nonzero n some = grind (arith, nat_tests)
+
+zero_or_more : (n : ℕ) → (n ≡ 0) ⊎ (0 < n)
+zero_or_more zero = inl refl
+zero_or_more (suc n) = inr (omega arith)
+
+-- the byte at an index is decoded
+decoded_next : (encoding : Encoding) (text codes : List ℕ) (at : ℕ) → at < length text
+    → IsFront encoding (take (whole_bytes (at + 1) (offset_after (get_or text at 0))) text) codes → IsDecoded encoding text (at + 1) (offset_after (get_or text at 0)) codes
+decoded_next encoding text codes at within front =
+    let here : at + 1 - 1 ≡ at = omega arith in
+    record {
+      within = omega arith;
+      start = λ none. absurd (omega arith);
+      after = λ some. rw here refl;
+      front = front;
+    }
+
+-- the codes that are written by then: the next one overwrites that of a first byte of two
+abbrev written : List ℕ → ℕ → ℕ → ℕ → List ℕ
+written room count code offset = take (count + cond (nat_eq offset 0) 1 0) (set room count code)
+
+written_whole : (room : List ℕ) (count code offset : ℕ) → count < length room → offset ≡ 0 → written room count code offset ≡ take count room ++ code ∷ []
+written_whole room count code offset within none = rw none (take_more_set room count code within)
+
+written_first : (room : List ℕ) (count code offset : ℕ) → 0 < offset → written room count code offset ≡ take count room
+written_first room count code offset some =
+    let same : count + 0 ≡ count = omega arith in
+    rw (nonzero offset some, same) (take-set room count code)
+
+ascii_next : (encoding : Encoding) (text room : List ℕ) (at count code : ℕ) → at < length text → count < length room → IsFront encoding (take at text) (take count room)
+    → get_or text at 0 < 128 → get_or (singles_in encoding) (get_or text at 0) 256 ≡ code → code < 256
+    → IsDecoded encoding text (at + 1) (offset_after (get_or text at 0)) (written room count code (offset_after (get_or text at 0)))
+ascii_next encoding text room at count code within room_within front small single below =
+    let none : offset_after (get_or text at 0) ≡ 0 = none_after (get_or text at 0) (omega arith) in
+    let more = one_byte_more encoding text (take count room) at code within front small single below in
+    decoded_next encoding text _ at within (rw (written_whole room count code (offset_after (get_or text at 0)) room_within none, none) more)
+
+first_next : (encoding : Encoding) (text room : List ℕ) (at count code : ℕ) → at < length text → IsFront encoding (take at text) (take count room)
+    → 0xC2 ≤ get_or text at 0 → get_or text at 0 ≤ 0xC5
+    → IsDecoded encoding text (at + 1) (offset_after (get_or text at 0)) (written room count code (offset_after (get_or text at 0)))
+first_next encoding text room at count code within front above below =
+    let some : 0 < offset_after (get_or text at 0) = omega (arith, some_after (get_or text at 0) above below) in
+    let here : at + 1 - 1 ≡ at = omega arith in
+    decoded_next encoding text _ at within (rw (written_first room count code (offset_after (get_or text at 0)) some, nonzero (offset_after (get_or text at 0)) some, here) front)
+
+second_next : (encoding : Encoding) (text room : List ℕ) (at count code block low : ℕ) → at + 1 < length text → count < length room → IsFront encoding (take at text) (take count room)
+    → get_or text at 0 ≡ 192 + block → get_or text (at + 1) 0 ≡ 128 + low → 2 ≤ block → block < 6 → low < 64
+    → get_or (singles_in encoding) (256 * (block - 1) + 128 + low) 256 ≡ code → code < 256
+    → IsDecoded encoding text (at + 1 + 1) (offset_after (get_or text (at + 1) 0)) (written room count code (offset_after (get_or text (at + 1) 0)))
+second_next encoding text room at count code block low within room_within front first second above below small single code_below =
+    let none : offset_after (get_or text (at + 1) 0) ≡ 0 = none_after (get_or text (at + 1) 0) (omega (arith, second)) in
+    let more = two_bytes_more encoding text (take count room) at code block low within front first second above below small single code_below in
+    decoded_next encoding text _ (at + 1) within (rw (written_whole room count code (offset_after (get_or text (at + 1) 0)) room_within none, none) more)
+
+-- the byte at an index that has a code there is decoded
+pub decoded_more : (encoding : Encoding) (text room : List ℕ) (at offset count code : ℕ) → IsDecoded encoding text at offset (take count room) → at < length text → count < length room
+    → get_or text at 0 < 256 → get_or (singles_in encoding) (offset + get_or text at 0) 256 ≡ code → code < 256
+    → IsDecoded encoding text (at + 1) (offset_after (get_or text at 0)) (written room count code (offset_after (get_or text at 0)))
+decoded_more encoding text room at offset count code decoded within room_within byte_below single below =
+    elim (zero_or_more offset) [ inl none ↦ begins none | inr some ↦ goes_on some (zero_or_more at) ]
+  where
+    begins : offset ≡ 0 → IsDecoded encoding text (at + 1) (offset_after (get_or text at 0)) (written room count code (offset_after (get_or text at 0)))
+    begins none =
+        let whole : whole_bytes at offset ≡ at = rw none refl in
+        let front = subst (λ n. IsFront encoding (take n text) (take count room)) whole decoded.front in
+        let index : get_or text at 0 ≡ offset + get_or text at 0 = omega (arith, none) in
+        let here : get_or (singles_in encoding) (get_or text at 0) 256 ≡ code = ap (λ k. get_or (singles_in encoding) k 256) index ∙ single in
+        elim (cases_lt (get_or text at 0) 128) [
+          | inl small ↦ ascii_next encoding text room at count code within room_within front small here below
+          | inr big ↦ let first = first_placed (get_or text at 0) byte_below big (code_placed encoding (get_or text at 0) code here below) in
+              first_next encoding text room at count code within front first.0 first.1
+        ]
+
+    goes_on : 0 < offset → (at ≡ 0) ⊎ (0 < at) → IsDecoded encoding text (at + 1) (offset_after (get_or text at 0)) (written room count code (offset_after (get_or text at 0)))
+    goes_on some (inl none) = absurd (omega (arith, decoded.start none))
+    goes_on some (inr later) =
+        let lead = get_or text (at - 1) 0 in
+        let first = is_first lead (omega (arith, decoded.after later)) in
+        let part : offset ≡ 256 * (lead - 0xC1) = decoded.after later ∙ some_after lead first.0 first.1 in
+        let index : offset + get_or text at 0 ≡ (lead - 0xC1) * 256 + get_or text at 0 = omega (arith, part) in
+        let low_bits : (offset + get_or text at 0) % 256 ≡ get_or text at 0 = ap (λ k. k % 256) index ∙ mod-mul-add (lead - 0xC1) 256 (get_or text at 0) byte_below in
+        let second = second_placed (offset + get_or text at 0) (omega (arith, part, first.0)) (code_placed encoding (offset + get_or text at 0) code single below) in
+        let whole : whole_bytes at offset ≡ at - 1 = rw (nonzero offset some) refl in
+        let front = subst (λ n. IsFront encoding (take n text) (take count room)) whole decoded.front in
+        let here : at - 1 + 1 ≡ at = omega arith in
+        let lead_is : lead ≡ 192 + (lead - 192) = omega (arith, first.0) in
+        let byte_is : get_or text at 0 ≡ 128 + (get_or text at 0 - 128) = omega (arith, low_bits, second.0, second.1) in
+        let entry : 256 * (lead - 192 - 1) + 128 + (get_or text at 0 - 128) ≡ offset + get_or text at 0 = omega (arith, part, first.0, first.1, low_bits, second.0) in
+        subst (λ k. IsDecoded encoding text (k + 1) (offset_after (get_or text k 0)) (written room count code (offset_after (get_or text k 0)))) here
+        (second_next encoding text room (at - 1) count code (lead - 192) (get_or text at 0 - 128) (omega (arith, here)) room_within front lead_is
+        (ap (λ k. get_or text k 0) here ∙ byte_is) (omega (arith, first.0)) (omega (arith, first.0, first.1)) (omega (arith, low_bits, second.0, second.1))
+        (ap (λ k. get_or (singles_in encoding) k 256) entry ∙ single) below)
+
+one_or_none : (whole : Bool) → from_bool whole ≡ cond whole 1 0
+one_or_none true = refl
+one_or_none false = refl
+
+pub at_most_one : (whole : Bool) → from_bool whole ≤ 1
+at_most_one true = omega arith
+at_most_one false = omega arith
+
+-- the same, with the next offset and the number of codes that are added
+pub decoded_step : (encoding : Encoding) (text room : List ℕ) (at offset count code next added : ℕ) → IsDecoded encoding text at offset (take count room) → at < length text → count < length room
+    → get_or text at 0 < 256 → get_or (singles_in encoding) (offset + get_or text at 0) 256 ≡ code → code < 256 → next ≡ offset_after (get_or text at 0) → added ≡ from_bool (nat_eq next 0)
+    → IsDecoded encoding text (at + 1) next (take (count + added) (set room count code))
+decoded_step encoding text room at offset count code next added decoded within room_within byte_below single below next_is added_is =
+    let more = decoded_more encoding text room at offset count code decoded within room_within byte_below single below in
+    rw (added_is, next_is, one_or_none (nat_eq (offset_after (get_or text at 0)) 0)) more
+
+-- the end of what is decoded
+pub decoded_front : (encoding : Encoding) (text codes : List ℕ) (at offset : ℕ) → IsDecoded encoding text at offset codes → IsFront encoding (take (at - from_bool (not (nat_eq offset 0))) text) codes
+decoded_front encoding text codes at offset decoded = by (zero_or_more offset)
+  where
+    by : (offset ≡ 0) ⊎ (0 < offset) → IsFront encoding (take (at - from_bool (not (nat_eq offset 0))) text) codes
+    by (inl none) =
+        let bytes : whole_bytes at offset ≡ at - from_bool (not (nat_eq offset 0)) = rw none (omega arith) in
+        subst (λ n. IsFront encoding (take n text) codes) bytes decoded.front
+    by (inr some) =
+        let bytes : whole_bytes at offset ≡ at - from_bool (not (nat_eq offset 0)) = rw (nonzero offset some) refl in
+        subst (λ n. IsFront encoding (take n text) codes) bytes decoded.front
+
+pub ruleset decodes = (not_begun, decoded_step, decoded_front)
+
+-- ---- codes that are appended to a list
+
+after_part : (front rest tail : List ℕ) (n : ℕ) → length front ≡ n → drop n (front ++ rest ++ tail) ≡ rest ++ tail
+after_part front rest tail n is = rw (← is, append_assoc front rest tail) (drop-append_seam front (rest ++ tail))
+
+-- the codes that were written to the room behind a list, of which as many are kept
+cut_out : (front room more tail : List ℕ) (n count size : ℕ) → length front ≡ n → count ≤ length room → n + count ≤ size
+    → drop n (take (n + count) (take size (front ++ (room ++ more) ++ tail))) ≡ take count room
+cut_out front room more tail n count size is within fits =
+    ap (drop n) (take-take (n + count) size (front ++ (room ++ more) ++ tail) fits)
+    ∙ drop-take n count (front ++ (room ++ more) ++ tail)
+    ∙ ap (take count) (after_part front (room ++ more) tail n is ∙ append_assoc room more tail)
+    ∙ take-append-le count room (more ++ tail) within
+
+pub written_out : (longer front room more tail : List ℕ) (from n count size : ℕ) → longer ≡ take (n + count) (take size (front ++ (room ++ more) ++ tail)) → from ≡ n → length front ≡ n → count ≤ length room → n + count ≤ size
+    → drop from longer ≡ take count room
+written_out longer front room more tail from n count size is same first within fits =
+    ap (λ k. drop k longer) same ∙ ap (drop n) is ∙ cut_out front room more tail n count size first within fits
+
+pub take_most : (n : ℕ) (l : List ℕ) → length (take n l) ≤ n
+take_most zero l = omega arith
+take_most (suc n) [] = omega arith
+take_most (suc n) (x ∷ l) = omega (arith, take_most n l)
+
+pub take_within : (n : ℕ) (l : List ℕ) → length (take n l) ≤ length l
+take_within zero l = omega arith
+take_within (suc n) [] = omega arith
+take_within (suc n) (x ∷ l) = omega (arith, take_within n l)
+
+-- ---- texts that are cut
+
+pub coded_cut : (encoding : Encoding) (text : List ℕ) (n : ℕ) → IsUtf8 (take n text) → coded_text encoding text ≡ coded_text encoding (take n text) ++ coded_text encoding (drop n text)
+coded_cut encoding text n utf8 =
     ap (λ l. flat_map (coded_of encoding) (chars l)) (sym (take-append-drop n text))
-    ∙ ap (flat_map (coded_of encoding)) cut
-    ∙ flat_map-append (coded_of encoding) (take n text) (chars (drop n text))
-    ∙ ap (λ l. l ++ coded_text encoding (drop n text)) (plain_text encoding (take n text) all)
-
--- a text can be cut after its plain front
-pub plain_boundary : (encoding : Encoding) (text : List ℕ) (n : ℕ) → IsUtf8 text → n ≤ length text → list_all (is_plain encoding) (take n text) ≡ true → IsCharBoundary text n
-plain_boundary encoding text zero utf8 within all = IsCharBoundary-start text utf8
-plain_boundary encoding text (suc m) utf8 within all =
-    let below : m < suc m = omega arith in
-    let last : get_or text m 0 < 128 = rw get_or-take at (plain_ascii encoding (take (suc m) text) all m) in
-    let one : m + 1 ≡ suc m = omega arith in
-    rw (← one) (IsCharBoundary-after_ascii text m utf8 (omega arith) last)
-
-pub ruleset plain_front = (plain_then, plain_boundary, take-append-drop)
+    ∙ ap (flat_map (coded_of encoding)) (chars-append (take n text) (drop n text) utf8)
+    ∙ flat_map-append (coded_of encoding) (chars (take n text)) (chars (drop n text))

@@ -1,34 +1,49 @@
--- The elements of a whole line, and of a text that is cut at the characters that aren't plain.
-use Rattle.std.proofs.Common.{◌≡◌, ◌≢◌, ℕ, ◌≤◌, Bool, List, [], ◌∷◌, ◌++◌, length, map, flat_map, Some, None, arith, refl, ap, sym, ◌∙◌, append-nil}
+-- The elements of a whole line, and of a text that is cut into pieces.
+use Rattle.std.proofs.Common.{◌≡◌, ◌≢◌, ℕ, ◌≤◌, Bool, true, false, List, [], ◌∷◌, ◌++◌, length, take, drop, map, flat_map, Some, None, arith, refl, ap, sym, ◌∙◌, append-nil}
+use Rattle.std.specs.Prelude.{nat_eq}
 use Rattle.std.specs.Str.{chars, IsUtf8}
 use Rattle.std.specs.Str.Lossy.{utf8_valid_len}
-use Rattle.std.proofs.lemmas.List.{map-append}
-use Rattle.std.proofs.lemmas.Str.{is_utf8-from_IsUtf8}
+use Rattle.std.proofs.lemmas.Bool.{eqb-true}
+use Rattle.std.proofs.lemmas.List.{append_assoc, map-append, take-take}
+use Rattle.std.proofs.lemmas.Str.{chars-nil, is_utf8-from_IsUtf8}
 use Rattle.encodings.specs.declared.encoding.Encoding.{Encoding}
 use Rattle.encodings.specs.declared.encoding.Encoding.TheVariants.{Bytes, Ot1, T1, Ly1, Latin1}
 use Rattle.encodings.specs.declared.coded.Coded.{Coded}
 use Rattle.encodings.specs.declared.coded.Coded.TheVariants.{Code}
 use Rattle.encodings.specs.declared.places.Place.{Place}
-use Rattle.encodings.specs.Lines.{Element, places_of, coded_of, elements_at, elements_of, encoded, fault_in}
+use Rattle.encodings.specs.Lines.{Element, places_from, places_of, without_mark, coded_of, elements_at, elements_of, encoded, fault_in}
 use Rattle.encodings.specs.Decoding.{coded_text}
 pub use Rattle.encodings.proofs.LawLemmas.{elements_few}
 use Rattle.encodings.proofs.LawLemmas.{places_few}
-use Rattle.encodings.proofs.PlaceLemmas.{characters_in, not_utf8}
+use Rattle.encodings.proofs.PlaceLemmas.{characters_from, characters_in, not_utf8}
+use Rattle.encodings.proofs.DecodingLemmas.{coded_cut, take_most}
 
--- ---- cutting at characters that aren't plain
+-- ---- a text that is cut into pieces
 
--- a text that is plain to its end
-pub all_plain : (encoding : Encoding) (text plain more : List ℕ) → text ≡ plain ++ more → chars more ≡ [] → length more ≡ 0 → coded_text encoding text ≡ map Code plain ++ coded_text encoding more → coded_text encoding text ≡ map Code text
-all_plain encoding text plain [] is none empty coded =
-    coded ∙ ap (λ cs. map Code plain ++ flat_map (coded_of encoding) cs) none ∙ append-nil (map Code plain) ∙ ap (map Code) (sym (is ∙ append-nil plain))
-all_plain encoding text plain (c ∷ more) is none empty coded = absurd (omega arith)
+-- a text after its front, of which the elements are appended
+pub after_front : (encoding : Encoding) (before : List Coded) (text : List ℕ) (n : ℕ) → IsUtf8 (take n text)
+    → before ++ coded_text encoding text ≡ before ++ coded_text encoding (take n text) ++ coded_text encoding (drop n text)
+after_front encoding before text n utf8 =
+    ap (λ l. before ++ l) (coded_cut encoding text n utf8) ∙ sym (append_assoc before (coded_text encoding (take n text)) (coded_text encoding (drop n text)))
 
--- the text after the first character that isn't plain
-pub one_cut : (encoding : Encoding) (c : ℕ) (text plain more rest : List ℕ) → chars more ≡ c ∷ chars rest → coded_text encoding text ≡ map Code plain ++ coded_text encoding more
-    → coded_text encoding text ≡ map Code plain ++ (coded_of encoding c ++ coded_text encoding rest)
-one_cut encoding c text plain more rest is coded = coded ∙ ap (λ cs. map Code plain ++ flat_map (coded_of encoding) cs) is
+-- a text after its first character
+pub after_character : (encoding : Encoding) (before : List Coded) (c : ℕ) (text rest : List ℕ) → chars text ≡ c ∷ chars rest
+    → before ++ coded_text encoding text ≡ before ++ coded_of encoding c ++ coded_text encoding rest
+after_character encoding before c text rest is =
+    ap (λ cs. before ++ flat_map (coded_of encoding) cs) is ∙ sym (append_assoc before (coded_of encoding c) (coded_text encoding rest))
 
-pub ruleset cuts = (all_plain, one_cut)
+-- the front of a piece of a text is that of the text
+pub piece_front : (text bytes : List ℕ) (n size : ℕ) → bytes ≡ text → n ≤ length (take size bytes) → take n (take size bytes) ≡ take n text
+piece_front text bytes n size is within = take-take n size bytes (omega (arith, take_most size bytes)) ∙ ap (take n) is
+
+-- an empty text has no elements
+pub at_end : (encoding : Encoding) (before : List Coded) (rest : List ℕ) (empty : Bool) → empty ≡ true → empty ≡ nat_eq (length rest) 0 → before ++ coded_text encoding rest ≡ before
+at_end encoding before [] empty is at = ap (λ cs. before ++ flat_map (coded_of encoding) cs) chars-nil ∙ append-nil before
+at_end encoding before (byte ∷ rest) empty is at =
+    let none : length (byte ∷ rest) ≡ 0 = eqb-true (length (byte ∷ rest)) 0 (sym at ∙ is) in
+    absurd (omega (arith, none))
+
+pub ruleset pieces = after_character
 
 -- ---- whole lines
 
@@ -96,4 +111,21 @@ fault_found T1 line offset other bad is = rw (not_utf8 line bad) (ap Some (sym i
 fault_found Ly1 line offset other bad is = rw (not_utf8 line bad) (ap Some (sym is))
 fault_found Latin1 line offset other bad is = rw (not_utf8 line bad) (ap Some (sym is))
 
-pub ruleset whole = (elements_few, text_encoded, bytes_encoded, no_fault, no_fault_in_bytes, fault_found)
+-- ---- a line that isn't the first one has no byte order mark
+
+unmarked_same : (places : List Place) → places ≡ without_mark false places
+unmarked_same [] = refl
+unmarked_same (place ∷ places) = refl
+
+later_text : (first : Bool) (text : List ℕ) → first ≡ false → chars text ≡ characters_in (places_of first text)
+unfolding places_of
+later_text true text is = cc
+later_text false text is = sym (characters_from 0 (chars text)) ∙ ap characters_in (unmarked_same (places_from 0 (chars text)))
+
+pub later_encoded : (encoding : Encoding) (first : Bool) (text : List ℕ) → encoding ≢ Bytes → first ≡ false → coded_text encoding text ≡ encoded encoding first text
+later_encoded encoding first text other later = text_encoded encoding first text text other (later_text first text later)
+
+pub later_few : (encoding : Encoding) (first : Bool) (text : List ℕ) → first ≡ false → IsUtf8 text → length (coded_text encoding text) ≤ length text
+later_few encoding first text later utf8 = elements_few encoding first text text utf8 (later_text first text later)
+
+pub ruleset whole = (later_encoded, later_few, elements_few, text_encoded, bytes_encoded, no_fault, no_fault_in_bytes, fault_found)

@@ -1,6 +1,6 @@
 -- The tables by character and the tables by code give the same codes, which is computed for every character in
 -- either of them.
-use Rattle.std.proofs.Common.{◌≡◌, ◌≢◌, ℕ, zero, suc, ◌<◌, ◌≤◌, ◌+◌, Bool, true, false, List, [], ◌∷◌, ◌++◌, ◌||◌, ◌&&◌, Option, Some, None, length, get_or, take, drop, arith, refl, ap, sym, ◌∙◌}
+use Rattle.std.proofs.Common.{◌≡◌, ◌≢◌, ℕ, zero, suc, ◌<◌, ◌≤◌, ◌+◌, ◌-◌, ◌*◌, ◌/◌, Bool, true, false, List, [], ◌∷◌, ◌++◌, ◌||◌, ◌&&◌, Option, Some, None, length, get_or, take, drop, arith, refl, ap, sym, ◌∙◌}
 use Rattle.std.specs.Prelude.{not, nat_eq, nat_lt, map, bytes_eq, cond}
 use Rattle.std.specs.List.{list_all, list_any, range_with_len, position_or_len}
 use Rattle.std.specs.Option.{option_or}
@@ -8,13 +8,15 @@ use Rattle.std.proofs.lemmas.Bool.Decides.{nat_tests}
 use Rattle.std.proofs.lemmas.Bool.{eqb-true, eq-eqb, ltb-true, ltb-false, lt-ltb, le-ltb}
 use Rattle.std.proofs.lemmas.Slice.Eq.{bytes_eq-Decides}
 use Rattle.std.proofs.lemmas.List.{get_or_past}
+use Rattle.std.proofs.lemmas.Nat.{div-mul-add, mod-mul-add}
+use Rattle.std.proofs.Math.Nat.{lt-mul-div-succ}
 use Rattle.std.proofs.lemmas.List.Folds.{list_any-append}
 use Rattle.encodings.specs.declared.encoding.Encoding.{Encoding}
 use Rattle.encodings.specs.declared.encoding.Encoding.TheVariants.{Bytes, Ot1, T1, Ly1, Latin1}
 use Rattle.encodings.specs.declared.lookup.TheConstants.{CODES}
 use Rattle.encodings.specs.Tables.{no, ot1_characters, t1_characters, ly1_characters, shared_others, ot1_others, t1_others, ly1_others}
 use Rattle.encodings.specs.Codes.{codes_of, codes_beside, own_code, characters_of, others_of}
-use Rattle.encodings.specs.Lookup.{rows_of, looked_up, singles_in, others_in}
+use Rattle.encodings.specs.Lookup.{index_of, rows_of, looked_up, singles_in, others_in}
 
 -- what all members of a list pass, each of them passes
 pub at_member : (p : ℕ → Bool) (c : ℕ) (xs : List ℕ) → list_all p xs ≡ true → list_any (λ x. nat_eq x c) xs ≡ true → p c ≡ true
@@ -97,7 +99,7 @@ agrees T1 = refl
 agrees Ly1 = refl
 agrees Latin1 = refl
 
-singles_end : (encoding : Encoding) → length (singles_in encoding) ≡ 384
+pub singles_end : (encoding : Encoding) → length (singles_in encoding) ≡ 1280
 unfolding singles_in
 singles_end Bytes = refl
 singles_end Ot1 = refl
@@ -109,14 +111,24 @@ pub neither : (a b : Bool) → a || b ≡ false → (a ≡ false) × (b ≡ fals
 neither true b is = cc
 neither false b is = (refl, is)
 
-no_single : (encoding : Encoding) (c : ℕ) → list_any (λ x. nat_eq x c) (range_with_len 0 384) ≡ false → get_or (singles_in encoding) c 256 ≡ 256
+-- the index of a character is its byte, or follows from the bits of its second byte and of those before them
+pub index_below : (c : ℕ) → c < 128 → index_of c ≡ c
+index_below c below = rw (lt-ltb c 128 below) refl
+
+pub index_of_two : (block low : ℕ) → 2 ≤ block → low < 64 → index_of (block * 64 + low) ≡ 256 * (block - 1) + 128 + low
+index_of_two block low above small = rw (le-ltb (block * 64 + low) 128 (omega arith), div-mul-add block 64 low small, mod-mul-add block 64 low small) refl
+
+pub index_outside : (c : ℕ) → 384 ≤ c → 1280 ≤ index_of c
+index_outside c above = rw (le-ltb c 128 (omega arith)) (omega (arith, lt-mul-div-succ c {b = 64} (omega arith)))
+
+no_single : (encoding : Encoding) (c : ℕ) → list_any (λ x. nat_eq x c) (range_with_len 0 384) ≡ false → get_or (singles_in encoding) (index_of c) 256 ≡ 256
 no_single encoding c none = by (nat_lt c 384) refl
   where
-    by : (b : Bool) → nat_lt c 384 ≡ b → get_or (singles_in encoding) c 256 ≡ 256
+    by : (b : Bool) → nat_lt c 384 ≡ b → get_or (singles_in encoding) (index_of c) 256 ≡ 256
     by true is = cc (in_range c 0 384 (omega arith) (ltb-true c 384 is))
-    by false is = get_or_past (singles_in encoding) c 256 (omega (arith, singles_end encoding, ltb-false c 384 is))
+    by false is = get_or_past (singles_in encoding) (index_of c) 256 (omega (arith, singles_end encoding, index_outside c (ltb-false c 384 is)))
 
-nothing : (singles : List ℕ) (rows others : List (ℕ × List ℕ)) (characters : List ℕ) (c : ℕ) → get_or singles c 256 ≡ 256 → codes_beside rows c ≡ None
+nothing : (singles : List ℕ) (rows others : List (ℕ × List ℕ)) (characters : List ℕ) (c : ℕ) → get_or singles (index_of c) 256 ≡ 256 → codes_beside rows c ≡ None
     → codes_beside others c ≡ None → own_code characters c ≡ None → looked_up singles rows c ≡ option_or (codes_beside others c) (own_code characters c)
 nothing singles rows others characters c single row other own = rw (single, row, other, own)
 
@@ -145,13 +157,17 @@ tables_agree encoding c character = by (list_any (λ x. nat_eq x c) (all_in enco
     by false is = agree_outside encoding c is
 
 -- the codes of a character that has a single code in its table
-pub single_is : (encoding : Encoding) (c code : ℕ) → c < 0x110000 → get_or (singles_in encoding) c 256 ≡ code → code < 256 → codes_of encoding c ≡ Some (code ∷ [])
+pub single_is : (encoding : Encoding) (c code : ℕ) → c < 0x110000 → get_or (singles_in encoding) (index_of c) 256 ≡ code → code < 256 → codes_of encoding c ≡ Some (code ∷ [])
 single_is encoding c code character is below =
     sym (tables_agree encoding c (λ same. absurd (omega (arith, same)))) ∙ rw is (rw (lt-ltb code 256 below) refl)
 
 -- the codes of a character that has none there
-pub other_is : (encoding : Encoding) (c : ℕ) → c < 0x110000 → 256 ≤ get_or (singles_in encoding) c 256 → codes_of encoding c ≡ codes_beside (rows_of (others_in encoding)) c
+pub other_is : (encoding : Encoding) (c : ℕ) → c < 0x110000 → 256 ≤ get_or (singles_in encoding) (index_of c) 256 → codes_of encoding c ≡ codes_beside (rows_of (others_in encoding)) c
 other_is encoding c character above =
-    sym (tables_agree encoding c (λ same. absurd (omega (arith, same)))) ∙ rw (le-ltb (get_or (singles_in encoding) c 256) 256 above) refl
+    sym (tables_agree encoding c (λ same. absurd (omega (arith, same)))) ∙ rw (le-ltb (get_or (singles_in encoding) (index_of c) 256) 256 above) refl
 
 pub ruleset found = (single_is, other_is)
+
+-- a character that isn't in ASCII has bits above its lowest six
+pub bits_above : (c : ℕ) → 128 ≤ c → 1 ≤ c / 64
+bits_above c above = omega (arith, lt-mul-div-succ c {b = 64} (omega arith))

@@ -1,6 +1,6 @@
 -- The codes of a character as they are looked up.
 -- This project's own representation; Codes defines them.
-use Rattle.std.specs.Prelude.{ℕ, List, [], ◌∷◌, Option, Some, cond, nat_lt, get_or, take, min}
+use Rattle.std.specs.Prelude.{ℕ, ◌+◌, ◌-◌, ◌*◌, ◌/◌, ◌%◌, List, [], ◌∷◌, flat_map, Option, Some, cond, nat_lt, get_or, take, min}
 use Rattle.encodings.specs.declared.encoding.Encoding.{Encoding}
 use Rattle.encodings.specs.declared.encoding.Encoding.TheVariants.{Bytes, Ot1, T1, Ly1, Latin1}
 use Rattle.encodings.specs.declared.tables.TheConstants.{NO_SINGLE}
@@ -10,13 +10,19 @@ use Rattle.encodings.specs.declared.tables.ly1.TheConstants.{LY1_SINGLE, LY1_OTH
 use Rattle.encodings.specs.declared.tables.latin1.TheConstants.{LATIN1_SINGLE, LATIN1_OTHERS}
 use Rattle.encodings.specs.Codes.{codes_beside}
 
--- the single codes by character, in the tables of the code
+-- the single codes in the tables of the code: 256 entries by byte for bytes with which characters begin, and then
+-- as many each for bytes after 0xC2, 0xC3, 0xC4 and 0xC5
 unfoldable pub singles_in : Encoding → List ℕ
-singles_in Bytes = NO_SINGLE
-singles_in Ot1 = OT1_SINGLE
-singles_in T1 = T1_SINGLE
-singles_in Ly1 = LY1_SINGLE
-singles_in Latin1 = LATIN1_SINGLE
+singles_in Bytes = flat_map (λ entries. entries) NO_SINGLE
+singles_in Ot1 = flat_map (λ entries. entries) OT1_SINGLE
+singles_in T1 = flat_map (λ entries. entries) T1_SINGLE
+singles_in Ly1 = flat_map (λ entries. entries) LY1_SINGLE
+singles_in Latin1 = flat_map (λ entries. entries) LATIN1_SINGLE
+
+-- the index of a character there: that of its byte, or of its second byte; at or above the number of entries for a
+-- character above U+017F
+abbrev pub index_of : ℕ → ℕ
+index_of character = cond (nat_lt character 128) character (256 * (character / 64 - 1) + 128 + character % 64)
 
 -- the rows of the other characters there: each a character, the number of its codes, and these codes with
 -- zeros after them
@@ -35,5 +41,5 @@ rows_of (row ∷ rows) = (row.0, take (min row.1 3) row.2) ∷ rows_of rows
 -- the single code of a character, or the codes in its row; 256 stands for no single code
 abbrev pub looked_up : List ℕ → List (ℕ × List ℕ) → ℕ → Option (List ℕ)
 looked_up singles rows character =
-    let code = get_or singles character 256 in
+    let code = get_or singles (index_of character) 256 in
     cond (nat_lt code 256) (Some (code ∷ [])) (codes_beside rows character)

@@ -1,9 +1,12 @@
-ghost use Rattle.std.specs.Prelude.{◌≡◌, ◌<◌, true, false, ◌++◌, ◌∷◌, [], length, map, IfOk, OnOk};
+ghost use Rattle.std.specs.Prelude.{◌≡◌, ◌<◌, ◌≤◌, true, false, ◌++◌, ◌∷◌, [], length, map, take, IfOk, OnOk};
+ghost use Rattle.std.specs.Str.{IsUtf8};
 ghost use Rattle.encodings.specs.declared.coded.Coded.TheVariants.{Code, Uncoded};
 ghost use Rattle.encodings.specs.Lines.{has_uncoded};
 ghost use Rattle.encodings.specs.Encoded.{begins_uncoded, joined};
+ghost use Rattle.encodings.specs.Decoding.{coded_text};
 
-use crate::Coded;
+use crate::decoding::push_front;
+use crate::{Coded, Encoding};
 use std::alloc::{AllocError, Global};
 use std::marker::Model;
 
@@ -56,6 +59,28 @@ impl EncodedLine {
             return self.codes.extend_from_slice(codes);
         }
         push_each(&mut self.rest, codes)
+    }
+
+    /// Appends the codes of the characters at the front of a text that have single codes. Returns the number of
+    /// bytes of these characters. The text need not be UTF-8 after them.
+    #[tactic(auto, using(crate::proofs::EncodedLemmas::fronts))]
+    pub(crate) fn push_front(
+        &mut self,
+        encoding: Encoding,
+        text: &[u8],
+    ) -> Result<usize, AllocError>
+        ensures within { IfOk result (λ count. count ≤ length text.now) }
+        ensures utf8 { IfOk result (λ count. IsUtf8 (take count text.now)) }
+        ensures pushed { IfOk result (λ count.
+            self.new ≡ self.old ++ coded_text encoding (take count text.now)) }
+    {
+        let before = self.codes.len();
+        let count = push_front(encoding, text, &mut self.codes)?;
+        if !self.rest.is_empty() {
+            push_each(&mut self.rest, &self.codes[before..])?;
+            self.codes.truncate(before);
+        }
+        Ok(count)
     }
 
     /// Appends a character that has no codes.

@@ -11,6 +11,7 @@ pub use places::{Place, Places, first_uncoded};
 
 mod coded;
 mod cutting;
+mod decoding;
 mod encoded_line;
 mod encoding;
 mod laws;

@@ -1,15 +1,17 @@
 //! Encodes lines.
-ghost use Rattle.std.specs.Prelude.{◌≡◌, ◌<◌, ◌≤◌, ◌++◌, ◌&&◌, None, nat_eq, length, map, IfErr, IfSome, IsOk, OnOk, MatchOption};
-ghost use Rattle.std.specs.Str.{chars};
-ghost use Rattle.encodings.specs.declared.coded.Coded.TheVariants.{Code};
+ghost use Rattle.std.specs.Prelude.{◌≡◌, ◌<◌, ◌≤◌, ◌++◌, true, None, length, IfErr, IfOk, IsOk, OnOk};
+ghost use Rattle.std.specs.Str.{IsUtf8};
 ghost use Rattle.encodings.specs.declared.lines.EncodeFault.TheVariants.{OutOfMemory};
 ghost use Rattle.encodings.specs.Lines.{IsFaultOf, coded_of, encoded, fault_in, places_of};
 ghost use Rattle.encodings.specs.Decoding.{coded_text};
 
-use crate::cutting::{split_first, split_plain};
+use crate::cutting::split_first;
 use crate::{EncodedLine, Encoding, Places, codes_of};
 use std::alloc::AllocError;
 use std::str;
+
+/// The largest number of bytes from which the codes of characters that have single codes are appended at once.
+const PIECE: usize = 256;
 
 /// The reason why a line isn't encoded.
 #[derive(Clone, Copy, Debug, PartialEq, Eq, Hash)]
@@ -35,18 +37,40 @@ fn push_character(
     }
 }
 
-/// Splits a text at its first character that isn't plain: returns the plain characters before it, this
-/// character and the text after it. `None` if all characters are plain.
-#[tactic(auto, using(crate::proofs::LineLemmas::cuts))]
-fn cut(encoding: Encoding, text: &str) -> Option<(&str, char, &str)>
-    ensures shorter { IfSome result (λ cut. length cut.2.now < length text.now) }
-    ensures coded { MatchOption result (coded_text encoding text.now ≡ map Code text.now)
-        (λ cut. coded_text encoding text.now
-        ≡ map Code cut.0.now ++ (coded_of encoding cut.1 ++ coded_text encoding cut.2.now)) }
+/// Appends the codes of some characters at the front of a text that have single codes. Returns the text after
+/// these characters.
+fn push_front<'a>(
+    encoding: Encoding,
+    text: &'a str,
+    line: &mut EncodedLine,
+) -> Result<&'a str, AllocError>
+    ensures shorter { IfOk result (λ rest. length rest.now ≤ length text.now) }
+    ensures pushed { IfOk result (λ rest.
+        line.old ++ coded_text encoding text.now ≡ line.new ++ coded_text encoding rest.now) }
 {
-    let (plain, more) = split_plain(encoding, text);
-    let (character, rest) = split_first(more)?;
-    Some((plain, character, rest))
+    let bytes = text.as_bytes();
+    let count = line.push_front(encoding, &bytes[..bytes.len().min(PIECE)])?;
+    let (_, rest) = text.split_at(count);
+    Ok(rest)
+}
+
+/// Appends the elements of some characters at the front of a text. Returns the text after these characters.
+#[tactic(auto, using(crate::proofs::LineLemmas::pieces))]
+fn push_piece<'a>(
+    encoding: Encoding,
+    text: &'a str,
+    line: &mut EncodedLine,
+) -> Result<&'a str, AllocError>
+    ensures shorter { IfOk result (λ rest. 0 < length text.now → length rest.now < length text.now) }
+    ensures pushed { IfOk result (λ rest.
+        line.old ++ coded_text encoding text.now ≡ line.new ++ coded_text encoding rest.now) }
+{
+    let after = push_front(encoding, text, line)?;
+    let Some((character, rest)) = split_first(after) else {
+        return Ok(after);
+    };
+    push_character(encoding, character, line)?;
+    Ok(rest)
 }
 
 /// Appends the elements of a text.
@@ -54,12 +78,22 @@ fn push_text(encoding: Encoding, text: &str, line: &mut EncodedLine) -> Result<(
     ensures { OnOk result (line.new ≡ line.old ++ coded_text encoding text.now) }
 {
     let mut rest = text;
-    while let Some((plain, character, more)) = cut(encoding, rest) {
-        line.push_codes(plain.as_bytes())?;
-        push_character(encoding, character, line)?;
-        rest = more;
+    while !rest.is_empty() {
+        rest = push_piece(encoding, rest, line)?;
     }
-    line.push_codes(rest.as_bytes())
+    Ok(())
+}
+
+/// Encodes a line if each of its characters has a single code, which needs one pass. Returns whether this is
+/// so; otherwise the contents of `line` are unspecified.
+fn encodes_singles(encoding: Encoding, bytes: &[u8], line: &mut EncodedLine) -> bool
+    ensures utf8 { result ≡ true → IsUtf8 bytes.now }
+    ensures encoded { result ≡ true → line.new ≡ line.old ++ coded_text encoding bytes.now }
+{
+    match line.push_front(encoding, bytes) {
+        Ok(count) => count == bytes.len(),
+        Err(_) => false,
+    }
 }
 
 /// Returns a failed allocation as a fault.
@@ -95,6 +129,10 @@ pub fn encode_line(
     if encoding == Encoding::Bytes {
         return or_memory(line.push_codes(bytes));
     }
+    if !first && encodes_singles(encoding, bytes, line) {
+        return Ok(());
+    }
+    line.clear();
     match str::from_utf8(bytes) {
         Ok(text) => or_memory(push_text(encoding, Places::of_text(first, text).text(), line)),
         Err(fault) => Err(EncodeFault::NotUtf8(fault.valid_up_to())),

@@ -1,7 +1,7 @@
 //! Looks up the codes of a character.
 ghost use Rattle.std.specs.Prelude.{◌≡◌, ◌≤◌, [], ◌∷◌, None, Some, MatchOption, get_or};
 ghost use Rattle.encodings.specs.Codes.{codes_beside, codes_of as codes_of_character};
-ghost use Rattle.encodings.specs.Lookup.{rows_of, singles_in};
+ghost use Rattle.encodings.specs.Lookup.{index_of, rows_of, singles_in};
 
 use crate::Encoding;
 use crate::tables::{OtherCodes, other_codes, single_codes};
@@ -45,12 +45,25 @@ fn codes_in_row(rows: &[OtherCodes], character: char) -> Option<&[u8]>
     None
 }
 
+/// Returns the index of a character in a table of single codes. It is at or above the number of entries for
+/// a character above U+017F.
+#[tactic(auto, using(crate::proofs::TableLemmas::bits_above))]
+fn index_of(character: char) -> usize
+    ensures { result ≡ index_of character }
+{
+    let number = character as usize;
+    if number < 128 {
+        return number;
+    }
+    256 * (number / 64 - 1) + 128 + number % 64
+}
+
 /// Returns the code of a character up to U+017F that has a single code.
 fn single_code(encoding: Encoding, character: char) -> Option<u8>
-    ensures { MatchOption result (256 ≤ get_or (singles_in encoding) character 256)
-        (λ code. get_or (singles_in encoding) character 256 ≡ code) }
+    ensures { MatchOption result (256 ≤ get_or (singles_in encoding) (index_of character) 256)
+        (λ code. get_or (singles_in encoding) (index_of character) 256 ≡ code) }
 {
-    let single = *single_codes(encoding).get(character as usize)?;
+    let single = *single_codes(encoding).get(index_of(character))?;
     u8::try_from(single).ok()
 }
 

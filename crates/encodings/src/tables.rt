@@ -13,30 +13,43 @@ mod ly1;
 mod ot1;
 mod t1;
 
-/// In a table of single codes, the mark of a character that has several codes or none.
-const X: u16 = 256;
-
-/// The single codes of the characters up to U+017F, by character; [`X`] for a character that has several
+/// In a table of single codes, the mark of bytes that aren't a character, and of a character that has several
 /// codes or none.
-pub(crate) type SingleCodes = [u16; 384];
+pub(crate) const X: u16 = 256;
+
+/// The single codes of the characters up to U+017F. The table has a part for bytes with which characters
+/// begin, and a part each for bytes after 0xC2, 0xC3, 0xC4 and 0xC5; in a part, the entries are in the order of
+/// the bytes. The entry of these four bytes themselves is any code.
+pub(crate) type SingleCodes = [[u16; 64]; 20];
+
+/// The entries of 64 bytes that no character has there.
+pub(crate) const NONE: [u16; 64] = [X; 64];
+
+/// The entries of the bytes from 0xC0 with which characters begin.
+pub(crate) const LEADS: [u16; 64] = [
+    X, X, 0, 0, 0, 0, X, X, X, X, X, X, X, X, X, X, //
+    X, X, X, X, X, X, X, X, X, X, X, X, X, X, X, X, //
+    X, X, X, X, X, X, X, X, X, X, X, X, X, X, X, X, //
+    X, X, X, X, X, X, X, X, X, X, X, X, X, X, X, X, //
+];
 
 /// A character, the number of its codes, and these codes with zeros after them.
 pub(crate) type OtherCodes = (char, u8, [u8; 3]);
 
 /// The single codes where characters have no codes.
-static NO_SINGLE: SingleCodes = [X; 384];
+static NO_SINGLE: SingleCodes = [NONE; 20];
 
 /// Returns the single codes of the characters up to U+017F.
 #[tactic(auto, unfolding(crate::specs::Lookup::singles_in))]
-pub(crate) fn single_codes(encoding: Encoding) -> &'static SingleCodes
+pub(crate) fn single_codes(encoding: Encoding) -> &'static [u16]
     ensures { result.now ≡ singles_in encoding }
 {
     match encoding {
-        Encoding::Bytes => &NO_SINGLE,
-        Encoding::Ot1 => &OT1_SINGLE,
-        Encoding::T1 => &T1_SINGLE,
-        Encoding::Ly1 => &LY1_SINGLE,
-        Encoding::Latin1 => &LATIN1_SINGLE,
+        Encoding::Bytes => NO_SINGLE.as_flattened(),
+        Encoding::Ot1 => OT1_SINGLE.as_flattened(),
+        Encoding::T1 => T1_SINGLE.as_flattened(),
+        Encoding::Ly1 => LY1_SINGLE.as_flattened(),
+        Encoding::Latin1 => LATIN1_SINGLE.as_flattened(),
     }
 }
 

@@ -1,5 +1,6 @@
 //! Codes of texts.
 use encodings::{EncodeFault, EncodedLine, Encoding, Place, Places, encode_line, first_uncoded};
+use std::alloc::AllocError;
 use std::process::Abort;
 use std::test::Fail;
 
@@ -29,6 +30,63 @@ fn texts_with_codes(rt: HostRuntime) -> Result<(), Fail> {
         assert!(rt; encoded == Ok(()), "{text}");
         assert!(rt; line.codes() == *codes, "{text}");
         assert!(rt; !line.has_uncoded(), "{text}");
+    }
+    Ok(())
+}
+
+/// Appends a text of `count` letters, characters of one to three bytes and the letters again, and its codes in
+/// T1.
+fn push_long(count: usize, text: &mut String, codes: &mut Vec<u8>) -> Result<(), AllocError> {
+    for _ in 0..2 {
+        for _ in 0..count {
+            text.push('x')?;
+            codes.push(b'x')?;
+        }
+        text.push_str("ž–Ä“‰")?;
+        codes.extend_from_slice(b"\xBA\x15\xC4\x10%\x18")?;
+    }
+    Ok(())
+}
+
+#[test]
+fn long_texts_with_codes(rt: HostRuntime) -> Result<(), Fail> {
+    let mut line = EncodedLine::new(rt.alloc());
+    for count in 240..270 {
+        let (mut text, mut codes) = (String::new(rt.alloc()), Vec::new(rt.alloc()));
+        push_long(count, &mut text, &mut codes)?;
+        for first in [false, true] {
+            let encoded = encode_line(Encoding::T1, first, text.as_bytes(), &mut line);
+            assert!(rt; encoded == Ok(()), "{count} letters");
+            assert!(rt; line.codes() == codes.as_slice(), "{count} letters");
+        }
+        text.push('€')?;
+        let encoded = encode_line(Encoding::T1, false, text.as_bytes(), &mut line);
+        assert!(rt; encoded == Ok(()) && line.has_uncoded(), "{count} letters");
+        assert!(rt; line.codes() == codes.as_slice(), "{count} letters");
+    }
+    Ok(())
+}
+
+/// Bytes that aren't UTF-8, and the offset at which no character begins.
+static FAULTS: [(&[u8], usize); 8] = [
+    (b"ab\xC3", 2),
+    (b"ab\xC3b", 2),
+    (b"ab\xC3\xC3\xA4", 2),
+    (b"ab\xA4", 2),
+    (b"\xC3\xA4\xC0\x80", 2),
+    (b"\xC3\xA4\xA4", 2),
+    (b"\xC5\xBE\xE2\x80", 2),
+    (b"\xFFab", 0),
+];
+
+#[test]
+fn bytes_that_are_not_utf8(rt: HostRuntime) -> Result<(), Fail> {
+    let mut line = EncodedLine::new(rt.alloc());
+    for (bytes, offset) in &FAULTS {
+        for first in [false, true] {
+            let encoded = encode_line(Encoding::T1, first, *bytes, &mut line);
+            assert!(rt; encoded == Err(EncodeFault::NotUtf8(*offset)), "{bytes:?}");
+        }
     }
     Ok(())
 }

@@ -1,0 +1,88 @@
+//! Decodes the characters at the front of a text that have single codes.
+ghost use Rattle.std.specs.Prelude.{◌≡◌, ◌<◌, ◌≤◌, ◌+◌, length, take, drop, get_or, IfOk, IfSome, OnOk};
+ghost use Rattle.encodings.specs.Decoding.{IsFront, offset_after as offset_after_byte};
+
+use crate::Encoding;
+use crate::tables::single_codes;
+use std::alloc::AllocError;
+
+/// The offsets after bytes: 0 except after the bytes from 0xC2 to 0xC5.
+static OFFSETS: [[u16; 64]; 4] = [
+    [0; 64],
+    [0; 64],
+    [0; 64],
+    [
+        0, 0, 256, 512, 768, 1024, 0, 0, 0, 0, 0, 0, 0, 0, 0, 0, //
+        0, 0, 0, 0, 0, 0, 0, 0, 0, 0, 0, 0, 0, 0, 0, 0, //
+        0, 0, 0, 0, 0, 0, 0, 0, 0, 0, 0, 0, 0, 0, 0, 0, //
+        0, 0, 0, 0, 0, 0, 0, 0, 0, 0, 0, 0, 0, 0, 0, 0, //
+    ],
+];
+
+/// Returns the offset of the part of a table of single codes in which the byte after this one is looked up.
+#[tactic(auto, using(crate::proofs::DecodingLemmas::offset_at))]
+fn offset_after(byte: u8) -> usize
+    ensures { result ≡ offset_after_byte byte }
+{
+    usize::from(OFFSETS.as_flattened()[usize::from(byte)])
+}
+
+/// Returns the code of a byte of a text in the part of a table of single codes at this offset. Returns `None`
+/// at the end of the text, and if the entry of the byte isn't a code.
+fn code_at(singles: &[u16], text: &[u8], at: usize, offset: usize) -> Option<u8>
+    requires { offset ≤ 1024 }
+    ensures within { IfSome result (λ code. at < length text.now) }
+    ensures byte { IfSome result (λ code. get_or text.now at 0 < 256) }
+    ensures small { IfSome result (λ code. code < 256) }
+    ensures code { IfSome result (λ code.
+        get_or singles.now (offset + get_or text.now at 0) 256 ≡ code) }
+{
+    let byte = *text.get(at)?;
+    let single = *singles.get(offset + usize::from(byte))?;
+    u8::try_from(single).ok()
+}
+
+/// Writes the codes of the characters at the front of a text that have single codes to the front of `room`.
+/// Returns the number of bytes of these characters, and the number of their codes. The text need not be UTF-8
+/// after them.
+///
+/// The first byte of two writes a code that the second one overwrites. There is thus no branch that depends on
+/// how many bytes a character has.
+#[tactic(auto, using(crate::proofs::DecodingLemmas::decodes))]
+fn decode_front(encoding: Encoding, text: &[u8], room: &mut [u8]) -> (usize, usize)
+    requires { length text.now ≤ length room.old }
+    ensures bytes { result.0 ≤ length text.now }
+    ensures codes { result.1 ≤ length room.new }
+    ensures front { IsFront encoding (take result.0 text.now) (take result.1 room.new) }
+{
+    let singles = single_codes(encoding);
+    let mut offset = 0;
+    let mut at = 0;
+    let mut codes = 0;
+    while let Some(code) = code_at(singles, text, at, offset) {
+        room[codes] = code;
+        offset = offset_after(text[at]);
+        codes += usize::from(offset == 0);
+        at += 1;
+    }
+    (at - usize::from(offset != 0), codes)
+}
+
+/// Appends the codes of the characters at the front of a text that have single codes. Returns the number of
+/// bytes of these characters. The text need not be UTF-8 after them.
+pub(crate) fn push_front(
+    encoding: Encoding,
+    text: &[u8],
+    codes: &mut Vec<u8>,
+) -> Result<usize, AllocError>
+    ensures within { IfOk result (λ count. count ≤ length text.now) }
+    ensures kept { OnOk result (take (length codes.old.items) codes.new.items ≡ codes.old.items) }
+    ensures front { IfOk result (λ count.
+        IsFront encoding (take count text.now) (drop (length codes.old.items) codes.new.items)) }
+{
+    let before = codes.len();
+    codes.resize(before + text.len(), 0)?;
+    let (bytes, count) = decode_front(encoding, text, &mut codes[before..]);
+    codes.truncate(before + count);
+    Ok(bytes)
+}
