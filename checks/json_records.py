@@ -3,7 +3,7 @@
 Python's json must be able to read each line of JSON, in which no name occurs twice. Written again without
 spaces it must be the same line. Its names must be in the order of docs/TEXTS.md, and its values must be those
 of the line in record format 2. It must also conform to docs/records.schema.json; the validator here has the
-keywords that the schema uses. If Python's jsonschema is installed, it validates one of the lines that differ
+keywords that the schemas use. If Python's jsonschema is installed, it validates one of the lines that differ
 only in numbers, too.
 """
 import functools
@@ -18,9 +18,10 @@ from library_lines import LinesCase
 WEIGHT = 3
 CASES, SCHEMA = table("json_records"), json.loads(read("docs/records.schema.json"))
 LONG = 10000  # jsonschema doesn't validate longer lines
-KNOWN = {"$schema", "title", "description", "$defs", "$ref", "oneOf", "type", "const", "enum", "minimum",
-         "maximum", "prefixItems", "items", "minItems", "properties", "required", "additionalProperties"}
-TYPES = {"object": dict, "array": list, "integer": int}
+KNOWN = {"$schema", "title", "description", "$defs", "$ref", "allOf", "oneOf", "type", "const", "enum",
+         "minimum", "maximum", "minLength", "maxLength", "prefixItems", "items", "minItems", "properties",
+         "required", "additionalProperties"}
+TYPES = {"object": dict, "array": list, "integer": int, "string": str}
 # All bytes in words and by themselves, spaces, empty lines, lines on both sides of the longest, and some
 # without a last line feed.
 TEXTS = {
@@ -80,6 +81,8 @@ def is_valid(value, its):
         raise Wrong(f"keywords of the schema that aren't known here: {sorted(set(its) - KNOWN)}")
     if "$ref" in its and not is_valid(value, functools.reduce(dict.get, its["$ref"].split("/")[1:], SCHEMA)):
         return False
+    if not all(is_valid(value, one) for one in its.get("allOf", [])):
+        return False
     if "oneOf" in its and sum(is_valid(value, one) for one in its["oneOf"]) != 1:
         return False
     if "type" in its and type(value) is not TYPES[its["type"]]:
@@ -88,6 +91,8 @@ def is_valid(value, its):
         return False
     if type(value) is int and not its.get("minimum", value) <= value <= its.get("maximum", value):
         return False
+    if isinstance(value, str):
+        return its.get("minLength", 0) <= len(value) <= its.get("maxLength", len(value))
     if isinstance(value, list):
         first = its.get("prefixItems", [])
         parts = list(zip(value, first)) + [(one, its.get("items", True)) for one in value[len(first):]]

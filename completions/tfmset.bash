@@ -10,7 +10,7 @@ _tfmset_options() {
         '') options='-h --help -V --version' ;;
         counts) options='-v --verbose -h --help' ;;
         list) options='--size --all -v --verbose -h --help' ;;
-        pairs) options='--size --format -v --verbose -h --help' ;;
+        pairs) options='--size --format --encoding -v --verbose -h --help' ;;
         check) options='-v --verbose -h --help' ;;
         set) options='--size --limit --missing --crlf --encoding --workers --capacity --block --record -v --verbose -h --help' ;;
         each) options='--size --missing --crlf --encoding --workers --capacity --block --record -v --verbose -h --help' ;;

@@ -6,8 +6,8 @@ use Rattle.clap.specs.Words.{App, FailsBy, HasMatchesOf, Row, Text, fault_of, fi
 use Rattle.clap.specs.declared.error.Error.{Error}
 use Rattle.clap.specs.declared.error.kind.ErrorKind.{ErrorKind}
 use Rattle.clap.specs.declared.parser.matches.ArgMatches.{ArgMatches}
-use Rattle.font_texts.specs.declared.pairs_format.PairsFormat.{PairsFormat}
-use Rattle.command_line.specs.Asked.{AsksFor, Finds, IsAskedOf, IsAskedWith, format_word, kind_without_request}
+use Rattle.font_texts.specs.declared.pairs_layout.PairsLayout.{PairsLayout}
+use Rattle.command_line.specs.Asked.{AsksFor, Finds, IsAskedOf, IsAskedWith, IsPairsLayout, kind_without_request}
 use Rattle.command_line.specs.Commands.{AllChoices, tfmset_app}
 use Rattle.command_line.specs.declared.request.Request.{Request}
 use Rattle.command_line.specs.declared.request.Request.TheVariants.{Counts, List as ListFont, Pairs, Check, Set, Stream, Each}
@@ -49,7 +49,7 @@ module _ (choices : AllChoices) where
 no_list : (rows : List Row) → ((any : Bor Text) → ¬ (first_of (codes "FONT") rows ≡ Some any.now)) → (any : Request) → ¬ AsksFor rows (codes "list") any
 no_list rows none (ListFont font size all verbose) asks = none font asks.1
 no_list rows none (Counts font verbose) asks = let is = asks.0 in absurd (search rules)
-no_list rows none (Pairs font size format verbose) asks = let is = asks.0 in absurd (search rules)
+no_list rows none (Pairs font size layout verbose) asks = let is = asks.0 in absurd (search rules)
 no_list rows none (Check asked) asks = let is = asks.0 in absurd (search rules)
 no_list rows none (Set asked) asks = let is = asks.0 in absurd (search rules)
 no_list rows none (Stream asked) asks = let is = asks.0 in absurd (search rules)
@@ -62,13 +62,13 @@ list_none rows found (Some request) finds none is = absurd (none-some request (s
 list_none rows (Some font) None finds none is = absurd (none-some font (sym none))
 list_none rows None None finds none is = no_list rows finds
 
--- the font and the format that the arguments of `pairs` have
-abbrev AreFontFormat : List Row → Bor Text × PairsFormat → Type 0
-AreFontFormat rows found = (first_of (codes "FONT") rows ≡ Some found.0.now) × (first_of (codes "format") rows ≡ Some (format_word found.1))
+-- the font and the layout that the arguments of `pairs` have
+abbrev AreFontLayout : List Row → Bor Text × PairsLayout → Type 0
+AreFontLayout rows found = (first_of (codes "FONT") rows ≡ Some found.0.now) × IsPairsLayout rows found.1
 
--- `pairs` states no request without a font and a format
-no_pairs : (rows : List Row) → ((any : Bor Text × PairsFormat) → ¬ AreFontFormat rows any) → (any : Request) → ¬ AsksFor rows (codes "pairs") any
-no_pairs rows none (Pairs font size format verbose) asks = none (font, format) (asks.1, asks.3)
+-- `pairs` states no request without a font and a layout
+no_pairs : (rows : List Row) → ((any : Bor Text × PairsLayout) → ¬ AreFontLayout rows any) → (any : Request) → ¬ AsksFor rows (codes "pairs") any
+no_pairs rows none (Pairs font size layout verbose) asks = none (font, layout) (asks.1, asks.3)
 no_pairs rows none (Counts font verbose) asks = let is = asks.0 in absurd (search rules)
 no_pairs rows none (ListFont font size all verbose) asks = let is = asks.0 in absurd (search rules)
 no_pairs rows none (Check asked) asks = let is = asks.0 in absurd (search rules)
@@ -76,7 +76,7 @@ no_pairs rows none (Set asked) asks = let is = asks.0 in absurd (search rules)
 no_pairs rows none (Stream asked) asks = let is = asks.0 in absurd (search rules)
 no_pairs rows none (Each asked) asks = let is = asks.0 in absurd (search rules)
 
-pub pairs_none : (rows : List Row) (found : Option (Bor Text × PairsFormat)) (result : Option Request) → Finds (AreFontFormat rows) found → found ≡ None → result ≡ None
+pub pairs_none : (rows : List Row) (found : Option (Bor Text × PairsLayout)) (result : Option Request) → Finds (AreFontLayout rows) found → found ≡ None → result ≡ None
     → Finds (AsksFor rows (codes "pairs")) result
 pairs_none rows found (Some request) finds none is = absurd (none-some request (sym is))
 pairs_none rows (Some pair) None finds none is = absurd (none-some pair (sym none))

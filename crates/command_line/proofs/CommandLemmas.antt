@@ -7,7 +7,7 @@ use Rattle.clap.specs.declared.builder.command.Command.{Command}
 use Rattle.clap.specs.declared.builder.value_parser.ValueParser.{ValueParser}
 use Rattle.clap.specs.declared.builder.value_parser.ValueParser.TheVariants as parser
 use Rattle.std.specs.Prelude.{Result, Ok, Err, IfOk, IsOkAnd}
-use Rattle.command_line.specs.Commands.{Choices, IsArgument, IsCommandOf, IsSubcommand, TakesWords, choice_rule, format_words, pairs_shape, with_default}
+use Rattle.command_line.specs.Commands.{IsArgument, IsCommandOf, IsSubcommand, TakesWords, choice_rule, with_default}
 
 -- a command without subcommands, as a subcommand
 pub as_subcommand : (app : App) (command : Command) → IsCommandOf app command → IsSubcommand app.top command
@@ -42,15 +42,8 @@ module _ {E : Type 0} (command made : Command) (app : App) where
   with_added (Err e) shape adds is before = absurd adds
 
   -- the command with a subcommand that has options with a list of values
-  pub with_choices : (added : Result Command E) (shape : Choices → Shape) → IsOkAnd added (Adds command made)
-      → IfOk added (λ a. (choices : Choices) × IsSubcommand (shape choices) a)
-      → IsCommandOf app command → (choices : Choices) × IsCommandOf (with_subcommand app (shape choices)) made
+  pub with_choices : {C : Type 0} (added : Result Command E) (shape : C → Shape) → IsOkAnd added (Adds command made)
+      → IfOk added (λ a. (choices : C) × IsSubcommand (shape choices) a)
+      → IsCommandOf app command → (choices : C) × IsCommandOf (with_subcommand app (shape choices)) made
   with_choices (Ok added) shape adds is before = (is.0, adds app (shape is.0) before is.1)
   with_choices (Err e) shape adds is before = absurd adds
-
-  -- the command with `pairs`, whose option `--format` has a list of values
-  pub with_formats : (added : Result Command E) → IsOkAnd added (Adds command made)
-      → IfOk added (λ a. (formats : ValueParser) × TakesWords format_words formats × IsSubcommand (pairs_shape formats) a)
-      → IsCommandOf app command → (formats : ValueParser) × TakesWords format_words formats × IsCommandOf (with_subcommand app (pairs_shape formats)) made
-  with_formats (Ok added) adds is before = (is.0, is.1, adds app (pairs_shape is.0) before is.2)
-  with_formats (Err e) adds is before = absurd adds

@@ -50,6 +50,10 @@ module _ (choices : AllChoices) where
   unfolding clap_on_literals
   stream_encoding = refl
 
+  pairs_encoding : text_in (codes "encoding") (codes "pairs" ∷ codes "--encoding=ly1" ∷ codes "f.tfm" ∷ []) ≡ Some (Some (codes "ly1"))
+  unfolding clap_on_literals
+  pairs_encoding = refl
+
   list_size : text_in (codes "size") (codes "list" ∷ codes "--size=12pt" ∷ codes "f.tfm" ∷ []) ≡ Some (Some (codes "12pt"))
   unfolding clap_on_literals
   list_size = refl
@@ -97,6 +101,10 @@ module _ (choices : AllChoices) where
   set_encoding : text_in (codes "encoding") set ≡ Some (Some (codes "bytes"))
   unfolding clap_on_literals
   set_encoding = refl
+
+  pairs_not_encoded : text_in (codes "encoding") (codes "pairs" ∷ codes "f.tfm" ∷ []) ≡ Some (Some (codes "bytes"))
+  unfolding clap_on_literals
+  pairs_not_encoded = refl
 
   each_encoding : text_in (codes "encoding") (codes "each" ∷ codes "f.tfm" ∷ codes "100" ∷ codes "a" ∷ []) ≡ Some (Some (codes "bytes"))
   unfolding clap_on_literals

@@ -11,6 +11,7 @@ use Rattle.clap.specs.declared.error.kind.ErrorKind.TheVariants.{MissingSubcomma
 use Rattle.encodings.specs.Names.{name_of}
 use Rattle.tex_sizes.specs.Sizes.{is_plain, size_of}
 use Rattle.font_texts.specs.declared.pairs_format.PairsFormat.{PairsFormat}
+use Rattle.font_texts.specs.declared.pairs_layout.PairsLayout.{PairsLayout}
 use Rattle.font_texts.specs.declared.pairs_format.PairsFormat.TheVariants.{Text as TextFormat, Csv, Json as JsonFormat}
 use Rattle.set_line.specs.declared.policy.Policy.{Policy}
 use Rattle.set_line.specs.declared.policy.Policy.TheVariants.{Refuse, Skip}
@@ -111,6 +112,12 @@ module _ (rows : List Row) where
       × (first_of (codes "record") rows ≡ Some (version_word layout.version))
       × IsVerbose layout.verbose
 
+  -- the format of the output of `pairs`, and the encoding of its characters
+  abbrev pub IsPairsLayout : PairsLayout → Type 0
+  IsPairsLayout layout =
+      (first_of (codes "format") rows ≡ Some (format_word layout.format))
+      × (first_of (codes "encoding") rows ≡ Some (name_of layout.encoding))
+
   -- the fonts of `check`, in order, their size, and whether `--verbose` is given
   abbrev pub IsChecking : Checking → Type 0
   IsChecking asked =
@@ -140,11 +147,11 @@ module _ (rows : List Row) where
       × IsSize size
       × IsFlag (one_of (codes "all") rows) all
       × IsVerbose verbose
-  AsksFor name (Pairs font size format verbose) =
+  AsksFor name (Pairs font size layout verbose) =
       (name ≡ codes "pairs")
       × (first_of (codes "FONT") rows ≡ Some font.now)
       × IsSize size
-      × (first_of (codes "format") rows ≡ Some (format_word format))
+      × IsPairsLayout layout
       × IsVerbose verbose
   AsksFor name (Check asked) = (name ≡ codes "check") × IsChecking asked
   AsksFor name (Set asked) = (name ≡ codes "set") × IsSetting asked

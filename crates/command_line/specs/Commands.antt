@@ -74,6 +74,17 @@ pub record Choices : Type 0 where
   pub encodings_taken : TakesWords encoding_words encodings
   pub records_taken : TakesWords record_words records
 
+-- the parsers of `--format` and `--encoding` of `pairs`
+pub record PairsChoices : Type 0 where
+  pub formats : ValueParser
+  pub encodings : ValueParser
+  pub formats_taken : TakesWords format_words formats
+  pub encodings_taken : TakesWords encoding_words encodings
+
+-- the option `--encoding` with this parser
+abbrev pub encoding_rule : ValueParser → Rule
+encoding_rule encodings = with_default (codes "bytes") (choice_rule (codes "encoding") encodings)
+
 -- the option `--size`, whose value is any text for a parse
 abbrev pub size_rule : Rule
 size_rule = record (new_rule (codes "size")) { long = Some (codes "size"); value_names = 1 }
@@ -87,7 +98,7 @@ abbrev pub run_rules : Rule → Choices → List Rule
 run_rules block choices =
     with_default (codes "refuse") (choice_rule (codes "missing") choices.missing)
     ∷ flag_rule (codes "crlf")
-    ∷ with_default (codes "bytes") (choice_rule (codes "encoding") choices.encodings)
+    ∷ encoding_rule choices.encodings
     ∷ with_default (codes "2") (number_rule (codes "workers") 16)
     ∷ with_default (codes "16") (number_rule (codes "capacity") 65536)
     ∷ block
@@ -114,11 +125,12 @@ counts_shape = subcommand_with (codes "counts") (verbose_rule ∷ needed (new_ru
 abbrev pub list_shape : Shape
 list_shape = subcommand_with (codes "list") (size_rule ∷ flag_rule (codes "all") ∷ verbose_rule ∷ needed (new_rule (codes "FONT")) ∷ [])
 
--- `pairs` takes `--size`, `--format` with this parser, the flag `--verbose`, and one font
-abbrev pub pairs_shape : ValueParser → Shape
-pairs_shape formats =
+-- `pairs` takes `--size`, `--format` and `--encoding` with these parsers, the flag `--verbose`, and one font
+abbrev pub pairs_shape : PairsChoices → Shape
+pairs_shape choices =
     subcommand_with (codes "pairs")
-    (size_rule ∷ with_default (codes "text") (choice_rule (codes "format") formats) ∷ verbose_rule ∷ needed (new_rule (codes "FONT")) ∷ [])
+    (size_rule ∷ with_default (codes "text") (choice_rule (codes "format") choices.formats) ∷ encoding_rule choices.encodings ∷ verbose_rule
+    ∷ needed (new_rule (codes "FONT")) ∷ [])
 
 -- `check` takes `--size`, the flag `--verbose`, and one or more fonts
 abbrev pub check_shape : Shape
@@ -157,8 +169,7 @@ command_with shapes = record { top = record bare_app.top { is_leaf = false }; su
 
 -- the parsers of `pairs`, `set`, `stream` and `each`
 pub record AllChoices : Type 0 where
-  pub formats : ValueParser
-  pub formats_taken : TakesWords format_words formats
+  pub pairs : PairsChoices
   pub set : Choices
   pub stream : Choices
   pub each : Choices
@@ -167,7 +178,7 @@ pub record AllChoices : Type 0 where
 abbrev pub tfmset_app : AllChoices → App
 tfmset_app choices =
     command_with
-    (counts_shape ∷ list_shape ∷ pairs_shape choices.formats ∷ check_shape ∷ set_shape choices.set
+    (counts_shape ∷ list_shape ∷ pairs_shape choices.pairs ∷ check_shape ∷ set_shape choices.set
     ∷ stream_shape choices.stream ∷ each_shape choices.each ∷ [])
 
 -- ---- building the command

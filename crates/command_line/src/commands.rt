@@ -3,7 +3,7 @@ ghost use Rattle.std.specs.Prelude.{codes, IfOk, IsOkAnd};
 ghost use Rattle.clap.specs.declared.builder.value_parser.ValueParser.{ValueParser};
 ghost use Rattle.clap.specs.declared.builder.value_parser.ValueParser.TheVariants.{Names};
 ghost use Rattle.clap.specs.Words.{App, Rule, Shape, new_app, new_rule, with_rule, with_subcommand};
-ghost use Rattle.command_line.specs.Commands.{AllChoices, Choices, IsArgument, IsCommandOf, IsSubcommand, TakesWords, bare_app, block_rule, check_shape, choice_rule, counts_shape, each_shape, encoding_words, flag_rule, format_words, list_shape, missing_words, needed, number_rule, pairs_shape, record_words, run_rules, set_shape, setting_rules, size_rule, stream_shape, tfmset_app, verbose_rule, with_default, with_rules, words_rule};
+ghost use Rattle.command_line.specs.Commands.{AllChoices, Choices, IsArgument, IsCommandOf, IsSubcommand, PairsChoices, TakesWords, bare_app, block_rule, check_shape, choice_rule, counts_shape, each_shape, encoding_words, flag_rule, format_words, list_shape, missing_words, needed, number_rule, pairs_shape, record_words, run_rules, set_shape, setting_rules, size_rule, stream_shape, tfmset_app, verbose_rule, with_default, with_rules, words_rule};
 
 use crate::help::{
     ABOUT, AFTER_HELP, ALL_HELP, BLOCK_HELP, CAPACITY_HELP, CAUSES_HELP, CHECK_ABOUT,
@@ -78,12 +78,12 @@ fn list_command<'a>(alloc: Global) -> Result<Command<'a>, AllocError>
 }
 
 fn pairs_command<'a>(alloc: Global) -> Result<Command<'a>, AllocError>
-    ensures { IfOk result (λ made. (formats : ValueParser) × TakesWords format_words formats
-        × IsSubcommand (pairs_shape formats) made) }
+    ensures { IfOk result (λ made. (choices : PairsChoices) × IsSubcommand (pairs_shape choices) made) }
 {
     let command = subcommand(alloc, "pairs", PAIRS_ABOUT, PAIRS_AFTER_HELP);
     let command = with_argument(command, size_option(alloc))?;
     let command = with_argument(command, format_option(alloc))?;
+    let command = with_argument(command, encoding_option(alloc))?;
     let command = with_argument(command, verbose_option(alloc, CAUSES_HELP))?;
     with_argument(command, font_argument(alloc))
 }

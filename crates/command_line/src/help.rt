@@ -77,6 +77,13 @@ OPERATION is LIG, LIG/, /LIG, /LIG/, LIG/>, /LIG>, /LIG/> or /LIG/>>, and CODE
 is the code of the inserted character. With csv, commas separate the fields and
 the first line names them; json prints one JSON object per line.
 
+With --encoding, the characters that the encoding of the font (ot1 for cmr10,
+t1 for ecrm1000; ly1; latin1) gives LEFT, RIGHT and the CODE of an OPERATION
+are printed after these fields, in UTF-8: 86 65 kern -72819 V A. A code that
+has no character is none, and a space, a no-break space, a soft hyphen or a
+control character is printed as U+0020 and so on. With csv, a field without a
+character is empty; with json, a character is a string, or null.
+
 Exit status:
   0  The pairs were printed.
   2  The arguments are invalid. The output is empty.

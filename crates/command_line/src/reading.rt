@@ -3,7 +3,7 @@ ghost use Rattle.std.specs.Prelude.{◌≡◌, [], map, IfErr, IfOk, Some, codes
 ghost use Rattle.clap.specs.Words.{all_of, first_of, found_of, kind_of, one_of, rows_of, subcommand_rows_of};
 ghost use Rattle.encodings.specs.Names.{name_of};
 ghost use Rattle.command_line.specs.Commands.{AllChoices, IsCommandOf, tfmset_app};
-ghost use Rattle.command_line.specs.Asked.{AreJobs, AsksFor, Finds, format_word, has_no_block, has_plain_size, IsAskedBy, IsAskedOf, IsAskedWith, IsBlock, IsChecking, IsFlag, IsLayout, IsNumberIn, IsPlan, IsRefusedBy, IsRefusedWith, IsSetting, IsSize, IsVerbose, kind_without_request, misstates_size, policy_word, texts, version_word};
+ghost use Rattle.command_line.specs.Asked.{AreJobs, AsksFor, Finds, format_word, has_no_block, has_plain_size, IsAskedBy, IsAskedOf, IsAskedWith, IsBlock, IsChecking, IsFlag, IsLayout, IsNumberIn, IsPairsLayout, IsPlan, IsRefusedBy, IsRefusedWith, IsSetting, IsSize, IsVerbose, kind_without_request, misstates_size, policy_word, texts, version_word};
 
 use crate::commands::tfmset_command;
 use crate::help::SIZE_ERROR;
@@ -11,7 +11,7 @@ use crate::request::{Checking, Jobs, Layout, Request, Setting};
 use clap::error::ErrorKind;
 use clap::{ArgMatches, Command, Error};
 use encodings::Encoding;
-use font_texts::PairsFormat;
+use font_texts::{PairsFormat, PairsLayout};
 use run_plan::{Block, Capacity, Plan, Workers};
 use set_line::{Limit, Policy, Version};
 use std::alloc::{AllocError, Global};
@@ -138,24 +138,33 @@ fn asked_list<'a>(matches: &ArgMatches<'a>) -> Option<Request<'a>>
 fn asked_pairs<'a>(matches: &ArgMatches<'a>) -> Option<Request<'a>>
     ensures { Finds (AsksFor (rows_of (found_of matches.now)) (codes "pairs")) result }
 {
-    let (font, format) = font_format(matches)?;
+    let (font, layout) = font_layout(matches)?;
     let size = asked_size(matches)?;
     let verbose = asked_verbose(matches);
     Some(Request::Pairs {
         font,
         size,
-        format,
+        layout,
         verbose,
     })
 }
 
-/// Returns the font and the format of `pairs`.
-fn font_format<'a>(matches: &ArgMatches<'a>) -> Option<(&'a str, PairsFormat)>
+/// Returns the font of `pairs`, and the layout of its output.
+fn font_layout<'a>(matches: &ArgMatches<'a>) -> Option<(&'a str, PairsLayout)>
     ensures { Finds (λ found.
         (first_of (codes "FONT") (rows_of (found_of matches.now)) ≡ Some found.0.now)
-        × (first_of (codes "format") (rows_of (found_of matches.now)) ≡ Some (format_word found.1))) result }
+        × IsPairsLayout (rows_of (found_of matches.now)) found.1) result }
 {
-    Some((text(matches, "FONT")?, asked_format(matches)?))
+    Some((text(matches, "FONT")?, asked_pairs_layout(matches)?))
+}
+
+/// Returns the format of the output of `pairs`, and the encoding of its characters.
+fn asked_pairs_layout(matches: &ArgMatches<'_>) -> Option<PairsLayout>
+    ensures { Finds (IsPairsLayout (rows_of (found_of matches.now))) result }
+{
+    let format = asked_format(matches)?;
+    let encoding = asked_encoding(matches)?;
+    Some(PairsLayout { format, encoding })
 }
 
 /// Returns the fonts that `check` reads, and their size.

@@ -1,6 +1,6 @@
 //! The requests that arguments can state.
 use encodings::Encoding;
-use font_texts::PairsFormat;
+use font_texts::PairsLayout;
 use run_plan::Plan;
 use set_line::{Limit, Policy, Version};
 use tfm_words::Size;
@@ -32,8 +32,8 @@ pub enum Request<'a> {
         font: &'a str,
         /// The size of the font, in sp; `None` means its design size.
         size: Option<Size>,
-        /// The format of the output.
-        format: PairsFormat,
+        /// The format of the output, and the encoding whose characters are printed after the codes.
+        layout: PairsLayout,
         /// Whether the causes of errors are printed on standard error.
         verbose: bool,
     },

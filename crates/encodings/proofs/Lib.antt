@@ -1,3 +1,5 @@
+pub mod CharacterLemmas
+pub mod CharacterRows
 pub mod DecodingLemmas
 pub mod EncodedLemmas
 pub mod LawLemmas

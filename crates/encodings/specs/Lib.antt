@@ -6,3 +6,5 @@ pub mod Lines
 pub mod Encoded
 pub mod Decoding
 pub mod Laws
+pub mod Characters
+pub mod CharacterTables

@@ -1,6 +1,7 @@
 //! Encodings of TeX's fonts.
 #![tactic(auto)]
 
+pub use characters::character_at;
 pub use coded::Coded;
 pub use encoded_line::EncodedLine;
 pub use encoding::Encoding;
@@ -9,6 +10,7 @@ pub use lines::{EncodeFault, encode_line};
 pub use lookup::codes_of;
 pub use places::{Place, Places, first_uncoded};
 
+mod characters;
 mod coded;
 mod cutting;
 mod decoding;

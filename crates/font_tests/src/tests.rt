@@ -11,6 +11,7 @@ mod headers;
 mod lengths;
 mod listings;
 mod long_listings;
+mod pairs;
 mod programs;
 mod readers;
 mod reading;

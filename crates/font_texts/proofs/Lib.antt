@@ -1,5 +1,7 @@
 pub mod CountsTextLemmas
 pub mod ListingLemmas
+pub mod PairLemmas
 pub mod PairRows
 pub mod TextLemmas
 pub mod LawLemmas
+pub mod WorkedRows

@@ -7,3 +7,4 @@ pub mod Findings
 pub mod Laws
 pub mod Pairs
 pub mod PairsText
+pub mod PairCharacters

@@ -41,23 +41,33 @@ unfoldable pub action_value : Action → List ℕ
 action_value (Kern amount) = signed_decimal amount
 action_value (Lig code keep_left keep_right pass) = decimal code
 
--- the line of a pair: four fields with a separator between neighbours
-abbrev pub pair_row : List ℕ → Pair → List ℕ
-pair_row separator pair =
+-- the four fields of a pair with a separator between neighbours
+abbrev pub pair_fields : List ℕ → Pair → List ℕ
+pair_fields separator pair =
     symbol_word pair.left ++ separator ++ symbol_word pair.right ++ separator
-    ++ action_name pair.action ++ separator ++ action_value pair.action ++ codes "\n"
+    ++ action_name pair.action ++ separator ++ action_value pair.action
 
--- the line of a pair in JSON: an object with the same four fields
-abbrev pub pair_object : Pair → List ℕ
-pair_object pair =
-    codes "{\"left\":" ++ json_symbol pair.left ++ codes ",\"right\":" ++ json_symbol pair.right
-    ++ codes ",\"action\":\"" ++ action_name pair.action ++ codes "\",\"value\":" ++ action_value pair.action ++ codes "}\n"
+-- the same four fields as the members of a JSON object
+abbrev pub pair_members : Pair → List ℕ
+pair_members pair =
+    codes "\"left\":" ++ json_symbol pair.left ++ codes ",\"right\":" ++ json_symbol pair.right
+    ++ codes ",\"action\":\"" ++ action_name pair.action ++ codes "\",\"value\":" ++ action_value pair.action
+
+-- the line of a pair in a format, up to its end
+unfoldable pub pair_front : PairsFormat → Pair → List ℕ
+pair_front Text pair = pair_fields (codes " ") pair
+pair_front Csv pair = pair_fields (codes ",") pair
+pair_front Json pair = codes "{" ++ pair_members pair
+
+-- the end of a line
+unfoldable pub line_end : PairsFormat → List ℕ
+line_end Text = codes "\n"
+line_end Csv = codes "\n"
+line_end Json = codes "}\n"
 
 -- the line of a pair in a format
-unfoldable pub pair_line : PairsFormat → Pair → List ℕ
-pair_line Text pair = pair_row (codes " ") pair
-pair_line Csv pair = pair_row (codes ",") pair
-pair_line Json pair = pair_object pair
+abbrev pub pair_line : PairsFormat → Pair → List ℕ
+pair_line format pair = pair_front format pair ++ line_end format
 
 -- the line before the pairs, which only CSV has
 unfoldable pub pairs_head : PairsFormat → List ℕ

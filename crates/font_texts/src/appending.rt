@@ -1,4 +1,4 @@
-ghost use Rattle.std.specs.Prelude.{◌≡◌, ◌<◌, ◌++◌, OnOk, false};
+ghost use Rattle.std.specs.Prelude.{◌≡◌, ◌<◌, ◌++◌, OnOk, false, true};
 ghost use Rattle.std.specs.Fmt.{digit_glyph};
 ghost use Rattle.font_texts.specs.AllListing.{hex_byte, hex_text};
 ghost use Rattle.font_texts.specs.ListingWords.{escaped, escaped_text};
@@ -13,6 +13,18 @@ fn hex_digit(value: u8) -> u8
         b'0' + value
     } else {
         b'a' + (value - 10)
+    }
+}
+
+/// Returns a hexadecimal digit; those above 9 are capitals.
+pub(crate) fn capital_digit(value: u8) -> u8
+    requires { value < 16 }
+    ensures { result ≡ digit_glyph true value }
+{
+    if value < 10 {
+        b'0' + value
+    } else {
+        b'A' + (value - 10)
     }
 }
 

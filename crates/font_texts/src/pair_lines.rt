@@ -1,79 +1,113 @@
 //! Makes the text of the pairs of a font.
-ghost use Rattle.std.specs.Prelude.{◌≡◌, ◌++◌, flat_map, replicate, IfOk, IfErr, OnOk};
+ghost use Rattle.std.specs.Prelude.{◌≡◌, ◌++◌, codes, flat_map, replicate, IfOk, IfErr, OnOk};
 ghost use Rattle.tfm_tables.specs.Font.{FontValue, IsFontOf, IsRefusalOf};
-ghost use Rattle.font_texts.specs.PairsText.{action_name, action_value, json_symbol, pair_line, pair_object, pair_row, pairs_head, pairs_text_of, slash_if, symbol_word};
+ghost use Rattle.font_texts.specs.PairCharacters.{pair_line_with, pairs_head_with, pairs_text_with};
+ghost use Rattle.font_texts.specs.PairsText.{action_name, action_value, json_symbol, line_end as end_of, pair_fields, pair_front, pair_members, slash_if, symbol_word};
 
+use crate::pair_characters::push_characters;
 use crate::pairing::pairs;
-use crate::{Pair, PairsFormat};
+use crate::{Pair, PairsFormat, PairsLayout};
+use encodings::Encoding;
 use lig_kern::{Action, Symbol};
 use std::alloc::{AllocError, Global};
 use tfm_tables::{Font, FontFault};
 use tfm_words::{Size, push_number};
 
+/// The first line of CSV without an encoding.
+const CODES_HEAD: &[u8] = b"left,right,action,value\n";
+
+/// The first line of CSV with an encoding.
+const CHARACTERS_HEAD: &[u8] =
+    b"left,right,action,value,left_character,right_character,value_character\n";
+
 /// Reads a font at `size`, or at its design size for `None`, and returns the text of its pairs: a line for
-/// each pair that `pairs` returns, in order. In CSV a line with the names of the fields precedes them. The
-/// error is that of `Font::read`, or `OutOfMemory` if an allocation fails after it.
+/// each pair that `pairs` returns, in order. With an encoding, the characters follow the codes in each line.
+/// In CSV a line with the names of the fields precedes the pairs. The error is that of `Font::read`, or
+/// `OutOfMemory` if an allocation fails after it.
 pub fn pairs_text(
     alloc: Global,
     bytes: &[u8],
     size: Option<Size>,
-    format: PairsFormat,
+    layout: PairsLayout,
 ) -> Result<Vec<u8>, FontFault>
     ensures text { IfOk result (λ text. (f : FontValue) × IsFontOf bytes.now size f
-        × (text.items ≡ pairs_text_of format f)) }
+        × (text.items ≡ pairs_text_with layout.encoding layout.format f)) }
     ensures fault { IfErr result (IsRefusalOf bytes.now) }
 {
     let font = Font::read(alloc, bytes, size)?;
-    match text_of(alloc, &font, format) {
+    match text_of(alloc, &font, layout) {
         Ok(text) => Ok(text),
         Err(_) => Err(FontFault::OutOfMemory),
     }
 }
 
 /// Returns the text of the pairs of a font. Fails if an allocation fails.
-#[tactic(auto, unfolding(crate::specs::PairsText::pairs_text_of))]
-fn text_of(alloc: Global, font: &Font, format: PairsFormat) -> Result<Vec<u8>, AllocError>
-    ensures { IfOk result (λ text. text.items ≡ pairs_text_of format font.now) }
+#[tactic(auto, unfolding(crate::specs::PairCharacters::pairs_text_with))]
+fn text_of(alloc: Global, font: &Font, layout: PairsLayout) -> Result<Vec<u8>, AllocError>
+    ensures { IfOk result (λ text. text.items ≡ pairs_text_with layout.encoding layout.format font.now) }
 {
     let pairs = pairs(alloc, font)?;
-    let mut text = Vec::from_slice(alloc, head(format))?;
-    push_lines(&mut text, pairs.as_slice(), format)?;
+    let mut text = Vec::from_slice(alloc, head(layout))?;
+    push_lines(&mut text, pairs.as_slice(), layout)?;
     Ok(text)
 }
 
-#[tactic(auto, unfolding(crate::specs::PairsText::pairs_head))]
-fn head(format: PairsFormat) -> &'static [u8]
-    ensures { result.now ≡ pairs_head format }
+#[tactic(auto, using(crate::proofs::PairLemmas::heads), unfolding(crate::specs::PairsText::pairs_head))]
+fn head(layout: PairsLayout) -> &'static [u8]
+    ensures { result.now ≡ pairs_head_with layout.encoding layout.format }
 {
-    match format {
-        PairsFormat::Csv => b"left,right,action,value\n",
+    match layout.format {
+        PairsFormat::Csv if layout.encoding == Encoding::Bytes => CODES_HEAD,
+        PairsFormat::Csv => CHARACTERS_HEAD,
         PairsFormat::Text | PairsFormat::Json => b"",
     }
 }
 
-fn push_lines(text: &mut Vec<u8>, pairs: &[Pair], format: PairsFormat) -> Result<(), AllocError>
-    ensures { OnOk result (text.new.items ≡ text.old.items ++ flat_map (pair_line format) pairs.now) }
+fn push_lines(text: &mut Vec<u8>, pairs: &[Pair], layout: PairsLayout) -> Result<(), AllocError>
+    ensures { OnOk result (text.new.items ≡ text.old.items
+        ++ flat_map (pair_line_with layout.encoding layout.format) pairs.now) }
 {
     for pair in pairs {
-        push_line(text, pair, format)?;
+        push_line(text, pair, layout)?;
     }
     Ok(())
 }
 
-#[tactic(auto, unfolding(crate::specs::PairsText::pair_line))]
-fn push_line(text: &mut Vec<u8>, pair: &Pair, format: PairsFormat) -> Result<(), AllocError>
-    ensures { OnOk result (text.new.items ≡ text.old.items ++ pair_line format pair.now) }
+#[tactic(auto, using(crate::proofs::ListingLemmas::joined), unfolding(crate::specs::PairCharacters::pair_line_with))]
+fn push_line(text: &mut Vec<u8>, pair: &Pair, layout: PairsLayout) -> Result<(), AllocError>
+    ensures { OnOk result (text.new.items ≡ text.old.items
+        ++ pair_line_with layout.encoding layout.format pair.now) }
+{
+    push_front(text, pair, layout.format)?;
+    push_characters(text, pair, layout)?;
+    text.extend_from_slice(line_end(layout.format))
+}
+
+#[tactic(auto, unfolding(crate::specs::PairsText::line_end))]
+fn line_end(format: PairsFormat) -> &'static [u8]
+    ensures { result.now ≡ end_of format }
 {
     match format {
-        PairsFormat::Text => push_row(text, pair, b" "),
-        PairsFormat::Csv => push_row(text, pair, b","),
+        PairsFormat::Text | PairsFormat::Csv => b"\n",
+        PairsFormat::Json => b"}\n",
+    }
+}
+
+/// Appends the line of a pair up to the end of its four fields.
+#[tactic(auto, unfolding(crate::specs::PairsText::pair_front))]
+fn push_front(text: &mut Vec<u8>, pair: &Pair, format: PairsFormat) -> Result<(), AllocError>
+    ensures { OnOk result (text.new.items ≡ text.old.items ++ pair_front format pair.now) }
+{
+    match format {
+        PairsFormat::Text => push_fields(text, pair, b" "),
+        PairsFormat::Csv => push_fields(text, pair, b","),
         PairsFormat::Json => push_object(text, pair),
     }
 }
 
 #[tactic(auto, using(crate::proofs::ListingLemmas::joined))]
-fn push_row(text: &mut Vec<u8>, pair: &Pair, separator: &[u8]) -> Result<(), AllocError>
-    ensures { OnOk result (text.new.items ≡ text.old.items ++ pair_row separator.now pair.now) }
+fn push_fields(text: &mut Vec<u8>, pair: &Pair, separator: &[u8]) -> Result<(), AllocError>
+    ensures { OnOk result (text.new.items ≡ text.old.items ++ pair_fields separator.now pair.now) }
 {
     push_symbol(text, pair.left)?;
     text.extend_from_slice(separator)?;
@@ -81,13 +115,13 @@ fn push_row(text: &mut Vec<u8>, pair: &Pair, separator: &[u8]) -> Result<(), All
     text.extend_from_slice(separator)?;
     push_name(text, pair.action)?;
     text.extend_from_slice(separator)?;
-    push_value(text, pair.action)?;
-    text.extend_from_slice(b"\n")
+    push_value(text, pair.action)
 }
 
+/// Appends a JSON object without its closing brace.
 #[tactic(auto, using(crate::proofs::ListingLemmas::joined))]
 fn push_object(text: &mut Vec<u8>, pair: &Pair) -> Result<(), AllocError>
-    ensures { OnOk result (text.new.items ≡ text.old.items ++ pair_object pair.now) }
+    ensures { OnOk result (text.new.items ≡ text.old.items ++ codes "{" ++ pair_members pair.now) }
 {
     text.extend_from_slice(b"{\"left\":")?;
     push_json_symbol(text, pair.left)?;
@@ -96,8 +130,7 @@ fn push_object(text: &mut Vec<u8>, pair: &Pair) -> Result<(), AllocError>
     text.extend_from_slice(b",\"action\":\"")?;
     push_name(text, pair.action)?;
     text.extend_from_slice(b"\",\"value\":")?;
-    push_value(text, pair.action)?;
-    text.extend_from_slice(b"}\n")
+    push_value(text, pair.action)
 }
 
 #[tactic(auto, unfolding(crate::specs::PairsText::symbol_word))]

@@ -223,7 +223,7 @@ module _ (known : List ℕ → Option (List ℕ)) (input : Option (List ℕ)) wh
   not_of_font : (request : Request) (failure : Failure) → IsFaultOf request failure → IsFontFaultOf known input request failure → ⊥
   not_of_font (Counts font verbose) failure fault is = fault
   not_of_font (ListFont font size all verbose) failure fault is = fault
-  not_of_font (Pairs font size format verbose) failure fault is = fault
+  not_of_font (Pairs font size layout verbose) failure fault is = fault
   not_of_font (Check asked) failure fault is = is
   not_of_font (Set setting) failure fault is = not_of_font_set setting (font_bytes_of known input setting.font.now) failure fault is
   not_of_font (Stream setting) failure fault is = not_of_font_stream setting (font_bytes_of known input setting.font.now) failure fault is
@@ -233,7 +233,7 @@ module _ (known : List ℕ → Option (List ℕ)) (input : Option (List ℕ)) wh
   memory_not_of_font : (request : Request) → IsFontFaultOf known input request (Tool OutOfMemory) → ⊥
   memory_not_of_font (Counts font verbose) is = is
   memory_not_of_font (ListFont font size all verbose) is = is
-  memory_not_of_font (Pairs font size format verbose) is = is
+  memory_not_of_font (Pairs font size layout verbose) is = is
   memory_not_of_font (Check asked) is = is
   memory_not_of_font (Set setting) is = is
   memory_not_of_font (Stream setting) is = is

@@ -45,7 +45,7 @@ module _ (verbose : Bool) where
   fault : (request : Request) (failure : Failure) → IsFaultOf (with_verbose verbose request) failure → IsFaultOf request failure
   fault (Counts font flag) failure is = is
   fault (ListFont font size all flag) failure is = is
-  fault (Pairs font size format flag) failure is = is
+  fault (Pairs font size layout flag) failure is = is
   fault (Check asked) failure is = check_fault asked failure is
   fault (Set setting) failure is = set_fault setting failure is
   fault (Stream setting) failure is = stream_fault setting failure is
@@ -54,7 +54,7 @@ module _ (verbose : Bool) where
   to_fault : (request : Request) (failure : Failure) → IsFaultOf request failure → IsFaultOf (with_verbose verbose request) failure
   to_fault (Counts font flag) failure is = is
   to_fault (ListFont font size all flag) failure is = is
-  to_fault (Pairs font size format flag) failure is = is
+  to_fault (Pairs font size layout flag) failure is = is
   to_fault (Check asked) failure is = to_check asked failure is
   to_fault (Set setting) failure is = to_set setting failure is
   to_fault (Stream setting) failure is = to_stream setting failure is
@@ -66,7 +66,7 @@ font_fault : (known : List ℕ → Option (List ℕ)) (input : Option (List ℕ)
     → IsFontFaultOf known input (with_verbose verbose request) failure → IsFontFaultOf known input request failure
 font_fault known input (Counts font flag) verbose failure is = is
 font_fault known input (ListFont font size all flag) verbose failure is = is
-font_fault known input (Pairs font size format flag) verbose failure is = is
+font_fault known input (Pairs font size layout flag) verbose failure is = is
 font_fault known input (Check asked) verbose failure is = is
 font_fault known input (Set setting) verbose failure is = is
 font_fault known input (Stream setting) verbose failure is = is
@@ -77,7 +77,7 @@ pub same_done : (known : List ℕ → Option (List ℕ)) (input : Option (List �
     → IsDone known input before after request status
 same_done known input before after (Counts font flag) verbose status is = is
 same_done known input before after (ListFont font size all flag) verbose status is = is
-same_done known input before after (Pairs font size format flag) verbose status is = is
+same_done known input before after (Pairs font size layout flag) verbose status is = is
 same_done known input before after (Check asked) verbose status is = is
 same_done known input before after (Set setting) verbose status is = is
 same_done known input before after (Stream setting) verbose status is = is

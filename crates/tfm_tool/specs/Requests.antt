@@ -6,8 +6,8 @@ use Rattle.std.specs.List.{AllZip}
 use Rattle.font_texts.specs.AllListing.{all_listing_of}
 use Rattle.font_texts.specs.CountsText.{counts_text_of, head_fault_of}
 use Rattle.font_texts.specs.Listing.{listing_of}
-use Rattle.font_texts.specs.PairsText.{pairs_text_of}
-use Rattle.font_texts.specs.declared.pairs_format.PairsFormat.{PairsFormat}
+use Rattle.font_texts.specs.PairCharacters.{pairs_text_with}
+use Rattle.font_texts.specs.declared.pairs_layout.PairsLayout.{PairsLayout}
 use Rattle.tfm_tables.specs.Font.{FontValue, IsFontOf}
 use Rattle.set_line.specs.Terms.{TermsValue}
 use Rattle.tfm_tool.specs.Checking.{AreChecked}
@@ -59,12 +59,13 @@ module _ (known : List ℕ → Option (List ℕ)) (input before after : Option (
       × Appends before after (list_text_of all_of_it font))
       × (status ≡ 0)
 
-  -- the pairs of the font at this size, or at its design size, were written in this format
-  abbrev pub ArePairsTold : List ℕ → Option ℕ → PairsFormat → ℕ → Type 0
-  ArePairsTold name size format status =
+  -- the pairs of the font at this size, or at its design size, were written in this format,
+  -- with the characters of this encoding
+  abbrev pub ArePairsTold : List ℕ → Option ℕ → PairsLayout → ℕ → Type 0
+  ArePairsTold name size layout status =
       OfKnown (font_bytes_of known input name) (λ all. (font : FontValue)
       × IsFontOf all size font
-      × Appends before after (pairs_text_of format font))
+      × Appends before after (pairs_text_with layout.encoding layout.format font))
       × (status ≡ 0)
 
   -- the output of a batch was written; its sources have these bytes, and the settings of the request
@@ -88,7 +89,7 @@ module _ (known : List ℕ → Option (List ℕ)) (input before after : Option (
   abbrev pub IsDone : Request → ℕ → Type 0
   IsDone (Counts font _) status = CountsAreTold known input before after font.now status
   IsDone (ListFont font size all_of_it _) status = IsListed known input before after font.now size all_of_it status
-  IsDone (Pairs font size format _) status = ArePairsTold known input before after font.now size format status
+  IsDone (Pairs font size layout _) status = ArePairsTold known input before after font.now size layout status
   IsDone (Check asked) status = AreChecked known input asked.fonts.items before after status
   IsDone (Set setting) status = IsSetFrom known input before after AtTheEnd (file_bytes_of known setting.files.items) setting status
   IsDone (Stream setting) status =

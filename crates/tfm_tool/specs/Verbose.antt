@@ -29,7 +29,7 @@ layout_with verbose layout = record layout { verbose = verbose }
 abbrev pub with_verbose : Bool → Request → Request
 with_verbose verbose (Counts font _) = Counts font verbose
 with_verbose verbose (ListFont font size all _) = ListFont font size all verbose
-with_verbose verbose (Pairs font size format _) = Pairs font size format verbose
+with_verbose verbose (Pairs font size layout _) = Pairs font size layout verbose
 with_verbose verbose (Check asked) = Check (record asked { verbose = verbose })
 with_verbose verbose (Set setting) = Set (record setting { layout = layout_with verbose setting.layout })
 with_verbose verbose (Stream setting) = Stream (record setting { layout = layout_with verbose setting.layout })

@@ -5,13 +5,13 @@ ghost use Rattle.font_texts.specs.AllListing.{all_listing_of};
 ghost use Rattle.font_texts.specs.CountsText.{counts_text_of, head_fault_of};
 ghost use Rattle.font_texts.specs.Findings.{finding_line, finding_of};
 ghost use Rattle.font_texts.specs.Listing.{listing_of};
-ghost use Rattle.font_texts.specs.PairsText.{pairs_text_of};
+ghost use Rattle.font_texts.specs.PairCharacters.{pairs_text_with};
 ghost use Rattle.tfm_tables.specs.Acceptance.{font_fault_of};
 ghost use Rattle.tfm_tables.specs.declared.fault.FontFault.{FontFault};
 ghost use Rattle.tfm_tables.specs.Font.{FontValue, IsFontOf};
 ghost use Rattle.set_run.specs.declared.run_fault.RunFault.{RunFault};
 
-use font_texts::{Finding, PairsFormat};
+use font_texts::{Finding, PairsLayout};
 use run_texts::ToolFault;
 use std::alloc::Global;
 use std::io::Write;
@@ -102,18 +102,19 @@ pub fn pairs_text<W: Write>(
     alloc: Global,
     bytes: &[u8],
     size: Option<Size>,
-    format: PairsFormat,
+    layout: PairsLayout,
     out: &mut W,
 ) -> Result<(), ToolFault>
     ensures text { OnOk result ((f : FontValue) × IsFontOf bytes.now size f
-        × Appends (W.contents out.old) (W.contents out.new) (pairs_text_of format f)) }
+        × Appends (W.contents out.old) (W.contents out.new)
+        (pairs_text_with layout.encoding layout.format f)) }
     ensures font { (f : FontFault) → result ≡ Err (ToolFault.Font f) → font_fault_of bytes.now ≡ Some f }
     ensures refused { (f : FontFault) → font_fault_of bytes.now ≡ Some f
         → result ≡ Err (ToolFault.Font f) }
     ensures untouched { IfErr result (λ fault. fault ≢ ToolFault.Write → out.new ≡ out.old) }
     ensures run { (f : RunFault) → result ≢ Err (ToolFault.Run f) }
 {
-    let text = font_texts::pairs_text(alloc, bytes, size, format)?;
+    let text = font_texts::pairs_text(alloc, bytes, size, layout)?;
     write_text(text, out)
 }
 

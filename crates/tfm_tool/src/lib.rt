@@ -7,7 +7,7 @@ pub use failure::Failure;
 pub use font_output::{
     check_text, counts_text, finding_text, list_all_text, list_text, pairs_text,
 };
-pub use font_texts::{Finding, PairsFormat};
+pub use font_texts::{Finding, PairsFormat, PairsLayout};
 pub use laws::verbose_changes_no_output;
 pub use opening::{Disk, InMemory, Opens};
 pub use program::{perform, tool, words_refused};

@@ -30,7 +30,7 @@ use crate::warning::warn;
 use crate::{Opens, counts_text, list_all_text, pairs_text};
 use clap::error::ErrorKind as WordsKind;
 use command_line::{Request, requested};
-use font_texts::PairsFormat;
+use font_texts::PairsLayout;
 use run_texts::ToolFault;
 use std::alloc::Global;
 use std::convert::AsStr;
@@ -188,13 +188,13 @@ where
         Request::Pairs {
             font,
             size,
-            format,
+            layout,
             ..
         } => {
             let asked = Paired {
                 font,
                 size: *size,
-                format: *format,
+                layout: *layout,
             };
             pairs(rt.alloc(), files, &asked, input, out)
         }
@@ -300,8 +300,8 @@ struct Paired<'a> {
     font: &'a str,
     /// The size of the font; `None` means its design size.
     size: Option<Size>,
-    /// The format of the output.
-    format: PairsFormat,
+    /// The format of the output, and the encoding of its characters.
+    layout: PairsLayout,
 }
 
 /// Does what `pairs` requests: writes the pairs of the font.
@@ -318,7 +318,7 @@ where
     I: Read,
     O: Write,
     ensures text { AfterText result (ArePairsTold (F.known files.now) (I.remaining input.old)
-        (O.contents out.old) (O.contents out.new) asked.now.font.now asked.now.size asked.now.format) }
+        (O.contents out.old) (O.contents out.new) asked.now.font.now asked.now.size asked.now.layout) }
     ensures status { IfOk result (λ status. status ≡ 0) }
     ensures untouched { IfErr result (λ failure. is_without_text failure ≡ true → out.new ≡ out.old) }
     ensures memory { result ≡ Err (Tool ToolFault.OutOfMemory) → out.new ≡ out.old }
@@ -329,7 +329,7 @@ where
         (IsRefusedFont (font_bytes_of (F.known files.now) (I.remaining input.old) asked.now.font.now)) }
 {
     let bytes = font_bytes(alloc, files, asked.font, input)?;
-    pairs_text(alloc, bytes.as_slice(), asked.size, asked.format, out)?;
+    pairs_text(alloc, bytes.as_slice(), asked.size, asked.layout, out)?;
     Ok(0)
 }
 

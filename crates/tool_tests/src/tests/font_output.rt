@@ -1,14 +1,21 @@
 //! The output about a font, over writers that fail and for fonts that are refused.
 use super::*;
+use encodings::Encoding;
 use std::io::Write;
 use std::test::Fail;
 use test_support::FailingWriter;
 use tfm_tables::{Font, FontFault};
 use tfm_tool::{
-    Finding, PairsFormat, ToolFault, check_text, counts_text, finding_text, list_all_text,
+    Finding, PairsFormat, PairsLayout, ToolFault, check_text, counts_text, finding_text, list_all_text,
     list_text, pairs_text,
 };
 use tfm_words::CountFault;
+
+/// Pairs in CSV, whose first line is printed also for a font without pairs.
+const PAIRS: PairsLayout = PairsLayout {
+    format: PairsFormat::Csv,
+    encoding: Encoding::T1,
+};
 
 /// Writes the output with this number, of six.
 fn write_output<W: Write>(
@@ -22,7 +29,7 @@ fn write_output<W: Write>(
         1 => list_text(alloc, font, out),
         2 => list_all_text(alloc, &NO_CHARACTERS, None, out),
         3 => check_text(alloc, "x", &NO_CHARACTERS, None, out).map(|_| ()),
-        4 => pairs_text(alloc, &NO_CHARACTERS, None, PairsFormat::Csv, out),
+        4 => pairs_text(alloc, &NO_CHARACTERS, None, PAIRS, out),
         _ => finding_text(alloc, "x", Finding::NotRead, out),
     }
 }
@@ -58,8 +65,7 @@ fn a_refused_font_has_no_output(rt: HostRuntime) -> Result<(), Fail> {
     assert!(rt; matches!(&counts, Err(ToolFault::Font(fault)) if *fault == cut));
     let listing = list_all_text(rt.alloc(), &NO_CHARACTERS[..47], None, &mut out);
     assert!(rt; matches!(&listing, Err(ToolFault::Font(fault)) if *fault == cut));
-    let text = PairsFormat::Text;
-    let pairs = pairs_text(rt.alloc(), &NO_CHARACTERS[..47], None, text, &mut out);
+    let pairs = pairs_text(rt.alloc(), &NO_CHARACTERS[..47], None, PAIRS, &mut out);
     assert!(rt; matches!(&pairs, Err(ToolFault::Font(fault)) if *fault == cut));
     assert!(rt; out.as_slice() == b"before\n".as_slice());
     assert!(rt; counts_text(rt.alloc(), &NO_CHARACTERS, &mut out).is_ok());

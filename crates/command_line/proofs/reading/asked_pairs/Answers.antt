@@ -5,4 +5,4 @@ use Rattle.command_line.proofs.reading.asked_pairs.Goals as goal
 
 pub returns-in_err-font : goal.returns-in_err-font
 returns-in_err-font c =
-    pairs_none (rows_of (found_of c.args.matches.now)) c.font_format.result c.from_residual.result c.font_format.ensures (search rules) (search rules)
+    pairs_none (rows_of (found_of c.args.matches.now)) c.font_layout.result c.from_residual.result c.font_layout.ensures (search rules) (search rules)

@@ -1,6 +1,6 @@
 use Rattle.std.proofs.Common.{◌≡◌, ◌∙◌, Some, Err, ap, refl, subst}
 use Rattle.std.specs.Io.KnownBytes.{Appends}
-use Rattle.font_texts.specs.PairsText.{pairs_text_of}
+use Rattle.font_texts.specs.PairCharacters.{pairs_text_with}
 use Rattle.tfm_tables.specs.Font.{FontValue, IsFontOf}
 use Rattle.run_texts.specs.declared.fault.ToolFault.{ToolFault}
 use Rattle.tfm_tool.specs.FontFaults.{IsRefusedFont}
@@ -13,8 +13,8 @@ use Rattle.tfm_tool.proofs.program.pairs.Goals as goal
 pub returns-clause-text : goal.returns-clause-text
 returns-clause-text g c = (
   of_font (font_bytes_of (g.F.Opens.known c.args.files.now) (g.I.Read.remaining c.args.input.now) c.args.asked.now.font.now) c.in_ok-bytes.bytes.items c.args.asked.now.size
-      (λ f. Appends (g.O.Write.contents c.args.out.now) (g.O.Write.contents c.pairs_text.new.out) (pairs_text_of c.args.asked.now.format f)) c.in_ok-bytes.ensures.bytes
-      (subst (λ b. (f : FontValue) × IsFontOf b c.args.asked.now.size f × Appends (g.O.Write.contents c.args.out.now) (g.O.Write.contents c.pairs_text.new.out) (pairs_text_of c.args.asked.now.format f))
+      (λ f. Appends (g.O.Write.contents c.args.out.now) (g.O.Write.contents c.pairs_text.new.out) (pairs_text_with c.args.asked.now.layout.encoding c.args.asked.now.layout.format f)) c.in_ok-bytes.ensures.bytes
+      (subst (λ b. (f : FontValue) × IsFontOf b c.args.asked.now.size f × Appends (g.O.Write.contents c.args.out.now) (g.O.Write.contents c.pairs_text.new.out) (pairs_text_with c.args.asked.now.layout.encoding c.args.asked.now.layout.format f))
       c.as_slice.ensures.value c.in_ok-pairs_text.ensures.text),
   refl,
 )
