@@ -12,6 +12,7 @@ pub mod EachLemmas
 pub mod WordLemmas
 pub mod CauseLemmas
 pub mod OrderLemmas
+pub mod OpeningLemmas
 pub mod WorkedRows
 pub mod WarningLemmas
 pub mod VerboseLemmas

@@ -1,5 +1,6 @@
 pub mod Status
 pub mod Named
+pub mod Opening
 pub mod Told
 pub mod Runs
 pub mod Kept

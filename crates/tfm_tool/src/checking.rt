@@ -6,7 +6,7 @@ ghost use Rattle.tfm_tool.specs.Checking.{AreChecked, IsFound, dashes_in, findin
 ghost use Rattle.tfm_tool.specs.Faults.{IsFaultOfCheck};
 ghost use Rattle.tfm_tool.specs.Named.{font_bytes_of};
 ghost use Rattle.tfm_tool.specs.Status.{AfterText, BeforeText, is_after_text, is_without_text, status_of};
-ghost use Rattle.tfm_tool.specs.declared.failure.Failure.TheVariants.{FontNotRead, SomeFontNotRead, Tool, TwoFonts};
+ghost use Rattle.tfm_tool.specs.declared.failure.Failure.TheVariants.{FileNotOpened, FontNotRead, SomeFontNotRead, Tool, TwoFonts};
 ghost use Rattle.run_texts.specs.declared.fault.ToolFault.TheVariants.{OutOfMemory, Run, Write as Unwritten};
 ghost use Rattle.set_run.specs.declared.run_fault.RunFault.{RunFault};
 
@@ -51,6 +51,7 @@ where
     ensures untouched { IfErr result (λ failure. is_without_text failure ≡ true → out.new ≡ out.old) }
     ensures run { (fault : RunFault) → result ≢ Err (Tool (Run fault)) }
     ensures number { (n : ℕ) → result ≢ Err (FontNotRead n) }
+    ensures file { (n : ℕ) → result ≢ Err (FileNotOpened n) }
     ensures memory { result ≡ Err (Tool OutOfMemory)
         → (count : ℕ) × (status : ℕ) × AreChecked (F.known files.now) (I.remaining input.old)
         (take count asked.now.fonts.items) (O.contents out.old) (O.contents out.new) status }

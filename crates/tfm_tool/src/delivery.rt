@@ -14,7 +14,7 @@ ghost use Rattle.run_texts.specs.Streaming.{with_own_terms};
 ghost use Rattle.tfm_tool.specs.Stopped.{IsBroken, IsHalted, IsStopped, IsUnwritten};
 ghost use Rattle.tfm_tool.specs.Status.{AfterText, is_refusal, is_unread, is_without_text, status_of};
 ghost use Rattle.tfm_tool.specs.Told.{told_by};
-ghost use Rattle.tfm_tool.specs.declared.failure.Failure.TheVariants.{FontNotRead, Tool};
+ghost use Rattle.tfm_tool.specs.declared.failure.Failure.TheVariants.{FileNotOpened, FontNotRead, Tool};
 
 use crate::failure::Failure;
 use command_line::Layout;
@@ -94,6 +94,7 @@ where
     ensures later { length sources.items ≤ 64 → IfErr result (λ failure. is_refusal failure ≡ false) }
     ensures run { (fault : Fault) → result ≡ Err (Tool (ToolFault.Run fault)) → out.new ≡ out.old }
     ensures font { (n : ℕ) → result ≢ Err (FontNotRead n) }
+    ensures file { (n : ℕ) → result ≢ Err (FileNotOpened n) }
     ensures memory { result ≡ Err (Tool ToolFault.OutOfMemory) → IsStopped delivery
         (map (told_with_terms (told_by S.to_come S.failed)) sources.items)
         (layout_style layout.now) (O.contents out.old) (O.contents out.new) }
@@ -117,6 +118,7 @@ fn finish<O: Write>(summary: &Summary, out: &mut O) -> Result<u8, Failure>
         ⊎ (status_of failure ≡ summary_status summary.now)) }
     ensures run { (fault : Fault) → result ≡ Err (Tool (ToolFault.Run fault)) → ⊥ }
     ensures font { (n : ℕ) → result ≢ Err (FontNotRead n) }
+    ensures file { (n : ℕ) → result ≢ Err (FileNotOpened n) }
 {
     out.flush().map_err(|_| Failure::Tool(ToolFault::Write))?;
     match status(summary) {

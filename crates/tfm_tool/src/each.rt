@@ -4,13 +4,14 @@ ghost use Rattle.std.specs.List.{AllZip};
 ghost use Rattle.tfm_tool.specs.Faults.{IsRefused};
 ghost use Rattle.tfm_tool.specs.FontFaults.{HasRefusedJob, IsFirstRefused, IsFirstUnread};
 ghost use Rattle.tfm_tool.specs.Jobs.{IsFaultOfWords, IsSourceOfJob, jobs_in, told_with_terms};
+ghost use Rattle.tfm_tool.specs.Opening.{IsFirstUnopened};
 ghost use Rattle.tfm_tool.specs.Requests.{IsEachSet};
 ghost use Rattle.tfm_tool.specs.Status.{AfterText, BeforeText, is_after_text, is_before_batch, is_before_files, is_without_text};
 ghost use Rattle.tfm_tool.specs.Stopped.{IsEachUntil, IsStopped};
 ghost use Rattle.run_texts.specs.declared.fault.ToolFault.TheVariants.{OutOfMemory, Run};
 ghost use Rattle.set_run.specs.declared.run_fault.RunFault.{RunFault};
 ghost use Rattle.tfm_tool.specs.declared.delivery.Delivery.TheVariants.{AtTheEnd};
-ghost use Rattle.tfm_tool.specs.declared.failure.Failure.TheVariants.{FontNotRead, Tool};
+ghost use Rattle.tfm_tool.specs.declared.failure.Failure.TheVariants.{FileNotOpened, FontNotRead, Tool};
 ghost use Rattle.std.specs.Io.KnownBytes.{Keeps};
 ghost use Rattle.tfm_tool.specs.Told.{told_by};
 
@@ -42,6 +43,8 @@ fn job_sources<F: Opens>(
     ensures early { IfErr result (λ failure. is_before_batch failure ≡ true) }
     ensures unread { (n : ℕ) → result ≡ Err (FontNotRead n)
         → IsFirstUnread (F.known files.now) asked.now.layout (jobs_in asked.now.words.items) n }
+    ensures file { (n : ℕ) → result ≡ Err (FileNotOpened n)
+        → IsFirstUnopened (F.opens files.now) (map (λ job. job.file) (jobs_in asked.now.words.items)) n }
     ensures order { HasRefusedJob (F.known files.now) (jobs_in asked.now.words.items)
         → IsErrAnd result (λ failure. is_before_files failure ≡ true) }
     ensures cause { BeforeText result (λ failure. IsFaultOfWords asked.now.words.items failure
@@ -81,6 +84,8 @@ where
         ⊎ IsEachUntil (F.known files.now) (O.contents out.old) (O.contents out.new) (IsStopped AtTheEnd) asked.now }
     ensures unread { (n : ℕ) → result ≡ Err (FontNotRead n)
         → IsFirstUnread (F.known files.now) asked.now.layout (jobs_in asked.now.words.items) n }
+    ensures file { (n : ℕ) → result ≡ Err (FileNotOpened n)
+        → IsFirstUnopened (F.opens files.now) (map (λ job. job.file) (jobs_in asked.now.words.items)) n }
     ensures order { HasRefusedJob (F.known files.now) (jobs_in asked.now.words.items)
         → IsErrAnd result (λ failure. is_before_files failure ≡ true) }
 {

@@ -1,11 +1,12 @@
 //! Reads the fonts of a request to their end, and opens its files with lines.
-ghost use Rattle.std.specs.Prelude.{◌≡◌, ◌≢◌, ℕ, ◌++◌, List, Some, true, false, codes, Err, IfErr, IfOk, IfSome, OnOk};
+ghost use Rattle.std.specs.Prelude.{◌≡◌, ◌≢◌, ℕ, ◌++◌, List, map, Some, true, false, codes, Err, IfErr, IfOk, IfSome, OnOk, is_ok};
 ghost use Rattle.std.specs.Io.KnownBytes.{IsAtEnd};
 ghost use Rattle.std.specs.List.{AllZip};
 ghost use Rattle.tfm_tool.specs.Jobs.{IsOpenedWith};
 ghost use Rattle.tfm_tool.specs.Kept.{HaveSameFont, kept_of};
 ghost use Rattle.tfm_tool.specs.Named.{font_bytes_of};
-ghost use Rattle.tfm_tool.specs.declared.failure.Failure.TheVariants.{FontNotRead};
+ghost use Rattle.tfm_tool.specs.Opening.{IsFirstUnopened};
+ghost use Rattle.tfm_tool.specs.declared.failure.Failure.TheVariants.{FileNotOpened, FontNotRead};
 ghost use Rattle.tfm_tool.specs.Status.{is_after_text, is_before_batch, is_refusal};
 ghost use Rattle.tfm_tool.specs.Told.{IsSourceOf, text_in, told_by};
 
@@ -106,8 +107,9 @@ pub(crate) fn font_file<F: Opens>(
 /// Opens the file of this name. The error is `OutOfMemory` if the error of the file system has this kind,
 /// otherwise `NotRead`.
 fn opened<F: Opens>(files: &F, name: &str) -> Result<F::File, ReadFault>
-    ensures { IfOk result (λ file. IfSome (F.known files.now name.now)
+    ensures known { IfOk result (λ file. IfSome (F.known files.now name.now)
         (λ all. F.File.remaining file ≡ Some all)) }
+    ensures opens { IfSome (F.opens files.now name.now) (λ can. is_ok result ≡ can) }
 {
     files.open(name).map_err(|error| match error.kind() {
         ErrorKind::OutOfMemory => ReadFault::OutOfMemory,
@@ -142,6 +144,9 @@ fn open_file<F: Opens>(
     ensures later { IfErr result (λ failure. is_refusal failure ≡ false) }
     ensures early { IfErr result (λ failure. is_before_batch failure ≡ true) }
     ensures font { (n : ℕ) → result ≢ Err (FontNotRead n) }
+    ensures opened { OnOk result (F.opens files.now name.now ≢ Some false) }
+    ensures number { (n : ℕ) → result ≡ Err (FileNotOpened n)
+        → (F.opens files.now name.now ≢ Some true) × (n ≡ number) }
 {
     match opened(files, name) {
         Ok(file) => Ok(text_source(alloc, file, layout)),
@@ -165,6 +170,8 @@ pub(crate) fn open_each<F: Opens>(
     ensures later { IfErr result (λ failure. is_refusal failure ≡ false) }
     ensures early { IfErr result (λ failure. is_before_batch failure ≡ true) }
     ensures font { (n : ℕ) → result ≢ Err (FontNotRead n) }
+    ensures number { (n : ℕ) → result ≡ Err (FileNotOpened n)
+        → IsFirstUnopened (F.opens files.now) (map (λ job. job.0.now) jobs.entry.items) n }
 {
     let mut sources = Vec::new(alloc);
     for (name, terms) in jobs {

@@ -10,9 +10,10 @@ ghost use Rattle.tfm_tool.specs.Faults.{HasRefusedFont, IsCauseOf, IsFaultOf, Is
 ghost use Rattle.tfm_tool.specs.FailureTexts.{failure_text};
 ghost use Rattle.tfm_tool.specs.FontFaults.{IsRefusedFont, IsRefusedHead};
 ghost use Rattle.tfm_tool.specs.Named.{font_bytes_of};
+ghost use Rattle.tfm_tool.specs.Opening.{IsFirstUnopened, file_names_of};
 ghost use Rattle.tfm_tool.specs.Requests.{ArePairsTold, CountsAreTold, IsDone, IsListed, list_text_of};
 ghost use Rattle.tfm_tool.specs.Served.{IsServed, IsTurnedDown, IsTurnedDownBy, is_answer, is_usage};
-ghost use Rattle.tfm_tool.specs.declared.failure.Failure.TheVariants.{FontNotRead, Tool, Usage};
+ghost use Rattle.tfm_tool.specs.declared.failure.Failure.TheVariants.{FileNotOpened, FontNotRead, Tool, Usage};
 ghost use Rattle.tfm_tool.specs.Stopped.{HasBroken, HasStopped};
 ghost use Rattle.tfm_tool.specs.Verbose.{IsVerbose};
 ghost use Rattle.tfm_tool.specs.Warnings.{IsWarned};
@@ -161,6 +162,8 @@ where
         → IsRefused (IsFaultOf request.now) result × (out.new ≡ out.old) }
     ensures number { (n : ℕ) → result ≡ Err (FontNotRead n)
         → IsUnreadFontOf (F.known files.now) (I.remaining input.old) request.now n }
+    ensures file { (n : ℕ) → result ≡ Err (FileNotOpened n)
+        → IsFirstUnopened (F.opens files.now) (file_names_of request.now) n }
     ensures order { HasRefusedFont (F.known files.now) (I.remaining input.old) request.now
         → IsErrAnd result (λ failure. is_before_files failure ≡ true) }
     ensures run { (fault : RunFault) → result ≡ Err (Tool (ToolFault.Run fault)) → out.new ≡ out.old }
@@ -224,6 +227,7 @@ where
     ensures untouched { IfErr result (λ failure. is_without_text failure ≡ true → out.new ≡ out.old) }
     ensures memory { result ≡ Err (Tool ToolFault.OutOfMemory) → out.new ≡ out.old }
     ensures number { (n : ℕ) → result ≢ Err (FontNotRead n) }
+    ensures file { (n : ℕ) → result ≢ Err (FileNotOpened n) }
     ensures run { (fault : RunFault) → result ≢ Err (Tool (ToolFault.Run fault)) }
     ensures unread { font.now ≢ codes "-" → input.new ≡ input.old }
     ensures cause { BeforeText result
@@ -264,6 +268,7 @@ where
     ensures untouched { IfErr result (λ failure. is_without_text failure ≡ true → out.new ≡ out.old) }
     ensures memory { result ≡ Err (Tool ToolFault.OutOfMemory) → out.new ≡ out.old }
     ensures number { (n : ℕ) → result ≢ Err (FontNotRead n) }
+    ensures file { (n : ℕ) → result ≢ Err (FileNotOpened n) }
     ensures run { (fault : RunFault) → result ≢ Err (Tool (ToolFault.Run fault)) }
     ensures unread { listed.now.font.now ≢ codes "-" → input.new ≡ input.old }
     ensures cause { BeforeText result
@@ -323,6 +328,7 @@ where
     ensures untouched { IfErr result (λ failure. is_without_text failure ≡ true → out.new ≡ out.old) }
     ensures memory { result ≡ Err (Tool ToolFault.OutOfMemory) → out.new ≡ out.old }
     ensures number { (n : ℕ) → result ≢ Err (FontNotRead n) }
+    ensures file { (n : ℕ) → result ≢ Err (FileNotOpened n) }
     ensures run { (fault : RunFault) → result ≢ Err (Tool (ToolFault.Run fault)) }
     ensures unread { asked.now.font.now ≢ codes "-" → input.new ≡ input.old }
     ensures cause { BeforeText result

@@ -8,6 +8,7 @@ ghost use Rattle.tfm_tool.specs.Faults.{IsFaultOfSet, IsFaultOfStream};
 ghost use Rattle.tfm_tool.specs.FontFaults.{IsKnownRefused, IsRefusedFont};
 ghost use Rattle.tfm_tool.specs.Jobs.{AreTermsFor, told_with_terms};
 ghost use Rattle.tfm_tool.specs.Named.{file_bytes_of, font_bytes_of, stream_bytes_of};
+ghost use Rattle.tfm_tool.specs.Opening.{IsFirstUnopened};
 ghost use Rattle.tfm_tool.specs.Requests.{AreSetSources, IsSetFrom, IsSourceWith};
 ghost use Rattle.tfm_tool.specs.Stopped.{IsSetUntil, IsStopped, IsUnwritten};
 ghost use Rattle.run_texts.specs.declared.fault.ToolFault.TheVariants.{OutOfMemory, Run, Write as Unwritten};
@@ -15,7 +16,7 @@ ghost use Rattle.set_run.specs.declared.run_fault.RunFault.{RunFault};
 ghost use Rattle.std.specs.Io.KnownBytes.{Keeps};
 ghost use Rattle.tfm_tool.specs.Told.{told_by};
 ghost use Rattle.tfm_tool.specs.declared.delivery.Delivery.TheVariants.{AtTheEnd, AsTheyCome};
-ghost use Rattle.tfm_tool.specs.declared.failure.Failure.TheVariants.{FontAndText, FontNotRead, TooManyFiles, Tool};
+ghost use Rattle.tfm_tool.specs.declared.failure.Failure.TheVariants.{FileNotOpened, FontAndText, FontNotRead, TooManyFiles, Tool};
 ghost use Rattle.tfm_tool.specs.Status.{AfterText, BeforeText, is_after_text, is_before_batch, is_before_files, is_refusal, is_without_text};
 
 use crate::Opens;
@@ -84,6 +85,8 @@ where
     ensures order { IsKnownRefused (font_bytes_of (F.known files.now) (I.remaining input.old) setting.now.font.now)
         → IsErrAnd result (λ failure. is_before_files failure ≡ true) }
     ensures number { (n : ℕ) → result ≢ Err (FontNotRead n) }
+    ensures file { (n : ℕ) → result ≡ Err (FileNotOpened n)
+        → IsFirstUnopened (F.opens files.now) (map (λ name. name.now) setting.now.files.items) n }
     ensures cause { BeforeText result (λ failure. IsFaultOfSet setting.now failure
         ⊎ IsRefusedFont (font_bytes_of (F.known files.now) (I.remaining input.old) setting.now.font.now)
         failure) }
@@ -124,6 +127,8 @@ fn open_all<F: Opens>(
     ensures fault { IfErr result (λ failure. is_after_text failure ≡ false) }
     ensures early { IfErr result (λ failure. is_before_batch failure ≡ true) }
     ensures number { (n : ℕ) → result ≢ Err (FontNotRead n) }
+    ensures file { (n : ℕ) → result ≡ Err (FileNotOpened n)
+        → IsFirstUnopened (F.opens files.now) (map (λ name. name.now) setting.now.files.items) n }
     ensures later { IfErr result (λ failure. is_refusal failure ≡ false) }
 {
     match with_shared(alloc, setting.files.as_slice(), terms) {
@@ -161,6 +166,8 @@ where
     ensures order { IsKnownRefused (font_bytes_of (F.known files.now) (I.remaining input.old) setting.now.font.now)
         → IsErrAnd result (λ failure. is_before_files failure ≡ true) }
     ensures number { (n : ℕ) → result ≢ Err (FontNotRead n) }
+    ensures file { (n : ℕ) → result ≡ Err (FileNotOpened n)
+        → IsFirstUnopened (F.opens files.now) (map (λ name. name.now) setting.now.files.items) n }
     ensures memory { result ≡ Err (Tool OutOfMemory) → Keeps (O.contents out.old) (O.contents out.new)
         ⊎ IsSetUntil (F.known files.now) (I.remaining input.old) (O.contents out.old) (O.contents out.new)
         (IsStopped AtTheEnd) (file_bytes_of (F.known files.now) setting.now.files.items) setting.now }
@@ -202,6 +209,8 @@ where
     ensures order { IsKnownRefused (font_bytes_of (F.known files.now) (I.remaining input.old) setting.now.font.now)
         → IsErrAnd result (λ failure. is_before_files failure ≡ true) }
     ensures number { (n : ℕ) → result ≢ Err (FontNotRead n) }
+    ensures file { (n : ℕ) → result ≡ Err (FileNotOpened n)
+        → IsFirstUnopened (F.opens files.now) (map (λ name. name.now) setting.now.files.items) n }
     ensures memory { result ≡ Err (Tool OutOfMemory) → Keeps (O.contents out.old) (O.contents out.new)
         ⊎ IsSetUntil (F.known files.now) (I.remaining input.old) (O.contents out.old) (O.contents out.new)
         (IsStopped AsTheyCome) (stream_bytes_of (F.known files.now) (I.remaining input.old) setting.now.files.items) setting.now }
@@ -229,6 +238,7 @@ fn input_source<'a, I: Read>(
         ⟦<TextSource<&'a mut I> as LineSource>⟧.failed)) sources.items)) }
     ensures fault { IfErr result (λ failure. is_after_text failure ≡ false) }
     ensures early { IfErr result (λ failure. is_before_batch failure ≡ true) }
+    ensures first { IfErr result (λ failure. is_before_files failure ≡ true) }
     ensures number { (n : ℕ) → result ≢ Err (FontNotRead n) }
     ensures few { IfOk result (λ sources. length sources.items ≤ 64) }
     ensures status { IfErr result (λ failure. is_refusal failure ≡ false) }
@@ -268,6 +278,7 @@ where
     ensures order { IsKnownRefused (font_bytes_of (F.known files.now) (I.remaining input.old) setting.now.font.now)
         → IsErrAnd result (λ failure. is_before_files failure ≡ true) }
     ensures number { (n : ℕ) → result ≢ Err (FontNotRead n) }
+    ensures file { (n : ℕ) → result ≢ Err (FileNotOpened n) }
     ensures memory { result ≡ Err (Tool OutOfMemory) → Keeps (O.contents out.old) (O.contents out.new)
         ⊎ IsSetUntil (F.known files.now) (I.remaining input.old) (O.contents out.old) (O.contents out.new)
         (IsStopped AsTheyCome) (I.remaining input.old ∷ []) setting.now }

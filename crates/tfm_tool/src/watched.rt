@@ -49,6 +49,8 @@ impl<'r, 'n, R: Wait + Sync, F: Opens> Opens for WatchedFiles<'r, 'n, R, F> {
 
     ghost known = { λ watched name. F.known watched.files name };
 
+    ghost opens = { λ watched name. F.opens watched.files name };
+
     fn open(&self, name: &str) -> io::Result<WatchedReader<'r, 'n, R, F::File>> {
         let has_lines = self.has_lines();
         match self.files.open(name) {

@@ -4,7 +4,9 @@ use Rattle.std.specs.List.{AllZip}
 use Rattle.tfm_tool.specs.Faults.{IsRefused}
 use Rattle.tfm_tool.specs.Jobs.{AreWordsOfJobs, HasTermsOf, IsFaultOfWords, job_value, jobs_in}
 use Rattle.tfm_tool.specs.FontFaults.{IsFirstUnread}
-use Rattle.tfm_tool.specs.declared.failure.Failure.TheVariants.{FontNotRead}
+use Rattle.tfm_tool.specs.declared.failure.Failure.TheVariants.{FileNotOpened, FontNotRead}
+use Rattle.tfm_tool.specs.Opening.{IsFirstUnopened}
+use Rattle.tfm_tool.proofs.OpeningLemmas.{names_of_jobs, not_of_file}
 use Rattle.tfm_tool.proofs.OrderLemmas.{order_handed, sound_jobs, words_not_unread}
 use Rattle.tfm_tool.proofs.StoppedLemmas.{handed_as}
 use Rattle.tfm_tool.proofs.EachLemmas.{sources_of_jobs}
@@ -72,3 +74,22 @@ returns-clause-order g c = λ has.
     c.in_ok-with_terms.with_terms.items (c.in_ok-given.ensures.jobs ∙ ap jobs_in c.as_slice.ensures.value)
     (subst (λ jobs. AllZip (HasTermsOf (g.F.Opens.known c.args.files.now) c.args.asked.now.layout) jobs c.in_ok-with_terms.with_terms.items)
     c.as_slice-2.ensures.value c.in_ok-with_terms.ensures.terms) has)
+
+pub returns-in_err-given-clause-file : goal.returns-in_err-given-clause-file
+returns-in_err-given-clause-file g c = λ n same.
+    absurd (not_of_file c.in_err-given.field-0.0 n c.in_err-given.ensures.first
+    (handed_as c.from_residual.result c.in_err-given.field-0.0 (FileNotOpened n) c.from_residual.ensures.1 same))
+
+pub returns-in_err-with_terms-clause-file : goal.returns-in_err-with_terms-clause-file
+returns-in_err-with_terms-clause-file g c = λ n same.
+    absurd (not_of_file c.in_err-with_terms.field-0.0 n c.in_err-with_terms.ensures.first
+    (handed_as c.from_residual-in_err-with_terms.result c.in_err-with_terms.field-0.0 (FileNotOpened n) c.from_residual-in_err-with_terms.ensures.1 same))
+
+pub returns-clause-file : goal.returns-clause-file
+returns-clause-file g c = λ n same.
+    subst (λ names. IsFirstUnopened (g.F.Opens.opens c.args.files.now) names n)
+    (names_of_jobs (g.F.Opens.known c.args.files.now) c.args.asked.now.layout c.in_ok-given.given.items c.in_ok-with_terms.with_terms.items
+    (subst (λ jobs. AllZip (HasTermsOf (g.F.Opens.known c.args.files.now) c.args.asked.now.layout) jobs c.in_ok-with_terms.with_terms.items)
+    c.as_slice-2.ensures.value c.in_ok-with_terms.ensures.terms)
+    ∙ ap (map (λ job. job.file)) (c.in_ok-given.ensures.jobs ∙ ap jobs_in c.as_slice.ensures.value))
+    (c.open_each.ensures.number n same)

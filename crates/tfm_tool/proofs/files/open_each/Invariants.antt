@@ -1,8 +1,12 @@
--- the names so far have their sources
+-- the names so far have their sources, and aren't known to have no file
+use Rattle.std.proofs.Common.{◌≢◌, false, Some}
+use Rattle.std.specs.Prelude.{All}
 use Rattle.std.specs.List.{AllZip}
 use Rattle.tfm_tool.specs.Jobs.{IsOpenedWith}
 use Rattle.tfm_tool.proofs.ReaderLemmas.{reader_told}
 use Rattle.tfm_tool.proofs.files.open_each.Given as goal
 
 abbrev pub invariant-loop-name : goal.invariant-loop-name
-invariant-loop-name g l = AllZip (IsOpenedWith (g.F.Opens.known l.files) l.layout (reader_told g.F.File.Read.remaining)) l.yielded l.sources.items
+invariant-loop-name g l =
+    AllZip (IsOpenedWith (g.F.Opens.known l.files) l.layout (reader_told g.F.File.Read.remaining)) l.yielded l.sources.items
+    × All (λ job. g.F.Opens.opens l.files job.0.now ≢ Some false) l.yielded

@@ -2,6 +2,7 @@ use Rattle.std.proofs.Common.{◌≡◌, ◌⊎◌, ℕ, List, Option, inl, inr,
 use Rattle.std.specs.Io.KnownBytes.{Keeps}
 use Rattle.command_line.specs.declared.request.Request.TheVariants.{Set, Stream, Each}
 use Rattle.tfm_tool.specs.Faults.{HasRefusedFont, IsCauseOf, IsFaultOf, IsRefused, IsUnreadFontOf, IsWithoutInput}
+use Rattle.tfm_tool.specs.Opening.{IsFirstUnopened, file_names_of}
 use Rattle.tfm_tool.specs.Requests.{IsDone}
 use Rattle.tfm_tool.specs.Status.{AfterText, BeforeText}
 use Rattle.tfm_tool.specs.Stopped.{HasBroken, HasStopped}
@@ -369,3 +370,27 @@ returns-in-Each-clause-order g c = λ has.
     let known : List ℕ → Option (List ℕ) = g.F.Opens.known c.args.files.now in
     let input : Option (List ℕ) = g.I.Read.remaining c.args.input.now in
     c.set_jobs.ensures.order (subst (HasRefusedFont known input) c.in-Each.is has)
+
+pub returns-in-Counts-clause-file : goal.returns-in-Counts-clause-file
+returns-in-Counts-clause-file g c = λ n same. absurd (c.counts.ensures.file n same)
+
+pub returns-in-List-clause-file : goal.returns-in-List-clause-file
+returns-in-List-clause-file g c = λ n same. absurd (c.list.ensures.file n same)
+
+pub returns-in-Pairs-clause-file : goal.returns-in-Pairs-clause-file
+returns-in-Pairs-clause-file g c = λ n same. absurd (c.pairs.ensures.file n same)
+
+pub returns-in-Check-clause-file : goal.returns-in-Check-clause-file
+returns-in-Check-clause-file g c = λ n same. absurd (c.check.ensures.file n same)
+
+pub returns-in-Set-clause-file : goal.returns-in-Set-clause-file
+returns-in-Set-clause-file g c = λ n same.
+    subst (λ request. IsFirstUnopened (g.F.Opens.opens c.args.files.now) (file_names_of request) n) (sym c.in-Set.is) (c.set_files.ensures.file n same)
+
+pub returns-in-Stream-clause-file : goal.returns-in-Stream-clause-file
+returns-in-Stream-clause-file g c = λ n same.
+    subst (λ request. IsFirstUnopened (g.F.Opens.opens c.args.files.now) (file_names_of request) n) (sym c.in-Stream.is) (c.stream.ensures.file n same)
+
+pub returns-in-Each-clause-file : goal.returns-in-Each-clause-file
+returns-in-Each-clause-file g c = λ n same.
+    subst (λ request. IsFirstUnopened (g.F.Opens.opens c.args.files.now) (file_names_of request) n) (sym c.in-Each.is) (c.set_jobs.ensures.file n same)

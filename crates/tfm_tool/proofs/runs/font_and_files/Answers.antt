@@ -2,7 +2,10 @@ use Rattle.std.proofs.Common.{rules, ◌≤◌, inr, length}
 use Rattle.std.proofs.lemmas.Result.{IfOk-weaker}
 use Rattle.std.specs.Arc.{arc_value}
 use Rattle.tfm_tool.specs.Jobs.{told_with_terms}
+use Rattle.tfm_tool.specs.declared.failure.Failure.TheVariants.{FileNotOpened}
+use Rattle.tfm_tool.proofs.OpeningLemmas.{not_of_file}
 use Rattle.tfm_tool.proofs.OrderLemmas.{order_handed, sound_terms}
+use Rattle.tfm_tool.proofs.StoppedLemmas.{handed_as}
 use Rattle.tfm_tool.specs.Named.{font_bytes_of}
 use Rattle.tfm_tool.proofs.CauseLemmas.{before_none, few_sources, told_on}
 use Rattle.tfm_tool.proofs.ReaderLemmas.{reader_told}
@@ -33,3 +36,8 @@ pub returns-clause-order : goal.returns-clause-order
 returns-clause-order g c = λ has.
     absurd (sound_terms (font_bytes_of (g.F.Opens.known c.args.files.now) (g.I.Read.remaining c.args.input.now) c.args.setting.now.font.now) c.args.setting.now.layout
     c.args.setting.now.limit (arc_value c.in_ok-terms.terms) c.in_ok-terms.ensures.terms has)
+
+pub returns-in_err-terms-clause-file : goal.returns-in_err-terms-clause-file
+returns-in_err-terms-clause-file g c = λ n same.
+    absurd (not_of_file c.in_err-terms.field-0.0 n c.in_err-terms.ensures.first
+    (handed_as c.from_residual.result c.in_err-terms.field-0.0 (FileNotOpened n) c.from_residual.ensures.1 same))

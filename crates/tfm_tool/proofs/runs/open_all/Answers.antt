@@ -1,8 +1,10 @@
-use Rattle.std.proofs.Common.{subst}
+use Rattle.std.proofs.Common.{subst, ap, sym}
 use Rattle.std.specs.Arc.{arc_value}
 use Rattle.std.specs.List.{AllZip}
 use Rattle.run_texts.specs.Setting.{HasTerms}
+use Rattle.tfm_tool.specs.Opening.{IsFirstUnopened}
 use Rattle.tfm_tool.proofs.EachLemmas.{sources_of_files}
+use Rattle.tfm_tool.proofs.OpeningLemmas.{names_of_files}
 use Rattle.tfm_tool.proofs.ReaderLemmas.{reader_told}
 use Rattle.tfm_tool.proofs.runs.open_all.Goals as goal
 
@@ -11,3 +13,10 @@ returns-in-Ok-clause-sources g c =
     sources_of_files (g.F.Opens.known c.args.files.now) (reader_told g.F.File.Read.remaining) (λ sources. sources.items) c.open_each.result
     c.args.setting.now.layout (arc_value c.args.terms.now) c.args.setting.now.files.items c.in-Ok.named.items
     (subst (λ names. AllZip (HasTerms (arc_value c.args.terms.now)) names c.in-Ok.named.items) c.as_slice.ensures.value c.in-Ok.ensures) c.open_each.ensures.sources
+
+pub returns-in-Ok-clause-file : goal.returns-in-Ok-clause-file
+returns-in-Ok-clause-file g c = λ n same.
+    subst (λ names. IsFirstUnopened (g.F.Opens.opens c.args.files.now) names n)
+    (names_of_files (arc_value c.args.terms.now) c.args.setting.now.files.items c.in-Ok.named.items
+    (subst (λ names. AllZip (HasTerms (arc_value c.args.terms.now)) names c.in-Ok.named.items) c.as_slice.ensures.value c.in-Ok.ensures))
+    (c.open_each.ensures.number n same)

@@ -1,7 +1,8 @@
-use Rattle.std.proofs.Common.{inl, inr, map}
+use Rattle.std.proofs.Common.{◌∙◌, Err, ap, inl, inr, map}
 use Rattle.tfm_tool.specs.Jobs.{told_with_terms}
 use Rattle.tfm_tool.proofs.OrderLemmas.{not_ok, order_handed}
-use Rattle.tfm_tool.proofs.StoppedLemmas.{keeps_same}
+use Rattle.tfm_tool.specs.declared.failure.Failure.TheVariants.{FileNotOpened}
+use Rattle.tfm_tool.proofs.StoppedLemmas.{handed_as, keeps_same}
 use Rattle.tfm_tool.proofs.CauseLemmas.{before_none, told_on}
 use Rattle.tfm_tool.proofs.KnownLemmas.{after_map}
 use Rattle.tfm_tool.proofs.ReaderLemmas.{reader_told}
@@ -31,3 +32,11 @@ returns-in_err-sources-clause-order g c = λ has.
 
 pub returns-clause-order : goal.returns-clause-order
 returns-clause-order g c = λ has. absurd (not_ok c.font_and_files.result c.in_ok-sources.sources _ c.in_ok-sources.was (c.font_and_files.ensures.order has))
+
+pub returns-in_err-sources-clause-file : goal.returns-in_err-sources-clause-file
+returns-in_err-sources-clause-file g c = λ n same.
+    c.font_and_files.ensures.file n (c.in_err-sources.was ∙ ap Err
+    (handed_as c.from_residual.result c.in_err-sources.field-0.0 (FileNotOpened n) c.from_residual.ensures.1 same))
+
+pub returns-clause-file : goal.returns-clause-file
+returns-clause-file g c = λ n same. absurd (c.set_sources.ensures.file n same)

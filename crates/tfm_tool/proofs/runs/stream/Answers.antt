@@ -1,11 +1,11 @@
-use Rattle.std.proofs.Common.{arith, ◌≡◌, ◌<◌, ◌∙◌, inl, inr, length, map, refl, subst, sym}
+use Rattle.std.proofs.Common.{arith, ◌≡◌, ◌<◌, ◌∙◌, Err, ap, inl, inr, length, map, refl, subst, sym}
 use Rattle.std.proofs.lemmas.Bool.{eqb-false}
 use Rattle.tfm_tool.specs.Jobs.{told_with_terms}
 use Rattle.tfm_tool.specs.Requests.{AreSetSources}
 use Rattle.run_texts.specs.declared.fault.ToolFault.TheVariants.{Write}
-use Rattle.tfm_tool.specs.declared.failure.Failure.TheVariants.{Tool}
+use Rattle.tfm_tool.specs.declared.failure.Failure.TheVariants.{FileNotOpened, Tool}
 use Rattle.tfm_tool.proofs.OrderLemmas.{not_ok, order_handed}
-use Rattle.tfm_tool.proofs.StoppedLemmas.{keeps_same, not_of_batch}
+use Rattle.tfm_tool.proofs.StoppedLemmas.{handed_as, keeps_same, not_of_batch}
 use Rattle.tfm_tool.proofs.CauseLemmas.{before_none, stream_fault, told_on}
 use Rattle.tfm_tool.proofs.KnownLemmas.{after_map, stream_of_files}
 use Rattle.tfm_tool.proofs.ReaderLemmas.{reader_told}
@@ -61,3 +61,11 @@ returns-in_err-sources-clause-order g c = λ has.
 
 pub returns-clause-order : goal.returns-clause-order
 returns-clause-order g c = λ has. absurd (not_ok c.font_and_files.result c.in_ok-sources.sources _ c.in_ok-sources.was (c.font_and_files.ensures.order has))
+
+pub returns-in_err-sources-clause-file : goal.returns-in_err-sources-clause-file
+returns-in_err-sources-clause-file g c = λ n same.
+    c.font_and_files.ensures.file n (c.in_err-sources.was ∙ ap Err
+    (handed_as c.from_residual.result c.in_err-sources.field-0.0 (FileNotOpened n) c.from_residual.ensures.1 same))
+
+pub returns-clause-file : goal.returns-clause-file
+returns-clause-file g c = λ n same. absurd (c.set_sources.ensures.file n same)

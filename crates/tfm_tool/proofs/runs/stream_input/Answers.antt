@@ -4,10 +4,11 @@ use Rattle.std.specs.List.{AllZip}
 use Rattle.tfm_tool.specs.Jobs.{told_with_terms}
 use Rattle.tfm_tool.specs.Requests.{IsSourceWith}
 use Rattle.run_texts.specs.declared.fault.ToolFault.TheVariants.{Write}
-use Rattle.tfm_tool.specs.declared.failure.Failure.TheVariants.{Tool}
+use Rattle.tfm_tool.specs.declared.failure.Failure.TheVariants.{FileNotOpened, Tool}
+use Rattle.tfm_tool.proofs.OpeningLemmas.{not_of_file}
 use Rattle.tfm_tool.proofs.OrderLemmas.{order_handed, sound_terms}
 use Rattle.tfm_tool.specs.Named.{font_bytes_of}
-use Rattle.tfm_tool.proofs.StoppedLemmas.{keeps_same, not_of_batch}
+use Rattle.tfm_tool.proofs.StoppedLemmas.{handed_as, keeps_same, not_of_batch}
 use Rattle.tfm_tool.proofs.CauseLemmas.{before_none}
 use Rattle.tfm_tool.proofs.KnownLemmas.{after_map}
 use Rattle.tfm_tool.proofs.ReaderLemmas.{reader_told}
@@ -67,3 +68,16 @@ pub returns-clause-order : goal.returns-clause-order
 returns-clause-order g c = λ has.
     absurd (sound_terms (font_bytes_of (g.F.Opens.known c.args.files.now) (g.I.Read.remaining c.args.input.now) c.args.setting.now.font.now) c.args.setting.now.layout
     c.args.setting.now.limit (arc_value c.in_ok-terms.terms) c.in_ok-terms.ensures.terms has)
+
+pub returns-in_err-terms-clause-file : goal.returns-in_err-terms-clause-file
+returns-in_err-terms-clause-file g c = λ n same.
+    not_of_file c.in_err-terms.field-0.0 n c.in_err-terms.ensures.first
+    (handed_as c.from_residual.result c.in_err-terms.field-0.0 (FileNotOpened n) c.from_residual.ensures.1 same)
+
+pub returns-in_err-sources-clause-file : goal.returns-in_err-sources-clause-file
+returns-in_err-sources-clause-file g c = λ n same.
+    not_of_file c.in_err-sources.field-0.0 n c.in_err-sources.ensures.first
+    (handed_as c.from_residual-in_err-sources.result c.in_err-sources.field-0.0 (FileNotOpened n) c.from_residual-in_err-sources.ensures.1 same)
+
+pub returns-clause-file : goal.returns-clause-file
+returns-clause-file g c = c.set_sources.ensures.file
