@@ -1,7 +1,7 @@
 """Each allocation of a single call of the libraries fails in turn.
 
-Tests of `memory_tests`, `lane_tests` and `run_tests` each make one call over a worked case, and print its
-outcome. They are executed in the programs that `rt ci` leaves, or `rt test` in the directory of the
+Tests of `memory_tests`, `lane_tests`, `run_tests` and `tool_tests` each make one call over a worked case, and
+print its outcome. They are executed in the programs that `rt ci` leaves, or `rt test` in the directory of the
 crate. lib/refuse.c is preloaded: the first allocation fails, in the next execution the second one, and so on,
 until nothing fails any more. Each execution must end by itself, and its test must pass: it compares what the
 call returned, and what it left as it was. The outcome must be one that the table permits for a failed

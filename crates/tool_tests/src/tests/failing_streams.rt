@@ -9,7 +9,10 @@ use set_run::NoGate;
 use std::test::Fail;
 use std::{fs, process};
 use test_support::{FailingWriter, TricklingReader, lines_of_source, small_plan};
-use tfm_tool::{FontSetting, OutputOptions, Summary, ToolFault, stream_text};
+use tfm_tool::{
+    Failure, FontSetting, InMemory, Layout, OutputOptions, Request, Setting, Summary, ToolFault,
+    perform, stream_text,
+};
 
 const ONE: &str = "1:1 set 983040 c97=327680 c98=163840 c99=491520\n1 end complete 1\n";
 
@@ -138,6 +141,59 @@ fn a_flush_that_fails_is_told_after_a_file_that_was_not_read(rt: HostRuntime) ->
     }
     fs::remove_file(&rt, font)?;
     Ok(())
+}
+
+/// Sets two lines, and can't flush the output. `None` means that memory for the request is refused.
+fn set_unflushed<R: Threads + Wait + Sync + AllocGlobal>(
+    rt: &R,
+    out: &mut FailingWriter,
+) -> Option<Result<u8, Failure>> {
+    out.text.reserve(256).ok()?;
+    let request = Request::Set(Setting {
+        font: "plain",
+        limit: Limit::new(100)?,
+        files: Vec::from_slice(rt.alloc(), &["lines"]).ok()?,
+        layout: Layout {
+            size: None,
+            plain_size: false,
+            policy: Policy::Refuse,
+            crlf: false,
+            encoding: Encoding::Bytes,
+            plan: small_plan()?,
+            whole_reads: false,
+            version: Version::One,
+            verbose: false,
+        },
+    });
+    let files = [
+        ("plain", PLAIN.as_slice()),
+        ("lines", b"ab\nc\n".as_slice()),
+    ];
+    let mut input = b"".as_slice();
+    Some(perform(rt, &InMemory::new(&files), &request, &mut input, out))
+}
+
+/// With memory enough the lines are written, and the flush fails. The kit's option `--fail-alloc` refuses one
+/// request: then nothing is written, or a lane ends early; the exit status would be 5 then, and the flush fails,
+/// too.
+// Mutant: `finish` of `delivery.rt` returns the failure for exit status 5 before it flushes the output.
+#[test]
+fn a_refused_request_of_a_set_that_is_not_flushed(rt: HostRuntime) -> Result<(), Fail> {
+    let mut out = FailingWriter::new(rt.alloc(), 4096, usize::MAX, false);
+    let told = match set_unflushed(&rt, &mut out) {
+        None => "no memory for the arguments",
+        Some(Err(Failure::Tool(ToolFault::Write))) => {
+            if out.text.as_slice() == OF_FIRST.as_bytes() {
+                "output failed"
+            } else {
+                "a lane ended early, and output failed"
+            }
+        }
+        Some(Err(Failure::Tool(ToolFault::OutOfMemory))) if out.text.is_empty() => "out of memory",
+        Some(Err(Failure::Tool(ToolFault::Run(_)))) if out.text.is_empty() => "the run is refused",
+        Some(_) => panic!(rt; "another outcome"),
+    };
+    Ok(println!(rt; "{told}")?)
 }
 
 /// The lines of two sources, as they come.

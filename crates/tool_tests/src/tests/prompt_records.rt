@@ -9,7 +9,7 @@ use std::sync::atomic::{AtomicU64, Ordering};
 use std::test::Fail;
 use std::{io, thread};
 use test_support::plan;
-use tfm_tool::{FontSetting, OutputOptions, Summary, stream_text};
+use tfm_tool::{FontSetting, OutputOptions, Summary, ToolFault, stream_text};
 
 /// How often it is looked whether a record was written, at most: a stream that hoards fails by that.
 const LOOKS: u64 = 20_000_000;
@@ -44,12 +44,24 @@ impl Read for WaitingReader<'_> {
     }
 }
 
-/// A writer that counts the lines that it was given, once it is flushed.
+/// A writer that counts the lines that it was given, once it is flushed. Its first flush may fail.
 #[derive(Drop)]
 struct CountingWriter<'a> {
     text: Vec<u8>,
     unflushed: u64,
     written: &'a AtomicU64,
+    fails: bool,
+}
+
+impl<'a> CountingWriter<'a> {
+    fn new(alloc: Global, written: &'a AtomicU64, fails: bool) -> CountingWriter<'a> {
+        CountingWriter {
+            text: Vec::new(alloc),
+            unflushed: 0,
+            written,
+            fails,
+        }
+    }
 }
 
 impl Write for CountingWriter<'_> {
@@ -66,6 +78,10 @@ impl Write for CountingWriter<'_> {
     fn flush(&mut self) -> io::Result<()> {
         self.written.fetch_add(self.unflushed, Ordering::SeqCst);
         self.unflushed = 0;
+        if self.fails {
+            self.fails = false;
+            return Err(io::Error::from(ErrorKind::Other));
+        }
         Ok(())
     }
 }
@@ -73,22 +89,20 @@ impl Write for CountingWriter<'_> {
 const WANTED: &str =
     "1:1 set 327680 c97=327680\n1:2 set 163840 c98=163840\n1:3 set 491520 c99=491520\n1 end complete 3\n";
 
-#[test]
-fn each_record_is_written_before_the_next_line_is_there(rt: HostRuntime) -> Result<(), Fail> {
+/// Streams three lines, of which each is there once the record of the line before was flushed.
+fn stream_three<R: Abort + Threads + Wait + Sync + AllocGlobal>(
+    rt: &R,
+    written: &AtomicU64,
+    out: &mut CountingWriter<'_>,
+) -> Result<Result<Summary, ToolFault>, Fail> {
     let alloc = rt.alloc();
-    let written = AtomicU64::new(0);
-    let mut out = CountingWriter {
-        text: Vec::new(alloc),
-        unflushed: 0,
-        written: &written,
-    };
     let mut sources = Vec::new(alloc);
     sources.push(ReaderSource::new(
         alloc,
         WaitingReader {
             lines: b"a\nb\nc\n",
             given: 0,
-            written: &written,
+            written,
         },
     ))?;
     let font = FontSetting {
@@ -104,13 +118,32 @@ fn each_record_is_written_before_the_next_line_is_there(rt: HostRuntime) -> Resu
         whole_reads: true,
         gate: &NoGate,
     };
+    Ok(stream_text(rt, &font, sources, &options, out))
+}
+
+#[test]
+fn each_record_is_written_before_the_next_line_is_there(rt: HostRuntime) -> Result<(), Fail> {
+    let written = AtomicU64::new(0);
+    let mut out = CountingWriter::new(rt.alloc(), &written, false);
     let none = Summary {
         refused: 0,
         read_failed: false,
         memory: false,
     };
-    let told = stream_text(&rt, &font, sources, &options, &mut out);
-    assert!(&rt; matches!(told, Ok(summary) if summary == none));
-    assert!(&rt; out.text.as_slice() == WANTED.as_bytes());
+    let told = stream_three(&rt, &written, &mut out)?;
+    assert!(rt; matches!(told, Ok(summary) if summary == none));
+    assert!(rt; out.text.as_slice() == WANTED.as_bytes());
+    Ok(())
+}
+
+/// The flush after the first record fails, and each later one would succeed.
+// Mutant: `flush` of `Stream` (`stream.rt` of `run_texts`) ignores the error of the flush.
+#[test]
+fn a_flush_that_fails_ends_the_stream(rt: HostRuntime) -> Result<(), Fail> {
+    let written = AtomicU64::new(0);
+    let mut out = CountingWriter::new(rt.alloc(), &written, true);
+    let told = stream_three(&rt, &written, &mut out)?;
+    assert!(rt; matches!(told, Err(ToolFault::Write)));
+    assert!(rt; out.text.as_slice() == b"1:1 set 327680 c97=327680\n".as_slice());
     Ok(())
 }
