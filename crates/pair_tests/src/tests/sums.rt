@@ -2,16 +2,19 @@
 //! every line in the general way would be proved as well.
 use super::writers::{LIMIT, Writer, terms_of};
 use set_line::{Limit, LineRefusal, Policy, Terms};
+use std::alloc::{AllocError, Global};
 use std::process::Abort;
 use std::sync::Arc;
 use std::test::Fail;
-use test_support::fonts::TWO_KERNS;
 use test_support::fonts::examples::{
     boundary_exists, endless, indirect, left_boundary, ligature, plain, right_boundary,
     without_space,
 };
 use test_support::fonts::lengths::SHORT;
-use tfm_tables::Font;
+use test_support::fonts::{
+    A_FROM_0, B, Info, PLAIN as PLAIN_FONT, Sample, TWO_KERNS, kern_before, last,
+};
+use tfm_tables::{Font, Step};
 use tfm_words::Size;
 
 /// A line, its width, its steps and the number of its items.
@@ -23,8 +26,8 @@ type Numbers = (i64, u32, usize);
 /// The sums of a line or its refusal, or `None` if the line has to be set in the general way.
 type Found = Option<Result<Numbers, LineRefusal>>;
 
-fn sums_of(writer: &mut Writer, line: &str) -> Found {
-    Some(match writer.sums(line.as_bytes())? {
+fn sums_of(writer: &mut Writer, line: &[u8]) -> Found {
+    Some(match writer.sums(line)? {
         Ok(sums) => Ok((sums.width, sums.steps, sums.items)),
         Err(refusal) => Err(refusal),
     })
@@ -40,7 +43,7 @@ fn has_sums<R: Abort + AllocGlobal>(
 ) {
     let mut writer = Writer::prepared(rt.alloc(), terms);
     for time in ["first", "second"] {
-        let found = sums_of(&mut writer, line);
+        let found = sums_of(&mut writer, line.as_bytes());
         assert_eq!(rt; found, wanted, "{case}, {line}, {time} time");
     }
 }
@@ -236,7 +239,8 @@ fn a_writer_that_is_not_prepared_has_no_sums(rt: HostRuntime) -> Result<(), Fail
     let terms = terms_of(&rt, &plain(rt.alloc())?, LIMIT, Policy::Refuse)?;
     let mut writer = Writer::new(rt.alloc(), terms);
     for line in ["", " ", "a", "a b"] {
-        assert_eq!(rt; sums_of(&mut writer, line), None, "{line}");
+        let found = sums_of(&mut writer, line.as_bytes());
+        assert_eq!(rt; found, None, "{line}");
     }
     Ok(())
 }
@@ -257,6 +261,70 @@ fn a_text_of_32_bytes_fits_in_the_table(rt: HostRuntime) -> Result<(), Fail> {
         let terms = Arc::new(rt.alloc(), Terms::new(font, limit, Policy::Refuse))?;
         let case = format!(in rt.alloc(); "size {size}")?;
         has_sums(&rt, &case, terms, "a ", wanted);
+    }
+    Ok(())
+}
+
+/// The parts of a font that aren't those of the plain font.
+#[derive(Drop)]
+struct Parts {
+    characters: Vec<Info>,
+    program: Vec<Step>,
+    kerns: Vec<u32>,
+}
+
+impl Parts {
+    /// A font with the characters 40 to 149 and these parts.
+    fn sample(&self) -> Sample<'_> {
+        Sample {
+            bc: 40,
+            ec: 149,
+            characters: &self.characters,
+            program: &self.program,
+            kerns: &self.kerns,
+            ..PLAIN_FONT
+        }
+    }
+}
+
+/// A font with the characters 40 to 99, of 327,680 sp, and 100 to 149, of 163,840 sp. Between one of the first
+/// and one of the others is a kern: 160 sp before 100, 320 sp before 101, and so on.
+fn with_3000_pairs(alloc: Global) -> Result<Vec<u8>, AllocError> {
+    let mut parts = Parts {
+        characters: Vec::from_elem(alloc, A_FROM_0, 60)?,
+        program: Vec::new(alloc),
+        kerns: Vec::new(alloc),
+    };
+    for index in 0..50u8 {
+        parts.characters.push(B)?;
+        parts.program.push(kern_before(100 + index, index))?;
+        parts.kerns.push(256 * (u32::from(index) + 1))?;
+    }
+    // The last instruction is never applied: the first one is for this code, too.
+    parts.program.push(last(kern_before(100, 0)))?;
+    parts.sample().file(alloc)
+}
+
+/// The line has 3,050 texts: one for each pair with a kern, and one for each of the other characters. Its width
+/// is 3,000 * (327,680 + 163,840) + 60 * 160 * (1 + .. + 50) sp.
+// Mutant: `MOST_PAIRS` of `cells.rt`, the largest number of texts, is 40, or 3,000.
+#[test]
+fn a_line_with_3050_texts_is_set_by_pairs(rt: HostRuntime) -> Result<(), Fail> {
+    let mut line = Vec::new(rt.alloc());
+    for left in 40..100u8 {
+        for right in 100..150u8 {
+            line.extend_from_slice(&[left, right])?;
+        }
+    }
+    let terms = terms_of(&rt, &with_3000_pairs(rt.alloc())?, 6_000, Policy::Refuse)?;
+    let mut writer = Writer::prepared(rt.alloc(), terms);
+    for time in ["first", "second"] {
+        let found = sums_of(&mut writer, &line);
+        assert_eq!(rt;
+            found,
+            Some(Ok((1_486_800_000, 6_000, 9_000))),
+            "{time} time"
+        );
     }
     Ok(())
 }
