@@ -2,7 +2,7 @@
 use font_texts::push_escaped_text;
 use std::alloc::Global;
 use std::io;
-use std::io::{ErrorKind, Write};
+use std::io::Write;
 use std::sync::atomic::{AtomicU64, Ordering};
 use std::sync::{Mutex, Wait};
 
@@ -52,10 +52,10 @@ impl Notes {
         copy
     }
 
-    /// Notes an error of the file of this name. An interrupted call isn't noted, since it is made again. If an
-    /// allocation fails, nothing is noted.
+    /// Notes an error of the file of this name. An interrupted read is noted, too, since it isn't made again. If
+    /// an allocation fails, nothing is noted.
     pub fn note<R: Wait>(&self, rt: &R, name: &[u8], error: &io::Error) {
-        if self.verbose && error.kind() != ErrorKind::Interrupted {
+        if self.verbose {
             let mut line = Vec::new(self.alloc);
             if push_line(&mut line, name, error).is_ok() {
                 let _ = self.causes.lock(rt).extend_from_slice(line.as_slice());
