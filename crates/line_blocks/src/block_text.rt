@@ -63,14 +63,6 @@ impl BlockText {
         self.text.as_slice()
     }
 
-    /// Returns the records as a vector.
-    pub fn into_text(self) -> Vec<u8>
-        ensures value { result.items ≡ self.text }
-        ensures right { IsBlockText self }
-    {
-        self.text
-    }
-
     /// Returns the number of lines.
     pub fn lines(&self) -> u64
         ensures value { result ≡ self.now.lines }

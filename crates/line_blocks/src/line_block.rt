@@ -1,4 +1,4 @@
-ghost use Rattle.std.specs.Prelude.{◌≡◌, ◌+◌, ◌<◌, ◌≤◌, ◌^◌, ◌++◌, ◌==◌, [], ◌∷◌, length, OnErr, OnOk};
+ghost use Rattle.std.specs.Prelude.{◌≡◌, ◌+◌, ◌<◌, ◌≤◌, ◌^◌, ◌++◌, [], ◌∷◌, length, OnErr, OnOk};
 ghost use Rattle.set_run.specs.Cuts.{stored_length};
 ghost use Rattle.line_blocks.specs.Blocks.{bytes_in, with_line};
 
@@ -41,17 +41,6 @@ pub(crate) fn stored(length: usize) -> usize
 }
 
 impl LineBlock {
-    /// Returns an empty block, whose first line will have this line number. This allocates no memory.
-    pub fn new(alloc: Global, first: u64) -> Self
-        ensures { result ≡ record { first = first; lines = [] } }
-    {
-        LineBlock {
-            first,
-            bytes: Vec::new(alloc),
-            lengths: SmallVec::new(alloc),
-        }
-    }
-
     /// Returns a block of one line, which has this line number. This allocates no memory.
     pub fn of_line(alloc: Global, first: u64, line: CutLine) -> Self
         requires { first + 1 < 2 ^ 64 }
@@ -64,15 +53,6 @@ impl LineBlock {
             bytes: line.into_bytes(),
             lengths,
         }
-    }
-
-    /// Removes all lines, and keeps the memory. The next line will have this line number.
-    pub fn clear(&mut self, first: u64)
-        ensures { self.new ≡ record { first = first; lines = [] } }
-    {
-        self.first = first;
-        self.bytes.clear();
-        self.lengths.clear();
     }
 
     /// Makes room for this many further bytes and lines. If an allocation fails, the room is smaller, and
@@ -91,14 +71,6 @@ impl LineBlock {
         ensures { result ≡ length self.now.lines }
     {
         self.lengths.len()
-    }
-
-    /// Returns whether there are no lines.
-    #[tactic(auto, using(crate::proofs::StoredLemmas::counted))]
-    pub fn is_empty(&self) -> bool
-        ensures { result ≡ (length self.now.lines == 0) }
-    {
-        self.lengths.is_empty()
     }
 
     /// Returns the line number of the first line. Each line has a line number of 64 bits, and so has a line
