@@ -1,29 +1,29 @@
 -- Decoding a text: which bytes have an entry in a table of single codes, and how far a text is decoded.
-use Rattle.std.proofs.Common.{◌≡◌, ◌⊎◌, inl, inr, ℕ, zero, suc, ◌+◌, ◌-◌, ◌*◌, ◌%◌, ◌<◌, ◌≤◌, Bool, true, false, List, [], ◌∷◌, ◌++◌, ◌&&◌, ◌||◌, not, cond, length, length-append, get_or, take, drop, set, map, flat_map, Option, Some, None, arith, refl, ap, sym, subst, ◌∙◌, append-nil}
+use Rattle.std.proofs.Common.{◌≡◌, ◌⊎◌, inl, inr, ℕ, zero, suc, ◌+◌, ◌-◌, ◌*◌, ◌%◌, ◌<◌, ◌≤◌, Bool, true, false, List, [], ◌∷◌, ◌++◌, ◌&&◌, ◌||◌, not, cond, length, length-append, get_or, take, drop, set, map, flat_map, Some, arith, refl, ap, sym, subst, ◌∙◌, append-nil}
 use lib.Utf8.{encode, low_scalar}
 use Rattle.std.specs.Prelude.{nat_eq, nat_le, nat_lt}
 use Rattle.std.specs.Char.{encode_utf8}
 use Rattle.std.specs.Int.{from_bool}
 use Rattle.std.specs.List.{list_all, range_with_len}
 use Rattle.std.specs.Option.{option_map_or}
-use Rattle.std.specs.Str.{chars, IsUtf8}
-use Rattle.std.proofs.lemmas.Bool.{cases_lt, eqb-true, le-ltb, lt-ltb}
+use Rattle.std.specs.Str.{chars, IsUtf8, IsAscii}
+use Rattle.std.proofs.lemmas.Bool.{cases_lt, eqb-true, le-ltb, lt-ltb, ltb-true}
 use Rattle.std.proofs.lemmas.Bool.Decides.{nat_tests}
 use Rattle.std.proofs.lemmas.Grind.{flat_map-append}
 pub use Rattle.std.proofs.lemmas.List.{take-append-drop}
-use Rattle.std.proofs.lemmas.List.{append_assoc, drop-take, map-append, take-append-le, take_more, take_more_set, take-set, take-take}
-use Rattle.std.proofs.Math.Seq.{drop-append_seam}
+use Rattle.std.proofs.lemmas.List.{append_assoc, drop-take, map-append, take-append-le, length-drop, take_all, take_more, take_more_set, take-set, take-take}
+use Rattle.std.proofs.Math.Seq.{drop-append_seam, take-append_seam}
 use Rattle.std.proofs.lemmas.Nat.{div-mul-add, mod-mul-add}
 pub use Rattle.std.proofs.lemmas.Str.{chars_past_char}
-use Rattle.std.proofs.lemmas.Str.{length-encode, len_utf8_bounds, chars-nil, chars-append, encode_ascii, IsUtf8-nil, IsUtf8-append, IsUtf8-encode}
+use Rattle.std.proofs.lemmas.Str.{length-encode, len_utf8_bounds, chars-nil, chars-append, encode_ascii, IsUtf8-nil, IsUtf8-append, IsUtf8-encode, IsUtf8-from_ascii, chars-IsAscii}
 use Rattle.encodings.specs.declared.encoding.Encoding.{Encoding}
 use Rattle.encodings.specs.declared.encoding.Encoding.TheVariants.{Bytes, Ot1, T1, Ly1, Latin1}
 use Rattle.encodings.specs.declared.coded.Coded.TheVariants.{Code, Uncoded}
 use Rattle.encodings.specs.declared.decoding.TheConstants.{OFFSETS}
 use Rattle.encodings.specs.Codes.{codes_of}
 use Rattle.encodings.specs.Lines.{coded_of}
-use Rattle.encodings.specs.Lookup.{index_of, singles_in}
-use Rattle.encodings.specs.Decoding.{coded_text, offset_after, IsFront}
+use Rattle.encodings.specs.Lookup.{singles_in}
+use Rattle.encodings.specs.Decoding.{coded_text, is_plain, offset_after, IsFront}
 use Rattle.encodings.proofs.TableLemmas.{at_member, in_range, index_below, index_of_two, single_is}
 
 -- a text without its first character is shorter
@@ -341,3 +341,86 @@ coded_cut encoding text n utf8 =
     ap (λ l. flat_map (coded_of encoding) (chars l)) (sym (take-append-drop n text))
     ∙ ap (flat_map (coded_of encoding)) (chars-append (take n text) (drop n text) utf8)
     ∙ flat_map-append (coded_of encoding) (chars (take n text)) (chars (drop n text))
+
+-- ---- plain bytes, which are their own codes
+
+plain_below : (singles : List ℕ) (byte : ℕ) → is_plain singles byte ≡ true → byte < 128
+plain_below singles byte is = ltb-true byte 128 (both _ _ is).0
+
+plain_coded : (encoding : Encoding) (byte : ℕ) → is_plain (singles_in encoding) byte ≡ true → coded_of encoding byte ≡ Code byte ∷ []
+unfolding coded_of
+plain_coded encoding byte is =
+    let below = plain_below (singles_in encoding) byte is in
+    let codes = single_is encoding byte byte (omega arith) (ap (λ i. get_or (singles_in encoding) i 256) (index_below byte below) ∙ eqb-true _ _ (both _ _ is).1) (omega arith) in
+    ap (λ o. option_map_or (map Code) o (Uncoded byte ∷ [])) codes
+
+plain_text : (encoding : Encoding) (bytes : List ℕ) → list_all (is_plain (singles_in encoding)) bytes ≡ true → flat_map (coded_of encoding) bytes ≡ map Code bytes
+plain_text encoding [] all = refl
+plain_text encoding (byte ∷ bytes) all =
+    let parts = both _ _ all in
+    ap (λ l. l ++ flat_map (coded_of encoding) bytes) (plain_coded encoding byte parts.0) ∙ ap (λ l. Code byte ∷ l) (plain_text encoding bytes parts.1)
+
+plain_ascii : (singles bytes : List ℕ) → list_all (is_plain singles) bytes ≡ true → IsAscii bytes
+plain_ascii singles [] all i = omega arith
+plain_ascii singles (byte ∷ bytes) all zero = plain_below singles byte (both _ _ all).0
+plain_ascii singles (byte ∷ bytes) all (suc i) = plain_ascii singles bytes (both _ _ all).1 i
+
+plain_bytes : (encoding : Encoding) (bytes : List ℕ) → list_all (is_plain (singles_in encoding)) bytes ≡ true → IsFront encoding bytes bytes
+plain_bytes encoding bytes all =
+    let ascii = plain_ascii (singles_in encoding) bytes all in
+    record {
+      utf8 = IsUtf8-from_ascii bytes ascii;
+      coded = ap (flat_map (coded_of encoding)) (chars-IsAscii bytes ascii) ∙ plain_text encoding bytes all;
+    }
+
+pub plain_front : (encoding : Encoding) (singles text : List ℕ) (n : ℕ) → singles ≡ singles_in encoding → list_all (is_plain singles) (take n text) ≡ true
+    → IsFront encoding (take n text) (take n text)
+plain_front encoding singles text n same all =
+    plain_bytes encoding (take n text) (subst (λ l. list_all (is_plain l) (take n text) ≡ true) same all)
+
+pub ruleset plain = (plain_front)
+
+-- ---- the front of a text in two parts
+
+front_both : (encoding : Encoding) (text more codes others : List ℕ) → IsFront encoding text codes → IsFront encoding more others → IsFront encoding (text ++ more) (codes ++ others)
+front_both encoding text more codes others first second = record {
+  utf8 = IsUtf8-append text more first.utf8 second.utf8;
+  coded = ap (flat_map (coded_of encoding)) (chars-append text more first.utf8)
+      ∙ flat_map-append (coded_of encoding) (chars text) (chars more)
+      ∙ ap (λ l. l ++ coded_text encoding more) first.coded
+      ∙ ap (λ l. map Code codes ++ l) second.coded
+      ∙ sym (map-append Code codes others);
+}
+
+take_both : (text : List ℕ) (n m : ℕ) → take (n + m) text ≡ take n text ++ take m (drop n text)
+take_both text n m =
+    sym (take-append-drop n (take (n + m) text))
+    ∙ ap (λ l. l ++ drop n (take (n + m) text)) (take-take n (n + m) text (omega arith))
+    ∙ ap (λ l. take n text ++ l) (drop-take n m text)
+
+-- a list that grew twice
+grown : (old plain between after : List ℕ) → between ≡ old ++ plain → take (length between) after ≡ between → after ≡ old ++ (plain ++ drop (length between) after)
+grown old plain between after is kept =
+    sym (take-append-drop (length between) after)
+    ∙ ap (λ l. l ++ drop (length between) after) (kept ∙ is)
+    ∙ append_assoc old plain (drop (length between) after)
+
+pub grown_kept : (old plain between after : List ℕ) → between ≡ old ++ plain → take (length between) after ≡ between → take (length old) after ≡ old
+grown_kept old plain between after is kept =
+    ap (take (length old)) (grown old plain between after is kept) ∙ take-append_seam old (plain ++ drop (length between) after)
+
+-- the text after an index, as it is cut
+pub rest_whole : (n : ℕ) (text : List ℕ) → take (length text - n) (drop n text) ≡ drop n text
+rest_whole n text = take_all (length text - n) (drop n text) (omega (arith, length-drop n text))
+
+pub grown_front : (encoding : Encoding) (text old between after : List ℕ) (n m : ℕ) → between ≡ old ++ take n text → take (length between) after ≡ between
+    → IsFront encoding (take n text) (take n text) → IsFront encoding (take m (drop n text)) (drop (length between) after)
+    → IsFront encoding (take (n + m) text) (drop (length old) after)
+grown_front encoding text old between after n m is kept first second =
+    let codes : take n text ++ drop (length between) after ≡ drop (length old) after =
+    sym (ap (drop (length old)) (grown old (take n text) between after is kept) ∙ drop-append_seam old (take n text ++ drop (length between) after)) in
+    subst (λ l. IsFront encoding (take (n + m) text) l) codes
+    (subst (λ l. IsFront encoding l (take n text ++ drop (length between) after)) (sym (take_both text n m))
+    (front_both encoding (take n text) (take m (drop n text)) (take n text) (drop (length between) after) first second))
+
+pub ruleset joined = (grown_kept, grown_front)

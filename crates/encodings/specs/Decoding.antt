@@ -1,6 +1,6 @@
 -- A text while it is decoded.
 -- This project's own representation; Lines defines the elements.
-use Rattle.std.specs.Prelude.{◌≡◌, ℕ, ◌-◌, ◌*◌, ◌&&◌, nat_le, cond, List, map, flat_map}
+use Rattle.std.specs.Prelude.{◌≡◌, ℕ, ◌-◌, ◌*◌, Bool, ◌&&◌, nat_eq, nat_le, nat_lt, cond, List, get_or, map, flat_map}
 use Rattle.std.specs.Str.{chars, IsUtf8}
 use Rattle.encodings.specs.declared.encoding.Encoding.{Encoding}
 use Rattle.encodings.specs.declared.coded.Coded.{Coded}
@@ -19,3 +19,7 @@ pub record IsFront (encoding : Encoding) (text codes : List ℕ) : Type 0 where
 -- where a table of single codes has the entries for the byte after this one
 abbrev pub offset_after : ℕ → ℕ
 offset_after byte = cond (nat_le 0xC2 byte && nat_le byte 0xC5) (256 * (byte - 0xC1)) 0
+
+-- whether a byte is an ASCII character whose only code, in a table of single codes, is the byte itself
+abbrev pub is_plain : List ℕ → ℕ → Bool
+is_plain singles byte = nat_lt byte 128 && nat_eq (get_or singles byte 256) byte

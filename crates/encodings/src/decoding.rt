@@ -1,6 +1,7 @@
 //! Decodes the characters at the front of a text that have single codes.
-ghost use Rattle.std.specs.Prelude.{◌≡◌, ◌<◌, ◌≤◌, ◌+◌, length, take, drop, get_or, IfOk, IfSome, OnOk};
-ghost use Rattle.encodings.specs.Decoding.{IsFront, offset_after as offset_after_byte};
+ghost use Rattle.std.specs.Prelude.{◌≡◌, ◌<◌, ◌≤◌, ◌+◌, ◌++◌, true, length, take, drop, get_or, IfOk, IfSome, OnOk};
+ghost use Rattle.std.specs.List.{list_all};
+ghost use Rattle.encodings.specs.Decoding.{IsFront, is_plain as is_plain_in, offset_after as offset_after_byte};
 
 use crate::Encoding;
 use crate::tables::single_codes;
@@ -68,13 +69,39 @@ fn decode_front(encoding: Encoding, text: &[u8], room: &mut [u8]) -> (usize, usi
     (at - usize::from(offset != 0), codes)
 }
 
-/// Appends the codes of the characters at the front of a text that have single codes. Returns the number of
-/// bytes of these characters. The text need not be UTF-8 after them.
-pub(crate) fn push_front(
-    encoding: Encoding,
-    text: &[u8],
-    codes: &mut Vec<u8>,
-) -> Result<usize, AllocError>
+/// Returns whether a byte is an ASCII character whose only code, in this table, is the byte itself.
+fn is_plain(singles: &[u16], byte: u8) -> bool
+    ensures { result ≡ is_plain_in singles.now byte }
+{
+    byte < 128 && singles.get(usize::from(byte)) == Some(&u16::from(byte))
+}
+
+/// Returns the number of bytes at the front of a text that are plain.
+fn plain_len(singles: &[u16], text: &[u8]) -> usize
+    ensures within { result ≤ length text.now }
+    ensures plain { list_all (is_plain_in singles.now) (take result text.now) ≡ true }
+{
+    let mut len = 0;
+    while len < text.len() && is_plain(singles, text[len]) {
+        len += 1;
+    }
+    len
+}
+
+/// Appends the plain bytes at the front of a text. Returns their number.
+#[tactic(auto, using(crate::proofs::DecodingLemmas::plain))]
+fn push_plain(encoding: Encoding, text: &[u8], codes: &mut Vec<u8>) -> Result<usize, AllocError>
+    ensures within { IfOk result (λ count. count ≤ length text.now) }
+    ensures pushed { IfOk result (λ count. codes.new.items ≡ codes.old.items ++ take count text.now) }
+    ensures front { IfOk result (λ count. IsFront encoding (take count text.now) (take count text.now)) }
+{
+    let count = plain_len(single_codes(encoding), text);
+    codes.extend_from_slice(&text[..count])?;
+    Ok(count)
+}
+
+/// Appends what `decode_front` writes for this text. Returns the number of bytes of the characters.
+fn push_decoded(encoding: Encoding, text: &[u8], codes: &mut Vec<u8>) -> Result<usize, AllocError>
     ensures within { IfOk result (λ count. count ≤ length text.now) }
     ensures kept { OnOk result (take (length codes.old.items) codes.new.items ≡ codes.old.items) }
     ensures front { IfOk result (λ count.
@@ -85,4 +112,23 @@ pub(crate) fn push_front(
     let (bytes, count) = decode_front(encoding, text, &mut codes[before..]);
     codes.truncate(before + count);
     Ok(bytes)
+}
+
+/// Appends the codes of the characters at the front of a text that have single codes. Returns the number of
+/// bytes of these characters. The text need not be UTF-8 after them. Plain bytes before the first other
+/// character are copied as they are, which is faster.
+#[tactic(auto, using(crate::proofs::DecodingLemmas::joined))]
+pub(crate) fn push_front(
+    encoding: Encoding,
+    text: &[u8],
+    codes: &mut Vec<u8>,
+) -> Result<usize, AllocError>
+    ensures within { IfOk result (λ count. count ≤ length text.now) }
+    ensures kept { OnOk result (take (length codes.old.items) codes.new.items ≡ codes.old.items) }
+    ensures front { IfOk result (λ count.
+        IsFront encoding (take count text.now) (drop (length codes.old.items) codes.new.items)) }
+{
+    let plain = push_plain(encoding, text, codes)?;
+    let decoded = push_decoded(encoding, &text[plain..], codes)?;
+    Ok(plain + decoded)
 }

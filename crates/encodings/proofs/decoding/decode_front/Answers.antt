@@ -1,4 +1,4 @@
-use Rattle.std.proofs.Common.{◌≡◌, ◌+◌, ◌<◌, length, arith, get_or, ap, sym, ◌∙◌}
+use Rattle.std.proofs.Common.{◌+◌, ◌<◌, length, arith, get_or, ap, sym, ◌∙◌}
 use Rattle.std.specs.Prelude.{nat_eq}
 use Rattle.encodings.proofs.DecodingLemmas.{not_begun, decoded_step, after_small, at_most_one}
 use Rattle.encodings.proofs.decoding.decode_front.Goals as goal

@@ -1,0 +1,16 @@
+use Rattle.std.proofs.Common.{◌≡◌, ◌+◌, ◌-◌, ◌≤◌, arith, take, drop, length, sym, subst, ◌∙◌}
+use Rattle.std.proofs.lemmas.List.{length-take-le}
+use Rattle.encodings.specs.Decoding.{IsFront}
+use Rattle.encodings.proofs.DecodingLemmas.{take_most, written_out}
+use Rattle.encodings.proofs.decoding.push_decoded.Goals as goal
+
+pub returns-clause-front : goal.returns-clause-front
+returns-clause-front c =
+    let same : length c.args.codes.now.items ≡ c.len-before.result = omega (arith, c.args.codes.now.ok.0, c.len-before.ensures) in
+    let sized : length c.deref_mut.result.now ≡ c.len-before.result + length c.args.text.now = c.deref_mut.ensures.len ∙ c.in_ok-resize.ensures.len in
+    let room : length c.decode_front-bytes.new.room ≤ length c.args.text.now =
+    omega (arith, sized, c.decode_front-bytes.auto.room, take_most (length c.deref_mut.result.now - c.len-before.result) (drop c.len-before.result c.deref_mut.result.now)) in
+    let first : length (take c.len-before.result c.deref_mut.result.now) ≡ c.len-before.result = length-take-le c.len-before.result c.deref_mut.result.now (omega (arith, sized)) in
+    let fits : c.len-before.result + c.decode_front-bytes.result.1 ≤ c.resize.new.self.len = omega (arith, room, c.decode_front-bytes.ensures.codes, c.in_ok-resize.ensures.len) in
+    let out = written_out _ _ _ _ _ (length c.args.codes.now.items) _ _ _ c.truncate.ensures.items same first c.decode_front-bytes.ensures.codes fits in
+    subst (λ l. IsFront c.args.encoding (take c.decode_front-bytes.result.0 c.args.text.now) l) (sym out) c.decode_front-bytes.ensures.front
