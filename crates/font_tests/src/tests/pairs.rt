@@ -19,7 +19,10 @@ fn has_texts<R: Abort + AllocGlobal>(rt: &R, file: &[u8], wanted: &[Wanted]) -> 
             encoding: *encoding,
         };
         let found = pairs_text(rt.alloc(), file, None, layout)?;
-        assert!(rt; found.as_slice() == text.as_bytes(), "{encoding:?}, {format:?}");
+        assert!(rt;
+            found.as_slice() == text.as_bytes(),
+            "{encoding:?}, {format:?}"
+        );
     }
     Ok(())
 }

@@ -6,8 +6,8 @@ use std::test::Fail;
 use test_support::FailingWriter;
 use tfm_tables::{Font, FontFault};
 use tfm_tool::{
-    Finding, PairsFormat, PairsLayout, ToolFault, check_text, counts_text, finding_text, list_all_text,
-    list_text, pairs_text,
+    Finding, PairsFormat, PairsLayout, ToolFault, check_text, counts_text, finding_text,
+    list_all_text, list_text, pairs_text,
 };
 use tfm_words::CountFault;
 
