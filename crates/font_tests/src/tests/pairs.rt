@@ -1,12 +1,14 @@
 //! The text of the pairs of a font in each format, with and without characters.
 use encodings::Encoding;
 use font_texts::{PairsFormat, PairsLayout, pairs_text};
+use std::alloc::{AllocError, Global};
 use std::process::Abort;
 use std::test::Fail;
 use test_support::fonts::{
-    A, A_FROM_0, BACK, LEFT_BOUNDARY, LIGATURE, NO_CHARACTERS, PLAIN, RIGHT_BOUNDARY, Sample,
+    A, A_FROM_0, BACK, Info, LEFT_BOUNDARY, LIGATURE, NO_CHARACTERS, PLAIN, RIGHT_BOUNDARY, Sample,
     kern_before, last, ligature_before,
 };
+use tfm_tables::Step;
 
 /// An encoding, a format, and the text of the pairs.
 type Wanted = (Encoding, PairsFormat, &'static str);
@@ -212,10 +214,27 @@ static OF_ALL_CODES: [Wanted; 6] = [
     ),
 ];
 
-#[test]
-fn characters_are_named_quoted_and_escaped(rt: HostRuntime) -> Result<(), Fail> {
-    let mut infos = [A; 256];
-    infos[65] = A_FROM_0;
+/// The parts of a font with all codes that aren't those of the plain font.
+#[derive(Drop)]
+struct Parts {
+    characters: Vec<Info>,
+    program: Vec<Step>,
+}
+
+impl Parts {
+    fn sample(&self) -> Sample<'_> {
+        Sample {
+            bc: 0,
+            ec: 255,
+            characters: &self.characters,
+            program: &self.program,
+            kerns: &[BACK],
+            ..PLAIN
+        }
+    }
+}
+
+fn with_all_codes(alloc: Global) -> Result<Vec<u8>, AllocError> {
     let program = [
         kern_before(10, 0),
         kern_before(32, 0),
@@ -228,13 +247,15 @@ fn characters_are_named_quoted_and_escaped(rt: HostRuntime) -> Result<(), Fail> 
         ligature_before(233, 0, 161),
         last(ligature_before(255, 0, 126)),
     ];
-    let sample = Sample {
-        bc: 0,
-        ec: 255,
-        characters: &infos,
-        program: &program,
-        kerns: &[BACK],
-        ..PLAIN
+    let mut parts = Parts {
+        characters: Vec::from_elem(alloc, A, 256)?,
+        program: Vec::from_slice(alloc, &program)?,
     };
-    has_texts(&rt, &sample.file(rt.alloc())?, &OF_ALL_CODES)
+    parts.characters[65] = A_FROM_0;
+    parts.sample().file(alloc)
+}
+
+#[test]
+fn characters_are_named_quoted_and_escaped(rt: HostRuntime) -> Result<(), Fail> {
+    has_texts(&rt, &with_all_codes(rt.alloc())?, &OF_ALL_CODES)
 }
