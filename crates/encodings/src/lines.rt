@@ -1,5 +1,5 @@
 //! Encodes lines.
-ghost use Rattle.std.specs.Prelude.{◌≡◌, ◌<◌, ◌≤◌, ◌++◌, true, None, length, IfErr, IfOk, IsOk, OnOk};
+ghost use Rattle.std.specs.Prelude.{◌≡◌, ◌<◌, ◌≤◌, ◌++◌, true, false, None, length, IfErr, IfOk, IsOk, OnOk};
 ghost use Rattle.std.specs.Str.{IsUtf8};
 ghost use Rattle.encodings.specs.declared.lines.EncodeFault.TheVariants.{OutOfMemory};
 ghost use Rattle.encodings.specs.Lines.{IsFaultOf, coded_of, encoded, fault_in, places_of};
@@ -84,16 +84,23 @@ fn push_text(encoding: Encoding, text: &str, line: &mut EncodedLine) -> Result<(
     Ok(())
 }
 
-/// Encodes a line if each of its characters has a single code, which needs one pass. Returns whether this is
-/// so; otherwise the contents of `line` are unspecified.
-fn encodes_singles(encoding: Encoding, bytes: &[u8], line: &mut EncodedLine) -> bool
-    ensures utf8 { result ≡ true → IsUtf8 bytes.now }
-    ensures encoded { result ≡ true → line.new ≡ line.old ++ coded_text encoding bytes.now }
+/// Encodes a line, unless it is the first of its source, if each of its characters has a single code, which needs
+/// one pass. Returns whether this is so; otherwise, and after an error, the contents of `line` are unspecified.
+fn encodes_singles(
+    encoding: Encoding,
+    first: bool,
+    bytes: &[u8],
+    line: &mut EncodedLine,
+) -> Result<bool, AllocError>
+    ensures later { IfOk result (λ is. is ≡ true → first ≡ false) }
+    ensures utf8 { IfOk result (λ is. is ≡ true → IsUtf8 bytes.now) }
+    ensures encoded { IfOk result (λ is. is ≡ true → line.new ≡ line.old ++ coded_text encoding bytes.now) }
 {
-    match line.push_front(encoding, bytes) {
-        Ok(count) => count == bytes.len(),
-        Err(_) => false,
+    if first {
+        return Ok(false);
     }
+    let count = line.push_front(encoding, bytes)?;
+    Ok(count == bytes.len())
 }
 
 /// Returns a failed allocation as a fault.
@@ -129,11 +136,13 @@ pub fn encode_line(
     if encoding == Encoding::Bytes {
         return or_memory(line.push_codes(bytes));
     }
-    if !first && encodes_singles(encoding, bytes, line) {
+    let singles = encodes_singles(encoding, first, bytes, line);
+    if let Ok(true) = singles {
         return Ok(());
     }
     line.clear();
     match str::from_utf8(bytes) {
+        Ok(_) if singles.is_err() => Err(EncodeFault::OutOfMemory),
         Ok(text) => or_memory(push_text(encoding, Places::of_text(first, text).text(), line)),
         Err(fault) => Err(EncodeFault::NotUtf8(fault.valid_up_to())),
     }
