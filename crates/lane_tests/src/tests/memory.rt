@@ -1,8 +1,7 @@
-//! Refused memory. With memory enough a lane is opened, and its lines are set. The kit's option
-//! `--fail-alloc` refuses one request: the first ones make what is handed in, and the next ones are
-//! the call's own. A refused one of these is told as refused memory. An opening then succeeds when
-//! it is made again, and a line that was in hand is set by the next turn. The text that is printed
-//! says which it was.
+//! Failed allocations. If every allocation succeeds, a lane is opened and its lines are set. The toolchain's
+//! option `--fail-alloc` lets one allocation fail. The first allocations make the arguments of the call; if one
+//! of the later ones fails, the call reports that memory is lacking. A second call of `open` then succeeds, and a
+//! line that was taken but not set is set by the next turn. The text that is printed states which case it was.
 use super::lane::Lane;
 use line_lane::{LaneEnd, SourceEnd, Took, Turn};
 use set_line::{Answer, OutOfMemory, Outcome, Terms};

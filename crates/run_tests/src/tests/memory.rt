@@ -1,8 +1,7 @@
-//! Refused memory. With memory enough a run has its whole report. The kit's option `--fail-alloc`
-//! refuses one request: the first ones make what is handed in, and the next ones are the run's own.
-//! A refused one of these makes the run a fault, or it makes a setter give its lane up: then the
-//! lane's first answers are there, and all those of the other lanes. The text that is printed says
-//! which it was.
+//! Failed allocations. If every allocation succeeds, a batch returns its whole report. The toolchain's option
+//! `--fail-alloc` lets one allocation fail. The first allocations make the arguments of the call. If one of the
+//! later ones fails, the batch returns an error, or a setter abandons its lane: the report then has the first
+//! results of this lane, and all results of the other lanes. The text that is printed states which case it was.
 use super::plans::three_with_terms;
 use lig_kern::Item;
 use line_lane::LaneEnd;

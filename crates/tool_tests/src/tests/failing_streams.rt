@@ -173,9 +173,9 @@ fn set_unflushed<R: Threads + Wait + Sync + AllocGlobal>(
     Some(perform(rt, &InMemory::new(&files), &request, &mut input, out))
 }
 
-/// With memory enough the lines are written, and the flush fails. The kit's option `--fail-alloc` refuses one
-/// request: then nothing is written, or a lane ends early; the exit status would be 5 then, and the flush fails,
-/// too.
+/// If every allocation succeeds, the lines are written, and the flush fails. The toolchain's option `--fail-alloc`
+/// lets one allocation fail: then nothing is written, or a lane is abandoned; the exit status would be 5 in this
+/// case, and the flush fails, too.
 // Mutant: `finish` of `delivery.rt` returns the failure for exit status 5 before it flushes the output.
 #[test]
 fn a_refused_request_of_a_set_that_is_not_flushed(rt: HostRuntime) -> Result<(), Fail> {
@@ -223,8 +223,8 @@ const OF_FIRST: &str =
 
 const OF_SECOND: &str = "2:1 set 327680 c97=327680\n2 end complete 1\n";
 
-/// With memory enough both sources have their whole text. The kit's option `--fail-alloc` refuses one
-/// request: then that is told, or a lane ends early.
+/// If every allocation succeeds, the whole output of both sources is written. The toolchain's option
+/// `--fail-alloc` lets one allocation fail: then the failure is reported, or a lane is abandoned.
 #[test]
 fn a_refused_request_of_a_stream(rt: HostRuntime) -> Result<(), Fail> {
     let mut out = Vec::new(rt.alloc());

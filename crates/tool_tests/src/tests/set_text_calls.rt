@@ -157,8 +157,8 @@ fn a_text_whose_write_fails(rt: HostRuntime) -> Result<(), Fail> {
     Ok(())
 }
 
-/// With memory enough the whole text is written. The kit's option `--fail-alloc` refuses one request:
-/// then the font or the run is refused for lack of memory or of a thread, or a lane is given up.
+/// If every allocation succeeds, the whole output is written. The toolchain's option `--fail-alloc` lets one
+/// allocation fail: then the call returns an error for lack of memory or of a thread, or a lane is abandoned.
 #[test]
 fn a_refused_request_of_a_text(rt: HostRuntime) -> Result<(), Fail> {
     let mut out = Vec::new(rt.alloc());
