@@ -298,8 +298,9 @@ class Scripts(Case):
         listed = re.sub("%.*", "", read(path, "rb").decode("latin-1"))
         for code, glyph in enumerate(re.findall(r"/([\w.]+)", listed[listed.index("["):])):
             if glyph not in RULES["unlisted"]:
+                plain = glyph.removesuffix(".dup").replace(".superior", "superior")
                 letter, wanted = (unicodedata.normalize("NFKD", text) for text in (
-                    ENCODINGS[name].get(code, ""), glyphs.get(glyph, "?")))
+                    ENCODINGS[name].get(code, ""), glyphs.get(plain, "?")))
                 count += 1
                 self.same(f"{code} {glyph}", wanted, letter)
         self.none([], count, 100)
@@ -314,7 +315,7 @@ class Scripts(Case):
             yield ("".join(" " if item[0] == "s" else chr(int(item[1:])) for item in items if item[0] != "u"),
                    [chr(int(item[1:], 16)) for item in items if item[0] == "u"])
 
-    @rows((name, name) for name in RULES["encodings"])
+    @rows((name, name) for name in ENCODINGS)
     def test_the_program_is_the_inverse_of_letters(self, name):
         # Every code with one letter, in a line of its own, except the codes of the line feed and the space.
         letters = [(code, letter) for code, letter in sorted(ENCODINGS[name].items())
@@ -322,7 +323,7 @@ class Scripts(Case):
         lines = list(self.encoded(name, "".join(f"{letter}\n" for _, letter in letters)))
         records = "".join(f"1:1 set 0 {' '.join(f'c{ord(code)}=0' for code in line)}\n" for line, _ in lines)
         back = self.script("letters", name, given=records.encode())[1].replace("1:1 0.00 ", "").splitlines()
-        wanted = [RULES["set_as"][name].get(letter, letter) for _, letter in letters]
+        wanted = [RULES["set_as"].get(name, {}).get(letter, letter) for _, letter in letters]
         self.same("letters", ([], wanted), ([line for line in lines if line[1]], back))
         self.none([], len(lines), max(len(letters), 100))
 
@@ -342,6 +343,13 @@ class Scripts(Case):
         status, out, err = self.script(row["script"], *row["arguments"], given=row["given"].encode())
         self.same("result", (row["status"], "", 1), (status, out, err.count("\n")))
         self.assertIn(row["message"], err)
+
+    def test_boxes_of_what_was_skipped(self):
+        """examples/boxes draws a skipped byte and a skipped character, with its code and its number."""
+        self.file("listing", output(PROGRAM, "list", "--size", "12pt", f"{EXAMPLES}/demo.tfm"))
+        status, out, err = self.script("boxes", "listing", given=b"1:1 set 401080 m65 c111=401080 u20AC\n")
+        self.same("result", (0, ""), (status, err))
+        self.same("labels", ["65", "111", "U+20AC"], re.findall(r"middle[^>]*>([^<]*)<", out))
 
     @rows((name, name, given, message) for name, given, message in (
         ("JSON", '{"source":1}\n', "JSON is not read"), ("format 2", "records 2\n", "format 2 is not read"),

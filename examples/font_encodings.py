@@ -1,7 +1,7 @@
-"""The encodings OT1 (that of cmr10) and T1 (that of ecrm1000), as tables from codes to letters.
+"""The encodings OT1 (that of cmr10), T1 (that of ecrm1000), LY1 and Latin 1, as tables from codes to letters.
 
 `letters` looks codes up in them. A ligature has several letters, such as "ffi". A glyph for which Unicode has
-no character has its name. checks/pages.py compares the tables with TeX's 7t.enc and ec.enc.
+no character has its name. checks/pages.py compares the tables with TeX's 7t.enc, ec.enc and lm-texnansi.enc.
 """
 
 ASCII = {code: chr(code) for code in range(33, 127)} | {39: "’", 96: "‘"}
@@ -17,4 +17,12 @@ T1 |= {127: "-"}
 T1 |= dict(enumerate("ĂĄĆČĎĚĘĞĹĽŁŃŇŊŐŔŘŚŠŞŤŢŰŮŸŹŽŻĲİđ§ăąćčďěęğĺľłńňŋőŕřśšşťţűůÿźžżĳ¡¿£", 128))
 T1 |= {code: chr(code) for code in range(192, 256)} | {215: "Œ", 223: "SS", 247: "œ", 255: "ß"}
 
-ENCODINGS = {"OT1": OT1, "T1": T1}
+LATIN1 = {code: chr(code) for code in (*range(33, 127), *range(161, 256)) if code != 173}
+
+# LY1 has most characters of Latin 1 at the same codes, and others from 1 to 31 and from 127 to 159.
+LY1 = LATIN1 | {39: "’", 94: "ˆ", 96: "‘", 126: "˜", 127: "¨", 173: "-"}
+LY1 |= {1: "€", 4: "⁄", 5: "˙", 6: "˝", 7: "˛", 8: "fl", 10: "cwm", 11: "ff", 12: "fi", 14: "ffi", 15: "ffl"}
+LY1 |= dict(enumerate("ıȷ`´ˇ˘¯˚¸ßæœøÆŒØ", 16))
+LY1 |= dict(enumerate("Ł'‚ƒ„…†‡ˆ‰Š‹ŒŽ^−ł‘’“”•–—˜™š›œž~Ÿ", 128))
+
+ENCODINGS = {"OT1": OT1, "T1": T1, "LY1": LY1, "LATIN1": LATIN1}
