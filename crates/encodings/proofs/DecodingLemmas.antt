@@ -11,7 +11,7 @@ use Rattle.std.proofs.lemmas.Bool.{cases_lt, eqb-true, le-ltb, lt-ltb, ltb-true}
 use Rattle.std.proofs.lemmas.Bool.Decides.{nat_tests}
 use Rattle.std.proofs.lemmas.Grind.{flat_map-append}
 pub use Rattle.std.proofs.lemmas.List.{take-append-drop}
-use Rattle.std.proofs.lemmas.List.{append_assoc, drop-take, map-append, take-append-le, length-drop, take_all, take_more, take_more_set, take-set, take-take}
+use Rattle.std.proofs.lemmas.List.{append_assoc, drop-take, get_or_past, map-append, take-append-le, length-drop, length-set, take_all, take_more, take_more_set, take-set, take-take}
 use Rattle.std.proofs.Math.Seq.{drop-append_seam, take-append_seam}
 use Rattle.std.proofs.lemmas.Nat.{div-mul-add, mod-mul-add}
 pub use Rattle.std.proofs.lemmas.Str.{chars_past_char}
@@ -23,8 +23,8 @@ use Rattle.encodings.specs.declared.decoding.TheConstants.{OFFSETS}
 use Rattle.encodings.specs.Codes.{codes_of}
 use Rattle.encodings.specs.Lines.{coded_of}
 use Rattle.encodings.specs.Lookup.{singles_in}
-use Rattle.encodings.specs.Decoding.{coded_text, is_plain, offset_after, IsFront}
-use Rattle.encodings.proofs.TableLemmas.{at_member, in_range, index_below, index_of_two, single_is}
+use Rattle.encodings.specs.Decoding.{coded_text, is_plain, offset_after, IsFront, IsDecodedTo}
+use Rattle.encodings.proofs.TableLemmas.{at_member, in_range, index_below, index_of_two, index_of_punctuation, single_is, singles_end}
 
 -- a text without its first character is shorter
 pub shorter_text : (c : ℕ) (text rest : List ℕ) → text ≡ encode_utf8 c ++ rest → length rest < length text
@@ -82,7 +82,7 @@ two_bytes_more : (encoding : Encoding) (text codes : List ℕ) (at code block lo
     → get_or (singles_in encoding) (256 * (block - 1) + 128 + low) 256 ≡ code → code < 256 → IsFront encoding (take (at + 1 + 1) text) (codes ++ code ∷ [])
 two_bytes_more encoding text codes at code block low within front first second above below small single code_below =
     let c = block * 64 + low in
-    let is = single_is encoding c code (omega arith) (ap (λ i. get_or (singles_in encoding) i 256) (index_of_two block low above small) ∙ single) code_below in
+    let is = single_is encoding c code (omega arith) (ap (λ i. get_or (singles_in encoding) i 256) (index_of_two block low above below small) ∙ single) code_below in
     let one : take (at + 1) text ≡ take at text ++ (192 + block) ∷ [] = take_more text at 0 (omega arith) ∙ ap (λ x. take at text ++ x ∷ []) first in
     let two : take (at + 1 + 1) text ≡ take (at + 1) text ++ (128 + low) ∷ [] = take_more text (at + 1) 0 within ∙ ap (λ x. take (at + 1) text ++ x ∷ []) second in
     let bytes : take at text ++ encode_utf8 c ≡ take (at + 1 + 1) text =
@@ -92,12 +92,36 @@ two_bytes_more encoding text codes at code block low within front first second a
     ∙ sym two in
     subst (λ l. IsFront encoding l (codes ++ code ∷ [])) bytes (one_more encoding (take at text) codes c code (omega arith) front is)
 
+-- the three bytes of a character from U+2000 to U+203F
+three_bytes : (low : ℕ) → low < 64 → encode_utf8 (0x2000 + low) ≡ 0xE2 ∷ 0x80 ∷ (128 + low) ∷ []
+unfolding encode
+three_bytes low small =
+    rw (le-ltb (0x2000 + low) 128 (omega arith), le-ltb (0x2000 + low) 2048 (omega arith), lt-ltb (0x2000 + low) 65536 (omega arith), div-mul-add 128 64 low small, mod-mul-add 128 64 low small, div-mul-add 2 4096 low (omega arith)) refl
+
+-- the bytes at the front of a text
+three_taken : (text : List ℕ) (third : ℕ) → 3 ≤ length text → get_or text 0 0 ≡ 0xE2 → get_or text 1 0 ≡ 0x80 → get_or text 2 0 ≡ third → take 3 text ≡ 0xE2 ∷ 0x80 ∷ third ∷ []
+three_taken [] third within first second last = absurd (omega arith)
+three_taken (a ∷ []) third within first second last = absurd (omega arith)
+three_taken (a ∷ b ∷ []) third within first second last = absurd (omega arith)
+three_taken (a ∷ b ∷ c ∷ rest) third within first second last = cc
+
+-- a character from U+2000 to U+203F at the front of a text
+pub punctuation_front : (encoding : Encoding) (text : List ℕ) (third code : ℕ) → 3 ≤ length text → get_or text 0 0 ≡ 0xE2 → get_or text 1 0 ≡ 0x80 → get_or text 2 0 ≡ third
+    → 128 ≤ third → third < 192 → get_or (singles_in encoding) (1280 + (third - 128)) 256 ≡ code → code < 256 → IsFront encoding (take 3 text) (code ∷ [])
+punctuation_front encoding text third code within first second is_third above below single code_below =
+    let low = third - 128 in
+    let is = single_is encoding (0x2000 + low) code (omega arith) (ap (λ i. get_or (singles_in encoding) i 256) (index_of_punctuation low (omega arith)) ∙ single) code_below in
+    let last : 128 + low ≡ third = omega arith in
+    let bytes : encode_utf8 (0x2000 + low) ≡ 0xE2 ∷ 0x80 ∷ third ∷ [] = three_bytes low (omega arith) ∙ ap (λ b. 0xE2 ∷ 0x80 ∷ b ∷ []) last in
+    subst (λ l. IsFront encoding l (code ∷ [])) (bytes ∙ sym (three_taken text third within first second is_third))
+    (one_more encoding [] [] (0x2000 + low) code (omega arith) (no_front encoding) is)
+
 -- ---- which entries of a table of single codes are codes
 
 -- whether an entry can be one: that of a character in ASCII, of a byte from 0xC2 to 0xC5 with which a character
--- begins, or of a second byte
+-- begins, of a second byte, or of a character from U+2000 to U+203F
 abbrev is_placed : ℕ → Bool
-is_placed index = nat_lt index 128 || ((nat_le 0xC2 index && nat_le index 0xC5) || (nat_le 256 index && (nat_le 128 (index % 256) && nat_lt (index % 256) 192)))
+is_placed index = nat_lt index 128 || ((nat_le 0xC2 index && nat_le index 0xC5) || ((nat_le 256 index && (nat_le 128 (index % 256) && nat_lt (index % 256) 192)) || nat_le 1280 index))
 
 abbrev all_placed : ℕ → List ℕ → Bool
 all_placed from [] = true
@@ -135,8 +159,8 @@ code_placed encoding index code is below =
 first_placed : (byte : ℕ) → byte < 256 → 128 ≤ byte → is_placed byte ≡ true → (0xC2 ≤ byte) × (byte ≤ 0xC5)
 first_placed byte below above is = grind (arith, nat_tests)
 
-second_placed : (index : ℕ) → 256 ≤ index → is_placed index ≡ true → (128 ≤ index % 256) × (index % 256 < 192)
-second_placed index above is = grind (arith, nat_tests)
+second_placed : (index : ℕ) → 256 ≤ index → index < 1280 → is_placed index ≡ true → (128 ≤ index % 256) × (index % 256 < 192)
+second_placed index above below is = grind (arith, nat_tests)
 
 -- ---- a text that is decoded byte by byte
 
@@ -168,17 +192,40 @@ whole_bytes at offset = cond (nat_eq offset 0) at (at - 1)
 -- what is decoded before an index: the whole characters there have these codes
 pub record IsDecoded (encoding : Encoding) (text : List ℕ) (at offset : ℕ) (codes : List ℕ) : Type 0 where
   pub within : at ≤ length text
-  pub start : at ≡ 0 → offset ≡ 0
-  pub after : 0 < at → offset ≡ offset_after (get_or text (at - 1) 0)
+  pub after : 0 < offset → (0 < at) × (offset ≡ offset_after (get_or text (at - 1) 0))
   pub front : IsFront encoding (take (whole_bytes at offset) text) codes
 
-pub not_begun : (encoding : Encoding) (text : List ℕ) → IsDecoded encoding text 0 0 []
-not_begun encoding text = record {
-  within = omega arith;
-  start = λ none. refl;
+-- after whole characters
+pub begun : (encoding : Encoding) (text room : List ℕ) (bytes codes : ℕ) → IsDecodedTo encoding text room bytes codes → IsDecoded encoding text bytes 0 (take codes room)
+begun encoding text room bytes codes decoded = record {
+  within = decoded.within;
   after = λ some. absurd (omega arith);
-  front = no_front encoding;
+  front = decoded.front;
 }
+
+-- the byte at an index adds to the whole characters as many bytes as codes, or more
+whole_or_not : (at : ℕ) (whole next : Bool) → cond whole at (at - 1) + from_bool next ≤ cond next (at + 1) (at + 1 - 1)
+whole_or_not at true true = omega arith
+whole_or_not at true false = omega arith
+whole_or_not at false true = omega arith
+whole_or_not at false false = omega arith
+
+pub whole_step : (at offset next : ℕ) → whole_bytes at offset + from_bool (nat_eq next 0) ≤ whole_bytes (at + 1) next
+whole_step at offset next = whole_or_not at (nat_eq offset 0) (nat_eq next 0)
+
+cut_or_not : (at : ℕ) (whole : Bool) → at - from_bool (not whole) ≡ cond whole at (at - 1)
+cut_or_not at true = omega arith
+cut_or_not at false = refl
+
+pub whole_is : (at offset : ℕ) → at - from_bool (not (nat_eq offset 0)) ≡ whole_bytes at offset
+whole_is at offset = cut_or_not at (nat_eq offset 0)
+
+within_or_not : (at : ℕ) (whole : Bool) → cond whole at (at - 1) ≤ at
+within_or_not at true = omega arith
+within_or_not at false = omega arith
+
+pub whole_within : (at offset : ℕ) → whole_bytes at offset ≤ at
+whole_within at offset = within_or_not at (nat_eq offset 0)
 
 nonzero : (n : ℕ) → 0 < n → nat_eq n 0 ≡ false
 nonzero n some = grind (arith, nat_tests)
@@ -194,8 +241,7 @@ decoded_next encoding text codes at within front =
     let here : at + 1 - 1 ≡ at = omega arith in
     record {
       within = omega arith;
-      start = λ none. absurd (omega arith);
-      after = λ some. rw here refl;
+      after = λ some. (omega arith, rw here refl);
       front = front;
     }
 
@@ -241,7 +287,7 @@ pub decoded_more : (encoding : Encoding) (text room : List ℕ) (at offset count
     → get_or text at 0 < 256 → get_or (singles_in encoding) (offset + get_or text at 0) 256 ≡ code → code < 256
     → IsDecoded encoding text (at + 1) (offset_after (get_or text at 0)) (written room count code (offset_after (get_or text at 0)))
 decoded_more encoding text room at offset count code decoded within room_within byte_below single below =
-    elim (zero_or_more offset) [ inl none ↦ begins none | inr some ↦ goes_on some (zero_or_more at) ]
+    elim (zero_or_more offset) [ inl none ↦ begins none | inr some ↦ goes_on some ]
   where
     begins : offset ≡ 0 → IsDecoded encoding text (at + 1) (offset_after (get_or text at 0)) (written room count code (offset_after (get_or text at 0)))
     begins none =
@@ -255,15 +301,16 @@ decoded_more encoding text room at offset count code decoded within room_within 
               first_next encoding text room at count code within front first.0 first.1
         ]
 
-    goes_on : 0 < offset → (at ≡ 0) ⊎ (0 < at) → IsDecoded encoding text (at + 1) (offset_after (get_or text at 0)) (written room count code (offset_after (get_or text at 0)))
-    goes_on some (inl none) = absurd (omega (arith, decoded.start none))
-    goes_on some (inr later) =
+    goes_on : 0 < offset → IsDecoded encoding text (at + 1) (offset_after (get_or text at 0)) (written room count code (offset_after (get_or text at 0)))
+    goes_on some =
         let lead = get_or text (at - 1) 0 in
-        let first = is_first lead (omega (arith, decoded.after later)) in
-        let part : offset ≡ 256 * (lead - 0xC1) = decoded.after later ∙ some_after lead first.0 first.1 in
+        let later = (decoded.after some).0 in
+        let after = (decoded.after some).1 in
+        let first = is_first lead (omega (arith, after)) in
+        let part : offset ≡ 256 * (lead - 0xC1) = after ∙ some_after lead first.0 first.1 in
         let index : offset + get_or text at 0 ≡ (lead - 0xC1) * 256 + get_or text at 0 = omega (arith, part) in
         let low_bits : (offset + get_or text at 0) % 256 ≡ get_or text at 0 = ap (λ k. k % 256) index ∙ mod-mul-add (lead - 0xC1) 256 (get_or text at 0) byte_below in
-        let second = second_placed (offset + get_or text at 0) (omega (arith, part, first.0)) (code_placed encoding (offset + get_or text at 0) code single below) in
+        let second = second_placed (offset + get_or text at 0) (omega (arith, part, first.0)) (omega (arith, part, first.1)) (code_placed encoding (offset + get_or text at 0) code single below) in
         let whole : whole_bytes at offset ≡ at - 1 = rw (nonzero offset some) refl in
         let front = subst (λ n. IsFront encoding (take n text) (take count room)) whole decoded.front in
         let here : at - 1 + 1 ≡ at = omega arith in
@@ -291,19 +338,35 @@ decoded_step encoding text room at offset count code next added decoded within r
     let more = decoded_more encoding text room at offset count code decoded within room_within byte_below single below in
     rw (added_is, next_is, one_or_none (nat_eq (offset_after (get_or text at 0)) 0)) more
 
--- the end of what is decoded
-pub decoded_front : (encoding : Encoding) (text codes : List ℕ) (at offset : ℕ) → IsDecoded encoding text at offset codes → IsFront encoding (take (at - from_bool (not (nat_eq offset 0))) text) codes
-decoded_front encoding text codes at offset decoded = by (zero_or_more offset)
+-- before a byte that isn't decoded there is a first byte, or none
+pub first_before : (encoding : Encoding) (text codes : List ℕ) (at offset : ℕ) → IsDecoded encoding text at offset codes → from_bool (not (nat_eq offset 0)) ≤ at
+first_before encoding text codes at offset decoded = by (zero_or_more offset)
   where
-    by : (offset ≡ 0) ⊎ (0 < offset) → IsFront encoding (take (at - from_bool (not (nat_eq offset 0))) text) codes
-    by (inl none) =
-        let bytes : whole_bytes at offset ≡ at - from_bool (not (nat_eq offset 0)) = rw none (omega arith) in
-        subst (λ n. IsFront encoding (take n text) codes) bytes decoded.front
+    by : (offset ≡ 0) ⊎ (0 < offset) → from_bool (not (nat_eq offset 0)) ≤ at
+    by (inl none) = rw none (omega arith)
     by (inr some) =
-        let bytes : whole_bytes at offset ≡ at - from_bool (not (nat_eq offset 0)) = rw (nonzero offset some) refl in
-        subst (λ n. IsFront encoding (take n text) codes) bytes decoded.front
+        let later = (decoded.after some).0 in
+        rw (nonzero offset some) (omega (arith, later))
 
-pub ruleset decodes = (not_begun, decoded_step, decoded_front)
+-- the end of what is decoded
+pub decoded_to : (encoding : Encoding) (text room : List ℕ) (at offset codes bytes : ℕ) → IsDecoded encoding text at offset (take codes room) → codes ≤ whole_bytes at offset → length text ≤ length room
+    → bytes ≡ at - from_bool (not (nat_eq offset 0)) → IsDecodedTo encoding text room bytes codes
+decoded_to encoding text room at offset codes bytes decoded few roomy is =
+    let whole : whole_bytes at offset ≡ bytes = sym (is ∙ whole_is at offset) in
+    record {
+      within = omega (arith, whole, whole_within at offset, decoded.within);
+      few = omega (arith, whole, few);
+      fits = roomy;
+      front = subst (λ n. IsFront encoding (take n text) (take codes room)) whole decoded.front;
+    }
+
+pub ruleset decodes = (first_before, singles_end)
+
+-- ---- the steps from one character to another
+
+-- nothing is decoded
+pub none_decoded : (encoding : Encoding) (text room : List ℕ) → length text ≤ length room → IsDecodedTo encoding text room 0 0
+none_decoded encoding text room roomy = record { within = omega arith; few = omega arith; fits = roomy; front = no_front encoding }
 
 -- ---- codes that are appended to a list
 
@@ -424,3 +487,33 @@ grown_front encoding text old between after n m is kept first second =
     (front_both encoding (take n text) (take m (drop n text)) (take n text) (drop (length between) after) first second))
 
 pub ruleset joined = (grown_kept, grown_front)
+
+-- one more character, whose code is written behind the others
+pub decoded_one : (encoding : Encoding) (text room : List ℕ) (bytes codes more code : ℕ) → IsDecodedTo encoding text room bytes codes → bytes + more ≤ length text → 1 ≤ more
+    → IsFront encoding (take more (drop bytes text)) (code ∷ []) → IsDecodedTo encoding text (set room codes code) (bytes + more) (codes + 1)
+decoded_one encoding text room bytes codes more code decoded within some one =
+    let codes_are : take codes room ++ code ∷ [] ≡ take (codes + 1) (set room codes code) = sym (take_more_set room codes code (omega (arith, decoded.few, decoded.fits))) in
+    record {
+      within = within;
+      few = omega (arith, decoded.few);
+      fits = omega (arith, decoded.fits, length-set room codes code);
+      front = subst (λ l. IsFront encoding (take (bytes + more) text) l) codes_are
+          (subst (λ l. IsFront encoding l (take codes room ++ code ∷ [])) (sym (take_both text bytes more))
+          (front_both encoding (take bytes text) (take more (drop bytes text)) (take codes room) (code ∷ []) decoded.front one));
+    }
+
+-- a third byte whose entry is a code
+third_below : (encoding : Encoding) (third code : ℕ) → get_or (singles_in encoding) (1280 + (third - 128)) 256 ≡ code → code < 256 → third < 192
+third_below encoding third code single below = elim (cases_lt third 192) [
+  | inl small ↦ small
+  | inr big ↦ absurd (omega (arith, below, sym single ∙ get_or_past (singles_in encoding) (1280 + (third - 128)) 256 (omega (arith, singles_end encoding))))
+]
+
+-- a character from U+2000 to U+203F comes next
+pub punctuation_more : (encoding : Encoding) (text room cut : List ℕ) (bytes codes code : ℕ) → IsDecodedTo encoding text room bytes codes → cut ≡ drop bytes text → 3 ≤ length cut
+    → get_or cut 0 0 ≡ 0xE2 → get_or cut 1 0 ≡ 0x80 → 128 ≤ get_or cut 2 0 → code < 256 → get_or (singles_in encoding) (1280 + (get_or cut 2 0 - 128)) 256 ≡ code
+    → IsDecodedTo encoding text (set room codes code) (bytes + 3) (codes + 1)
+punctuation_more encoding text room cut bytes codes code decoded is within first second third below single =
+    let one = punctuation_front encoding cut (get_or cut 2 0) code within first second refl third (third_below encoding (get_or cut 2 0) code single below) single below in
+    decoded_one encoding text room bytes codes 3 code decoded (omega (arith, within, ap length is, length-drop bytes text, decoded.within)) (omega arith)
+    (subst (λ l. IsFront encoding (take 3 l) (code ∷ [])) is one)

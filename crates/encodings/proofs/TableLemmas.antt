@@ -1,7 +1,7 @@
 -- The tables by character and the tables by code give the same codes, which is computed for every character in
 -- either of them.
 use Rattle.std.proofs.Common.{◌≡◌, ◌≢◌, ℕ, zero, suc, ◌<◌, ◌≤◌, ◌+◌, ◌-◌, ◌*◌, ◌/◌, Bool, true, false, List, [], ◌∷◌, ◌++◌, ◌||◌, ◌&&◌, Option, Some, None, length, get_or, take, drop, arith, refl, ap, sym, ◌∙◌}
-use Rattle.std.specs.Prelude.{not, nat_eq, nat_lt, map, bytes_eq, cond}
+use Rattle.std.specs.Prelude.{not, nat_eq, nat_le, nat_lt, map, bytes_eq, cond}
 use Rattle.std.specs.List.{list_all, list_any, range_with_len, position_or_len}
 use Rattle.std.specs.Option.{option_or}
 use Rattle.std.proofs.lemmas.Bool.Decides.{nat_tests}
@@ -16,7 +16,7 @@ use Rattle.encodings.specs.declared.encoding.Encoding.TheVariants.{Bytes, Ot1, T
 use Rattle.encodings.specs.declared.lookup.TheConstants.{CODES}
 use Rattle.encodings.specs.Tables.{no, ot1_characters, t1_characters, ly1_characters, shared_others, ot1_others, t1_others, ly1_others}
 use Rattle.encodings.specs.Codes.{codes_of, codes_beside, own_code, characters_of, others_of}
-use Rattle.encodings.specs.Lookup.{index_of, rows_of, looked_up, singles_in, others_in}
+use Rattle.encodings.specs.Lookup.{is_punctuation, index_of, rows_of, looked_up, singles_in, others_in}
 
 -- what all members of a list pass, each of them passes
 pub at_member : (p : ℕ → Bool) (c : ℕ) (xs : List ℕ) → list_all p xs ≡ true → list_any (λ x. nat_eq x c) xs ≡ true → p c ≡ true
@@ -89,7 +89,7 @@ agree_at encoding c = nat_eq c no || same (looked_up (singles_in encoding) (rows
 
 -- the characters in either table
 abbrev all_in : Encoding → List ℕ
-all_in encoding = range_with_len 0 384 ++ (map (λ r. r.0) (rows_of (others_in encoding)) ++ (map (λ r. r.0) (others_of encoding) ++ characters_of encoding))
+all_in encoding = range_with_len 0 384 ++ (range_with_len 0x2000 64 ++ (map (λ r. r.0) (rows_of (others_in encoding)) ++ (map (λ r. r.0) (others_of encoding) ++ characters_of encoding)))
 
 agrees : (encoding : Encoding) → list_all (agree_at encoding) (all_in encoding) ≡ true
 unfolding codes_of characters_of others_of ot1_characters t1_characters ly1_characters shared_others ot1_others t1_others ly1_others singles_in others_in
@@ -99,7 +99,7 @@ agrees T1 = refl
 agrees Ly1 = refl
 agrees Latin1 = refl
 
-pub singles_end : (encoding : Encoding) → length (singles_in encoding) ≡ 1280
+pub singles_end : (encoding : Encoding) → length (singles_in encoding) ≡ 1344
 unfolding singles_in
 singles_end Bytes = refl
 singles_end Ot1 = refl
@@ -115,18 +115,38 @@ neither false b is = (refl, is)
 pub index_below : (c : ℕ) → c < 128 → index_of c ≡ c
 index_below c below = rw (lt-ltb c 128 below) refl
 
-pub index_of_two : (block low : ℕ) → 2 ≤ block → low < 64 → index_of (block * 64 + low) ≡ 256 * (block - 1) + 128 + low
-index_of_two block low above small = rw (le-ltb (block * 64 + low) 128 (omega arith), div-mul-add block 64 low small, mod-mul-add block 64 low small) refl
+before_punctuation : (c : ℕ) → c < 0x2000 → is_punctuation c ≡ false
+before_punctuation c below = grind (arith, nat_tests)
 
-pub index_outside : (c : ℕ) → 384 ≤ c → 1280 ≤ index_of c
-index_outside c above = rw (le-ltb c 128 (omega arith)) (omega (arith, lt-mul-div-succ c {b = 64} (omega arith)))
+in_punctuation : (c : ℕ) → 0x2000 ≤ c → c < 0x2040 → is_punctuation c ≡ true
+in_punctuation c above below = grind (arith, nat_tests)
 
-no_single : (encoding : Encoding) (c : ℕ) → list_any (λ x. nat_eq x c) (range_with_len 0 384) ≡ false → get_or (singles_in encoding) (index_of c) 256 ≡ 256
-no_single encoding c none = by (nat_lt c 384) refl
+punctuation_bounds : (c : ℕ) → is_punctuation c ≡ true → (0x2000 ≤ c) × (c < 0x2040)
+punctuation_bounds c is = grind (arith, nat_tests)
+
+pub index_of_two : (block low : ℕ) → 2 ≤ block → block < 6 → low < 64 → index_of (block * 64 + low) ≡ 256 * (block - 1) + 128 + low
+index_of_two block low above below small =
+    rw (le-ltb (block * 64 + low) 128 (omega arith), before_punctuation (block * 64 + low) (omega arith), div-mul-add block 64 low small, mod-mul-add block 64 low small) refl
+
+pub index_of_punctuation : (low : ℕ) → low < 64 → index_of (0x2000 + low) ≡ 1280 + low
+index_of_punctuation low small =
+    let same : 1280 + (0x2000 + low - 0x2000) ≡ 1280 + low = omega arith in
+    rw (le-ltb (0x2000 + low) 128 (omega arith), in_punctuation (0x2000 + low) (omega arith) (omega arith)) same
+
+pub index_outside : (c : ℕ) → 384 ≤ c → is_punctuation c ≡ false → 1344 ≤ index_of c
+index_outside c above other = rw (le-ltb c 128 (omega arith), other) (omega (arith, lt-mul-div-succ c {b = 64} (omega arith)))
+
+no_single : (encoding : Encoding) (c : ℕ) → list_any (λ x. nat_eq x c) (range_with_len 0 384) ≡ false → list_any (λ x. nat_eq x c) (range_with_len 0x2000 64) ≡ false
+    → get_or (singles_in encoding) (index_of c) 256 ≡ 256
+no_single encoding c none others = by (nat_lt c 384) refl (is_punctuation c) refl
   where
-    by : (b : Bool) → nat_lt c 384 ≡ b → get_or (singles_in encoding) (index_of c) 256 ≡ 256
-    by true is = cc (in_range c 0 384 (omega arith) (ltb-true c 384 is))
-    by false is = get_or_past (singles_in encoding) (index_of c) 256 (omega (arith, singles_end encoding, index_outside c (ltb-false c 384 is)))
+    by : (b : Bool) → nat_lt c 384 ≡ b → (p : Bool) → is_punctuation c ≡ p → get_or (singles_in encoding) (index_of c) 256 ≡ 256
+    by true is p _ = cc (in_range c 0 384 (omega arith) (ltb-true c 384 is))
+    by false is true inside =
+        let bounds = punctuation_bounds c inside in
+        cc (in_range c 0x2000 64 bounds.0 bounds.1)
+    by false is false outside =
+        get_or_past (singles_in encoding) (index_of c) 256 (omega (arith, singles_end encoding, index_outside c (ltb-false c 384 is) outside))
 
 nothing : (singles : List ℕ) (rows others : List (ℕ × List ℕ)) (characters : List ℕ) (c : ℕ) → get_or singles (index_of c) 256 ≡ 256 → codes_beside rows c ≡ None
     → codes_beside others c ≡ None → own_code characters c ≡ None → looked_up singles rows c ≡ option_or (codes_beside others c) (own_code characters c)
@@ -139,10 +159,11 @@ agree_outside encoding c none =
     let p = λ (x : ℕ). nat_eq x c in
     let rows = map (λ (r : ℕ × List ℕ). r.0) (rows_of (others_in encoding)) in
     let others = map (λ (r : ℕ × List ℕ). r.0) (others_of encoding) in
-    let first = neither _ _ (sym (list_any-append p (range_with_len 0 384) (rows ++ (others ++ characters_of encoding))) ∙ none) in
-    let second = neither _ _ (sym (list_any-append p rows (others ++ characters_of encoding)) ∙ first.1) in
-    let third = neither _ _ (sym (list_any-append p others (characters_of encoding)) ∙ second.1) in
-    nothing _ _ _ _ c (no_single encoding c first.0) (no_row (rows_of (others_in encoding)) c second.0) (no_row (others_of encoding) c third.0) (no_own_code (characters_of encoding) c third.1)
+    let first = neither _ _ (sym (list_any-append p (range_with_len 0 384) (range_with_len 0x2000 64 ++ (rows ++ (others ++ characters_of encoding)))) ∙ none) in
+    let second = neither _ _ (sym (list_any-append p (range_with_len 0x2000 64) (rows ++ (others ++ characters_of encoding))) ∙ first.1) in
+    let third = neither _ _ (sym (list_any-append p rows (others ++ characters_of encoding)) ∙ second.1) in
+    let last = neither _ _ (sym (list_any-append p others (characters_of encoding)) ∙ third.1) in
+    nothing _ _ _ _ c (no_single encoding c first.0 second.0) (no_row (rows_of (others_in encoding)) c third.0) (no_row (others_of encoding) c last.0) (no_own_code (characters_of encoding) c last.1)
 
 -- both tables give each character the same codes
 tables_agree : (encoding : Encoding) (c : ℕ) → c ≢ no → looked_up (singles_in encoding) (rows_of (others_in encoding)) c ≡ codes_of encoding c

@@ -1,6 +1,6 @@
 -- The codes of a character as they are looked up.
 -- This project's own representation; Codes defines them.
-use Rattle.std.specs.Prelude.{ℕ, ◌+◌, ◌-◌, ◌*◌, ◌/◌, ◌%◌, List, [], ◌∷◌, flat_map, Option, Some, cond, nat_lt, get_or, take, min}
+use Rattle.std.specs.Prelude.{ℕ, Bool, ◌+◌, ◌-◌, ◌*◌, ◌/◌, ◌%◌, List, [], ◌∷◌, flat_map, Option, Some, ◌&&◌, cond, nat_le, nat_lt, get_or, take, min}
 use Rattle.encodings.specs.declared.encoding.Encoding.{Encoding}
 use Rattle.encodings.specs.declared.encoding.Encoding.TheVariants.{Bytes, Ot1, T1, Ly1, Latin1}
 use Rattle.encodings.specs.declared.tables.TheConstants.{NO_SINGLE}
@@ -11,7 +11,7 @@ use Rattle.encodings.specs.declared.tables.latin1.TheConstants.{LATIN1_SINGLE, L
 use Rattle.encodings.specs.Codes.{codes_beside}
 
 -- the single codes in the tables of the code: 256 entries by byte for bytes with which characters begin, and then
--- as many each for bytes after 0xC2, 0xC3, 0xC4 and 0xC5
+-- as many each for bytes after 0xC2, 0xC3, 0xC4 and 0xC5; then 64 for the characters from U+2000 to U+203F
 unfoldable pub singles_in : Encoding → List ℕ
 singles_in Bytes = flat_map (λ entries. entries) NO_SINGLE
 singles_in Ot1 = flat_map (λ entries. entries) OT1_SINGLE
@@ -19,10 +19,16 @@ singles_in T1 = flat_map (λ entries. entries) T1_SINGLE
 singles_in Ly1 = flat_map (λ entries. entries) LY1_SINGLE
 singles_in Latin1 = flat_map (λ entries. entries) LATIN1_SINGLE
 
--- the index of a character there: that of its byte, or of its second byte; at or above the number of entries for a
--- character above U+017F
+-- whether a character is one from U+2000 to U+203F, the first part of the block General Punctuation
+abbrev pub is_punctuation : ℕ → Bool
+is_punctuation character = nat_le 0x2000 character && nat_lt character 0x2040
+
+-- the index of a character there: that of its byte, or of its second byte, or for one from U+2000 to U+203F its place
+-- in the last 64 entries; at or above the number of entries for any other character
 abbrev pub index_of : ℕ → ℕ
-index_of character = cond (nat_lt character 128) character (256 * (character / 64 - 1) + 128 + character % 64)
+index_of character =
+    cond (nat_lt character 128) character
+    (cond (is_punctuation character) (1280 + (character - 0x2000)) (256 * (character / 64 - 1) + 128 + character % 64))
 
 -- the rows of the other characters there: each a character, the number of its codes, and these codes with
 -- zeros after them

@@ -4,7 +4,7 @@ ghost use Rattle.encodings.specs.Codes.{codes_beside, codes_of as codes_of_chara
 ghost use Rattle.encodings.specs.Lookup.{index_of, rows_of, singles_in};
 
 use crate::Encoding;
-use crate::tables::{OtherCodes, other_codes, single_codes};
+use crate::tables::{OtherCodes, PUNCTUATION, other_codes, single_codes};
 
 /// Every code, at its own index.
 static CODES: [u8; 256] = [
@@ -46,7 +46,7 @@ fn codes_in_row(rows: &[OtherCodes], character: char) -> Option<&[u8]>
 }
 
 /// Returns the index of a character in a table of single codes. It is at or above the number of entries for
-/// a character above U+017F.
+/// a character that isn't in the table.
 #[tactic(auto, using(crate::proofs::TableLemmas::bits_above))]
 fn index_of(character: char) -> usize
     ensures { result ≡ index_of character }
@@ -55,10 +55,13 @@ fn index_of(character: char) -> usize
     if number < 128 {
         return number;
     }
+    if 0x2000 <= number && number < 0x2040 {
+        return PUNCTUATION + (number - 0x2000);
+    }
     256 * (number / 64 - 1) + 128 + number % 64
 }
 
-/// Returns the code of a character up to U+017F that has a single code.
+/// Returns the code of a character that has a single code in the table.
 fn single_code(encoding: Encoding, character: char) -> Option<u8>
     ensures { MatchOption result (256 ≤ get_or (singles_in encoding) (index_of character) 256)
         (λ code. get_or (singles_in encoding) (index_of character) 256 ≡ code) }

@@ -17,10 +17,14 @@ mod t1;
 /// codes or none.
 pub(crate) const X: u16 = 256;
 
-/// The single codes of the characters up to U+017F. The table has a part for bytes with which characters
-/// begin, and a part each for bytes after 0xC2, 0xC3, 0xC4 and 0xC5; in a part, the entries are in the order of
-/// the bytes. The entry of these four bytes themselves is any code.
-pub(crate) type SingleCodes = [[u16; 64]; 20];
+/// The single codes of the characters up to U+017F, and of those from U+2000 to U+203F, which include quotation
+/// marks and dashes. The table has a part for bytes with which characters begin, and a part each for bytes after
+/// 0xC2, 0xC3, 0xC4 and 0xC5; in a part, the entries are in the order of the bytes. The entry of these four
+/// bytes themselves is any code. The last 64 entries are those of the characters from U+2000.
+pub(crate) type SingleCodes = [[u16; 64]; 21];
+
+/// The index of the entry of U+2000 in a table of single codes.
+pub(crate) const PUNCTUATION: usize = 1280;
 
 /// The entries of 64 bytes that no character has there.
 pub(crate) const NONE: [u16; 64] = [X; 64];
@@ -37,9 +41,9 @@ pub(crate) const LEADS: [u16; 64] = [
 pub(crate) type OtherCodes = (char, u8, [u8; 3]);
 
 /// The single codes where characters have no codes.
-static NO_SINGLE: SingleCodes = [NONE; 20];
+static NO_SINGLE: SingleCodes = [NONE; 21];
 
-/// Returns the single codes of the characters up to U+017F.
+/// Returns the table of single codes.
 #[tactic(auto, unfolding(crate::specs::Lookup::singles_in))]
 pub(crate) fn single_codes(encoding: Encoding) -> &'static [u16]
     ensures { result.now ≡ singles_in encoding }

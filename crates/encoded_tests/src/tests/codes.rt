@@ -5,7 +5,7 @@ use std::process::Abort;
 use std::test::Fail;
 
 /// An encoding, a text, and its codes, which are those that LaTeX sets.
-static CODED: [(Encoding, &str, &[u8]); 6] = [
+static CODED: [(Encoding, &str, &[u8]); 12] = [
     (Encoding::T1, "Straße", b"Stra\xFFe"),
     (
         Encoding::T1,
@@ -20,6 +20,24 @@ static CODED: [(Encoding, &str, &[u8]); 6] = [
     (Encoding::Ot1, "‘Œuvre’ ¡ﬁ—“!", b"`\x1Euvre' !`fi|\\!"),
     (Encoding::Ly1, "5 € “ŽÝ”", b"5 \x01 \x93\x8D\xDD\x94"),
     (Encoding::Latin1, "Señor\u{A0}Ýÿ\n", b"Se\xF1or \xDD\xFF\n"),
+    (
+        Encoding::T1,
+        "‐‑‒–—―‘’‚“”„‹›\u{200C}",
+        b"--\x15\x15\x16\x16`'\x0D\x10\x11\x12\x0E\x0F\x17",
+    ),
+    (Encoding::Ot1, "‐‑‒–—―‘’“”", b"--{{||`'\\\""),
+    (
+        Encoding::Ly1,
+        "‐‑‒–—―‘’‚“”„†‡•…‰‹›",
+        b"--\x96\x96\x97\x97`'\x82\x93\x94\x84\x86\x87\x95\x85\x89\x8B\x9B",
+    ),
+    (
+        Encoding::T1,
+        "„Über“ – ‚für‘ «ž» l’œil",
+        b"\x12\xDCber\x10 \x15 \x0Df\xFCr` \x13\xBA\x14 l'\xF7il",
+    ),
+    (Encoding::Ot1, "“It’s—well, ‘odd’”", b"\\It's|well, `odd'\""),
+    (Encoding::Ly1, "… ‹é› †", b"\x85 \x8B\xE9\x9B \x86"),
 ];
 
 #[test]
@@ -68,7 +86,7 @@ fn long_texts_with_codes(rt: HostRuntime) -> Result<(), Fail> {
 }
 
 /// Bytes that aren't UTF-8, and the offset at which no character begins.
-static FAULTS: [(&[u8], usize); 8] = [
+static FAULTS: [(&[u8], usize); 16] = [
     (b"ab\xC3", 2),
     (b"ab\xC3b", 2),
     (b"ab\xC3\xC3\xA4", 2),
@@ -77,6 +95,14 @@ static FAULTS: [(&[u8], usize); 8] = [
     (b"\xC3\xA4\xA4", 2),
     (b"\xC5\xBE\xE2\x80", 2),
     (b"\xFFab", 0),
+    (b"\xE2", 0),
+    (b"ab\xE2", 2),
+    (b"ab\xE2\x80", 2),
+    (b"\xE2\x80\x9C\xE2\x80", 3),
+    (b"\xE2\x80\x9Ca\xE2\x80b", 4),
+    (b"\xE2\x80\x1C", 0),
+    (b"ab\xE2\x80\xDC", 2),
+    (b"a\xE2\x93", 1),
 ];
 
 #[test]
@@ -92,13 +118,21 @@ fn bytes_that_are_not_utf8(rt: HostRuntime) -> Result<(), Fail> {
 }
 
 /// An encoding, a text, and its first character without codes.
-static UNCODED: [(Encoding, &str, usize, char); 6] = [
+static UNCODED: [(Encoding, &str, usize, char); 14] = [
     (Encoding::T1, "Ž€", 2, '€'),
     (Encoding::T1, "a\nb", 1, '\n'),
     (Encoding::Ot1, "“naïf”", 5, 'ï'),
     (Encoding::Ot1, "a\\b<c", 1, '\\'),
     (Encoding::Ly1, "č", 0, 'č'),
     (Encoding::Latin1, "5 €", 2, '€'),
+    (Encoding::T1, "„…“", 3, '…'),
+    (Encoding::T1, "–⁓", 3, '⁓'),
+    (Encoding::T1, "–␓–", 3, '␓'),
+    (Encoding::T1, "–〓", 3, '〓'),
+    (Encoding::T1, "a“€”", 4, '€'),
+    (Encoding::Ot1, "‘„", 3, '„'),
+    (Encoding::Ly1, "–\u{200C}", 3, '\u{200C}'),
+    (Encoding::Latin1, "a“b”", 1, '“'),
 ];
 
 #[test]

@@ -1,7 +1,7 @@
 //! The codes of ISO 8859-1.
 use crate::tables::{LEADS, NONE, OtherCodes, SingleCodes, X};
 
-/// The codes of the characters up to U+017F that have a single code.
+/// The codes of the characters up to U+017F, and from U+2000 to U+203F, that have a single code.
 pub(crate) static LATIN1_SINGLE: SingleCodes = [
     // where a character begins
     [
@@ -81,6 +81,8 @@ pub(crate) static LATIN1_SINGLE: SingleCodes = [
         // U+0170 to U+017F
         X, X, X, X, X, X, X, X, X, X, X, X, X, X, X, X,
     ],
+    NONE,
+    // after the bytes 0xE2 and 0x80
     NONE,
 ];
 

@@ -1,7 +1,7 @@
 //! The codes of LY1, the encoding TeX 'n ANSI.
 use crate::tables::{LEADS, NONE, OtherCodes, SingleCodes, X};
 
-/// The codes of the characters up to U+017F that have a single code.
+/// The codes of the characters up to U+017F, and from U+2000 to U+203F, that have a single code.
 pub(crate) static LY1_SINGLE: SingleCodes = [
     // where a character begins
     [
@@ -82,10 +82,21 @@ pub(crate) static LY1_SINGLE: SingleCodes = [
         X, X, X, X, X, X, X, X, 159, X, X, X, X, 141, 157, X,
     ],
     NONE,
+    // after the bytes 0xE2 and 0x80
+    [
+        // U+2000 to U+200F
+        X, X, X, X, X, X, X, X, X, X, X, X, X, X, X, X,
+        // U+2010 to U+201F
+        45, 45, 150, 150, 151, 151, X, X, 96, 39, 130, X, 147, 148, 132, X,
+        // U+2020 to U+202F
+        134, 135, 149, X, X, X, 133, X, X, X, X, X, X, X, X, X,
+        // U+2030 to U+203F
+        137, X, X, X, X, X, X, X, X, 139, 155, X, X, X, X, X,
+    ],
 ];
 
 /// The codes of all other characters that have codes.
-pub(crate) static LY1_OTHERS: [OtherCodes; 51] = [
+pub(crate) static LY1_OTHERS: [OtherCodes; 32] = [
     ('\u{AD}', 0, [0, 0, 0]), // soft hyphen
     ('\u{192}', 1, [131, 0, 0]), // ƒ
     ('\u{1C4}', 2, [68, 141, 0]), // Ǆ
@@ -107,25 +118,6 @@ pub(crate) static LY1_OTHERS: [OtherCodes; 51] = [
     ('\u{2DC}', 1, [158, 0, 0]), // ˜
     ('\u{2DD}', 1, [6, 0, 0]), // ˝
     ('\u{1E9E}', 2, [83, 83, 0]), // ẞ
-    ('\u{2010}', 1, [45, 0, 0]), // hyphen
-    ('\u{2011}', 1, [45, 0, 0]), // non-breaking hyphen
-    ('\u{2012}', 1, [150, 0, 0]), // figure dash
-    ('\u{2013}', 1, [150, 0, 0]), // –
-    ('\u{2014}', 1, [151, 0, 0]), // —
-    ('\u{2015}', 1, [151, 0, 0]), // horizontal bar
-    ('\u{2018}', 1, [96, 0, 0]), // ‘
-    ('\u{2019}', 1, [39, 0, 0]), // ’
-    ('\u{201A}', 1, [130, 0, 0]), // ‚
-    ('\u{201C}', 1, [147, 0, 0]), // “
-    ('\u{201D}', 1, [148, 0, 0]), // ”
-    ('\u{201E}', 1, [132, 0, 0]), // „
-    ('\u{2020}', 1, [134, 0, 0]), // †
-    ('\u{2021}', 1, [135, 0, 0]), // ‡
-    ('\u{2022}', 1, [149, 0, 0]), // •
-    ('\u{2026}', 1, [133, 0, 0]), // …
-    ('\u{2030}', 1, [137, 0, 0]), // ‰
-    ('\u{2039}', 1, [139, 0, 0]), // ‹
-    ('\u{203A}', 1, [155, 0, 0]), // ›
     ('\u{2044}', 1, [4, 0, 0]), // ⁄
     ('\u{20AC}', 1, [1, 0, 0]), // €
     ('\u{2122}', 1, [153, 0, 0]), // ™

@@ -1,7 +1,7 @@
 //! The codes of OT1, the encoding of cmr10.
 use crate::tables::{LEADS, NONE, OtherCodes, SingleCodes, X};
 
-/// The codes of the characters up to U+017F that have a single code.
+/// The codes of the characters up to U+017F, and from U+2000 to U+203F, that have a single code.
 pub(crate) static OT1_SINGLE: SingleCodes = [
     // where a character begins
     [
@@ -82,10 +82,21 @@ pub(crate) static OT1_SINGLE: SingleCodes = [
         X, X, X, X, X, X, X, X, X, X, X, X, X, X, X, X,
     ],
     NONE,
+    // after the bytes 0xE2 and 0x80
+    [
+        // U+2000 to U+200F
+        X, X, X, X, X, X, X, X, X, X, X, X, X, X, X, X,
+        // U+2010 to U+201F
+        45, 45, 123, 123, 124, 124, X, X, 96, 39, X, X, 92, 34, X, X,
+        // U+2020 to U+202F
+        X, X, X, X, X, X, X, X, X, X, X, X, X, X, X, X,
+        // U+2030 to U+203F
+        X, X, X, X, X, X, X, X, X, X, X, X, X, X, X, X,
+    ],
 ];
 
 /// The codes of all other characters that have codes.
-pub(crate) static OT1_OTHERS: [OtherCodes; 45] = [
+pub(crate) static OT1_OTHERS: [OtherCodes; 35] = [
     ('\u{A1}', 2, [33, 96, 0]), // ¡
     ('\u{AD}', 0, [0, 0, 0]), // soft hyphen
     ('\u{BF}', 2, [63, 96, 0]), // ¿
@@ -114,16 +125,6 @@ pub(crate) static OT1_OTHERS: [OtherCodes; 45] = [
     ('\u{3A6}', 1, [8, 0, 0]), // Φ
     ('\u{3A8}', 1, [9, 0, 0]), // Ψ
     ('\u{1E9E}', 2, [83, 83, 0]), // ẞ
-    ('\u{2010}', 1, [45, 0, 0]), // hyphen
-    ('\u{2011}', 1, [45, 0, 0]), // non-breaking hyphen
-    ('\u{2012}', 1, [123, 0, 0]), // figure dash
-    ('\u{2013}', 1, [123, 0, 0]), // –
-    ('\u{2014}', 1, [124, 0, 0]), // —
-    ('\u{2015}', 1, [124, 0, 0]), // horizontal bar
-    ('\u{2018}', 1, [96, 0, 0]), // ‘
-    ('\u{2019}', 1, [39, 0, 0]), // ’
-    ('\u{201C}', 1, [92, 0, 0]), // “
-    ('\u{201D}', 1, [34, 0, 0]), // ”
     ('\u{FB00}', 2, [102, 102, 0]), // ﬀ
     ('\u{FB01}', 2, [102, 105, 0]), // ﬁ
     ('\u{FB02}', 2, [102, 108, 0]), // ﬂ

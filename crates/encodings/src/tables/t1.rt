@@ -1,7 +1,7 @@
 //! The codes of T1, the Cork encoding, which is that of ecrm1000.
 use crate::tables::{LEADS, NONE, OtherCodes, SingleCodes, X};
 
-/// The codes of the characters up to U+017F that have a single code.
+/// The codes of the characters up to U+017F, and from U+2000 to U+203F, that have a single code.
 pub(crate) static T1_SINGLE: SingleCodes = [
     // where a character begins
     [
@@ -82,10 +82,21 @@ pub(crate) static T1_SINGLE: SingleCodes = [
         150, 182, X, X, X, X, X, X, 152, 153, 185, 155, 187, 154, 186, X,
     ],
     NONE,
+    // after the bytes 0xE2 and 0x80
+    [
+        // U+2000 to U+200F
+        X, X, X, X, X, X, X, X, X, X, X, X, 23, X, X, X,
+        // U+2010 to U+201F
+        45, 45, 21, 21, 22, 22, X, X, 96, 39, 13, X, 16, 17, 18, X,
+        // U+2020 to U+202F
+        X, X, X, X, X, X, X, X, X, X, X, X, X, X, X, X,
+        // U+2030 to U+203F
+        X, X, X, X, X, X, X, X, X, 14, 15, X, X, X, X, X,
+    ],
 ];
 
 /// The codes of all other characters that have codes.
-pub(crate) static T1_OTHERS: [OtherCodes; 43] = [
+pub(crate) static T1_OTHERS: [OtherCodes; 28] = [
     ('\u{AD}', 0, [0, 0, 0]), // soft hyphen
     ('\u{1C4}', 2, [68, 154, 0]), // Ǆ
     ('\u{1C5}', 2, [68, 186, 0]), // ǅ
@@ -105,23 +116,8 @@ pub(crate) static T1_OTHERS: [OtherCodes; 43] = [
     ('\u{2DC}', 1, [126, 0, 0]), // ˜
     ('\u{2DD}', 1, [5, 0, 0]), // ˝
     ('\u{1E9E}', 1, [223, 0, 0]), // ẞ
-    ('\u{200C}', 1, [23, 0, 0]), // zero width non-joiner
-    ('\u{2010}', 1, [45, 0, 0]), // hyphen
-    ('\u{2011}', 1, [45, 0, 0]), // non-breaking hyphen
-    ('\u{2012}', 1, [21, 0, 0]), // figure dash
-    ('\u{2013}', 1, [21, 0, 0]), // –
-    ('\u{2014}', 1, [22, 0, 0]), // —
-    ('\u{2015}', 1, [22, 0, 0]), // horizontal bar
-    ('\u{2018}', 1, [96, 0, 0]), // ‘
-    ('\u{2019}', 1, [39, 0, 0]), // ’
-    ('\u{201A}', 1, [13, 0, 0]), // ‚
-    ('\u{201C}', 1, [16, 0, 0]), // “
-    ('\u{201D}', 1, [17, 0, 0]), // ”
-    ('\u{201E}', 1, [18, 0, 0]), // „
     ('\u{2030}', 2, [37, 24, 0]), // ‰
     ('\u{2031}', 3, [37, 24, 24]), // ‱
-    ('\u{2039}', 1, [14, 0, 0]), // ‹
-    ('\u{203A}', 1, [15, 0, 0]), // ›
     ('\u{FB00}', 2, [102, 102, 0]), // ﬀ
     ('\u{FB01}', 2, [102, 105, 0]), // ﬁ
     ('\u{FB02}', 2, [102, 108, 0]), // ﬂ

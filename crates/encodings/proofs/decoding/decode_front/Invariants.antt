@@ -1,9 +1,9 @@
-use Rattle.std.proofs.Common.{◌-◌, ◌≤◌, length, take}
-use Rattle.encodings.proofs.DecodingLemmas.{IsDecoded}
+use Rattle.std.proofs.Common.{◌-◌, length}
+use Rattle.encodings.specs.Decoding.{IsDecodedTo}
 use Rattle.encodings.proofs.decoding.decode_front.Given as goal
 
-abbrev pub invariant-loop-code : goal.invariant-loop-code
-invariant-loop-code l = IsDecoded l.fn.encoding l.text l.at l.offset (take l.codes l.room) × (l.codes ≤ l.at) × (l.offset ≤ 1024)
+abbrev pub invariant-loop-decoded : goal.invariant-loop-decoded
+invariant-loop-decoded l = IsDecodedTo l.fn.encoding l.text l.room l.decoded.bytes l.decoded.codes
 
-abbrev pub decreases-loop-code : goal.decreases-loop-code
-decreases-loop-code l = length l.text - l.at
+abbrev pub decreases-loop-decoded : goal.decreases-loop-decoded
+decreases-loop-decoded l = length l.text - l.decoded.bytes
