@@ -441,7 +441,7 @@ pub plain_front : (encoding : Encoding) (singles text : List ℕ) (n : ℕ) → 
 plain_front encoding singles text n same all =
     plain_bytes encoding (take n text) (subst (λ l. list_all (is_plain l) (take n text) ≡ true) same all)
 
-pub ruleset plain = (plain_front)
+pub ruleset plain = (plain_front, singles_end)
 
 -- ---- the front of a text in two parts
 

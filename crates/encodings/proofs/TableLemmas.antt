@@ -1,7 +1,7 @@
 -- The tables by character and the tables by code give the same codes, which is computed for every character in
 -- either of them.
 use Rattle.std.proofs.Common.{◌≡◌, ◌≢◌, ℕ, zero, suc, ◌<◌, ◌≤◌, ◌+◌, ◌-◌, ◌*◌, ◌/◌, Bool, true, false, List, [], ◌∷◌, ◌++◌, ◌||◌, ◌&&◌, Option, Some, None, length, get_or, take, drop, arith, refl, ap, sym, ◌∙◌}
-use Rattle.std.specs.Prelude.{not, nat_eq, nat_le, nat_lt, map, bytes_eq, cond}
+use Rattle.std.specs.Prelude.{not, nat_eq, nat_lt, map, bytes_eq, cond}
 use Rattle.std.specs.List.{list_all, list_any, range_with_len, position_or_len}
 use Rattle.std.specs.Option.{option_or}
 use Rattle.std.proofs.lemmas.Bool.Decides.{nat_tests}

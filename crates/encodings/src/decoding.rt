@@ -135,13 +135,15 @@ fn decode_front(encoding: Encoding, text: &[u8], room: &mut [u8]) -> Decoded
 
 /// Returns whether a byte is an ASCII character whose only code, in this table, is the byte itself.
 fn is_plain(singles: &[u16], byte: u8) -> bool
+    requires { length singles.now ≡ 1344 }
     ensures { result ≡ is_plain_in singles.now byte }
 {
-    byte < 128 && singles.get(usize::from(byte)) == Some(&u16::from(byte))
+    byte < 128 && singles[usize::from(byte)] == u16::from(byte)
 }
 
 /// Returns the number of bytes at the front of a text that are plain.
 fn plain_len(singles: &[u16], text: &[u8]) -> usize
+    requires { length singles.now ≡ 1344 }
     ensures within { result ≤ length text.now }
     ensures plain { list_all (is_plain_in singles.now) (take result text.now) ≡ true }
 {

@@ -1,6 +1,5 @@
 use Rattle.std.proofs.Common.{◌+◌, ◌<◌, length, arith, get_or, ap, sym, ◌∙◌}
-use Rattle.std.specs.Prelude.{nat_eq}
-use Rattle.encodings.proofs.DecodingLemmas.{begun, decoded_step, decoded_to, after_small, at_most_one, whole_step, whole_within}
+use Rattle.encodings.proofs.DecodingLemmas.{begun, decoded_step, after_small, whole_step, whole_within}
 use Rattle.encodings.proofs.decoding.decode_short.Goals as goal
 
 pub loop-code-init : goal.loop-code-init

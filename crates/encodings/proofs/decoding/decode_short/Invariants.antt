@@ -1,4 +1,4 @@
-use Rattle.std.proofs.Common.{◌-◌, ◌≤◌, ◌≡◌, length, take}
+use Rattle.std.proofs.Common.{◌-◌, ◌≤◌, length, take}
 use Rattle.encodings.proofs.DecodingLemmas.{IsDecoded, whole_bytes}
 use Rattle.encodings.proofs.decoding.decode_short.Given as goal
 

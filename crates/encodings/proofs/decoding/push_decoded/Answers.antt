@@ -1,7 +1,7 @@
-use Rattle.std.proofs.Common.{◌≡◌, ◌+◌, ◌-◌, ◌≤◌, arith, take, drop, length, sym, subst, ◌∙◌}
+use Rattle.std.proofs.Common.{◌≡◌, ◌+◌, ◌≤◌, arith, take, length, sym, subst, ◌∙◌}
 use Rattle.std.proofs.lemmas.List.{length-take-le}
 use Rattle.encodings.specs.Decoding.{IsFront}
-use Rattle.encodings.proofs.DecodingLemmas.{take_most, written_out}
+use Rattle.encodings.proofs.DecodingLemmas.{written_out}
 use Rattle.encodings.proofs.decoding.push_decoded.Goals as goal
 
 pub returns-clause-front : goal.returns-clause-front
