@@ -213,13 +213,6 @@ whole_or_not at false false = omega arith
 pub whole_step : (at offset next : ℕ) → whole_bytes at offset + from_bool (nat_eq next 0) ≤ whole_bytes (at + 1) next
 whole_step at offset next = whole_or_not at (nat_eq offset 0) (nat_eq next 0)
 
-cut_or_not : (at : ℕ) (whole : Bool) → at - from_bool (not whole) ≡ cond whole at (at - 1)
-cut_or_not at true = omega arith
-cut_or_not at false = refl
-
-pub whole_is : (at offset : ℕ) → at - from_bool (not (nat_eq offset 0)) ≡ whole_bytes at offset
-whole_is at offset = cut_or_not at (nat_eq offset 0)
-
 within_or_not : (at : ℕ) (whole : Bool) → cond whole at (at - 1) ≤ at
 within_or_not at true = omega arith
 within_or_not at false = omega arith
@@ -326,10 +319,6 @@ one_or_none : (whole : Bool) → from_bool whole ≡ cond whole 1 0
 one_or_none true = refl
 one_or_none false = refl
 
-pub at_most_one : (whole : Bool) → from_bool whole ≤ 1
-at_most_one true = omega arith
-at_most_one false = omega arith
-
 -- the same, with the next offset and the number of codes that are added
 pub decoded_step : (encoding : Encoding) (text room : List ℕ) (at offset count code next added : ℕ) → IsDecoded encoding text at offset (take count room) → at < length text → count < length room
     → get_or text at 0 < 256 → get_or (singles_in encoding) (offset + get_or text at 0) 256 ≡ code → code < 256 → next ≡ offset_after (get_or text at 0) → added ≡ from_bool (nat_eq next 0)
@@ -348,25 +337,7 @@ first_before encoding text codes at offset decoded = by (zero_or_more offset)
         let later = (decoded.after some).0 in
         rw (nonzero offset some) (omega (arith, later))
 
--- the end of what is decoded
-pub decoded_to : (encoding : Encoding) (text room : List ℕ) (at offset codes bytes : ℕ) → IsDecoded encoding text at offset (take codes room) → codes ≤ whole_bytes at offset → length text ≤ length room
-    → bytes ≡ at - from_bool (not (nat_eq offset 0)) → IsDecodedTo encoding text room bytes codes
-decoded_to encoding text room at offset codes bytes decoded few roomy is =
-    let whole : whole_bytes at offset ≡ bytes = sym (is ∙ whole_is at offset) in
-    record {
-      within = omega (arith, whole, whole_within at offset, decoded.within);
-      few = omega (arith, whole, few);
-      fits = roomy;
-      front = subst (λ n. IsFront encoding (take n text) (take codes room)) whole decoded.front;
-    }
-
 pub ruleset decodes = (first_before, singles_end)
-
--- ---- the steps from one character to another
-
--- nothing is decoded
-pub none_decoded : (encoding : Encoding) (text room : List ℕ) → length text ≤ length room → IsDecodedTo encoding text room 0 0
-none_decoded encoding text room roomy = record { within = omega arith; few = omega arith; fits = roomy; front = no_front encoding }
 
 -- ---- codes that are appended to a list
 
@@ -487,6 +458,12 @@ grown_front encoding text old between after n m is kept first second =
     (front_both encoding (take n text) (take m (drop n text)) (take n text) (drop (length between) after) first second))
 
 pub ruleset joined = (grown_kept, grown_front)
+
+-- ---- a text that is decoded character by character
+
+-- nothing is decoded
+pub none_decoded : (encoding : Encoding) (text room : List ℕ) → length text ≤ length room → IsDecodedTo encoding text room 0 0
+none_decoded encoding text room fits = record { within = omega arith; few = omega arith; fits = fits; front = no_front encoding }
 
 -- one more character, whose code is written behind the others
 pub decoded_one : (encoding : Encoding) (text room : List ℕ) (bytes codes more code : ℕ) → IsDecodedTo encoding text room bytes codes → bytes + more ≤ length text → 1 ≤ more
