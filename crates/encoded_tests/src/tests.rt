@@ -3,3 +3,4 @@ mod fonts;
 mod records;
 mod rows;
 mod same;
+mod vectors;

@@ -1,0 +1,8 @@
+pub mod Bytes
+pub mod Tokens
+pub mod Glyphs
+pub mod Names
+pub mod Vectors
+pub mod Rows
+pub mod Reading
+pub mod FaultText

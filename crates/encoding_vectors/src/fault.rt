@@ -1,0 +1,23 @@
+//! The error of a text that isn't an encoding vector.
+ghost use Rattle.std.specs.Prelude.{Some};
+ghost use Rattle.encoding_vectors.specs.FaultText.{fault_text};
+
+use std::fmt;
+
+/// The text isn't an encoding vector.
+#[derive(Clone, Copy, Debug, PartialEq, Eq, Hash)]
+pub struct VectorFault {
+    /// The number of the line, starting at 1, on which the first token is that doesn't belong to a vector. If
+    /// the text ends too early, it is the line on which it ends. If the text is too long, it is the line on
+    /// which its first [`MOST_BYTES`](crate::MOST_BYTES) bytes end.
+    pub line: usize,
+}
+
+impl fmt::Display for VectorFault {
+    ghost output = { λ fault. Some (fault_text fault) };
+
+    #[tactic(auto, unfolding(crate::specs::FaultText::fault_text))]
+    fn fmt<W: fmt::Write>(&self, f: &mut fmt::Formatter<W>) -> fmt::Result {
+        write!(f, "encoding refused: line {}", self.line)
+    }
+}

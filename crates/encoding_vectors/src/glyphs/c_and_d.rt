@@ -1,0 +1,31 @@
+//! The glyphs whose names begin with the letters from c to d.
+use crate::glyphs::GlyphRow;
+
+/// The names, sorted, with their characters.
+pub(crate) static C_AND_D: [GlyphRow; 25] = [
+    ("c", 'c'),
+    ("cacute", 'ć'),
+    ("caron", 'ˇ'),
+    ("ccaron", 'č'),
+    ("ccedilla", 'ç'),
+    ("cedilla", '¸'),
+    ("cent", '¢'),
+    ("circumflex", 'ˆ'),
+    ("colon", ':'),
+    ("comma", ','),
+    ("copyright", '©'),
+    ("currency", '¤'),
+    ("d", 'd'),
+    ("dagger", '†'),
+    ("daggerdbl", '‡'),
+    ("dcaron", 'ď'),
+    ("dcroat", 'đ'),
+    ("degree", '°'),
+    ("dieresis", '¨'),
+    ("divide", '÷'),
+    ("dmacron", 'đ'),
+    ("dollar", '$'),
+    ("dotaccent", '˙'),
+    ("dotlessi", 'ı'),
+    ("dzcaron", 'ǆ'),
+];

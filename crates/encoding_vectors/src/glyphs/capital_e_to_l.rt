@@ -1,0 +1,38 @@
+//! The glyphs whose names begin with the capital letters from E to L.
+use crate::glyphs::GlyphRow;
+
+/// The names, sorted, with their characters.
+pub(crate) static CAPITAL_E_TO_L: [GlyphRow; 32] = [
+    ("E", 'E'),
+    ("Eacute", 'É'),
+    ("Ecaron", 'Ě'),
+    ("Ecircumflex", 'Ê'),
+    ("Edieresis", 'Ë'),
+    ("Egrave", 'È'),
+    ("Eng", 'Ŋ'),
+    ("Eogonek", 'Ę'),
+    ("Eth", 'Ð'),
+    ("Euro", '€'),
+    ("F", 'F'),
+    ("G", 'G'),
+    ("Gamma", 'Γ'),
+    ("Gbreve", 'Ğ'),
+    ("H", 'H'),
+    ("I", 'I'),
+    ("IJ", 'Ĳ'),
+    ("Iacute", 'Í'),
+    ("Icircumflex", 'Î'),
+    ("Idieresis", 'Ï'),
+    ("Idot", 'İ'),
+    ("Idotaccent", 'İ'),
+    ("Igrave", 'Ì'),
+    ("J", 'J'),
+    ("K", 'K'),
+    ("L", 'L'),
+    ("LJ", 'Ǉ'),
+    ("Lacute", 'Ĺ'),
+    ("Lambda", 'Λ'),
+    ("Lcaron", 'Ľ'),
+    ("Lj", 'ǈ'),
+    ("Lslash", 'Ł'),
+];

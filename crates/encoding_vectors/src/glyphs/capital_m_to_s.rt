@@ -1,0 +1,38 @@
+//! The glyphs whose names begin with the capital letters from M to S.
+use crate::glyphs::GlyphRow;
+
+/// The names, sorted, with their characters.
+pub(crate) static CAPITAL_M_TO_S: [GlyphRow; 32] = [
+    ("M", 'M'),
+    ("N", 'N'),
+    ("NJ", 'Ǌ'),
+    ("Nacute", 'Ń'),
+    ("Ncaron", 'Ň'),
+    ("Nj", 'ǋ'),
+    ("Ntilde", 'Ñ'),
+    ("O", 'O'),
+    ("OE", 'Œ'),
+    ("Oacute", 'Ó'),
+    ("Ocircumflex", 'Ô'),
+    ("Odblacute", 'Ő'),
+    ("Odieresis", 'Ö'),
+    ("Ograve", 'Ò'),
+    ("Ohm", '\u{2126}'),
+    ("Ohungarumlaut", 'Ő'),
+    ("Omega", '\u{2126}'),
+    ("Oslash", 'Ø'),
+    ("Otilde", 'Õ'),
+    ("P", 'P'),
+    ("Phi", 'Φ'),
+    ("Pi", 'Π'),
+    ("Psi", 'Ψ'),
+    ("Q", 'Q'),
+    ("R", 'R'),
+    ("Racute", 'Ŕ'),
+    ("Rcaron", 'Ř'),
+    ("S", 'S'),
+    ("Sacute", 'Ś'),
+    ("Scaron", 'Š'),
+    ("Scedilla", 'Ş'),
+    ("Sigma", 'Σ'),
+];

@@ -1,0 +1,37 @@
+//! The glyphs whose names begin with the letters from g to l.
+use crate::glyphs::GlyphRow;
+
+/// The names, sorted, with their characters.
+pub(crate) static G_TO_L: [GlyphRow; 31] = [
+    ("g", 'g'),
+    ("gbreve", 'ğ'),
+    ("germandbls", 'ß'),
+    ("grave", '`'),
+    ("greater", '>'),
+    ("guillemotleft", '«'),
+    ("guillemotright", '»'),
+    ("guilsinglleft", '‹'),
+    ("guilsinglright", '›'),
+    ("h", 'h'),
+    ("horizontalbar", '\u{2015}'),
+    ("hungarumlaut", '˝'),
+    ("hyphen", '-'),
+    ("hyphentwo", '\u{2010}'),
+    ("i", 'i'),
+    ("iacute", 'í'),
+    ("icircumflex", 'î'),
+    ("idieresis", 'ï'),
+    ("igrave", 'ì'),
+    ("ij", 'ĳ'),
+    ("ilde", '˜'),
+    ("increment", '\u{2206}'),
+    ("j", 'j'),
+    ("k", 'k'),
+    ("l", 'l'),
+    ("lacute", 'ĺ'),
+    ("lcaron", 'ľ'),
+    ("less", '<'),
+    ("lj", 'ǉ'),
+    ("logicalnot", '¬'),
+    ("lslash", 'ł'),
+];
