@@ -1,5 +1,6 @@
 pub mod SettingLemmas
 pub mod RunTextLemmas
+pub mod CutLemmas
 pub mod EventLemmas
 pub mod BlockLemmas
 pub mod BlockRunLemmas
@@ -12,3 +13,4 @@ pub mod StreamSteps
 pub mod StreamReports
 pub mod StreamedSettingLemmas
 pub mod LawLemmas
+pub mod WorkedRows

@@ -1,3 +1,4 @@
+pub mod CutOff
 pub mod RunText
 pub mod LaneText
 pub mod BlockLanes

@@ -9,6 +9,7 @@ pub use options::OutputOptions;
 pub use setting::{set_each, set_text};
 pub use streaming::{stream_each, stream_text};
 pub use summary::{Summary, status};
+pub use writing::write_text;
 
 mod block;
 mod block_run;
@@ -25,3 +26,4 @@ mod setting;
 mod stream;
 mod streaming;
 mod summary;
+mod writing;

@@ -1,6 +1,5 @@
 //! Collects the output of a batch in a buffer, and writes it as the results arrive.
-ghost use Rattle.std.specs.Prelude.{◌≡◌, ◌≤◌, ◌<◌, [], take, length, vec_len, is_ok, IfErr, IfOk, IfSome, IsNone, OnOk};
-ghost use Rattle.std.specs.Io.KnownBytes.{Appends, Keeps};
+ghost use Rattle.std.specs.Prelude.{◌≡◌, ◌<◌, [], length, is_ok, IfErr, IfOk, OnOk};
 ghost use Rattle.set_run.specs.declared.collector.Refusal.TheVariants.{OutOfMemory as NoMemory};
 ghost use Rattle.set_run.specs.Events.{Answered, Ended, Gets, Keeps as KeepsGiven};
 ghost use Rattle.run_texts.specs.RunText.{head_text};
@@ -8,12 +7,13 @@ ghost use Rattle.run_texts.specs.StreamState.{AreCounts, IsStreamOf, MovesOut, S
 
 use crate::lane_count::LaneCount;
 use crate::record::push_head;
+use crate::writing::write_some;
 use line_blocks::BlockText;
 use line_lane::LaneEnd;
 use set_line::Version;
 use set_run::Refusal;
 use std::alloc::{AllocError, Global};
-use std::io::{ErrorKind, Write};
+use std::io::Write;
 
 /// A buffer with this many bytes or more is full: it is written before more is appended.
 const FULL: usize = 65_536;
@@ -29,42 +29,6 @@ pub(crate) struct Stream<'a, W> {
     pub block: Vec<u8>,
     pub counts: Vec<LaneCount>,
     pub version: Version,
-}
-
-/// Writes with one call, and returns the number of bytes that were written: 0 if the call was interrupted.
-/// Returns `None` if the writer fails or writes none.
-#[tactic(auto, using(crate::proofs::StreamLemmas::appends))]
-fn write_once<W: Write>(bytes: &[u8], out: &mut W) -> Option<usize>
-    ensures took { IfSome result (λ count. (count ≤ length bytes.now)
-        × Appends (W.contents out.old) (W.contents out.new) (take count bytes.now)) }
-    ensures refused { IsNone result → Keeps (W.contents out.old) (W.contents out.new) }
-{
-    match out.write(bytes) {
-        Ok(0) => None,
-        Ok(count) => Some(count),
-        Err(fault) if fault.kind() == ErrorKind::Interrupted => Some(0),
-        Err(_) => None,
-    }
-}
-
-/// Writes these bytes until all are written or the writer fails, and returns the number of bytes that were
-/// written.
-#[tactic(auto, using(crate::proofs::StreamLemmas::appends))]
-fn write_some<W: Write>(bytes: &[u8], out: &mut W) -> usize
-    ensures within { result ≤ length bytes.now }
-    ensures written { Appends (W.contents out.old) (W.contents out.new) (take result bytes.now) }
-{
-    let mut done = 0;
-    for _ in 0..u64::MAX {
-        if done == bytes.len() {
-            return done;
-        }
-        match write_once(&bytes[done..], out) {
-            Some(count) => done += count,
-            None => return done,
-        }
-    }
-    done
 }
 
 /// Writes the buffer, and empties it. After an error the bytes that weren't written are still in the buffer.

@@ -1,7 +1,7 @@
 -- the first bytes are written
 use Rattle.std.proofs.Common.{◌≤◌, length, take}
 use Rattle.std.specs.Io.KnownBytes.{Appends}
-use Rattle.run_texts.proofs.stream.write_some.Given as goal
+use Rattle.run_texts.proofs.writing.write_some.Given as goal
 
 abbrev pub invariant-loop : goal.invariant-loop
 invariant-loop g l =

@@ -1,6 +1,6 @@
 use Rattle.std.proofs.Common.{◌≡◌, ◌-◌, length, take, drop, arith, length-drop}
 use Rattle.run_texts.proofs.StreamLemmas.{some_more, take_all_rest}
-use Rattle.run_texts.proofs.stream.write_some.Goals as goal
+use Rattle.run_texts.proofs.writing.write_some.Goals as goal
 
 pub loop-preserved : goal.loop-preserved
 loop-preserved g c =
