@@ -2,12 +2,15 @@
 ghost use Rattle.std.specs.Prelude.{◌≡◌, ◌+◌, ◌<◌, ◌^◌, ◌++◌, [], IfErr, OnErr, OnOk};
 ghost use Rattle.std.specs.Io.KnownBytes.{Appends};
 ghost use Rattle.std.specs.List.{concat};
-ghost use Rattle.set_run.specs.declared.collector.Refusal.TheVariants.{OutOfMemory as NoMemory, Output};
+ghost use Rattle.set_run.specs.declared.collector.Refusal.TheVariants.{OutOfMemory as NoMemory};
+ghost use Rattle.run_texts.specs.CutOff.{IsCutOff};
 ghost use Rattle.run_texts.specs.LaneText.{block_lines};
 ghost use Rattle.run_texts.specs.RunText.{end_text, why_of};
 
+use crate::ToolFault;
 use crate::block::TextBlock;
 use crate::lane_count::{Counted, LaneCount};
+use crate::writing::write_text;
 use line_blocks::BlockText;
 use line_lane::LaneEnd;
 use set_line::Version;
@@ -54,15 +57,17 @@ impl Counted for LaneText {
     }
 }
 
-/// Writes buffers in order, and frees each when it is written.
-fn write_blocks<W: Write>(blocks: Vec<TextBlock>, out: &mut W) -> Result<(), Refusal>
+/// Writes buffers in order, and frees each when it is written. After an error a first part of their bytes was
+/// written.
+fn write_blocks<W: Write>(blocks: Vec<TextBlock>, out: &mut W) -> Result<(), ToolFault>
     ensures written { OnOk result (Appends (W.contents out.old) (W.contents out.new)
         (concat blocks.items)) }
-    ensures refusal { IfErr result (λ refusal. refusal ≡ Output) }
+    ensures cut { OnErr result (IsCutOff (W.contents out.old) (W.contents out.new)
+        (concat blocks.items)) }
+    ensures fault { IfErr result (λ fault. fault ≡ ToolFault.Write) }
 {
     for block in blocks {
-        out.write_all(block.as_slice())
-            .map_err(|_| Refusal::Output)?;
+        write_text(block.as_slice(), out)?;
     }
     Ok(())
 }
@@ -139,10 +144,11 @@ impl LaneText {
         self.count.push_end(lane, end, version, &mut self.last)
     }
 
-    /// Writes the output, and frees its memory.
-    pub fn write<W: Write>(self, out: &mut W) -> Result<(), Refusal>
+    /// Writes the output, and frees its memory. After an error a first part of the output was written.
+    pub fn write<W: Write>(self, out: &mut W) -> Result<(), ToolFault>
         ensures written { OnOk result (Appends (W.contents out.old) (W.contents out.new) self.text) }
-        ensures refusal { IfErr result (λ refusal. refusal ≡ Output) }
+        ensures cut { OnErr result (IsCutOff (W.contents out.old) (W.contents out.new) self.text) }
+        ensures fault { IfErr result (λ fault. fault ≡ ToolFault.Write) }
     {
         let LaneText {
             blocks,
@@ -150,7 +156,7 @@ impl LaneText {
             count: _,
         } = self;
         write_blocks(blocks, out)?;
-        out.write_all(last.as_slice()).map_err(|_| Refusal::Output)?;
+        write_text(last.as_slice(), out)?;
         Ok(())
     }
 }
