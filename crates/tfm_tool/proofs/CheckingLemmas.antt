@@ -7,8 +7,11 @@ use Rattle.std.specs.Str.{bytes_eq}
 use Rattle.std.specs.Io.KnownBytes.{Appends, Keeps}
 use Rattle.font_texts.specs.declared.finding.Finding.{Finding}
 use Rattle.font_texts.specs.declared.finding.Finding.TheVariants.{Accepted, Refused, NotRead}
-use Rattle.font_texts.specs.Findings.{finding_line, findings_text}
-use Rattle.tfm_tool.specs.Checking.{AreChecked, IsFound, IsRowOf, dashes_in, finding_status}
+use Rattle.font_texts.specs.Findings.{finding_line, finding_of, finding_with, findings_text}
+use Rattle.run_texts.specs.CutOff.{IsCutOff}
+use Rattle.run_texts.proofs.CutLemmas.{cut_after}
+use Rattle.tfm_tool.specs.Checking.{AreChecked, AreCheckedInPart, IsFound, IsRowOf, dashes_in, finding_status}
+use Rattle.tfm_tool.specs.Kept.{HaveSameFont}
 use Rattle.tfm_tool.specs.Named.{font_bytes_of}
 use Rattle.tfm_tool.proofs.JobLemmas.{place_more}
 
@@ -21,6 +24,18 @@ appends_more None w' w'' a b first next = tt
 appends_more (Some xs) None w'' a b first next = elim first [ ]
 appends_more (Some xs) (Some ys) None a b first next = elim next [ ]
 appends_more (Some xs) (Some ys) (Some zs) a b first next = next ∙ (ap (λ l. l ++ b) first ∙ append_assoc xs a b)
+
+-- ---- the finding of a font
+
+-- the finding for the bytes that are kept of a font is one for the whole file
+pub found_in : (known : Option (List ℕ)) (bytes : List ℕ) → IfSome known (λ all. HaveSameFont bytes all) → IfSome known (λ all. IsFound all (finding_of bytes))
+found_in None bytes same = tt
+found_in (Some all) bytes same = inl (ap finding_with same.fault)
+
+-- that a font wasn't read is one for any file
+pub unread_found : (known : Option (List ℕ)) → IfSome known (λ all. IsFound all NotRead)
+unread_found None = tt
+unread_found (Some all) = inr refl
 
 -- ---- the rows of fonts
 
@@ -43,6 +58,20 @@ module _ (known : List ℕ → Option (List ℕ)) (input : Option (List ℕ)) wh
             (appends_more w w' w'' (findings_text before.0) (finding_line row) before.2 line),
         ap (λ s. max s (finding_status finding)) before.3
             ∙ sym (fold-append (λ highest row. max highest (finding_status row.1)) 0 before.0 (row ∷ [])),
+      )
+
+  -- one font more of whose line a first part was written
+  pub one_in_part : (names : List (Bor (List ℕ))) (i : ℕ) (d : Bor (List ℕ)) (finding : Finding) (w w' w'' : Option (List ℕ)) (status : ℕ)
+      → i < length names → AreChecked known input (take i names) w w' status
+      → IfSome (font_bytes_of known input (get_or names i d).now) (λ all. IsFound all finding)
+      → IsCutOff w' w'' (finding_line ((get_or names i d).now, finding))
+      → AreCheckedInPart known input (take (i + 1) names) w w''
+  one_in_part names i d finding w w' w'' status within before found cut =
+      let row : List ℕ × Finding = ((get_or names i d).now, finding) in (
+        before.0 ++ row ∷ [],
+        place_more (IsRowOf known input) names before.0 i (get_or names i d) row within (get_or_default names i d (get_or names i d) within) before.1 (refl, found),
+        subst (IsCutOff w w'') (flat_map_more finding_line [] before.0 row)
+            (cut_after w w' w'' (findings_text before.0) (finding_line row) before.2 cut),
       )
 
 -- ---- standard input, which at most one name asks for

@@ -1,6 +1,6 @@
 -- Lemmas on the errors of the texts of fonts.
-use Rattle.std.proofs.Common.{rules, ◌≡◌, ℕ, List, Option, Some, None, Result, Ok, Err, refl, ap, ◌∙◌}
-use Rattle.std.specs.Prelude.{OnOk}
+use Rattle.std.proofs.Common.{rules, ◌≡◌, ℕ, List, Option, Some, None, Result, Ok, Err, refl, ap, subst, ◌∙◌}
+use Rattle.std.specs.Prelude.{OnErr, OnOk}
 use Rattle.std.specs.Result.{IsErrAnd}
 use Rattle.font_texts.specs.CountsText.{IsHeadRefusalOf, head_fault_of}
 use Rattle.tfm_tables.specs.Acceptance.{font_fault_of}
@@ -9,7 +9,7 @@ use Rattle.tfm_tables.specs.declared.fault.FontFault.{FontFault}
 use Rattle.tfm_tables.specs.declared.fault.FontFault.TheVariants.{OutOfMemory as NoRoom}
 use Rattle.run_texts.specs.Refusals.{fault_of_font}
 use Rattle.run_texts.specs.declared.fault.ToolFault.{ToolFault}
-use Rattle.run_texts.specs.declared.fault.ToolFault.TheVariants.{Font, Run}
+use Rattle.run_texts.specs.declared.fault.ToolFault.TheVariants.{Font, Run, Write}
 use Rattle.set_run.specs.declared.run_fault.RunFault.{RunFault}
 
 -- an error is the first one of a font, or that an allocation failed if it has none
@@ -36,6 +36,19 @@ first_is first fault f is has = search rules
 not_of_run : (fault : FontFault) (f : RunFault) → fault_of_font fault ≡ Run f → ⊥
 not_of_run NoRoom f is = absurd (search rules)
 not_of_run fault f is = absurd (search rules)
+
+not_of_write : (fault : FontFault) → fault_of_font fault ≡ Write → ⊥
+not_of_write NoRoom is = absurd (search rules)
+not_of_write fault is = absurd (search rules)
+
+-- no call hands such an error on as one of the writer
+pub told_no_write : {A : Type 0} (fault : FontFault) (r : Result A ToolFault) → IsErrAnd r (λ told. told ≡ fault_of_font fault) → r ≡ Err Write → ⊥
+told_no_write fault (Ok a) tells was = absurd (search rules)
+told_no_write fault (Err told) tells was = not_of_write fault (search rules)
+
+-- what holds after any error
+pub of_err : {A E : Type 0} (r : Result A E) (fault : E) (P : Type 0) → r ≡ Err fault → OnErr r P → P
+of_err r fault P was holds = subst (λ told. OnErr told P) was holds
 
 -- what a call that hands such an error on returns
 module _ {A : Type 0} (first : Option FontFault) (fault : FontFault) (is : IsFirst first fault) where

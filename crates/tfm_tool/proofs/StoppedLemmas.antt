@@ -4,19 +4,25 @@ use Rattle.std.proofs.lemmas.Bool.{true≢false}
 use Rattle.std.specs.Prelude.{Result, Ok, Err, IfErr}
 use Rattle.std.specs.Result.{IsErrAnd}
 use Rattle.std.specs.Io.KnownBytes.{Keeps}
+use Rattle.std.specs.List.{AllZip}
 use Rattle.std.specs.declared.alloc.Global.{Global}
 use Rattle.std.specs.declared.sync.Arc.{Arc}
 use Rattle.set_line.specs.Terms.{TermsValue}
 use Rattle.line_blocks.specs.BlockText.{RecordStyle}
 use Rattle.line_lane.specs.declared.fault.SourceFault.{SourceFault}
+use Rattle.set_run.specs.Reports.{AreReported, IsReported}
+use Rattle.set_run.specs.declared.report.LaneReport.{LaneReport}
 use Rattle.set_run.specs.declared.run_end.ClosedLane.{ClosedLane}
+use Rattle.run_texts.specs.CutOff.{IsCutOff}
+use Rattle.run_texts.specs.ReportText.{run_text}
+use Rattle.run_texts.specs.Setting.{AreOwnReports}
 use Rattle.run_texts.specs.Streaming.{AreOfSources, HaveCome, IsCutAtLine, IsCutShort, IsPartOfMerge, SourceLine, with_own_terms}
 use Rattle.run_texts.specs.declared.fault.ToolFault.{ToolFault}
 use Rattle.run_texts.specs.declared.fault.ToolFault.TheVariants.{Font, OutOfMemory, Write}
 use Rattle.tfm_tables.specs.declared.fault.FontFault.{FontFault}
 use Rattle.tfm_tool.specs.Jobs.{told_with_terms}
 use Rattle.tfm_tool.specs.Status.{failure_of, is_before_batch, is_before_files, status_of}
-use Rattle.tfm_tool.specs.Stopped.{IsBroken, IsHalted, with_settings}
+use Rattle.tfm_tool.specs.Stopped.{IsBroken, IsHalted, IsPrintedInPart, with_settings}
 use Rattle.tfm_tool.specs.Told.{Told, told_by}
 use Rattle.tfm_tool.specs.declared.delivery.Delivery.{Delivery}
 use Rattle.tfm_tool.specs.declared.delivery.Delivery.TheVariants.{AtTheEnd, AsTheyCome}
@@ -24,6 +30,7 @@ use Rattle.tfm_tool.specs.declared.failure.Failure.{Failure}
 use Rattle.tfm_tool.specs.declared.failure.Failure.TheVariants.{Tool}
 use Rattle.tfm_tool.specs.declared.files.ReadFault.{ReadFault}
 use Rattle.tfm_tool.specs.declared.files.ReadFault.TheVariants.{NotRead as Unread, OutOfMemory as NoRoom}
+use Rattle.tfm_tool.proofs.SourceLemmas.{same_text, told_report}
 
 -- ---- failures that are handed on
 
@@ -103,6 +110,34 @@ module _ {S : Type 0} (to_come : S → Option (List (List ℕ))) (failed : S →
   short_as_told style sources w w' (lines, written, unwritten, part, both, appended) =
       (lines, written, unwritten, part_as_told style sources lines part, both, appended)
 
+  -- the reports of sources, each with its own settings in front
+  reported_in_front : (sources : List (S × Arc TermsValue Global)) (reports : List (LaneReport S)) → AreReported to_come failed sources reports
+      → AllZip (λ source report. IsReported to_come failed source.0 source.1 report) (with_own_terms sources) reports
+  reported_in_front [] [] are = tt
+  reported_in_front [] (r ∷ reports) are = elim are [ ]
+  reported_in_front (s ∷ sources) [] are = elim are [ ]
+  reported_in_front (s ∷ sources) (r ∷ reports) are = (are.0, reported_in_front sources reports are.1)
+
+  -- a first part of the output that is written at the end
+  pub own_in_part : {O : Type 0} (origin : S → O) (style : RecordStyle) (sources : List (S × Arc TermsValue Global)) (w w' : Option (List ℕ))
+      → ((reports : List (LaneReport S)) × AreOwnReports to_come failed origin sources reports × IsCutOff w w' (run_text style reports))
+      → IsPrintedInPart to_come failed style (with_own_terms sources) w w'
+  own_in_part origin style sources w w' (reports, own, cut) = (reports, reported_in_front sources reports own.0, cut)
+
+  told_in_front : (sources : List (S × Arc TermsValue Global)) (reports : List (LaneReport S))
+      → AllZip (λ source report. IsReported to_come failed source.0 source.1 report) (with_own_terms sources) reports
+      → AllZip (λ source report. IsReported (λ told. told.lines) (λ told. told.fault) source.0 source.1 report) (told_sources sources) (map (told_report to_come failed) reports)
+  told_in_front [] [] are = tt
+  told_in_front [] (r ∷ reports) are = elim are [ ]
+  told_in_front (s ∷ sources) [] are = elim are [ ]
+  told_in_front (s ∷ sources) (r ∷ reports) are = (are.0, told_in_front sources reports are.1)
+
+  in_part_as_told : (style : RecordStyle) (sources : List (S × Arc TermsValue Global)) (w w' : Option (List ℕ))
+      → IsPrintedInPart to_come failed style (with_own_terms sources) w w'
+      → IsPrintedInPart (λ told. told.lines) (λ told. told.fault) style (told_sources sources) w w'
+  in_part_as_told style sources w w' (reports, are, cut) =
+      (map (told_report to_come failed) reports, told_in_front sources reports are, subst (IsCutOff w w') (sym (same_text to_come failed style reports)) cut)
+
   -- what a batch had written, by what its sources tell
   pub halted_as_told : (delivery : Delivery) (style : RecordStyle) (sources : List (S × Arc TermsValue Global)) (w w' : Option (List ℕ))
       → IsHalted to_come failed delivery style (with_own_terms sources) w w'
@@ -113,7 +148,7 @@ module _ {S : Type 0} (to_come : S → Option (List (List ℕ))) (failed : S →
   pub broken_as_told : (delivery : Delivery) (style : RecordStyle) (sources : List (S × Arc TermsValue Global)) (w w' : Option (List ℕ))
       → IsBroken to_come failed delivery style (with_own_terms sources) w w'
       → IsBroken (λ told. told.lines) (λ told. told.fault) delivery style (told_sources sources) w w'
-  broken_as_told AtTheEnd style sources w w' is = tt
+  broken_as_told AtTheEnd style sources w w' is = in_part_as_told style sources w w' is
   broken_as_told AsTheyCome style sources w w' is = short_as_told style sources w w' is
 
 -- ---- the end of a batch

@@ -1,9 +1,12 @@
 -- Words, fonts and files, and what the definitions alone make of them.
-use Rattle.std.proofs.Common.{false, arith, ◌≡◌, ℕ, ◌<◌, ◌≤◌, List, [], ◌∷◌, length, Option, Some, Bor, codes, refl, sym, subst}
+use Rattle.std.proofs.Common.{false, arith, ◌≡◌, ℕ, ◌<◌, ◌≤◌, List, [], ◌∷◌, length, Option, Some, None, inr, Bor, codes, refl, sym, subst}
 use Rattle.std.proofs.lemmas.Bool.{true≢false}
 use Rattle.tfm_words.specs.CountFaults.{faults_within}
 use Rattle.tfm_words.specs.declared.count_fault.CountFault.TheVariants.{Truncated}
 use Rattle.tfm_tables.specs.declared.fault.FontFault.TheVariants.{Counts as InCounts}
+use Rattle.font_texts.specs.Findings.{finding_line, finding_words}
+use Rattle.font_texts.specs.ListingWords.{escaped}
+use Rattle.font_texts.specs.declared.finding.Finding.TheVariants.{NotRead}
 use Rattle.run_texts.specs.declared.fault.ToolFault.TheVariants.{Font}
 use Rattle.command_line.specs.declared.request.Checking.{Checking}
 use Rattle.command_line.specs.declared.request.Layout.{Layout}
@@ -13,6 +16,7 @@ use Rattle.tfm_tool.specs.Checking.{dashes_in}
 use Rattle.tfm_tool.specs.Faults.{IsFaultOf, IsFontFaultOf}
 use Rattle.tfm_tool.specs.FontFaults.{IsFirstRefused}
 use Rattle.tfm_tool.specs.Jobs.{IsFaultOfWords, IsLimitOf, WritesLimit, jobs_in}
+use Rattle.tfm_tool.specs.Stopped.{HasBroken, IsCheckBroken}
 use Rattle.tfm_tool.specs.declared.failure.Failure.TheVariants.{NotInThrees, TooManyFiles, LimitRange, TwoFonts, FontRefused, Tool}
 use Rattle.tfm_tool.proofs.WordLemmas.{limit_of_one}
 
@@ -78,3 +82,12 @@ first_of_two : (layout : Layout) → IsFirstRefused (λ _. Some []) layout
     (jobs_in (word (codes "a") ∷ word (codes "1") ∷ word (codes "b") ∷ word (codes "c") ∷ word (codes "1") ∷ word (codes "d") ∷ [])) (FontRefused 1 (InCounts (Truncated 24)))
 unfolding faults_within
 first_of_two layout = ([], record { font = codes "a"; limit = 1; file = codes "b" }, record { font = codes "c"; limit = 1; file = codes "d" } ∷ [], refl, λ k d below. absurd (omega (arith, below)), (refl, refl))
+
+-- ---- a failed write
+
+-- of the line of a font that wasn't read, five bytes were written
+cut_line : (asked : Checking) → asked.fonts.items ≡ word (codes "a") ∷ [] → HasBroken (λ _. None) None (Some []) (Some (codes "a: no")) (Check asked)
+unfolding finding_line finding_words escaped
+cut_line asked is =
+    subst (IsCheckBroken (λ _. None) None (Some []) (Some (codes "a: no"))) (sym is)
+    (inr (1, ((codes "a", NotRead) ∷ [], ((refl, tt), tt), (5, omega arith, refl))))

@@ -2,9 +2,11 @@
 ghost use Rattle.std.specs.Prelude.{◌≡◌, ◌≢◌, ◌<◌, ◌≤◌, ◌⊎◌, ℕ, true, false, [], ◌∷◌, codes, max, take, Contains, Err, IfErr, IfOk, IfSome};
 ghost use Rattle.std.specs.Io.KnownBytes.{Appends};
 ghost use Rattle.font_texts.specs.Findings.{finding_line};
-ghost use Rattle.tfm_tool.specs.Checking.{AreChecked, IsFound, dashes_in, finding_status};
+ghost use Rattle.run_texts.specs.CutOff.{IsCutOff};
+ghost use Rattle.tfm_tool.specs.Checking.{AreChecked, AreCheckedInPart, IsFound, dashes_in, finding_status};
 ghost use Rattle.tfm_tool.specs.Faults.{IsFaultOfCheck};
 ghost use Rattle.tfm_tool.specs.Named.{font_bytes_of};
+ghost use Rattle.tfm_tool.specs.Stopped.{IsCheckBroken};
 ghost use Rattle.tfm_tool.specs.Status.{AfterText, BeforeText, is_after_text, is_without_text, status_of};
 ghost use Rattle.tfm_tool.specs.declared.failure.Failure.TheVariants.{FileNotOpened, FontNotRead, SomeFontNotRead, Tool, TwoFonts};
 ghost use Rattle.run_texts.specs.declared.fault.ToolFault.TheVariants.{OutOfMemory, Run, Write as Unwritten};
@@ -55,6 +57,8 @@ where
     ensures memory { result ≡ Err (Tool OutOfMemory)
         → (count : ℕ) × (status : ℕ) × AreChecked (F.known files.now) (I.remaining input.old)
         (take count asked.now.fonts.items) (O.contents out.old) (O.contents out.new) status }
+    ensures write { result ≡ Err (Tool Unwritten) → IsCheckBroken (F.known files.now) (I.remaining input.old)
+        (O.contents out.old) (O.contents out.new) asked.now.fonts.items }
 {
     if dashes(asked.fonts.as_slice()) > 1 {
         return Err(Failure::TwoFonts);
@@ -99,6 +103,9 @@ where
     ensures memory { result ≡ Err (Tool OutOfMemory) → dashes_in asked.now.fonts.items ≤ 1
         → (count : ℕ) × (status : ℕ) × AreChecked (F.known files.now) (I.remaining input.old)
         (take count asked.now.fonts.items) (O.contents out.old) (O.contents out.new) status }
+    ensures write { result ≡ Err (Tool Unwritten) → dashes_in asked.now.fonts.items ≤ 1
+        → (count : ℕ) × AreCheckedInPart (F.known files.now) (I.remaining input.old)
+        (take count asked.now.fonts.items) (O.contents out.old) (O.contents out.new) }
 {
     let mut highest = 0;
     for name in &asked.fonts {
@@ -134,7 +141,7 @@ struct Checked<'a> {
 }
 
 /// Checks a font, writes the line of the finding, and returns the finding. The error is that an allocation or
-/// the writer failed.
+/// the writer failed. If the writer failed, a first part of the line was written.
 fn check_one<F, I, O>(
     alloc: Global,
     files: &F,
@@ -156,6 +163,10 @@ where
     ensures fault { IfErr result (λ failure. is_after_text failure ≡ false) }
     ensures which { IfErr result (λ failure. (failure ≡ Tool OutOfMemory) ⊎ (failure ≡ Tool Unwritten)) }
     ensures memory { result ≡ Err (Tool OutOfMemory) → out.new ≡ out.old }
+    ensures write { result ≡ Err (Tool Unwritten) → (finding : Finding)
+        × IfSome (font_bytes_of (F.known files.now) (I.remaining input.old) font.now.name.now)
+        (λ all. IsFound all finding)
+        × IsCutOff (O.contents out.old) (O.contents out.new) (finding_line (font.now.name.now, finding)) }
 {
     match font_bytes(alloc, files, font.name, input) {
         Ok(bytes) => {

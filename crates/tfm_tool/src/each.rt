@@ -7,8 +7,8 @@ ghost use Rattle.tfm_tool.specs.Jobs.{IsFaultOfWords, IsSourceOfJob, jobs_in, to
 ghost use Rattle.tfm_tool.specs.Opening.{IsFirstUnopened};
 ghost use Rattle.tfm_tool.specs.Requests.{IsEachSet};
 ghost use Rattle.tfm_tool.specs.Status.{AfterText, BeforeText, is_after_text, is_before_batch, is_before_files, is_without_text};
-ghost use Rattle.tfm_tool.specs.Stopped.{IsEachUntil, IsStopped};
-ghost use Rattle.run_texts.specs.declared.fault.ToolFault.TheVariants.{OutOfMemory, Run};
+ghost use Rattle.tfm_tool.specs.Stopped.{IsEachUntil, IsStopped, IsUnwritten};
+ghost use Rattle.run_texts.specs.declared.fault.ToolFault.TheVariants.{OutOfMemory, Run, Write as Unwritten};
 ghost use Rattle.set_run.specs.declared.run_fault.RunFault.{RunFault};
 ghost use Rattle.tfm_tool.specs.declared.delivery.Delivery.TheVariants.{AtTheEnd};
 ghost use Rattle.tfm_tool.specs.declared.failure.Failure.TheVariants.{FileNotOpened, FontNotRead, Tool};
@@ -82,6 +82,8 @@ where
     ensures run { (fault : RunFault) → result ≡ Err (Tool (Run fault)) → out.new ≡ out.old }
     ensures memory { result ≡ Err (Tool OutOfMemory) → Keeps (O.contents out.old) (O.contents out.new)
         ⊎ IsEachUntil (F.known files.now) (O.contents out.old) (O.contents out.new) (IsStopped AtTheEnd) asked.now }
+    ensures write { result ≡ Err (Tool Unwritten) → IsEachUntil (F.known files.now)
+        (O.contents out.old) (O.contents out.new) (IsUnwritten AtTheEnd) asked.now }
     ensures unread { (n : ℕ) → result ≡ Err (FontNotRead n)
         → IsFirstUnread (F.known files.now) asked.now.layout (jobs_in asked.now.words.items) n }
     ensures file { (n : ℕ) → result ≡ Err (FileNotOpened n)

@@ -1,5 +1,5 @@
-//! Writes output about a font: the texts of `font_texts`, each with one call of `write_all`.
-ghost use Rattle.std.specs.Prelude.{◌≡◌, ◌≢◌, ◌↔◌, ◌⊎◌, Some, Err, IfErr, IfOk, OnOk};
+//! Writes output about a font: the texts of `font_texts`, each in one piece.
+ghost use Rattle.std.specs.Prelude.{◌≡◌, ◌≢◌, ◌↔◌, ◌⊎◌, None, Some, Err, IfErr, IfOk, OnErr, OnOk};
 ghost use Rattle.std.specs.Io.KnownBytes.{Appends};
 ghost use Rattle.font_texts.specs.AllListing.{all_listing_of};
 ghost use Rattle.font_texts.specs.CountsText.{counts_text_of, head_fault_of};
@@ -9,6 +9,7 @@ ghost use Rattle.font_texts.specs.PairCharacters.{pairs_text_with};
 ghost use Rattle.tfm_tables.specs.Acceptance.{font_fault_of};
 ghost use Rattle.tfm_tables.specs.declared.fault.FontFault.{FontFault};
 ghost use Rattle.tfm_tables.specs.Font.{FontValue, IsFontOf};
+ghost use Rattle.run_texts.specs.CutOff.{IsCutOff};
 ghost use Rattle.set_run.specs.declared.run_fault.RunFault.{RunFault};
 
 use font_texts::{Finding, PairsLayout};
@@ -18,24 +19,27 @@ use std::io::Write;
 use tfm_tables::Font;
 use tfm_words::Size;
 
-/// Writes a text with one call of `write_all`.
+/// Writes a text, and frees it.
 fn write_text<W: Write>(text: Vec<u8>, out: &mut W) -> Result<(), ToolFault>
     ensures text { OnOk result (Appends (W.contents out.old) (W.contents out.new) text.items) }
+    ensures cut { OnErr result (IsCutOff (W.contents out.old) (W.contents out.new) text.items) }
     ensures fault { IfErr result (λ fault. fault ≡ ToolFault.Write) }
 {
-    out.write_all(text.as_slice()).map_err(|_| ToolFault::Write)
+    run_texts::write_text(text.as_slice(), out)
 }
 
 /// Writes the twelve counts and the design size of a font, one per line, as `font_texts::counts_text` returns
 /// them. The error is `Font`, with the first error, exactly if the counts or the design size have an error.
-/// Otherwise it is `OutOfMemory` if an allocation fails, or `Write` if the writer fails. After an error other
-/// than `Write`, `out` is unchanged.
+/// Otherwise it is `OutOfMemory` if an allocation fails, or `Write` if the writer fails. After `Write` a first
+/// part of the text was written, but not all of it; after any other error, `out` is unchanged.
 pub fn counts_text<W: Write>(alloc: Global, bytes: &[u8], out: &mut W) -> Result<(), ToolFault>
     ensures text { OnOk result
         (Appends (W.contents out.old) (W.contents out.new) (counts_text_of bytes.now)) }
     ensures font { (f : FontFault) →
         (result ≡ Err (ToolFault.Font f)) ↔ (head_fault_of bytes.now ≡ Some f) }
     ensures untouched { IfErr result (λ fault. fault ≢ ToolFault.Write → out.new ≡ out.old) }
+    ensures write { result ≡ Err ToolFault.Write → (head_fault_of bytes.now ≡ None)
+        × IsCutOff (W.contents out.old) (W.contents out.new) (counts_text_of bytes.now) }
     ensures run { (f : RunFault) → result ≢ Err (ToolFault.Run f) }
 {
     let text = font_texts::counts_text(alloc, bytes)?;
@@ -43,12 +47,15 @@ pub fn counts_text<W: Write>(alloc: Global, bytes: &[u8], out: &mut W) -> Result
 }
 
 /// Writes the listing of a font, as `font_texts::list_text` returns it. The error is `OutOfMemory` if an
-/// allocation fails, with `out` unchanged, or `Write` if the writer fails.
+/// allocation fails, with `out` unchanged, or `Write` if the writer fails: a first part of the listing was then
+/// written, but not all of it.
 pub fn list_text<W: Write>(alloc: Global, font: &Font, out: &mut W) -> Result<(), ToolFault>
     ensures text { OnOk result
         (Appends (W.contents out.old) (W.contents out.new) (listing_of font.now)) }
     ensures fault { IfErr result (λ fault.
         ((fault ≡ ToolFault.OutOfMemory) × (out.new ≡ out.old)) ⊎ (fault ≡ ToolFault.Write)) }
+    ensures write { result ≡ Err ToolFault.Write
+        → IsCutOff (W.contents out.old) (W.contents out.new) (listing_of font.now) }
 {
     let text = font_texts::list_text(alloc, font)?;
     write_text(text, out)
@@ -68,6 +75,8 @@ pub(crate) fn list_file_text<W: Write>(
     ensures refused { (f : FontFault) → font_fault_of bytes.now ≡ Some f
         → result ≡ Err (ToolFault.Font f) }
     ensures untouched { IfErr result (λ fault. fault ≢ ToolFault.Write → out.new ≡ out.old) }
+    ensures write { result ≡ Err ToolFault.Write → (f : FontValue) × IsFontOf bytes.now size f
+        × IsCutOff (W.contents out.old) (W.contents out.new) (listing_of f) }
     ensures run { (f : RunFault) → result ≢ Err (ToolFault.Run f) }
 {
     let text = font_texts::list_file_text(alloc, bytes, size)?;
@@ -77,7 +86,8 @@ pub(crate) fn list_file_text<W: Write>(
 /// Reads a font at `size`, or at its design size for `None`, and writes its full listing, as
 /// `font_texts::list_all_text` returns it. The error is `Font`, with the first font error, exactly if the
 /// font isn't accepted. Otherwise it is `OutOfMemory` if an allocation fails, or `Write` if the writer fails.
-/// After an error other than `Write`, `out` is unchanged.
+/// After `Write` a first part of the listing was written, but not all of it; after any other error, `out` is
+/// unchanged.
 pub fn list_all_text<W: Write>(
     alloc: Global,
     bytes: &[u8],
@@ -90,6 +100,8 @@ pub fn list_all_text<W: Write>(
     ensures refused { (f : FontFault) → font_fault_of bytes.now ≡ Some f
         → result ≡ Err (ToolFault.Font f) }
     ensures untouched { IfErr result (λ fault. fault ≢ ToolFault.Write → out.new ≡ out.old) }
+    ensures write { result ≡ Err ToolFault.Write → (f : FontValue) × IsFontOf bytes.now size f
+        × IsCutOff (W.contents out.old) (W.contents out.new) (all_listing_of f) }
     ensures run { (f : RunFault) → result ≢ Err (ToolFault.Run f) }
 {
     let text = font_texts::list_all_text(alloc, bytes, size)?;
@@ -112,6 +124,9 @@ pub fn pairs_text<W: Write>(
     ensures refused { (f : FontFault) → font_fault_of bytes.now ≡ Some f
         → result ≡ Err (ToolFault.Font f) }
     ensures untouched { IfErr result (λ fault. fault ≢ ToolFault.Write → out.new ≡ out.old) }
+    ensures write { result ≡ Err ToolFault.Write → (f : FontValue) × IsFontOf bytes.now size f
+        × IsCutOff (W.contents out.old) (W.contents out.new)
+        (pairs_text_with layout.encoding layout.format f) }
     ensures run { (f : RunFault) → result ≢ Err (ToolFault.Run f) }
 {
     let text = font_texts::pairs_text(alloc, bytes, size, layout)?;
@@ -120,7 +135,7 @@ pub fn pairs_text<W: Write>(
 
 /// Reads a font at `size`, or at its design size for `None`, writes the line of the finding, and returns the
 /// finding. A refused font isn't an error. The error is `OutOfMemory` if an allocation fails, with `out`
-/// unchanged, or `Write` if the writer fails.
+/// unchanged, or `Write` if the writer fails: a first part of the line was then written, but not all of it.
 pub fn check_text<W: Write>(
     alloc: Global,
     name: &str,
@@ -133,6 +148,8 @@ pub fn check_text<W: Write>(
     ensures found { IfOk result (λ finding. finding ≡ finding_of bytes.now) }
     ensures fault { IfErr result (λ fault.
         ((fault ≡ ToolFault.OutOfMemory) × (out.new ≡ out.old)) ⊎ (fault ≡ ToolFault.Write)) }
+    ensures write { result ≡ Err ToolFault.Write
+        → IsCutOff (W.contents out.old) (W.contents out.new) (finding_line (name.now, finding_of bytes.now)) }
 {
     let (finding, line) = font_texts::check_text(alloc, name, bytes, size)?;
     write_text(line, out)?;
@@ -140,7 +157,8 @@ pub fn check_text<W: Write>(
 }
 
 /// Writes the line of a font with this name and this finding. The error is `OutOfMemory` if an allocation
-/// fails, with `out` unchanged, or `Write` if the writer fails.
+/// fails, with `out` unchanged, or `Write` if the writer fails: a first part of the line was then written, but
+/// not all of it.
 pub fn finding_text<W: Write>(
     alloc: Global,
     name: &str,
@@ -151,6 +169,8 @@ pub fn finding_text<W: Write>(
         (Appends (W.contents out.old) (W.contents out.new) (finding_line (name.now, finding))) }
     ensures fault { IfErr result (λ fault.
         ((fault ≡ ToolFault.OutOfMemory) × (out.new ≡ out.old)) ⊎ (fault ≡ ToolFault.Write)) }
+    ensures write { result ≡ Err ToolFault.Write
+        → IsCutOff (W.contents out.old) (W.contents out.new) (finding_line (name.now, finding)) }
 {
     let line = font_texts::finding_text(alloc, name, finding)?;
     write_text(line, out)

@@ -2,6 +2,7 @@ ghost use Rattle.std.specs.Prelude.{◌≡◌, ◌≢◌, ◌⊎◌, ◌<◌, �
 ghost use Rattle.std.specs.Io.KnownBytes.{Appends, Keeps};
 ghost use Rattle.std.specs.IoError.{error_kind};
 ghost use Rattle.clap.specs.Words.{kind_of};
+ghost use Rattle.run_texts.specs.CutOff.{IsCutOff};
 ghost use Rattle.set_run.specs.declared.run_fault.RunFault.{RunFault};
 ghost use Rattle.tfm_tables.specs.Acceptance.{font_fault_of};
 ghost use Rattle.tfm_tables.specs.Font.{FontValue, IsFontOf};
@@ -14,7 +15,7 @@ ghost use Rattle.tfm_tool.specs.Opening.{IsFirstUnopened, file_names_of};
 ghost use Rattle.tfm_tool.specs.Requests.{ArePairsTold, CountsAreTold, IsDone, IsListed, list_text_of};
 ghost use Rattle.tfm_tool.specs.Served.{IsServed, IsTurnedDown, IsTurnedDownBy, is_answer, is_usage};
 ghost use Rattle.tfm_tool.specs.declared.failure.Failure.TheVariants.{FileNotOpened, FontNotRead, Tool, Usage};
-ghost use Rattle.tfm_tool.specs.Stopped.{HasBroken, HasStopped};
+ghost use Rattle.tfm_tool.specs.Stopped.{AreCountsInPart, ArePairsInPart, HasBroken, HasStopped, IsListedInPart};
 ghost use Rattle.tfm_tool.specs.Verbose.{IsVerbose};
 ghost use Rattle.tfm_tool.specs.Warnings.{IsWarned};
 ghost use Rattle.tfm_tool.specs.Status.{AfterText, BeforeText, is_before_files, is_refusal, is_without_text, status_of};
@@ -136,9 +137,9 @@ where
 /// `out` is unchanged after an error with exit status 2 or 3, and if a font of the request wasn't read or a
 /// file wasn't opened (except with `check`, which writes a line for a font that wasn't read). After a failed
 /// allocation, nothing, the whole output, or, with `stream` and `check`, whole lines of its beginning were
-/// written. After a failed thread start nothing was written, and after a failed write of `stream` the beginning
-/// of its output, possibly up to a point within a line. Fonts are read before files are opened: if a font is
-/// refused, the error is never `FileNotOpened`.
+/// written. After a failed thread start nothing was written, and after a failed write the beginning of the
+/// output, possibly up to a point within a line, or, if the last flush failed, all of it. Fonts are read before
+/// files are opened: if a font is refused, the error is never `FileNotOpened`.
 pub fn perform<R, F, I, O>(
     rt: &R,
     files: &F,
@@ -226,6 +227,8 @@ where
     ensures status { IfOk result (λ status. status ≡ 0) }
     ensures untouched { IfErr result (λ failure. is_without_text failure ≡ true → out.new ≡ out.old) }
     ensures memory { result ≡ Err (Tool ToolFault.OutOfMemory) → out.new ≡ out.old }
+    ensures write { result ≡ Err (Tool ToolFault.Write) → AreCountsInPart (F.known files.now)
+        (I.remaining input.old) (O.contents out.old) (O.contents out.new) font.now }
     ensures number { (n : ℕ) → result ≢ Err (FontNotRead n) }
     ensures file { (n : ℕ) → result ≢ Err (FileNotOpened n) }
     ensures run { (fault : RunFault) → result ≢ Err (Tool (ToolFault.Run fault)) }
@@ -267,6 +270,9 @@ where
     ensures status { IfOk result (λ status. status ≡ 0) }
     ensures untouched { IfErr result (λ failure. is_without_text failure ≡ true → out.new ≡ out.old) }
     ensures memory { result ≡ Err (Tool ToolFault.OutOfMemory) → out.new ≡ out.old }
+    ensures write { result ≡ Err (Tool ToolFault.Write) → IsListedInPart (F.known files.now)
+        (I.remaining input.old) (O.contents out.old) (O.contents out.new)
+        listed.now.font.now listed.now.size listed.now.all }
     ensures number { (n : ℕ) → result ≢ Err (FontNotRead n) }
     ensures file { (n : ℕ) → result ≢ Err (FileNotOpened n) }
     ensures run { (fault : RunFault) → result ≢ Err (Tool (ToolFault.Run fault)) }
@@ -289,6 +295,8 @@ fn list_bytes<O: Write>(
     ensures text { OnOk result ((f : FontValue) × IsFontOf bytes.now listed.now.size f
         × Appends (O.contents out.old) (O.contents out.new) (list_text_of listed.now.all f)) }
     ensures untouched { IfErr result (λ fault. fault ≢ ToolFault.Write → out.new ≡ out.old) }
+    ensures write { result ≡ Err ToolFault.Write → (f : FontValue) × IsFontOf bytes.now listed.now.size f
+        × IsCutOff (O.contents out.old) (O.contents out.new) (list_text_of listed.now.all f) }
     ensures font { (f : FontFault) → result ≡ Err (ToolFault.Font f) → font_fault_of bytes.now ≡ Some f }
     ensures run { (f : RunFault) → result ≢ Err (ToolFault.Run f) }
 {
@@ -327,6 +335,9 @@ where
     ensures status { IfOk result (λ status. status ≡ 0) }
     ensures untouched { IfErr result (λ failure. is_without_text failure ≡ true → out.new ≡ out.old) }
     ensures memory { result ≡ Err (Tool ToolFault.OutOfMemory) → out.new ≡ out.old }
+    ensures write { result ≡ Err (Tool ToolFault.Write) → ArePairsInPart (F.known files.now)
+        (I.remaining input.old) (O.contents out.old) (O.contents out.new)
+        asked.now.font.now asked.now.size asked.now.layout }
     ensures number { (n : ℕ) → result ≢ Err (FontNotRead n) }
     ensures file { (n : ℕ) → result ≢ Err (FileNotOpened n) }
     ensures run { (fault : RunFault) → result ≢ Err (Tool (ToolFault.Run fault)) }

@@ -171,6 +171,9 @@ where
     ensures memory { result ≡ Err (Tool OutOfMemory) → Keeps (O.contents out.old) (O.contents out.new)
         ⊎ IsSetUntil (F.known files.now) (I.remaining input.old) (O.contents out.old) (O.contents out.new)
         (IsStopped AtTheEnd) (file_bytes_of (F.known files.now) setting.now.files.items) setting.now }
+    ensures write { result ≡ Err (Tool Unwritten)
+        → IsSetUntil (F.known files.now) (I.remaining input.old) (O.contents out.old) (O.contents out.new)
+        (IsUnwritten AtTheEnd) (file_bytes_of (F.known files.now) setting.now.files.items) setting.now }
 {
     let sources = font_and_files(rt.alloc(), files, setting, input)?;
     set_sources(rt, sources, &setting.layout, Delivery::AtTheEnd, out)

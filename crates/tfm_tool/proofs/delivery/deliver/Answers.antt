@@ -2,7 +2,7 @@ use Rattle.std.proofs.Common.{sym, subst}
 use Rattle.run_texts.specs.Streaming.{with_own_terms}
 use Rattle.tfm_tool.specs.Runs.{layout_style}
 use Rattle.tfm_tool.specs.Stopped.{IsBroken, IsHalted}
-use Rattle.tfm_tool.proofs.StoppedLemmas.{kept_by}
+use Rattle.tfm_tool.proofs.StoppedLemmas.{kept_by, own_in_part}
 use Rattle.tfm_tool.proofs.SourceLemmas.{kept_delivered}
 use Rattle.tfm_tool.proofs.delivery.deliver.Goals as goal
 
@@ -23,7 +23,9 @@ returns-in-AtTheEnd-clause-memory g c = λ is.
 pub returns-in-AtTheEnd-clause-write : goal.returns-in-AtTheEnd-clause-write
 returns-in-AtTheEnd-clause-write g c = λ is.
     subst (λ delivery. IsBroken g.S.LineSource.to_come g.S.LineSource.failed delivery (layout_style c.args.layout.now) (with_own_terms c.args.sources.items)
-    (g.O.Write.contents c.args.out.now) (g.O.Write.contents c.set_each.new.out)) (sym c.in-AtTheEnd.is) tt
+    (g.O.Write.contents c.args.out.now) (g.O.Write.contents c.set_each.new.out)) (sym c.in-AtTheEnd.is)
+    (own_in_part g.S.LineSource.to_come g.S.LineSource.failed g.S.LineSource.origin (layout_style c.args.layout.now) c.args.sources.items
+    (g.O.Write.contents c.args.out.now) (g.O.Write.contents c.set_each.new.out) (c.set_each.ensures.write is))
 
 pub returns-in-AsTheyCome-clause-memory : goal.returns-in-AsTheyCome-clause-memory
 returns-in-AsTheyCome-clause-memory g c = rw c.in-AsTheyCome.is c.stream_each.ensures.memory

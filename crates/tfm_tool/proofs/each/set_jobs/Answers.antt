@@ -1,8 +1,9 @@
-use Rattle.std.proofs.Common.{◌∙◌, Err, ap, inl, inr, map}
+use Rattle.std.proofs.Common.{◌∙◌, Err, ap, inl, inr, map, refl}
 use Rattle.tfm_tool.specs.Jobs.{told_with_terms}
-use Rattle.tfm_tool.specs.declared.failure.Failure.TheVariants.{FileNotOpened, FontNotRead}
+use Rattle.run_texts.specs.declared.fault.ToolFault.TheVariants.{Write}
+use Rattle.tfm_tool.specs.declared.failure.Failure.TheVariants.{FileNotOpened, FontNotRead, Tool}
 use Rattle.tfm_tool.proofs.OrderLemmas.{not_ok, order_handed}
-use Rattle.tfm_tool.proofs.StoppedLemmas.{handed_as, keeps_same}
+use Rattle.tfm_tool.proofs.StoppedLemmas.{handed_as, keeps_same, not_of_batch}
 use Rattle.tfm_tool.proofs.CauseLemmas.{before_none, told_on}
 use Rattle.tfm_tool.proofs.KnownLemmas.{after_map}
 use Rattle.tfm_tool.proofs.ReaderLemmas.{reader_told}
@@ -46,3 +47,11 @@ returns-in_err-sources-clause-file g c = λ n same.
 
 pub returns-clause-file : goal.returns-clause-file
 returns-clause-file g c = λ n same. absurd (c.set_sources.ensures.file n same)
+
+pub returns-in_err-sources-clause-write : goal.returns-in_err-sources-clause-write
+returns-in_err-sources-clause-write g c = λ same.
+    absurd (not_of_batch c.from_residual.result c.in_err-sources.field-0.0 (Tool Write) c.from_residual.ensures.1 c.in_err-sources.ensures.early same refl)
+
+pub returns-clause-write : goal.returns-clause-write
+returns-clause-write g c = λ same.
+    (map (told_with_terms (reader_told g.F.File.Read.remaining)) c.in_ok-sources.sources.items, c.in_ok-sources.ensures.sources, c.set_sources.ensures.write same)

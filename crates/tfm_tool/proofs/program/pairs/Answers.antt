@@ -2,12 +2,16 @@ use Rattle.std.proofs.Common.{◌≡◌, ◌∙◌, Some, Err, ap, refl, subst}
 use Rattle.std.specs.Io.KnownBytes.{Appends}
 use Rattle.font_texts.specs.PairCharacters.{pairs_text_with}
 use Rattle.tfm_tables.specs.Font.{FontValue, IsFontOf}
+use Rattle.run_texts.specs.CutOff.{IsCutOff}
 use Rattle.run_texts.specs.declared.fault.ToolFault.{ToolFault}
+use Rattle.run_texts.specs.declared.fault.ToolFault.TheVariants.{Write}
 use Rattle.tfm_tool.specs.FontFaults.{IsRefusedFont}
 use Rattle.tfm_tool.specs.Named.{font_bytes_of}
+use Rattle.tfm_tool.specs.Status.{failure_of}
 use Rattle.tfm_tool.specs.declared.failure.Failure.TheVariants.{Tool}
 use Rattle.tfm_tool.proofs.KnownLemmas.{of_font}
 use Rattle.tfm_tool.proofs.CauseLemmas.{font_cause, told_cause, tool_cause, unread_later}
+use Rattle.tfm_tool.proofs.StoppedLemmas.{handed_as, not_of_batch, unread_early}
 use Rattle.tfm_tool.proofs.program.pairs.Goals as goal
 
 pub returns-clause-text : goal.returns-clause-text
@@ -30,3 +34,19 @@ returns-in_err-pairs_text-clause-cause g c =
 
 pub returns-in_err-bytes-clause-cause : goal.returns-in_err-bytes-clause-cause
 returns-in_err-bytes-clause-cause g c = unread_later c.from_residual.result c.in_err-bytes.field-0.0 _ c.from_residual.ensures.1
+
+pub returns-in_err-bytes-clause-write : goal.returns-in_err-bytes-clause-write
+returns-in_err-bytes-clause-write g c = λ same.
+    absurd (not_of_batch c.from_residual.result (failure_of c.in_err-bytes.field-0.0) (Tool Write) c.from_residual.ensures.1 (unread_early c.in_err-bytes.field-0.0) same refl)
+
+pub returns-in_err-pairs_text-clause-write : goal.returns-in_err-pairs_text-clause-write
+returns-in_err-pairs_text-clause-write g c = λ same.
+    let before = g.O.Write.contents c.args.out.now in
+    let after = g.O.Write.contents c.pairs_text.new.out in
+    let fault : ToolFault = c.in_err-pairs_text.field-0.0 in
+    let tool : Tool fault ≡ Tool Write = handed_as c.from_residual-in_err-pairs_text.result (Tool fault) (Tool Write) c.from_residual-in_err-pairs_text.ensures.1 same in
+    let is : fault ≡ Write = cc in
+    of_font (font_bytes_of (g.F.Opens.known c.args.files.now) (g.I.Read.remaining c.args.input.now) c.args.asked.now.font.now) c.in_ok-bytes.bytes.items c.args.asked.now.size
+    (λ f. IsCutOff before after (pairs_text_with c.args.asked.now.layout.encoding c.args.asked.now.layout.format f)) c.in_ok-bytes.ensures.bytes
+    (subst (λ b. (f : FontValue) × IsFontOf b c.args.asked.now.size f × IsCutOff before after (pairs_text_with c.args.asked.now.layout.encoding c.args.asked.now.layout.format f)) c.as_slice.ensures.value
+    (c.pairs_text.ensures.write (c.in_err-pairs_text.was ∙ ap Err is)))

@@ -216,7 +216,7 @@ pub returns-in-Counts-clause-write : goal.returns-in-Counts-clause-write
 returns-in-Counts-clause-write g c = λ same.
     let known : List ℕ → Option (List ℕ) = g.F.Opens.known c.args.files.now in
     let input : Option (List ℕ) = g.I.Read.remaining c.args.input.now in
-    subst (HasBroken known input (g.O.Write.contents c.args.out.now) (g.O.Write.contents c.counts.new.out)) (sym c.in-Counts.is) tt
+    subst (HasBroken known input (g.O.Write.contents c.args.out.now) (g.O.Write.contents c.counts.new.out)) (sym c.in-Counts.is) (c.counts.ensures.write same)
 
 pub returns-in-List-clause-run : goal.returns-in-List-clause-run
 returns-in-List-clause-run g c = λ fault same. absurd (c.list.ensures.run fault same)
@@ -228,7 +228,7 @@ pub returns-in-List-clause-write : goal.returns-in-List-clause-write
 returns-in-List-clause-write g c = λ same.
     let known : List ℕ → Option (List ℕ) = g.F.Opens.known c.args.files.now in
     let input : Option (List ℕ) = g.I.Read.remaining c.args.input.now in
-    subst (HasBroken known input (g.O.Write.contents c.args.out.now) (g.O.Write.contents c.list.new.out)) (sym c.in-List.is) tt
+    subst (HasBroken known input (g.O.Write.contents c.args.out.now) (g.O.Write.contents c.list.new.out)) (sym c.in-List.is) (c.list.ensures.write same)
 
 pub returns-in-Pairs-clause-run : goal.returns-in-Pairs-clause-run
 returns-in-Pairs-clause-run g c = λ fault same. absurd (c.pairs.ensures.run fault same)
@@ -240,7 +240,7 @@ pub returns-in-Pairs-clause-write : goal.returns-in-Pairs-clause-write
 returns-in-Pairs-clause-write g c = λ same.
     let known : List ℕ → Option (List ℕ) = g.F.Opens.known c.args.files.now in
     let input : Option (List ℕ) = g.I.Read.remaining c.args.input.now in
-    subst (HasBroken known input (g.O.Write.contents c.args.out.now) (g.O.Write.contents c.pairs.new.out)) (sym c.in-Pairs.is) tt
+    subst (HasBroken known input (g.O.Write.contents c.args.out.now) (g.O.Write.contents c.pairs.new.out)) (sym c.in-Pairs.is) (c.pairs.ensures.write same)
 
 pub returns-in-Check-clause-run : goal.returns-in-Check-clause-run
 returns-in-Check-clause-run g c = λ fault same. absurd (c.check.ensures.run fault same)
@@ -255,7 +255,7 @@ pub returns-in-Check-clause-write : goal.returns-in-Check-clause-write
 returns-in-Check-clause-write g c = λ same.
     let known : List ℕ → Option (List ℕ) = g.F.Opens.known c.args.files.now in
     let input : Option (List ℕ) = g.I.Read.remaining c.args.input.now in
-    subst (HasBroken known input (g.O.Write.contents c.args.out.now) (g.O.Write.contents c.check.new.out)) (sym c.in-Check.is) tt
+    subst (HasBroken known input (g.O.Write.contents c.args.out.now) (g.O.Write.contents c.check.new.out)) (sym c.in-Check.is) (c.check.ensures.write same)
 
 pub returns-in-Set-clause-run : goal.returns-in-Set-clause-run
 returns-in-Set-clause-run g c = c.set_files.ensures.run
@@ -271,7 +271,7 @@ pub returns-in-Set-clause-write : goal.returns-in-Set-clause-write
 returns-in-Set-clause-write g c = λ same.
     let known : List ℕ → Option (List ℕ) = g.F.Opens.known c.args.files.now in
     let input : Option (List ℕ) = g.I.Read.remaining c.args.input.now in
-    subst (HasBroken known input (g.O.Write.contents c.args.out.now) (g.O.Write.contents c.set_files.new.out)) (sym c.in-Set.is) tt
+    subst (HasBroken known input (g.O.Write.contents c.args.out.now) (g.O.Write.contents c.set_files.new.out)) (sym c.in-Set.is) (c.set_files.ensures.write same)
 
 pub returns-in-Stream-clause-run : goal.returns-in-Stream-clause-run
 returns-in-Stream-clause-run g c = c.stream.ensures.run
@@ -303,7 +303,7 @@ pub returns-in-Each-clause-write : goal.returns-in-Each-clause-write
 returns-in-Each-clause-write g c = λ same.
     let known : List ℕ → Option (List ℕ) = g.F.Opens.known c.args.files.now in
     let input : Option (List ℕ) = g.I.Read.remaining c.args.input.now in
-    subst (HasBroken known input (g.O.Write.contents c.args.out.now) (g.O.Write.contents c.set_jobs.new.out)) (sym c.in-Each.is) tt
+    subst (HasBroken known input (g.O.Write.contents c.args.out.now) (g.O.Write.contents c.set_jobs.new.out)) (sym c.in-Each.is) (c.set_jobs.ensures.write same)
 
 pub returns-in-Counts-clause-number : goal.returns-in-Counts-clause-number
 returns-in-Counts-clause-number g c = λ n same. absurd (c.counts.ensures.number n same)
