@@ -10,6 +10,7 @@ import resource
 import socket
 import subprocess
 import sys
+import time
 
 from lib import refuse
 from lib.base import DEMO, PROGRAM, ROOT, Case, output, rows, shared, write
@@ -24,10 +25,15 @@ MB = 1 << 20
 WORDS = b"the office five after all of it affable flow in " * 1400
 LONG_PROGRAM = {"program": [(0, 0, 128, 0)] * 30000 + [(128, 0, 128, 0)], "kerns": [9], "widths": [0, 1 << 20], "first": 0}
 FONTS = {"one program for all": make([(1, 0, 1, 0)] * 256, **LONG_PROGRAM),
-         "one program for one": make([(1, 0, 1, 0)] + [(1, 0, 0, 0)] * 255, **LONG_PROGRAM)}
+         "one program for one": make([(1, 0, 1, 0)] + [(1, 0, 0, 0)] * 255, **LONG_PROGRAM),
+         "same widths": make([(1, 0, 0, 0)] * 256, (0, 1 << 20), params=(0, 1 << 18), first=0)}
+# Lines whose texts, one for the end of each, differ only in the code.
+ENDS = b"".join(bytes((code, 10)) for code in range(100, 256))
 TEXTS = {**FONTS, "20 MB": PIECE * 20, "2 MB": PIECE * 2, "short": b"office\n" * 300000, "aa": b"aa\n" * 10000,
          "ten reads": b"office\r\n" * 5120, "missing": PIECE.replace(b"affable", b"Affable") * 2,
-         "long": (WORDS[:65000] + b"\n") * 60, "usual": (WORDS[:64] + b"\n") * 60000}
+         "uncoded": PIECE.replace(b"affable", "\u20acffable".encode()) * 2,
+         "long": (WORDS[:65000] + b"\n") * 60, "usual": (WORDS[:64] + b"\n") * 60000,
+         "none": b"", "ends": ENDS, "after": ENDS + b"\xff\n" * 400000, "before": b"\xff\n" * 400000 + ENDS}
 STREAM, SET, CHECK = [PROGRAM, "stream", DEMO], [PROGRAM, "set", DEMO], [PROGRAM, "check"]
 LIMITED = [PROGRAM, "stream", "--limit", "100"]
 RATIOS = [
@@ -38,9 +44,11 @@ RATIOS = [
     ("lines of 65,000 bytes, set", [*SET, "long"], 4, [*SET, "usual"]),
     *((f"a limit of 100, operation {op}", [*LIMITED, path_of(f"endless_{op}"), "aa"], 20,
        [*LIMITED, path_of("plain"), "aa"]) for op in (1, 2, 3, 7)),
-    ("one program for all characters", [PROGRAM, "each", *["one program for all", "9", "aa"] * 20], 4,
-     [PROGRAM, "each", *["one program for one", "9", "aa"] * 20]),
+    ("one program for all characters", [PROGRAM, "each", *["one program for all", "9", "none"] * 20], 4,
+     [PROGRAM, "each", *["one program for one", "9", "none"] * 20]),
     *((f"the plain program, {name}", [*STREAM, name], 20, ["plain", name]) for name in ("20 MB", "short")),
+    ("short lines after others with many texts", [PROGRAM, "stream", "same widths", "after"], 4,
+     [PROGRAM, "stream", "same widths", "before"]),
 ]
 
 
@@ -80,7 +88,7 @@ class Times(Case):
 
         Mutants: all earlier records are visited for each record; the rest of a line is read for each word;
         steps beyond the limit are taken; the texts of a font are made for each record; the chain of a program is
-        followed for each character.
+        followed for each character; the cell for the end of a line is made for each line.
         """
         self.need(*["cc"] * ("plain" in other))
         took, little = seconds(command), seconds(other)
@@ -153,6 +161,16 @@ class Requests(Case):
             plain, without = (refuse.execute(named(command), "table", number, timeout=SECONDS) for number in (9, 2))
             self.same("output without the table", True, plain.out == without.out and len(plain.out) > MB)
 
+    # Mutants of line_blocks: lines are set without the table of texts that was made. Of pair_texts: record texts are never made,
+    # or for each line. The records are the same, and so is, in order, the time of a stream. The texts of 129 to 256 cells
+    # take 16,384 bytes, and record texts 8,224.
+    @rows((" ".join(words), words, size, count) for words, size, count in (
+        (["same widths", "ends"], 16384, 1), ([DEMO, "2 MB"], 8224, 0), (["--missing", "skip", DEMO, "missing"], 8224, 1),
+        (["--encoding", "t1", "--missing", "skip", DEMO, "missing"], 8224, 1)))
+    def test_texts(self, words, size, count):
+        """The texts of cells and of single items are made once in a lane, if they are needed."""
+        self.count([PROGRAM, "stream", "--workers", "1", *words], f"bytes{size}", count)
+
     # Mutants of `append_generally` in pair_texts and of set_line: the list of a line isn't used for the next one.
     @rows((" ".join(words), words) for words in (
         ["stream", "--record", "json"], ["stream", "--missing", "skip"], ["stream"]))
@@ -168,18 +186,34 @@ class Requests(Case):
 class Amounts(Case):
     """Writes and address space"""
 
+    def writes(self, words, pause=0):
+        """The sizes of the writes of a command, to a reader that pauses after each of them. The socket keeps the
+        boundaries of messages."""
+        ours, theirs = socket.socketpair(socket.AF_UNIX, socket.SOCK_SEQPACKET)
+        sizes = []
+        with ours, theirs, subprocess.Popen(named(words), stdout=theirs) as child:
+            theirs.close()
+            ours.settimeout(SECONDS)
+            for message in iter(lambda: ours.recv(MB), b""):
+                sizes.append(len(message))
+                time.sleep(pause)
+        self.same("exit status", 0, child.returncode)
+        print(f"{words[1]}: {len(sizes)} writes of {sum(sizes)} bytes")
+        return sizes
+
     @rows((words[1], words, most) for words, most in (
         ([*STREAM, "20 MB"], PIECE.count(b"\n") * 5), ([*SET, "20 MB"], 5000),
         ([PROGRAM, "list", "--all", DEMO], 10)))
     def test_writes(self, words, most):
-        """A socket that keeps the boundaries of messages counts the writes. Mutant: one for each record."""
-        ours, theirs = socket.socketpair(socket.AF_UNIX, socket.SOCK_SEQPACKET)
-        with ours, theirs, subprocess.Popen(named(words), stdout=theirs) as child:
-            theirs.close()
-            ours.settimeout(SECONDS)
-            writes = sum(1 for _ in iter(lambda: ours.recv(MB), b""))
-        print(f"{words[1]}: {writes} writes")
-        self.same("exit status, and few writes", (0, True), (child.returncode, writes < most))
+        """The number of writes. Mutant: one for each record."""
+        self.assertLess(len(self.writes(words)), most)
+
+    # Mutants of `make_room` in run_texts: the buffer of a stream is full if it isn't empty, or has 16 KB. If the reader is
+    # slow, there are always results, so that the stream never writes because it would have to wait.
+    def test_writes_to_a_slow_reader(self):
+        """A stream writes 64 KB at a time to a reader that is slow."""
+        sizes = self.writes([*STREAM, "--block", "8", "2 MB"], pause=0.003)
+        self.assertLess(len(sizes), sum(sizes) / 32768 + 20)
 
     @rows((f"{words[1]}, {most} MB", words, most) for words, most in (
         ([*STREAM, "2 MB"], 200), ([*SET, "2 MB"], 250), ([*SET, "20 MB"], 900), (CHECK + [DEMO] * 2000, 64),

@@ -18,10 +18,11 @@ extern void *__libc_memalign(size_t, size_t);
 static int (*start)(pthread_t *, const pthread_attr_t *, void *(*)(void *), void *);
 static char what[16] = "nothing";
 static long number, on, error, told, asked;
+static size_t size;
 static char *low, *high;
 
 /* The program itself is the first object: where its code lies. */
-static int first(struct dl_phdr_info *info, size_t size, void *unused) {
+static int first(struct dl_phdr_info *info, size_t length, void *unused) {
     for (int i = 0; i < info->dlpi_phnum; i++) {
         if (info->dlpi_phdr[i].p_type != PT_LOAD || !(info->dlpi_phdr[i].p_flags & PF_X)) continue;
         low = (char *) info->dlpi_addr + info->dlpi_phdr[i].p_vaddr;
@@ -34,6 +35,7 @@ __attribute__((constructor)) static void begin(void) {
     start = dlsym(RTLD_NEXT, "pthread_create");
     dl_iterate_phdr(first, 0);
     if (words) sscanf(words, "%15s %ld %ld %ld %ld", what, &number, &on, &error, &told);
+    if (sscanf(what, "bytes%zu", &size) == 1) strcpy(what, "bytes");
 }
 /* Tells the name of what was refused, in a file of its own. */
 static void tell(const char *name) {
@@ -56,11 +58,13 @@ static int gone(void *from, size_t n) {
     return refused("memory", "memory") || (n >= 4096 && refused("large", "memory"));
 }
 #define CALLER __builtin_return_address(0)
-/* A font has a table of 257 rows for pairs, of 512 bytes, and a table of texts has 65,792 cells of two bytes. */
+/* Requests of a number of bytes are `bytes` with this number. A font has a table of 257 rows for pairs, of 512 bytes, and a
+ * table of texts has 65,792 cells of two bytes. */
+static int sized(size_t n) { return n == size && refused("bytes", "memory"); }
 static int table(size_t n) { return n == 131584 && refused("table", "memory"); }
-void *malloc(size_t n) { return gone(CALLER, n) || table(n) ? 0 : __libc_malloc(n); }
+void *malloc(size_t n) { return gone(CALLER, n) || table(n) || sized(n) ? 0 : __libc_malloc(n); }
 void *calloc(size_t n, size_t size) { return gone(CALLER, n * size) ? 0 : __libc_calloc(n, size); }
-void *realloc(void *p, size_t n) { return gone(CALLER, n) ? 0 : __libc_realloc(p, n); }
+void *realloc(void *p, size_t n) { return gone(CALLER, n) || sized(n) ? 0 : __libc_realloc(p, n); }
 void *aligned_alloc(size_t to, size_t n) { return gone(CALLER, n) ? 0 : __libc_memalign(to, n); }
 int posix_memalign(void **p, size_t to, size_t n) {
     if (gone(CALLER, n)) return ENOMEM;
