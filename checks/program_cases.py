@@ -89,6 +89,17 @@ class Verbose(Case):
                 len(re.findall(r"(?m)^\d+:\d+ set |\"width\":", out)), sum(counts[1:]), *counts[1:])
             self.same(command[:3], (wanted, 3000), (err, len(re.findall("(?m)^.*(?: set |refused|width)", out))))
 
+    # Mutant of `Tally` in tfm_tool: 47 bytes are kept. The first record that then isn't counted is that of a refused line
+    # 10,000,000 of source 10 in JSON. A stream of so many lines takes too long with --verbose, so that the number is read.
+    def test_bytes_that_are_kept_of_a_record(self):
+        """The first bytes of a record, which are kept until it is counted, contain its result for all numbers."""
+        text = read("crates/tfm_tool/src/tally.rt")
+        (kept,), words = re.findall(r"^const HEAD: usize = (\d+);$", text, re.M), re.findall(r'self\.\w+, "([\w-]+)"\)', text)
+        self.same("reasons", ["too-long", "encoding", "uncoded", "missing", "steps"], words)
+        for form in ('{{"source":{},"line":{},"refused":"{}', "{}:{} refused {}", '{{"source":{},"line":{},"width":', "{}:{} set "):
+            longest = max(len(form.format(64, (1 << 64) - 1, word)) for word in words)
+            self.assertGreaterEqual(int(kept), longest)
+
 
 PLANS = tuple(itertools.product(("1", "2", "3", "16"), ("1", "3", "8", None), ("1", "16")))
 
