@@ -14,6 +14,7 @@ import select
 import shlex
 import shutil
 import signal
+import subprocess
 import time
 
 from lib.base import (EXAMPLES, PROGRAM, ROOT, Case, bash, copy_for_scripts, environment, execute, files,
@@ -281,15 +282,17 @@ class Build(Case):
     """./tfmset, which builds the program if necessary"""
 
     # Mutants: a program that exists is never built again; after a failed build the old program is run; the time of the
-    # program is that of the end of the build.
+    # program is that of the end of the build; concurrent calls don't wait for each other, and the program keeps the lock; the
+    # numbers of functions are swapped; a build goes on when the script is stopped.
     crates = "# The crates.\nother: base\nbase:\nmiddle: base std\ntfmset: middle\n"
     rt = """#!/bin/sh
 echo "${PWD##*/} $*" >> ../../calls
 if [ -e ../../fail ]; then echo "no proof of ${PWD##*/}"; exit 1; fi
 if [ -e ../../edit ]; then rm ../../edit; sleep 0.1; touch src/main.rt; fi
+if [ -e ../../slow ] && [ "$*" = lib ]; then echo "so far: 3 of 7 functions"; echo $$ > ../../process; exec sleep "$(cat ../../slow)"; fi
 [ "${PWD##*/}" = tfmset ] || exit 0
 mkdir -p out
-printf '#!/bin/sh\\necho "$(cat) $# $*"\\nexit 3\\n' > out/tfmset
+printf '#!/bin/sh\\necho "$(cat) $# $*"\\n[ ! -e /proc/self/fd/9 ] || echo locked\\nexit 3\\n' > out/tfmset
 chmod +x out/tfmset
 """
     built = ["base lib", "middle lib", "tfmset run -- --version"]
@@ -331,6 +334,51 @@ chmod +x out/tfmset
         self.file("edit", "")
         self.call((3, "given 2 a b c\n"), self.built)
         self.call((3, "given 2 a b c\n"), self.built)
+
+    def start(self):
+        """Starts ./tfmset, and waits until it builds, or waits for another call that does."""
+        env = environment(PATH=self.room + "/bin:" + os.environ["PATH"])
+        pipes = {"stdin": subprocess.DEVNULL, "stdout": subprocess.PIPE, "stderr": subprocess.PIPE}
+        # pylint: disable-next=consider-using-with
+        child = subprocess.Popen([self.room + "/tfmset", "a"], env=env, cwd="/", encoding="utf-8", process_group=0, **pipes)
+        for pipe in (child.stdout, child.stderr):
+            self.addCleanup(pipe.close)
+        self.addCleanup(child.wait)
+        self.addCleanup(child.kill)
+        line, until = child.stderr.readline(), time.monotonic() + SECONDS
+        while "waiting" not in line and not os.path.exists(self.room + "/process"):
+            self.assertLess(time.monotonic(), until, line)
+            time.sleep(0.01)
+        return child, line
+
+    def test_two_calls_build_once(self):
+        """A call waits for another one, which prints how far the build is, whatever an earlier build has left."""
+        self.file("crates/tfmset/out/build/base.built", "")
+        self.file("calls", "")
+        self.file("slow", "1.5")
+        first, _ = self.start()
+        second, waiting = self.start()
+        results = [one.communicate(timeout=SECONDS) for one in (first, second)]
+        self.same("results", [(3, " 1 a\n")] * 2, [(one.returncode, out) for one, (out, _) in zip((first, second), results)])
+        self.same("calls of rt", self.built, read(self.room + "/calls").splitlines())
+        self.assertIn("waiting for another call", waiting)
+        self.same("messages of the second call", "", results[1][1])
+        lines = [line.removeprefix("tfmset: ") for line in results[0][1].splitlines()[:-1]]
+        self.same("progress", [f"proving {name}, 3 of 7 functions" for name in ("base", "middle")], lines)
+
+    @rows((name, number) for name, number in (("SIGTERM", signal.SIGTERM), ("SIGINT", signal.SIGINT)))
+    def test_a_call_that_is_stopped(self, number):
+        """If the processes of the terminal are stopped, the build is stopped, too."""
+        self.file("slow", "15")
+        child, _ = self.start()
+        time.sleep(0.1)
+        process = read(self.room + "/process").strip()
+        os.killpg(child.pid, number)
+        child.wait(SECONDS)
+        until = time.monotonic() + 5
+        while os.path.exists(f"/proc/{process}") and time.monotonic() < until:
+            time.sleep(0.02)
+        self.assertFalse(os.path.exists(f"/proc/{process}"))
 
     def test_a_build_that_fails(self):
         """The last lines of the log are printed, and an older program isn't run."""
