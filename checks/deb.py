@@ -14,7 +14,8 @@ def make_package(top):
     """The package and its contents."""
     os.mkdir(top)
     copy = shared("deb-copy", copy_for_scripts)
-    package = output(copy + "/scripts/deb", top, env=environment(MAINTAINER=MAINTAINER), cwd=copy).strip()
+    package = output(copy + "/scripts/deb", top, env=environment(MAINTAINER=MAINTAINER), cwd=copy,
+                     umask=0o022).strip()
     os.rename(package, top + "/package.deb")
     output("dpkg-deb", "-x", top + "/package.deb", top + "/files")
     output("dpkg-deb", "-e", top + "/package.deb", top + "/files/DEBIAN")
@@ -53,6 +54,22 @@ class Package(Case):
         top = self.top + "/files"
         self.same("files", FILES, files(top, ("DEBIAN",)))
         self.same("checksums", (0, "", ""), execute("md5sum", "--quiet", "-c", "DEBIAN/md5sums", cwd=top))
+
+    # Mutant of scripts/deb: a size in bytes.
+    def test_installed_size(self):
+        """The size is in KB. A file or a directory needs less than 8 KB more than its bytes."""
+        size = int(output("dpkg-deb", "--showformat=${Installed-Size}", "-W", self.package))
+        entries = len(output("dpkg-deb", "-c", self.package).splitlines())
+        least = sum(os.path.getsize(f"{self.top}/files/{name}") for name in FILES) / 1024
+        self.assertTrue(least <= size < least + 8 * entries, (least, size))
+
+    # Mutant of scripts/deb: the mode of the top directory is that of a temporary directory.
+    def test_modes_and_owners(self):
+        entries = [line.split() for line in output("dpkg-deb", "-c", self.package).splitlines()]
+        wanted = {name: "-rwxr-xr-x" if "/bin/" in name else "-rw-r--r--" for name in FILES}
+        self.same("files", wanted, {entry[-1][2:]: entry[0] for entry in entries if entry[-1][-1] != "/"})
+        self.same("directories", {"drwxr-xr-x"}, {entry[0] for entry in entries if entry[-1][-1] == "/"})
+        self.same("owners", {"root/root"}, {entry[1] for entry in entries})
 
     def test_licences(self):
         text = read(self.top + "/files/usr/share/doc/tfmset/copyright")
