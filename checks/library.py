@@ -165,14 +165,14 @@ class Linking(LibraryCase):
     """Header, linking and symbols"""
 
     @rows((language, tool, language, standard)
-          for tool, language, standard in (("cc", "c", "-std=c99"), ("c++", "c++", "-std=c++11")))
+          for tool, language, standard in (("cc", "c", "-std=c99"), ("c++", "c++", "-std=c++98"), ("c++", "c++", "-std=c++11")))
     def test_header(self, tool, language, standard):
         """The header is compiled with all warnings."""
         self.need(tool)
         output(tool, "-x", language, standard, *WARNINGS, "-fsyntax-only", self.prefix + "/include/tfmset.h")
 
     @rows((f"{tool} {standard}", tool, language, standard) for tool, language, standard in (
-        ("cc", "c", "-std=c99"), ("cc", "c", "-std=c11"), ("c++", "c++", "-std=c++11")))
+        ("cc", "c", "-std=c99"), ("cc", "c", "-std=c11"), ("c++", "c++", "-std=c++98"), ("c++", "c++", "-std=c++11")))
     def test_header_of_another_layout(self, tool, language, standard):
         """A struct of another layout doesn't compile, nor a program with a size_t of 32 bits."""
         self.need(tool)
@@ -183,6 +183,10 @@ class Linking(LibraryCase):
                          ("slant;\n", "slant, more;\n")):
             self.assertEqual(1, header.count(old), old)
             self.same(new, 1, execute(*compiler, self.file("changed.h", header.replace(old, new)))[0])
+        self.same("unchanged", 0, execute(*compiler, self.file("same.h", header))[0])
+        for struct in re.findall(r"^struct \w+ \{", header, re.M):
+            changed = header.replace(struct, struct + " uint64_t more;")
+            self.same(struct, 1, execute(*compiler, self.file("changed.h", changed))[0])
         narrow = "#include <stdint.h>\n#undef SIZE_MAX\n#define SIZE_MAX 4294967295u\n" + header
         self.assertIn("64-bit size_t", execute(*compiler, self.file("narrow.h", narrow))[2])
 
