@@ -129,6 +129,14 @@ class Pipes(Case):
         self.same("last record", b"1:%d refused missing 4 13\n" % (LINES + 1), read_line(child.stdout))
         self.same("end", (b"1 end complete %d\n" % (LINES + 1), 1), (read_line(child.stdout), child.wait(SECONDS)))
 
+    # Mutant of `answer` in tfm_tool: the warning is written after the request was carried out.
+    def test_the_warning_comes_first(self):
+        """The warning of a small size is written while a stream waits for its first line."""
+        child = self.start("--size", "12", DEMO, stderr=subprocess.PIPE)
+        wanted = b"tfmset: size 12 is 12 scaled points; for points write 12pt\n"
+        self.same("warning", wanted, read_line(child.stderr))
+        self.ends(child, 0)
+
     @rows((f"--block {block} --workers {workers}", block, workers) for block in "18" for workers in (1, 16))
     def test_latency(self, block, workers):
         """A record is printed soon after its line was sent. Mutant: the worker isn't woken."""

@@ -171,14 +171,16 @@ class Requests(Case):
         """The texts of cells and of single items are made once in a lane, if they are needed."""
         self.count([PROGRAM, "stream", "--workers", "1", *words], f"bytes{size}", count)
 
-    # Mutants of `append_generally` in pair_texts and of set_line: the list of a line isn't used for the next one.
+    # Mutants of `append_generally` in pair_texts and of set_line: the list of a line isn't used for the next one. Of
+    # line_blocks: the codes of a line in UTF-8 aren't; the text of a block has no room beforehand.
     @rows((" ".join(words), words) for words in (
-        ["stream", "--record", "json"], ["stream", "--missing", "skip"], ["stream"]))
+        ["--record", "json", "missing"], ["--missing", "skip", "missing"], ["missing"], ["2 MB"],
+        ["--encoding", "t1", "missing"], ["--encoding", "t1", "uncoded"]))
     def test_memory_is_used_again(self, words):
-        """There are fewer than three requests for memory for two lines. Reading a line takes one."""
+        """There are hardly more requests for memory than lines. Reading a line takes one."""
         self.need("cc")
-        most = PIECE.count(b"\n") * 3
-        got = refuse.execute(named([PROGRAM, *words, DEMO, "missing"]), "memory", most, stdout=subprocess.DEVNULL,
+        most, (*options, text) = PIECE.count(b"\n") * 2 * 21 // 20, words
+        got = refuse.execute(named([PROGRAM, "stream", *options, DEMO, text]), "memory", most, stdout=subprocess.DEVNULL,
                              timeout=SECONDS)
         self.same("requests that failed", [], got.told)
 
