@@ -305,7 +305,8 @@ chmod +x out/tfmset
         os.chmod(self.file("bin/rt", self.rt), 0o755)
         for name in ("other", "base", "middle", "tfmset"):
             self.file(f"crates/{name}/src/main.rt", "")
-        self.file("crates/base/specs/Lib.antt", "")
+        for name in ("specs", "proofs"):
+            self.file(f"crates/base/{name}/Lib.antt", "")
 
     def call(self, wanted, calls, path=None):
         """Compares the exit status and the output of ./tfmset, and the calls of rt. Returns standard error."""
@@ -319,7 +320,8 @@ chmod +x out/tfmset
         self.assertRegex(self.call((3, "given 2 a b c\n"), self.built), "proving and building[^\0]*built")
         self.same("messages", "", self.call((3, "given 2 a b c\n"), []))
 
-    @rows((name, name) for name in ("crates/base/specs/Lib.antt", "crates/other/src/main.rt", "crates.txt"))
+    @rows((name, name) for name in (
+        "crates/base/specs/Lib.antt", "crates/base/proofs/Lib.antt", "crates/other/src/main.rt", "crates.txt"))
     def test_builds_again(self, name):
         """The program is built again after a change, and after a file was removed."""
         self.call((3, "given 2 a b c\n"), self.built)
