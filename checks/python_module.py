@@ -120,6 +120,31 @@ del line
 gc.collect()
 print(len(font.set(b"xo\\n" * 99999)), [item.width for item in items], [item.width for item in every[-3:]])
 """, "99999 [334233, -16384, 347340] [334233, -16384, 347340]\n"),
+    # Mutants: `_items` keeps no type, or each one.
+    ("The types of arrays of up to 1,024 lengths are kept", """
+import ctypes, gc, weakref
+line = font.set(b"ox")[0]
+kept = weakref.ref(type(line.items))
+gc.collect()
+print(kept() is not None, kept() is type(line.items))
+lengths = [len(line.items) for line in font.set(b"".join(b"o" * count + b"\\n" for count in range(3000)))]
+gc.collect()
+types = [one for one in gc.get_objects() if type(one) is type(ctypes.Array)]
+count = sum(getattr(one, "_type_", None) is tfmset.Item for one in types)
+print(lengths == [*range(3000)], 1024 <= count < 1100)
+""", "True True\nTrue True\n"),
+    # Mutants: the first array of `set`, `records` or `pairs` is empty, so that the text is set twice.
+    ("Each method calls the library once", """
+class Library:
+    called = []
+    def __getattr__(self, name):
+        return lambda *arguments: self.called.append(name) or getattr(library, name)(*arguments)
+library, tfmset._library = tfmset._library, Library()
+text = b"office ox\\nwaves of x\\n\\n" * 99
+for version in 1, 2:
+    font.records(text, version=version)
+print(len(font.set(text)), len(font.widths(text)), len(font.pairs()) > 9, *Library.called)
+""", "297 297 True tfmset_records tfmset_records tfmset_set tfmset_widths tfmset_pairs\n"),
 )
 
 
@@ -127,9 +152,10 @@ class Module(LibraryCase):
     """Arguments and results"""
 
     def test_programs(self):
-        head = f"import tfmset\ndata = open({DEMO!r}, 'rb').read()\nfont = tfmset.Font(data)\n"
+        # A warning is printed as an error. Mutant: `from_file` leaves the file open.
+        head = f"import tfmset\nfont = tfmset.Font.from_file({DEMO!r})\ndata = font.data\n"
         for title, program, wanted in PROGRAMS:
-            seen = execute(sys.executable, "-c", head + program, env=self.env)
+            seen = execute(sys.executable, "-W", "error", "-c", head + program, env=self.env)
             self.same(title, (0, wanted.replace("{bytes}", str(len(read(DEMO, "rb")))), ""), seen)
 
 

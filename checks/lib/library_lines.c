@@ -332,7 +332,24 @@ static void check_lengths(const struct set *whole, const struct output *records)
     }
 }
 
-/* Checks that a call for a long text makes one table of texts, and that one for a short text makes none. */
+/* Checks how many tables of pairs the functions make that report on a font. */
+static void check_tables_of_fonts(void)
+{
+    struct tfmset_font about;
+    struct tfmset_fault fault;
+    struct tfmset_metrics metrics;
+    struct tfmset_pair pair;
+    tables = 0;
+    must(CALLED(font, (font.bytes, font.length, size, &about)) == TFMSET_DONE && tables == 0, "tables of font");
+    must(CALLED(check, (font.bytes, font.length, size, &fault)) == TFMSET_DONE && tables == 0, "tables of check");
+    must(CALLED(metrics, (font.bytes, font.length, size, 97, &metrics)) == TFMSET_DONE && tables == 0,
+         "tables of metrics");
+    must(CALLED(pair, (font.bytes, font.length, size, 97, 98, &pair)) == TFMSET_DONE && tables == 1,
+         "tables of pair");
+}
+
+/* Checks that a call for a long text makes one table of texts, and that one for a short text makes none. Each call reads the
+ * font, whose table of pairs is counted, too. The functions that need only the metrics of the font make no table. */
 static void check_tables(const struct set *whole, const struct output *records)
 {
     int wanted = text.length > 100000;
@@ -348,6 +365,7 @@ static void check_tables(const struct set *whole, const struct output *records)
     output = records_with(2, records[1].length);
     must(tables == 1 + wanted, "tables of records");
     unmap(&output.bytes);
+    check_tables_of_fonts();
 }
 
 /* Threads: each calls with its own arrays, and has to get the same results. */
