@@ -194,6 +194,8 @@ class Linking(LibraryCase):
         self.need("readelf")
         file = os.path.join(self.lib, "libtfmset.so")
         self.assertRegex(output("readelf", "-d", file), "BIND_NOW|FLAGS_1.* NOW")
+        # Mutant of scripts/library: the name that programs look for has no number.
+        self.assertRegex(output("readelf", "-d", file), r"SONAME.*\[libtfmset\.so\.0\]")
         self.assertIn("GNU_RELRO", output("readelf", "-lW", file))
         lines = output("nm", "-D", "--undefined-only", file).splitlines()
         self.same("undefined", [], [line for line in lines if " w " not in line and "@GLIBC" not in line])

@@ -47,8 +47,8 @@ RATIOS = [
     ("one program for all characters", [PROGRAM, "each", *["one program for all", "9", "none"] * 20], 4,
      [PROGRAM, "each", *["one program for one", "9", "none"] * 20]),
     *((f"the plain program, {name}", [*STREAM, name], 20, ["plain", name]) for name in ("20 MB", "short")),
-    ("short lines after others with many texts", [PROGRAM, "stream", "same widths", "after"], 4,
-     [PROGRAM, "stream", "same widths", "before"]),
+    ("short lines after others with many texts", [PROGRAM, "stream", "--workers", "1", "same widths", "after"], 5,
+     [PROGRAM, "stream", "--workers", "1", "same widths", "before"]),
 ]
 
 
