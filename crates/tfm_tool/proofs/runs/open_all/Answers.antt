@@ -1,4 +1,4 @@
-use Rattle.std.proofs.Common.{subst, ap, sym}
+use Rattle.std.proofs.Common.{subst}
 use Rattle.std.specs.Arc.{arc_value}
 use Rattle.std.specs.List.{AllZip}
 use Rattle.run_texts.specs.Setting.{HasTerms}
