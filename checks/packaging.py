@@ -283,7 +283,8 @@ class Build(Case):
 
     # Mutants: a program that exists is never built again; after a failed build the old program is run; the time of the
     # program is that of the end of the build; concurrent calls don't wait for each other, and the program keeps the lock; the
-    # numbers of functions are swapped; a build goes on when the script is stopped.
+    # numbers of functions are swapped; a build goes on when the script is stopped; on a terminal, no line feed follows the
+    # last report.
     crates = "# The crates.\nother: base\nbase:\nmiddle: base std\ntfmset: middle\n"
     rt = """#!/bin/sh
 echo "${PWD##*/} $*" >> ../../calls
@@ -381,6 +382,22 @@ chmod +x out/tfmset
         while os.path.exists(f"/proc/{process}") and time.monotonic() < until:
             time.sleep(0.02)
         self.assertFalse(os.path.exists(f"/proc/{process}"))
+
+    def test_progress_on_a_terminal(self):
+        """On a terminal, each report overwrites the one before it, and a line feed follows the last one."""
+        self.file("slow", "1.2")
+        terminal, end = pty.openpty()
+        self.addCleanup(os.close, terminal)
+        env = environment(PATH=self.room + "/bin:" + os.environ["PATH"])
+        said = b""
+        with subprocess.Popen([self.room + "/tfmset"], env=env, cwd="/", stdin=subprocess.DEVNULL,
+                              stdout=subprocess.DEVNULL, stderr=end) as child:
+            os.close(end)
+            while b"tfmset: built " not in said and select.select([terminal], [], [], SECONDS)[0]:
+                said += os.read(terminal, 4096)
+            self.assertEqual(3, child.wait(SECONDS))
+        self.assertRegex(said.decode(), "^tfmset: proving and building[^\r]*\r\n"
+                         "(\r\x1b\\[Ktfmset: proving (base|middle), 3 of 7 functions)+\r\ntfmset: built ")
 
     def test_a_build_that_fails(self):
         """The last lines of the log are printed, and an older program isn't run."""
