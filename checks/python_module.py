@@ -48,14 +48,18 @@ print()
     ("The place in a refusal of a str is the index of a character", """
 print(font.set("fox\\nﬁg Q", encoding="t1")[1], font.widths("\\ufeffo\\xadﬁ¡Q", encoding="ot1"))
 """, "Refusal(reason='missing', place=3, code=81) [Refusal(reason='missing', place=4, code=33)]\n"),
-    # Mutants: `_utf8` calls the method `encode`, or `_Source` the method `split`, of a subclass.
+    # Mutants: `_utf8`, `_size` or `_named` calls the method `encode`, `_size` the method `replace`, or `_Source` the
+    # method `split`, of a subclass. The library then reads another text, or beyond the memory.
     ("A subclass of str counts as the characters that it has", """
 class Text(str):
     encode = lambda *_: b"\\xff"
     split = lambda *_: []
+    replace = lambda *_: Text("9pt")
+print(tfmset.Font(data, Text("1 2pt")).size, tfmset.encode("ß", Text("t1")), font.records("oß", encoding=Text("t1")))
 print(tfmset.encode(Text("oß"), "t1"), font.widths(Text("ox\\nß"), encoding="t1"))
 print(font.records(Text("oß"), encoding="t1"))
-""", "b'o\\xff' [665189, Refusal(reason='missing', place=0, code=255)]\n"
+""", "786432 b'\\xff' b'1:1 refused missing 1 255\\n'\n"
+     "b'o\\xff' [665189, Refusal(reason='missing', place=0, code=255)]\n"
      "b'1:1 refused missing 1 255\\n'\n"),
     # Mutant: `Line.items` shares the memory of the result.
     ("Writing to the items of a line changes no line", """

@@ -236,7 +236,7 @@ def _named(encoding: str) -> bytes:
         raise TypeError("encoding must be a str")
     if encoding not in ENCODINGS:
         raise ValueError(f"encoding is {encoding!r}, but must be one of {', '.join(map(repr, ENCODINGS))}")
-    return encoding.encode("ascii")
+    return str.encode(encoding, "ascii", "replace")
 
 
 def encode(text: str, encoding: str) -> bytes:
@@ -502,7 +502,7 @@ def _size(size: Size) -> int:
     if size is None:
         return 0
     if isinstance(size, str):
-        content, read = size.replace(" ", "").encode("ascii", "replace"), _u32()
+        content, read = str.encode(str.replace(size, " ", ""), "ascii", "replace"), _u32()
         code = _library.tfmset_size(content, len(content), ctypes.byref(read))
         # The library also reads a number of sp without a unit, which in a str is rather meant in points.
         if code != _DONE or not content[-1:].isalpha():
