@@ -164,6 +164,10 @@ class Functions(LibraryCase):
 class Linking(LibraryCase):
     """Header, linking and symbols"""
 
+    def functions(self):
+        """The names of the functions of the header."""
+        return sorted(re.findall(r"^uint32_t (\w+)\(", read(self.prefix + "/include/tfmset.h"), re.M))
+
     @rows((language, tool, language, standard)
           for tool, language, standard in (("cc", "c", "-std=c99"), ("c++", "c++", "-std=c++98"), ("c++", "c++", "-std=c++11")))
     def test_header(self, tool, language, standard):
@@ -190,6 +194,7 @@ class Linking(LibraryCase):
         narrow = "#include <stdint.h>\n#undef SIZE_MAX\n#define SIZE_MAX 4294967295u\n" + header
         self.assertIn("64-bit size_t", execute(*compiler, self.file("narrow.h", narrow))[2])
 
+    # Mutant of scripts/library: without `-z now`.
     def test_the_shared_library_is_bound_when_it_is_loaded(self):
         self.need("readelf")
         file = os.path.join(self.lib, "libtfmset.so")
@@ -199,6 +204,21 @@ class Linking(LibraryCase):
         self.assertIn("GNU_RELRO", output("readelf", "-lW", file))
         lines = output("nm", "-D", "--undefined-only", file).splitlines()
         self.same("undefined", [], [line for line in lines if " w " not in line and "@GLIBC" not in line])
+
+    def test_stack(self):
+        """Each function needs less stack than the header states, with fonts that need much and with long lines."""
+        program = self.built("checks/lib/stack.c", "cc", "-std=gnu99", "-pthread", link=[self.lib + "/libtfmset.a"])
+        text = self.file("text", ("the office five, ß and \u20ac " * 2000 + "\nab\n" + "aab" * 20000).encode())
+        header = read(self.prefix + "/include/tfmset.h")
+        (most,) = re.findall(r"^ \* Stack: a thread needs (\d+) KB of stack for a call", header, re.M)
+        for name in ("demo", "ligature_3", "endless_3", "left_boundary", "largest"):
+            lines = [line.split() for line in self.output(program, path_of(name), text).splitlines()]
+            self.same(f"{name}: functions", self.functions(), sorted("tfmset_" + line[0] for line in lines))
+            # The text has a character without codes, which tfmset_encode reports.
+            self.same(f"{name}: codes", {"0", "6"}, {line[1] for line in lines})
+            used = max(int(line[2]) for line in lines)
+            print(f"{name}: {used} bytes of stack")
+            self.assertLess(used, int(most) * 1024)
 
     def test_an_example_with_both_libraries(self):
         found = characters(listing(read(DEMO, "rb")))
@@ -212,7 +232,7 @@ class Linking(LibraryCase):
                   self.output(out, given=path_of("right_boundary")))
 
     def test_the_libraries_define_the_functions_of_the_header_only(self):
-        functions = sorted(re.findall(r"^uint32_t (\w+)\(", read(self.prefix + "/include/tfmset.h"), re.M))
+        functions = self.functions()
         self.same("functions", 12, len(functions))
         for file, option in (("libtfmset.a", "-g"), ("libtfmset.so", "-D")):
             lines = output("nm", option, "--defined-only", os.path.join(self.lib, file)).splitlines()

@@ -46,6 +46,8 @@
  * Threads: any thread may call any function at any time. Don't call the library from a signal handler, or in
  * the child process after a fork of a process that has several threads.
  *
+ * Stack: a thread needs 64 KB of stack for a call, and no call checks it. This is only tested.
+ *
  * Time: a font's lig/kern program may run until a line has taken `limit` steps. The time of a call therefore
  * grows with the number of lines times `limit`. For fonts from strangers choose a small limit.
  *

@@ -1,0 +1,102 @@
+/* Prints for each function of the library how many bytes of stack a thread used that called it once.
+ *
+ * usage: stack FONT TEXT   both are files
+ *
+ * The stack is filled with a pattern before the call, and the bytes that have changed are counted: those of the call, and
+ * those that the thread itself needs, about 4,600. Each line is `NAME CODE BYTES`, with the return code. */
+#include <pthread.h>
+#include <stdio.h>
+#include <stdlib.h>
+#include <string.h>
+#include <sys/mman.h>
+#include <tfmset.h>
+
+enum { ROOM = 1 << 20, LINES = 64, PATTERN = 0xA5, STACK = 1 << 20 };
+
+#define FONT font, font_length, 0
+#define SETTINGS 1048576, TFMSET_SKIP
+#define NAME (const uint8_t *)"t1", 2
+
+static uint8_t font[131068], text[ROOM], bytes[32 * ROOM];
+static size_t font_length, text_length;
+static struct tfmset_line lines[LINES];
+static struct tfmset_item items[2 * ROOM];
+static struct tfmset_neighbours pairs[66049];
+static struct {
+    struct tfmset_encoded encoded;
+    struct tfmset_fault fault;
+    struct tfmset_font about;
+    struct tfmset_metrics metrics;
+    struct tfmset_pair pair;
+    struct tfmset_counts counts;
+    size_t length;
+    uint32_t size, code;
+} out;
+
+#define CALL(name, arguments) static void *call_##name(void *given) { (void)given; out.code = arguments; return NULL; }
+CALL(version, (tfmset_version() == TFMSET_VERSION ? TFMSET_DONE : TFMSET_OUT_OF_RANGE))
+CALL(size, tfmset_size((const uint8_t *)"10.95pt", 7, &out.size))
+CALL(encode, tfmset_encode(NAME, text, text_length, bytes, sizeof bytes, &out.encoded))
+CALL(check, tfmset_check(FONT, &out.fault))
+CALL(font, tfmset_font(FONT, &out.about))
+CALL(metrics, tfmset_metrics(FONT, 97, &out.metrics))
+CALL(pair, tfmset_pair(FONT, 97, 98, &out.pair))
+CALL(pairs, tfmset_pairs(FONT, pairs, 66049, &out.length))
+CALL(set, tfmset_set(FONT, SETTINGS, text, text_length, lines, LINES, items, 2 * ROOM, &out.counts))
+CALL(widths, tfmset_widths(FONT, SETTINGS, text, text_length, lines, LINES, &out.counts))
+CALL(records, tfmset_records(FONT, SETTINGS, text, text_length, 2, 1, 1, bytes, sizeof bytes, &out.length))
+CALL(encoded_records, tfmset_encoded_records(FONT, SETTINGS, NAME, text, text_length, TFMSET_JSON, 1, 1, bytes,
+                                             sizeof bytes, &out.length))
+
+static size_t length_of(const char *name, uint8_t *content, size_t room)
+{
+    FILE *file = fopen(name, "rb");
+    size_t length = file == NULL ? 0 : fread(content, 1, room, file);
+    if (length == 0)
+        exit(2);
+    fclose(file);
+    return length;
+}
+
+static void measure(const char *name, void *(*call)(void *))
+{
+    uint8_t *stack = mmap(NULL, STACK, PROT_READ | PROT_WRITE, MAP_PRIVATE | MAP_ANONYMOUS, -1, 0);
+    pthread_attr_t attributes;
+    pthread_t thread;
+    size_t unused = 0;
+    if (stack == MAP_FAILED)
+        exit(2);
+    memset(stack, PATTERN, STACK);
+    out.code = 99;
+    if (pthread_attr_init(&attributes) != 0 || pthread_attr_setstack(&attributes, stack, STACK) != 0
+        || pthread_create(&thread, &attributes, call, NULL) != 0)
+        exit(2);
+    pthread_join(thread, NULL);
+    while (unused < STACK && stack[unused] == PATTERN)
+        unused++;
+    printf("%s %u %zu\n", name, (unsigned)out.code, STACK - unused);
+    munmap(stack, STACK);
+}
+
+#define MEASURE(name) measure(#name, call_##name)
+
+int main(int count, char **arguments)
+{
+    if (count < 3)
+        return 2;
+    font_length = length_of(arguments[1], font, sizeof font);
+    text_length = length_of(arguments[2], text, sizeof text);
+    MEASURE(version);
+    MEASURE(size);
+    MEASURE(encode);
+    MEASURE(check);
+    MEASURE(font);
+    MEASURE(metrics);
+    MEASURE(pair);
+    MEASURE(pairs);
+    MEASURE(set);
+    MEASURE(widths);
+    MEASURE(records);
+    MEASURE(encoded_records);
+    return 0;
+}
