@@ -342,8 +342,10 @@ chmod +x out/tfmset
         """Starts ./tfmset, and waits until it builds, or waits for another call that does."""
         env = environment(PATH=self.room + "/bin:" + os.environ["PATH"])
         pipes = {"stdin": subprocess.DEVNULL, "stdout": subprocess.PIPE, "stderr": subprocess.PIPE}
+        # A suite that runs in the background may ignore SIGINT, which a shell then can't trap.
+        command = ["env", "--default-signal=INT", self.room + "/tfmset", "a"]
         # pylint: disable-next=consider-using-with
-        child = subprocess.Popen([self.room + "/tfmset", "a"], env=env, cwd="/", encoding="utf-8", process_group=0, **pipes)
+        child = subprocess.Popen(command, env=env, cwd="/", encoding="utf-8", process_group=0, **pipes)
         for pipe in (child.stdout, child.stderr):
             self.addCleanup(pipe.close)
         self.addCleanup(child.wait)
