@@ -50,9 +50,12 @@ class Package(Case):
         newest = max(found, key=lambda version: [int(part) for part in version.split(b".")]).decode()
         self.same("depends", f"libc6 (>= {newest})", output("dpkg-deb", "--showformat=${Depends}", "-W", self.package))
 
+    # Mutant of scripts/deb: only the first two files have checksums.
     def test_files_and_checksums(self):
         top = self.top + "/files"
         self.same("files", FILES, files(top, ("DEBIAN",)))
+        listed = [line.split("  ", 1)[1] for line in read(top + "/DEBIAN/md5sums").splitlines()]
+        self.same("files with checksums", sorted(FILES), sorted(listed))
         self.same("checksums", (0, "", ""), execute("md5sum", "--quiet", "-c", "DEBIAN/md5sums", cwd=top))
 
     # Mutant of scripts/deb: a size in bytes.
