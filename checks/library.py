@@ -18,22 +18,6 @@ NINES = (9,) * 7
 TAGS = {"none": 0, "lig": 1, "list": 2, "ext": 3}
 # Functions of the toolchain. The first three allocate the library's memory.
 HELPERS = ["rattle_" + name for name in "alloc realloc dealloc arg env errno spawn".split()]
-# Prints the pairs of the font on standard input, with the names of the fields in the header.
-PAIRS = """
-#include <stdio.h>
-#include <tfmset.h>
-static struct tfmset_neighbours all[66049];
-int main(void)
-{
-    static uint8_t font[131068];
-    size_t i, count = 0, length = fread(font, 1, sizeof font, stdin);
-    unsigned code = tfmset_pairs(font, length, 0, all, 66049, &count);
-    for (i = 0; i < count; i++)
-        printf("%u %u %u %d %u %u %u %u\\n", all[i].left, all[i].right, all[i].pair.action, all[i].pair.kern,
-               all[i].pair.code, all[i].pair.keep_left, all[i].pair.keep_right, all[i].pair.pass);
-    return (int)code;
-}
-"""
 
 
 def listing(data):
@@ -227,7 +211,7 @@ class Linking(LibraryCase):
             self.same(kind, f"box {sum(found[ord(c)][1] for c in 'box')}\n", self.output(out, DEMO, "box"))
 
     def test_pairs_in_c(self):
-        out = self.built(self.file("pairs.c", PAIRS), "cc", "-std=c99")
+        out = self.built("checks/lib/pairs.c", "cc", "-std=c99")
         self.same("pairs", "97 98 1 -40960 0 0 0 0\n97 256 2 0 98 1 0 0\n98 256 1 20480 0 0 0 0\n",
                   self.output(out, given=path_of("right_boundary")))
 

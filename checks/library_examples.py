@@ -1,22 +1,24 @@
 """The examples of the library in C, C++, Python and Rust, and the page docs/CALLING.md.
 
 The expected output of each example is computed from the records and listings of the program. The commands of
-the page are run, its functions in C and its sessions in Python. Its first examples have to be the files of
-examples/library, and its declarations those of the header.
+the page are run, its functions in C, also with sanitizers, and its sessions in Python. Its first examples have
+to be the files of examples/library, and its declarations those of the header.
 """
 import itertools
 import os
 import re
 import sys
 
-from lib.base import DEMO, EXAMPLES, PROGRAM, bash, execute, read, rows
+from lib.base import DEMO, EXAMPLES, PROGRAM, ROOT, bash, execute, read, rows
 from lib.clib import LibraryCase
 from lib.docs import blocks, commands
 from lib.tfm import BOUNDARY, Font
 from library import between, listing
+from library_lines import sanitizers
 
 WEIGHT = 2
 PAGE, TEXT = "docs/CALLING.md", os.path.join(EXAMPLES, "demo.txt")
+BUILDS = (("without sanitizers", ""), ("address,undefined", "address,undefined"), ("thread", "thread"))
 
 
 def records_of(text, *options, font=DEMO):
@@ -116,25 +118,34 @@ class Page(LibraryCase):
         header, page = (form.findall(read(name)) for name in ("include/tfmset.h", PAGE))
         self.same("declarations", [text.split() for text in header], [text.split() for text in page])
 
-    def printed(self, name, function, text, font):
-        """What a function of the page prints for a text, with the `main` of lib/calling.c."""
+    # Mutants: the texts of checks/mutants.toml.
+    def printed(self, name, function, text, font, kinds):
+        """What a function of the page prints for a text, with a `main` of checks/lib, and with sanitizers of these kinds,
+        which report nothing on standard error."""
+        if kinds and not sanitizers(kinds):
+            self.lack("-fsanitize=" + kinds)
         main = read(f"checks/lib/calling_{name}.c").replace("TEXT", '"' + text.replace("\n", "\\n") + '"')
-        return self.output(self.built(self.file(name + ".c", function + main), "cc", "-std=c99"), given=font)
+        program = self.built(self.file(name + ".c", function + main), "cc", "-std=c99", "-g",
+                             *(sanitizers(kinds) if kinds else []))
+        status, out, err = execute(program, given=read(font, "rb"), cwd=ROOT, env=self.env)
+        self.same("status and standard error", (0, ""), (status, err))
+        return out
 
-    def test_print_widths(self):
+    @rows((f"print_widths, {title}", kinds) for title, kinds in BUILDS)
+    def test_print_widths(self, kinds):
         text = "\n".join("box five " * (number % 3) for number in range(40)) + "\nBox"
         wanted = [f"{width / 65536:.2f}\n" for width in widths_of(text.encode())[:-1]]
         wanted.append("line 41 is refused, for reason 1\n")
-        self.same("output", "".join(wanted), self.printed("print_widths", blocks(PAGE, "c")[2], text, DEMO))
+        self.same("output", "".join(wanted), self.printed("print_widths", blocks(PAGE, "c")[2], text, DEMO, kinds))
 
-    @rows((name, name) for name in ("ligature_0", "ligature_3"))
-    def test_set_lines(self, name):
+    @rows((f"set_lines, {name}, {title}", name, kinds) for name in ("ligature_0", "ligature_3") for title, kinds in BUILDS)
+    def test_set_lines(self, name, kinds):
         """With the second font the line has more items than bytes, so that the first array is too short."""
         font, text = os.path.join(EXAMPLES, f"fonts/{name}.tfm"), "ab" * 500
         fields = records_of(text.encode(), font=font)[0]
         self.same("needs a second call", name == "ligature_3", len(fields) - 3 > 1141)
         self.same("output", f"0 1 {len(fields) - 3} {fields[2]}\n",
-                  self.printed("set_lines", blocks(PAGE, "c")[1], text, font))
+                  self.printed("set_lines", blocks(PAGE, "c")[1], text, font, kinds))
 
     def test_sessions_in_python(self):
         sessions = "\n".join(block for block in blocks(PAGE, "python") if block.startswith(">>> "))

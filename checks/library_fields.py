@@ -151,19 +151,7 @@ class Fields(LinesCase):
         source, first = (1 << 64) - 1, (1 << 64) - 2
         record = f"{source}:{first} set 334233 c111=334233\n".encode()
         self.same("in Python", record, self.tfmset.Font(read(DEMO, "rb")).records(b"o", source=source, first_line=first))
-        main = """#include <stdio.h>
-#include <tfmset.h>
-int main(void)
-{
-    static uint8_t font[131068], records[99];
-    size_t count = 0, length = fread(font, 1, sizeof font, stdin);
-    unsigned code = tfmset_records(font, length, 0, 9, 0, (const uint8_t *)"o", 1, 1, UINT64_MAX, UINT64_MAX - 1,
-                                   records, sizeof records, &count);
-    fwrite(records, 1, count, stdout);
-    return (int)code;
-}
-"""
-        out = self.built(self.file("largest.c", main), "cc", "-std=c99")
+        out = self.built("checks/lib/largest.c", "cc", "-std=c99")
         self.same("in C", record.decode(), self.output(out, given=DEMO))
 
     def test_constants(self):

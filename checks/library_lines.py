@@ -21,14 +21,17 @@ from lib.base import DEMO, EXAMPLES, PROGRAM, ROOT, environment, execute, output
 from lib.clib import BINDINGS, DONE, RANGE, REFUSED, SIZE, U32, U64, WARNINGS, LibraryCase
 from lib.docs import font_errors, text_of, worked_examples
 from lib.tex import fonts
-from lib.tfm import LISTED, make, sample
+from lib.tfm import LISTED, make, path_of, sample
 
 WEIGHT = 5
 CASES = table("library_lines")
 CHUNK = 30  # jobs of one test
 MOST_FONTS = 300
-IN_C = (("ten_lines.c",), ("widths.c", DEMO, "box"), ("paragraph.c", DEMO, "160"),
-        ("threads.cpp", DEMO, "README.md"))
+# Programs that call the library, their arguments, and the file that is their standard input.
+IN_C = (("examples/library/ten_lines.c", (), DEMO), ("examples/library/widths.c", (DEMO, "box"), DEMO),
+        ("examples/library/paragraph.c", (DEMO, "160"), "examples/demo.txt"),
+        ("examples/library/threads.cpp", (DEMO, "README.md"), DEMO),
+        ("checks/lib/pairs.c", (), path_of("right_boundary")), ("checks/lib/largest.c", (), DEMO))
 
 
 class Job:
@@ -197,17 +200,16 @@ class Records(LinesCase):
     @rows((kinds, kinds) for kinds in ("address,undefined", "thread"))
     def test_with_sanitizers(self, kinds):
         """The programs in C and C++ print the same with sanitizers, which report nothing."""
-        # Mutants: threads.cpp counts its calls in a static variable; ten_lines.c prints text[sizeof text].
+        # Mutants: threads.cpp counts its calls in a static variable; ten_lines.c prints text[sizeof text]; the texts of
+        # checks/mutants.toml.
         self.need("c++")
         if not sanitizers(kinds):
             self.lack("-fsanitize=" + kinds)
         self.in_c(Job("demo.tfm", read("examples/demo.txt", "rb"), missing="skip"), "more", kinds=kinds)
-        for name, *words in IN_C:
+        for name, words, given in IN_C:
             compiler = ["c++", "-std=c++11"] if name.endswith(".cpp") else ["cc", "-std=c99"]
-            given = read("examples/demo.txt" if name == "paragraph.c" else DEMO, "rb")
-            programs = (self.built("examples/library/" + name, *compiler, "-pthread", "-g", *options)
-                        for options in ((), sanitizers(kinds)))
-            wanted, seen = (execute(path, *words, given=given, cwd=ROOT, env=self.env) for path in programs)
+            programs = (self.built(name, *compiler, "-pthread", "-g", *options) for options in ((), sanitizers(kinds)))
+            wanted, seen = (execute(path, *words, given=read(given, "rb"), cwd=ROOT, env=self.env) for path in programs)
             self.same(name, (0, wanted[1], ""), seen)
 
     def test_eight_threads_in_python(self):
