@@ -16,7 +16,7 @@ use Rattle.lig_kern.specs.Result.{Setting}
 use Rattle.set_line.specs.Pieces.{portions_of}
 use Rattle.set_line.specs.Answer.{is_neither, first_missing, missing_in, outcome_of, refusal_of, set_as, set_or_refused, setting_of_portions}
 use Rattle.encodings.specs.declared.encoding.Encoding.{Encoding}
-use Rattle.encodings.specs.declared.encoding.Encoding.TheVariants.{Bytes, Ot1, T1, Ly1, Latin1}
+use Rattle.encodings.specs.declared.encoding.Encoding.TheVariants.{Bytes, Ot1, T1, Ly1, Latin1, Vector}
 use Rattle.encodings.specs.declared.coded.Coded.{Coded}
 use Rattle.encodings.specs.declared.coded.Coded.TheVariants.{Code, Uncoded}
 use Rattle.encodings.specs.declared.places.Place.{Place}
@@ -132,6 +132,7 @@ encoded_is Ot1 first line other = refl
 encoded_is T1 first line other = refl
 encoded_is Ly1 first line other = refl
 encoded_is Latin1 first line other = refl
+encoded_is (Vector vector) first line other = refl
 
 pub has_uncoded_is : (encoding : Encoding) (first : Bool) (line : List ℕ) → encoding ≢ Bytes
     → has_uncoded (encoded encoding first line) ≡ is_some (first_uncoded encoding (places_of first line))

@@ -14,7 +14,7 @@ use Rattle.set_line.specs.declared.outcome.Outcome.TheVariants.{Refused}
 use Rattle.set_line.specs.Terms.{TermsValue}
 use Rattle.set_line.specs.Answer.{is_neither}
 use Rattle.encodings.specs.declared.encoding.Encoding.{Encoding}
-use Rattle.encodings.specs.declared.encoding.Encoding.TheVariants.{Bytes, Ot1, T1, Ly1, Latin1}
+use Rattle.encodings.specs.declared.encoding.Encoding.TheVariants.{Bytes, Ot1, T1, Ly1, Latin1, Vector}
 use Rattle.encodings.specs.declared.coded.Coded.TheVariants.{Code}
 use Rattle.encodings.specs.declared.places.Place.{Place}
 use Rattle.encodings.specs.Codes.{codes_of}
@@ -120,6 +120,7 @@ refusal_left terms Ot1 first line other short none = rw (short_enough line short
 refusal_left terms T1 first line other short none = rw (short_enough line short, none) refl
 refusal_left terms Ly1 first line other short none = rw (short_enough line short, none) refl
 refusal_left terms Latin1 first line other short none = rw (short_enough line short, none) refl
+refusal_left terms (Vector vector) first line other short none = rw (short_enough line short, none) refl
 
 is_utf8_if : (line : List ℕ) → utf8_fault line ≡ None → is_utf8 line ≡ true
 is_utf8_if line none = by (is_utf8 line) none
@@ -136,5 +137,6 @@ is_decoded Ot1 line other none = is_utf8_if line none
 is_decoded T1 line other none = is_utf8_if line none
 is_decoded Ly1 line other none = is_utf8_if line none
 is_decoded Latin1 line other none = is_utf8_if line none
+is_decoded (Vector vector) line other none = is_utf8_if line none
 
 pub ruleset refusals = (refusal_left, is_decoded)

@@ -13,7 +13,7 @@ use Rattle.set_line.specs.declared.outcome.Outcome.TheVariants.{Set, Refused}
 use Rattle.set_line.specs.Terms.{TermsValue}
 use Rattle.set_line.specs.Answer.{outcome_of, refusal_of, set_or_refused}
 use Rattle.encodings.specs.declared.encoding.Encoding.{Encoding}
-use Rattle.encodings.specs.declared.encoding.Encoding.TheVariants.{Bytes, Ot1, T1, Ly1, Latin1}
+use Rattle.encodings.specs.declared.encoding.Encoding.TheVariants.{Bytes, Ot1, T1, Ly1, Latin1, Vector}
 use Rattle.encodings.specs.declared.coded.Coded.{Coded}
 use Rattle.encodings.specs.declared.coded.Coded.TheVariants.{Code}
 use Rattle.encodings.specs.declared.places.Place.{Place}
@@ -109,6 +109,7 @@ not_utf8 terms Ot1 first line offset short is = found terms Ot1 first line (NotU
 not_utf8 terms T1 first line offset short is = found terms T1 first line (NotUtf8 offset) (sym (rw (le-ltb 65535 (length line) short, is) refl))
 not_utf8 terms Ly1 first line offset short is = found terms Ly1 first line (NotUtf8 offset) (sym (rw (le-ltb 65535 (length line) short, is) refl))
 not_utf8 terms Latin1 first line offset short is = found terms Latin1 first line (NotUtf8 offset) (sym (rw (le-ltb 65535 (length line) short, is) refl))
+not_utf8 terms (Vector vector) first line offset short is = found terms (Vector vector) first line (NotUtf8 offset) (sym (rw (le-ltb 65535 (length line) short, is) refl))
 
 pub ruleset text = (found, not_utf8)
 
@@ -121,6 +122,7 @@ long terms Ot1 first line other many = found terms Ot1 first line _ (sym (rw (lt
 long terms T1 first line other many = found terms T1 first line _ (sym (rw (lt-ltb 65535 (length line) many) refl))
 long terms Ly1 first line other many = found terms Ly1 first line _ (sym (rw (lt-ltb 65535 (length line) many) refl))
 long terms Latin1 first line other many = found terms Latin1 first line _ (sym (rw (lt-ltb 65535 (length line) many) refl))
+long terms (Vector vector) first line other many = found terms (Vector vector) first line _ (sym (rw (lt-ltb 65535 (length line) many) refl))
 
 -- a line of bytes
 pub is_that_of_bytes : (terms : TermsValue) (first : Bool) (line : List ℕ) → encoded_outcome terms Bytes first line ≡ Plain (outcome_of terms line)

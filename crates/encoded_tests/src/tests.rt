@@ -3,4 +3,5 @@ mod fonts;
 mod records;
 mod rows;
 mod same;
+mod vector_files;
 mod vectors;

@@ -1,7 +1,8 @@
 -- The characters of glyphs by name.
 -- Public source: Adobe Glyph List, version 2.0, of whose names these are the ones of the characters that OT1,
--- T1, LY1 or ISO/IEC 8859-1 has, and those of U+2206 and U+2126, which are the characters of the names Delta
--- and Omega there. They are sorted by name.
+-- T1, LY1 or ISO/IEC 8859-1 has; and the encoding files 7t.enc, ec.enc and lm-texnansi.enc of dvips, from which
+-- eight names are. The list lacks cwm, dotlessj, Germandbls, one.superior, two.superior and three.superior, and
+-- has the increment and the ohm sign for Delta and Omega, which are Greek letters in OT1. The names are sorted.
 use Rattle.std.specs.Prelude.{ℕ, List, [], ◌∷◌, codes}
 
 -- names, with their characters
@@ -26,7 +27,7 @@ glyph_characters =
     ∷ (codes "DZcaron", 0x1C4)
     ∷ (codes "Dcaron", 0x10E)
     ∷ (codes "Dcroat", 0x110)
-    ∷ (codes "Delta", 0x2206)
+    ∷ (codes "Delta", 0x394)
     ∷ (codes "Deltagreek", 0x394)
     ∷ (codes "Dslash", 0x110)
     ∷ (codes "Dzcaron", 0x1C5)
@@ -44,6 +45,7 @@ glyph_characters =
     ∷ (codes "G", 0x47)
     ∷ (codes "Gamma", 0x393)
     ∷ (codes "Gbreve", 0x11E)
+    ∷ (codes "Germandbls", 0x1E9E)
     ∷ (codes "H", 0x48)
     ∷ (codes "I", 0x49)
     ∷ (codes "IJ", 0x132)
@@ -76,9 +78,8 @@ glyph_characters =
     ∷ (codes "Odblacute", 0x150)
     ∷ (codes "Odieresis", 0xD6)
     ∷ (codes "Ograve", 0xD2)
-    ∷ (codes "Ohm", 0x2126)
     ∷ (codes "Ohungarumlaut", 0x150)
-    ∷ (codes "Omega", 0x2126)
+    ∷ (codes "Omega", 0x3A9)
     ∷ (codes "Oslash", 0xD8)
     ∷ (codes "Otilde", 0xD5)
     ∷ (codes "P", 0x50)
@@ -161,6 +162,7 @@ glyph_characters =
     ∷ (codes "comma", 0x2C)
     ∷ (codes "copyright", 0xA9)
     ∷ (codes "currency", 0xA4)
+    ∷ (codes "cwm", 0x200C)
     ∷ (codes "d", 0x64)
     ∷ (codes "dagger", 0x2020)
     ∷ (codes "daggerdbl", 0x2021)
@@ -173,6 +175,7 @@ glyph_characters =
     ∷ (codes "dollar", 0x24)
     ∷ (codes "dotaccent", 0x2D9)
     ∷ (codes "dotlessi", 0x131)
+    ∷ (codes "dotlessj", 0x237)
     ∷ (codes "dzcaron", 0x1C6)
     ∷ (codes "e", 0x65)
     ∷ (codes "eacute", 0xE9)
@@ -223,7 +226,6 @@ glyph_characters =
     ∷ (codes "igrave", 0xEC)
     ∷ (codes "ij", 0x133)
     ∷ (codes "ilde", 0x2DC)
-    ∷ (codes "increment", 0x2206)
     ∷ (codes "j", 0x6A)
     ∷ (codes "k", 0x6B)
     ∷ (codes "l", 0x6C)
@@ -259,6 +261,7 @@ glyph_characters =
     ∷ (codes "ograve", 0xF2)
     ∷ (codes "ohungarumlaut", 0x151)
     ∷ (codes "one", 0x31)
+    ∷ (codes "one.superior", 0xB9)
     ∷ (codes "onehalf", 0xBD)
     ∷ (codes "onequarter", 0xBC)
     ∷ (codes "onesuperior", 0xB9)
@@ -313,11 +316,13 @@ glyph_characters =
     ∷ (codes "tcommaaccent", 0x163)
     ∷ (codes "thorn", 0xFE)
     ∷ (codes "three", 0x33)
+    ∷ (codes "three.superior", 0xB3)
     ∷ (codes "threequarters", 0xBE)
     ∷ (codes "threesuperior", 0xB3)
     ∷ (codes "tilde", 0x2DC)
     ∷ (codes "trademark", 0x2122)
     ∷ (codes "two", 0x32)
+    ∷ (codes "two.superior", 0xB2)
     ∷ (codes "twosuperior", 0xB2)
     ∷ (codes "u", 0x75)
     ∷ (codes "uacute", 0xFA)

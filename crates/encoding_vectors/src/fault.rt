@@ -8,8 +8,9 @@ use std::fmt;
 #[derive(Clone, Copy, Debug, PartialEq, Eq, Hash)]
 pub struct VectorFault {
     /// The number of the line, starting at 1, on which the first token is that doesn't belong to a vector. If
-    /// the text ends too early, it is the line on which it ends. If the text is too long, it is the line on
-    /// which its first [`MOST_BYTES`](crate::MOST_BYTES) bytes end.
+    /// the text ends too early, it is one more than the number of its line ends. If the text is too long, it
+    /// is one more than the number of line ends in its first [`MOST_BYTES`](crate::MOST_BYTES) bytes, where a
+    /// CR at their end counts as a line end even if an LF follows.
     pub line: usize,
 }
 

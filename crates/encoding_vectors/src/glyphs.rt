@@ -1,4 +1,4 @@
-//! The characters of the names in the Adobe Glyph List.
+//! The characters of the names in the Adobe Glyph List and in encoding files of TeX.
 ghost use Rattle.std.specs.Prelude.{◌≡◌};
 ghost use Rattle.encoding_vectors.specs.Glyphs.{glyph_characters};
 ghost use Rattle.encoding_vectors.specs.Names.{character_beside};
@@ -45,8 +45,8 @@ fn character_in(rows: &[GlyphRow], name: &[u8]) -> Option<char>
     None
 }
 
-/// Returns the character of a name in the Adobe Glyph List, if it is in one of the encodings of the crate
-/// `encodings`.
+/// Returns the character of a name in the Adobe Glyph List or in an encoding file of TeX, if it is in one of
+/// the encodings of the crate `encodings`.
 pub(crate) fn glyph_character(name: &[u8]) -> Option<char>
     ensures { result ≡ character_beside glyph_characters name.now }
 {

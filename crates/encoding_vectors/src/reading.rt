@@ -102,8 +102,8 @@ fn read_all(text: &[u8], characters: &mut [Option<char>]) -> Result<(), usize>
 /// of PostScript (PostScript Language Reference, section 3.2), except that a name has at least one character.
 ///
 /// The character of a name is that of the Adobe Glyph List, if it is in one of the encodings OT1, T1, LY1 or
-/// Latin 1, or the one whose number is in the name, such as `uni20AC` or `u1F600`. Any other name has none,
-/// such as `.notdef`, names with a period or an underscore, and names that only fonts of TeX have.
+/// Latin 1; that of TeX's encoding files for these encodings, which have `dotlessj`, say, and Δ for `Delta`; or
+/// the one whose number is in the name, such as `uni20AC` or `u1F600`. Any other name, such as `.notdef`, has none.
 ///
 /// A text that isn't a vector is refused. A text of more than [`MOST_BYTES`] bytes is refused first, whatever
 /// its tokens are.

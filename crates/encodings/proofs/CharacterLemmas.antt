@@ -11,21 +11,24 @@ use Rattle.std.proofs.lemmas.List.{get_or_past}
 use Rattle.std.proofs.lemmas.List.Folds.{list_all_at}
 use Rattle.std.proofs.lemmas.Grind.{get_or_default_zero}
 use Rattle.encodings.specs.declared.encoding.Encoding.{Encoding}
-use Rattle.encodings.specs.declared.encoding.Encoding.TheVariants.{Bytes, Ot1, T1, Ly1, Latin1}
+use Rattle.encodings.specs.declared.encoding.Encoding.TheVariants.{Bytes, Ot1, T1, Ly1, Latin1, Vector}
 use Rattle.encodings.specs.Tables.{no, ot1_characters, t1_characters, ly1_characters}
 use Rattle.encodings.specs.Codes.{characters_of}
 use Rattle.encodings.specs.Characters.{character_of}
 use Rattle.encodings.specs.CharacterTables.{characters_in}
 use Rattle.encodings.specs.Laws.{character_at}
+use Rattle.encodings.specs.Lookup.{is_table}
+pub use Rattle.encodings.proofs.VectorLemmas.{vector_character}
 
 -- the tables are those of the definitions
-tables_agree : (encoding : Encoding) → characters_in encoding ≡ characters_of encoding
+tables_agree : (encoding : Encoding) → is_table encoding ≡ true → characters_in encoding ≡ characters_of encoding
 unfolding characters_in characters_of ot1_characters t1_characters ly1_characters
-tables_agree Bytes = refl
-tables_agree Ot1 = refl
-tables_agree T1 = refl
-tables_agree Ly1 = refl
-tables_agree Latin1 = refl
+tables_agree Bytes table = refl
+tables_agree Ot1 table = refl
+tables_agree T1 table = refl
+tables_agree Ly1 table = refl
+tables_agree Latin1 table = refl
+tables_agree (Vector vector) table = cc
 
 -- ---- their numbers
 
@@ -33,28 +36,29 @@ tables_agree Latin1 = refl
 is_listed : ℕ → Bool
 is_listed number = nat_eq number no || scalar number
 
-all_listed : (encoding : Encoding) → list_all is_listed (characters_of encoding) ≡ true
+all_listed : (encoding : Encoding) → is_table encoding ≡ true → list_all is_listed (characters_of encoding) ≡ true
 unfolding is_listed characters_of ot1_characters t1_characters ly1_characters
-all_listed Bytes = refl
-all_listed Ot1 = refl
-all_listed T1 = refl
-all_listed Ly1 = refl
-all_listed Latin1 = refl
+all_listed Bytes table = refl
+all_listed Ot1 table = refl
+all_listed T1 table = refl
+all_listed Ly1 table = refl
+all_listed Latin1 table = refl
+all_listed (Vector vector) table = cc
 
-listed_at : (encoding : Encoding) (code : ℕ) → code < length (characters_of encoding) → is_listed (character_at encoding code) ≡ true
-listed_at encoding code within = by (is_listed (character_at encoding code)) refl
+listed_at : (encoding : Encoding) (code : ℕ) → is_table encoding ≡ true → code < length (characters_of encoding) → is_listed (character_at encoding code) ≡ true
+listed_at encoding code table within = by (is_listed (character_at encoding code)) refl
   where
     by : (b : Bool) → is_listed (character_at encoding code) ≡ b → b ≡ true
     by true is = refl
-    by false is = absurd (cc (list_all_at is_listed (characters_of encoding) code no within is, all_listed encoding))
+    by false is = absurd (cc (list_all_at is_listed (characters_of encoding) code no within is, all_listed encoding table))
 
 -- ---- the character at a code
 
 -- a code after the last one has no character
-pub past_end : (encoding : Encoding) (code : ℕ) → length (characters_in encoding) ≤ code → character_of encoding code ≡ None
+pub past_end : (encoding : Encoding) (code : ℕ) → is_table encoding ≡ true → length (characters_in encoding) ≤ code → character_of encoding code ≡ None
 unfolding character_of
-past_end encoding code past =
-    let past_defined : length (characters_of encoding) ≤ code = subst (λ l. length l ≤ code) (tables_agree encoding) past in
+past_end encoding code table past =
+    let past_defined : length (characters_of encoding) ≤ code = subst (λ l. length l ≤ code) (tables_agree encoding table) past in
     rw (get_or_past (characters_of encoding) code no past_defined) refl
 
 -- the number in the table, if it is a character
@@ -71,18 +75,20 @@ made_of number None listed is = by (nat_eq number no) refl listed
     by true same listed = refl
     by false same listed = absurd (is listed)
 
-in_definition : (encoding : Encoding) (code number : ℕ) (made : Option ℕ) → code < length (characters_of encoding)
+in_definition : (encoding : Encoding) (code number : ℕ) (made : Option ℕ) → is_table encoding ≡ true → code < length (characters_of encoding)
     → number ≡ get_or (characters_of encoding) code 0 → SomeIff made (IsScalar number) number → made ≡ character_of encoding code
 unfolding character_of is_listed
-in_definition encoding code number made within at is =
+in_definition encoding code number made table within at is =
     let same : number ≡ character_at encoding code = at ∙ sym (get_or_default_zero (characters_of encoding) code no within) in
     subst (λ n. made ≡ (if nat_eq n no then None else Some n)) same
-    (made_of number made (subst (λ n. nat_eq n no || scalar n ≡ true) (sym same) (listed_at encoding code within)) is)
+    (made_of number made (subst (λ n. nat_eq n no || scalar n ≡ true) (sym same) (listed_at encoding code table within)) is)
 
-pub made_at : (encoding : Encoding) (code number : ℕ) (made : Option ℕ) → code < length (characters_in encoding)
+pub made_at : (encoding : Encoding) (code number : ℕ) (made : Option ℕ) → is_table encoding ≡ true → code < length (characters_in encoding)
     → number ≡ get_or (characters_in encoding) code 0 → SomeIff made (IsScalar number) number → made ≡ character_of encoding code
-made_at encoding code number made within at is =
-    in_definition encoding code number made (subst (λ l. code < length l) (tables_agree encoding) within)
-    (subst (λ l. number ≡ get_or l code 0) (tables_agree encoding) at) is
+made_at encoding code number made table within at is =
+    in_definition encoding code number made table (subst (λ l. code < length l) (tables_agree encoding table) within)
+    (subst (λ l. number ≡ get_or l code 0) (tables_agree encoding table) at) is
 
 pub ruleset found = (past_end, made_at)
+
+pub ruleset of_vector = (vector_character)

@@ -17,7 +17,7 @@ use Rattle.std.proofs.lemmas.Nat.{div-mul-add, mod-mul-add}
 pub use Rattle.std.proofs.lemmas.Str.{chars_past_char}
 use Rattle.std.proofs.lemmas.Str.{length-encode, len_utf8_bounds, chars-nil, chars-append, encode_ascii, IsUtf8-nil, IsUtf8-append, IsUtf8-encode, IsUtf8-from_ascii, chars-IsAscii}
 use Rattle.encodings.specs.declared.encoding.Encoding.{Encoding}
-use Rattle.encodings.specs.declared.encoding.Encoding.TheVariants.{Bytes, Ot1, T1, Ly1, Latin1}
+use Rattle.encodings.specs.declared.encoding.Encoding.TheVariants.{Bytes, Ot1, T1, Ly1, Latin1, Vector}
 use Rattle.encodings.specs.declared.coded.Coded.TheVariants.{Code, Uncoded}
 use Rattle.encodings.specs.declared.decoding.TheConstants.{OFFSETS}
 use Rattle.encodings.specs.Codes.{codes_of}
@@ -134,6 +134,7 @@ placed Ot1 = refl
 placed T1 = refl
 placed Ly1 = refl
 placed Latin1 = refl
+placed (Vector vector) = refl
 
 both : (a b : Bool) → a && b ≡ true → (a ≡ true) × (b ≡ true)
 both true b is = (refl, is)

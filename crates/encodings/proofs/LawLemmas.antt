@@ -1,5 +1,5 @@
 -- The laws of the tables. What they state of single characters is computed for every character that has codes.
-use Rattle.std.proofs.Common.{◌≡◌, ◌≢◌, ◌⊎◌, inl, inr, ℕ, suc, ◌+◌, ◌<◌, ◌≤◌, Bool, true, false, List, [], ◌∷◌, ◌++◌, ◌&&◌, ◌||◌, not, length, length-append, map, flat_map, Option, Some, None, arith, refl, ap, sym, ◌∙◌}
+use Rattle.std.proofs.Common.{◌≡◌, ◌≢◌, ◌⊎◌, inl, inr, ℕ, suc, ◌+◌, ◌<◌, ◌≤◌, Bool, true, false, List, [], ◌∷◌, ◌++◌, ◌&&◌, ◌||◌, not, length, length-append, map, flat_map, Option, Some, None, Bor, arith, refl, ap, sym, ◌∙◌}
 use Rattle.std.specs.Prelude.{◌==◌, nat_eq, nat_le, cond}
 use Rattle.std.specs.Char.{encode_utf8, is_ascii_alphanumeric, len_utf8}
 use Rattle.std.specs.Str.{chars, encode_utf8_all, IsUtf8}
@@ -12,15 +12,20 @@ use Rattle.std.proofs.lemmas.List.Folds.{list_any-append}
 use Rattle.std.proofs.lemmas.Str.{encodes-chars, len_utf8_bounds, length-encode}
 use Rattle.std.proofs.lemmas.List.Quantifiers.{position-Some}
 use Rattle.encodings.specs.declared.encoding.Encoding.{Encoding}
-use Rattle.encodings.specs.declared.encoding.Encoding.TheVariants.{Bytes, Ot1, T1, Ly1, Latin1}
+use Rattle.encodings.specs.declared.encoding.Encoding.TheVariants.{Bytes, Ot1, T1, Ly1, Latin1, Vector}
+use Rattle.encodings.specs.declared.vector.Vector.{Vector as VectorValue}
 use Rattle.encodings.specs.Tables.{no, ot1_characters, t1_characters, ly1_characters, shared_others, ot1_others, t1_others, ly1_others}
 use Rattle.encodings.specs.Codes.{codes_of, codes_beside, characters_of, others_of}
+use Rattle.encodings.specs.Lookup.{is_table}
+use Rattle.encodings.specs.Names.{encoding_named, name_of}
+use Rattle.encodings.specs.Vectors.{vector_characters}
 use Rattle.encodings.specs.declared.coded.Coded.TheVariants.{Code, Uncoded}
 use Rattle.encodings.specs.Lines.{coded_of, places_from, places_of, without_mark}
 use Rattle.encodings.specs.Decoding.{coded_text}
 use Rattle.encodings.specs.Laws.{character_at, IsOwn, ComesFromItsCharacter, text_codes, characters_at, ComesBack, IsItself, KeepsFeed, KeepsSpace, HasFewCodes}
 use Rattle.encodings.proofs.PlaceLemmas.{characters_from, characters_in}
-use Rattle.encodings.proofs.TableLemmas.{at_member, in_range, no_row, no_own_code, neither, same, same_is}
+use Rattle.encodings.proofs.TableLemmas.{at_member, by_table, in_range, no_row, no_own_code, neither, same, same_is}
+use Rattle.encodings.proofs.VectorLemmas.{of_vector, vector_comes, vector_feed, vector_few, vector_space}
 
 -- ---- characters that have codes are in the tables
 
@@ -47,13 +52,14 @@ of_keys encoding p c codes all is = by (list_any (λ x. nat_eq x c) (keys encodi
 abbrev few_at : Encoding → ℕ → Bool
 few_at encoding c = option_map_or (λ codes. nat_le (length codes) (len_utf8 c)) (codes_of encoding c) true
 
-few : (encoding : Encoding) → list_all (few_at encoding) (keys encoding) ≡ true
+few : (encoding : Encoding) → is_table encoding ≡ true → list_all (few_at encoding) (keys encoding) ≡ true
 unfolding codes_of characters_of others_of ot1_characters t1_characters ly1_characters shared_others ot1_others t1_others ly1_others
-few Bytes = refl
-few Ot1 = refl
-few T1 = refl
-few Ly1 = refl
-few Latin1 = refl
+few Bytes table = refl
+few Ot1 table = refl
+few T1 table = refl
+few Ly1 table = refl
+few Latin1 table = refl
+few (Vector vector) table = cc
 
 other_than : (c : ℕ) → c < no → (b : Bool) → nat_eq c no || b ≡ true → b ≡ true
 other_than c below b is = by (nat_eq c no) refl is
@@ -62,10 +68,17 @@ other_than c below b is = by (nat_eq c no) refl is
     by true same at = absurd (omega (arith, eqb-true c no same))
     by false same at = at
 
-pub few_codes : (encoding : Encoding) (c : ℕ) (codes : List ℕ) → HasFewCodes encoding c codes
-few_codes encoding c codes is =
-    let at = of_keys encoding (few_at encoding) c codes (few encoding) is in
+few_in_table : (encoding : Encoding) (c : ℕ) (codes : List ℕ) → is_table encoding ≡ true → HasFewCodes encoding c codes
+few_in_table encoding c codes table is =
+    let at = of_keys encoding (few_at encoding) c codes (few encoding table) is in
     leb-true (length codes) (len_utf8 c) (rw is at at)
+
+few_in_vector : (vector : Bor VectorValue) (c : ℕ) (codes : List ℕ) → HasFewCodes (Vector vector) c codes
+few_in_vector vector c codes is =
+    omega (arith, vector_few (vector_characters vector.now.characters) c codes (sym (of_vector vector c) ∙ is), (len_utf8_bounds c).0)
+
+pub few_codes : (encoding : Encoding) (c : ℕ) (codes : List ℕ) → HasFewCodes encoding c codes
+few_codes encoding c codes = by_table (λ e. HasFewCodes e c codes) (λ e table. few_in_table e c codes table) (λ vector. few_in_vector vector c codes) encoding
 
 -- ---- the line feed and the space
 
@@ -78,13 +91,14 @@ reserved_of c codes = (not (has codes 10) || nat_eq c 10) && (not (has codes 32)
 abbrev reserved_at : Encoding → ℕ → Bool
 reserved_at encoding c = nat_eq c no || option_map_or (reserved_of c) (codes_of encoding c) true
 
-reserved : (encoding : Encoding) → list_all (reserved_at encoding) (keys encoding) ≡ true
+reserved : (encoding : Encoding) → is_table encoding ≡ true → list_all (reserved_at encoding) (keys encoding) ≡ true
 unfolding codes_of characters_of others_of ot1_characters t1_characters ly1_characters shared_others ot1_others t1_others ly1_others
-reserved Bytes = refl
-reserved Ot1 = refl
-reserved T1 = refl
-reserved Ly1 = refl
-reserved Latin1 = refl
+reserved Bytes table = refl
+reserved Ot1 table = refl
+reserved T1 table = refl
+reserved Ly1 table = refl
+reserved Latin1 table = refl
+reserved (Vector vector) table = cc
 
 feed_kept : (h b more : Bool) → (not h || b) && more ≡ true → h ≡ true → b ≡ true
 feed_kept true true more is at = refl
@@ -98,16 +112,28 @@ space_kept true false false true is at = cc
 space_kept true false false false is at = cc
 space_kept false s n more is at = cc
 
-reserved_here : (encoding : Encoding) (c : ℕ) (codes : List ℕ) → c < no → codes_of encoding c ≡ Some codes → reserved_of c codes ≡ true
-reserved_here encoding c codes below is =
-    let at = other_than c below _ (of_keys encoding (reserved_at encoding) c codes (reserved encoding) is) in rw is at at
+reserved_here : (encoding : Encoding) (c : ℕ) (codes : List ℕ) → is_table encoding ≡ true → c < no → codes_of encoding c ≡ Some codes → reserved_of c codes ≡ true
+reserved_here encoding c codes table below is =
+    let at = other_than c below _ (of_keys encoding (reserved_at encoding) c codes (reserved encoding table) is) in rw is at at
+
+feed_in_table : (encoding : Encoding) (c : ℕ) (codes : List ℕ) → is_table encoding ≡ true → KeepsFeed encoding c codes
+feed_in_table encoding c codes table below is ten = eqb-true c 10 (feed_kept _ _ _ (reserved_here encoding c codes table below is) ten)
+
+feed_in_vector : (vector : Bor VectorValue) (c : ℕ) (codes : List ℕ) → KeepsFeed (Vector vector) c codes
+feed_in_vector vector c codes below is ten = vector_feed vector.now.characters c codes below (sym (of_vector vector c) ∙ is) ten
 
 pub feed_code : (encoding : Encoding) (c : ℕ) (codes : List ℕ) → KeepsFeed encoding c codes
-feed_code encoding c codes below is ten = eqb-true c 10 (feed_kept _ _ _ (reserved_here encoding c codes below is) ten)
+feed_code encoding c codes = by_table (λ e. KeepsFeed e c codes) (λ e table. feed_in_table e c codes table) (λ vector. feed_in_vector vector c codes) encoding
+
+space_in_table : (encoding : Encoding) (c : ℕ) (codes : List ℕ) → is_table encoding ≡ true → KeepsSpace encoding c codes
+space_in_table encoding c codes table below is space =
+    elim (space_kept _ _ _ _ (reserved_here encoding c codes table below is) space) [ inl s ↦ inl (eqb-true c 32 s) | inr n ↦ inr (eqb-true c 0xA0 n) ]
+
+space_in_vector : (vector : Bor VectorValue) (c : ℕ) (codes : List ℕ) → KeepsSpace (Vector vector) c codes
+space_in_vector vector c codes below is space = vector_space vector.now.characters c codes (sym (of_vector vector c) ∙ is) space
 
 pub space_code : (encoding : Encoding) (c : ℕ) (codes : List ℕ) → KeepsSpace encoding c codes
-space_code encoding c codes below is space =
-    elim (space_kept _ _ _ _ (reserved_here encoding c codes below is) space) [ inl s ↦ inl (eqb-true c 32 s) | inr n ↦ inr (eqb-true c 0xA0 n) ]
+space_code encoding c codes = by_table (λ e. KeepsSpace e c codes) (λ e table. space_in_table e c codes table) (λ vector. space_in_vector vector c codes) encoding
 
 -- ---- ASCII letters and digits
 
@@ -117,17 +143,18 @@ alphanumeric_below c is = grind (arith, nat_tests)
 abbrev itself_at : Encoding → ℕ → Bool
 itself_at encoding c = not (is_ascii_alphanumeric c) || same (codes_of encoding c) (Some (c ∷ []))
 
-itself : (encoding : Encoding) → encoding ≢ Bytes → list_all (itself_at encoding) (range_with_len 0 128) ≡ true
+itself : (encoding : Encoding) → encoding_named (name_of encoding) ≡ Some encoding → encoding ≢ Bytes → list_all (itself_at encoding) (range_with_len 0 128) ≡ true
 unfolding codes_of characters_of others_of ot1_characters t1_characters ly1_characters shared_others ot1_others t1_others ly1_others
-itself Bytes other = absurd (other refl)
-itself Ot1 other = refl
-itself T1 other = refl
-itself Ly1 other = refl
-itself Latin1 other = refl
+itself Bytes named other = absurd (other refl)
+itself Ot1 named other = refl
+itself T1 named other = refl
+itself Ly1 named other = refl
+itself Latin1 named other = refl
+itself (Vector vector) named other = cc
 
 pub is_itself : (encoding : Encoding) (c : ℕ) → IsItself encoding c
-is_itself encoding c other is =
-    let at = at_member (itself_at encoding) c (range_with_len 0 128) (itself encoding other) (in_range c 0 128 (omega arith) (alphanumeric_below c is)) in
+is_itself encoding c named other is =
+    let at = at_member (itself_at encoding) c (range_with_len 0 128) (itself encoding named other) (in_range c 0 128 (omega arith) (alphanumeric_below c is)) in
     same_is _ _ (rw is at at)
 
 -- ---- codes and their characters
@@ -136,24 +163,33 @@ is_itself encoding c other is =
 own_at : Encoding → ℕ → ℕ → Bool
 own_at encoding c code = nat_eq c no || (is_some (codes_beside (others_of encoding) c) || same (codes_of encoding c) (Some (code ∷ [])))
 
-owns : (encoding : Encoding) → list_all (λ code. own_at encoding (character_at encoding code) code) (range_with_len 0 (length (characters_of encoding))) ≡ true
+owns : (encoding : Encoding) → is_table encoding ≡ true → list_all (λ code. own_at encoding (character_at encoding code) code) (range_with_len 0 (length (characters_of encoding))) ≡ true
 unfolding own_at codes_of characters_of others_of ot1_characters t1_characters ly1_characters shared_others ot1_others t1_others ly1_others
-owns Bytes = refl
-owns Ot1 = refl
-owns T1 = refl
-owns Ly1 = refl
-owns Latin1 = refl
+owns Bytes table = refl
+owns Ot1 table = refl
+owns T1 table = refl
+owns Ly1 table = refl
+owns Latin1 table = refl
+owns (Vector vector) table = cc
 
-pub comes_from : (encoding : Encoding) (code : ℕ) → ComesFromItsCharacter encoding code
+comes_from_table : (encoding : Encoding) (code : ℕ) → is_table encoding ≡ true → ComesFromItsCharacter encoding code
 unfolding own_at
-comes_from encoding code within own =
-    let at = at_member (λ k. own_at encoding (character_at encoding k) k) code (range_with_len 0 (length (characters_of encoding))) (owns encoding) (in_range code 0 (length (characters_of encoding)) (omega arith) (omega arith)) in
+comes_from_table encoding code table within own =
+    let at = at_member (λ k. own_at encoding (character_at encoding k) k) code (range_with_len 0 (length (characters_of encoding))) (owns encoding table) (in_range code 0 (length (characters_of encoding)) (omega arith) (omega arith)) in
     here (nat_eq (character_at encoding code) no) refl at
   where
     here : (b : Bool) → nat_eq (character_at encoding code) no ≡ b → b || (is_some (codes_beside (others_of encoding) (character_at encoding code)) || same (codes_of encoding (character_at encoding code)) (Some (code ∷ []))) ≡ true
         → codes_of encoding (character_at encoding code) ≡ Some (code ∷ [])
     here true equal at = absurd (own.is_character (eqb-true _ _ equal))
     here false other at = same_is _ _ (rw own.not_other at at)
+
+comes_from_vector : (vector : Bor VectorValue) (code : ℕ) → ComesFromItsCharacter (Vector vector) code
+unfolding characters_of
+comes_from_vector vector code within own =
+    of_vector vector (character_at (Vector vector) code) ∙ vector_comes vector.now.characters code within own.is_character
+
+pub comes_from : (encoding : Encoding) (code : ℕ) → ComesFromItsCharacter encoding code
+comes_from encoding code = by_table (λ e. ComesFromItsCharacter e code) (λ e table. comes_from_table e code table) (λ vector. comes_from_vector vector code) encoding
 
 found_before : (p : ℕ → Bool) (xs : List ℕ) → list_any p xs ≡ true → position_or_len p xs < length xs
 found_before p [] any = cc

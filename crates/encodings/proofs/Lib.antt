@@ -6,4 +6,5 @@ pub mod LawLemmas
 pub mod LineLemmas
 pub mod PlaceLemmas
 pub mod TableLemmas
+pub mod VectorLemmas
 pub mod WorkedRows

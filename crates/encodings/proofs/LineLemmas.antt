@@ -7,7 +7,7 @@ use Rattle.std.proofs.lemmas.Bool.{eqb-true}
 use Rattle.std.proofs.lemmas.List.{append_assoc, map-append, take-take}
 use Rattle.std.proofs.lemmas.Str.{chars-nil, is_utf8-from_IsUtf8}
 use Rattle.encodings.specs.declared.encoding.Encoding.{Encoding}
-use Rattle.encodings.specs.declared.encoding.Encoding.TheVariants.{Bytes, Ot1, T1, Ly1, Latin1}
+use Rattle.encodings.specs.declared.encoding.Encoding.TheVariants.{Bytes, Ot1, T1, Ly1, Latin1, Vector}
 use Rattle.encodings.specs.declared.coded.Coded.{Coded}
 use Rattle.encodings.specs.declared.coded.Coded.TheVariants.{Code}
 use Rattle.encodings.specs.declared.places.Place.{Place}
@@ -66,6 +66,7 @@ text_encoded Ot1 first text unmarked other is = ap (flat_map (coded_of Ot1)) is 
 text_encoded T1 first text unmarked other is = ap (flat_map (coded_of T1)) is ∙ forgotten T1 (places_of first text)
 text_encoded Ly1 first text unmarked other is = ap (flat_map (coded_of Ly1)) is ∙ forgotten Ly1 (places_of first text)
 text_encoded Latin1 first text unmarked other is = ap (flat_map (coded_of Latin1)) is ∙ forgotten Latin1 (places_of first text)
+text_encoded (Vector vector) first text unmarked other is = ap (flat_map (coded_of (Vector vector))) is ∙ forgotten (Vector vector) (places_of first text)
 
 -- so a line has at most as many elements as bytes
 pub encoded_few : (encoding : Encoding) (first : Bool) (line : List ℕ) → encoding ≢ Bytes → IsUtf8 line → length (encoded encoding first line) ≤ length line
@@ -75,6 +76,7 @@ encoded_few Ot1 first line other utf8 = rw (← forgotten Ot1 (places_of first l
 encoded_few T1 first line other utf8 = rw (← forgotten T1 (places_of first line)) (places_few T1 first line utf8)
 encoded_few Ly1 first line other utf8 = rw (← forgotten Ly1 (places_of first line)) (places_few Ly1 first line utf8)
 encoded_few Latin1 first line other utf8 = rw (← forgotten Latin1 (places_of first line)) (places_few Latin1 first line utf8)
+encoded_few (Vector vector) first line other utf8 = rw (← forgotten (Vector vector) (places_of first line)) (places_few (Vector vector) first line utf8)
 
 -- bytes that are codes
 pub bytes_encoded : (encoding : Encoding) (first : Bool) (line : List ℕ) → encoding ≡ Bytes → map Code line ≡ encoded encoding first line
@@ -84,6 +86,7 @@ bytes_encoded Ot1 first line is = cc
 bytes_encoded T1 first line is = cc
 bytes_encoded Ly1 first line is = cc
 bytes_encoded Latin1 first line is = cc
+bytes_encoded (Vector vector) first line is = cc
 
 -- a text in UTF-8 can be decoded
 pub no_fault : (encoding : Encoding) (line : List ℕ) → IsUtf8 line → fault_in encoding line ≡ None
@@ -93,6 +96,7 @@ no_fault Ot1 line utf8 = rw (is_utf8-from_IsUtf8 line utf8) refl
 no_fault T1 line utf8 = rw (is_utf8-from_IsUtf8 line utf8) refl
 no_fault Ly1 line utf8 = rw (is_utf8-from_IsUtf8 line utf8) refl
 no_fault Latin1 line utf8 = rw (is_utf8-from_IsUtf8 line utf8) refl
+no_fault (Vector vector) line utf8 = rw (is_utf8-from_IsUtf8 line utf8) refl
 
 pub no_fault_in_bytes : (encoding : Encoding) (line : List ℕ) → encoding ≡ Bytes → fault_in encoding line ≡ None
 unfolding fault_in
@@ -101,6 +105,7 @@ no_fault_in_bytes Ot1 line is = cc
 no_fault_in_bytes T1 line is = cc
 no_fault_in_bytes Ly1 line is = cc
 no_fault_in_bytes Latin1 line is = cc
+no_fault_in_bytes (Vector vector) line is = cc
 
 -- the offset at which a line stops being UTF-8
 pub fault_found : (encoding : Encoding) (line : List ℕ) (offset : ℕ) → encoding ≢ Bytes → ¬ (IsUtf8 line) → offset ≡ utf8_valid_len line → fault_in encoding line ≡ Some offset
@@ -110,6 +115,7 @@ fault_found Ot1 line offset other bad is = rw (not_utf8 line bad) (ap Some (sym 
 fault_found T1 line offset other bad is = rw (not_utf8 line bad) (ap Some (sym is))
 fault_found Ly1 line offset other bad is = rw (not_utf8 line bad) (ap Some (sym is))
 fault_found Latin1 line offset other bad is = rw (not_utf8 line bad) (ap Some (sym is))
+fault_found (Vector vector) line offset other bad is = rw (not_utf8 line bad) (ap Some (sym is))
 
 -- ---- a line that isn't the first one has no byte order mark
 

@@ -1,22 +1,24 @@
 -- The tables by character and the tables by code give the same codes, which is computed for every character in
 -- either of them.
-use Rattle.std.proofs.Common.{◌≡◌, ◌≢◌, ℕ, zero, suc, ◌<◌, ◌≤◌, ◌+◌, ◌-◌, ◌*◌, ◌/◌, Bool, true, false, List, [], ◌∷◌, ◌++◌, ◌||◌, ◌&&◌, Option, Some, None, length, get_or, take, drop, arith, refl, ap, sym, ◌∙◌}
+use Rattle.std.proofs.Common.{◌≡◌, ◌≢◌, ℕ, zero, suc, ◌<◌, ◌≤◌, ◌+◌, ◌-◌, ◌*◌, ◌/◌, Bool, true, false, List, [], ◌∷◌, ◌++◌, ◌||◌, ◌&&◌, Option, Some, None, Bor, length, get_or, take, drop, flat_map, arith, refl, ap, sym, ◌∙◌}
 use Rattle.std.specs.Prelude.{not, nat_eq, nat_lt, map, bytes_eq, cond}
 use Rattle.std.specs.List.{list_all, list_any, range_with_len, position_or_len}
 use Rattle.std.specs.Option.{option_or}
 use Rattle.std.proofs.lemmas.Bool.Decides.{nat_tests}
-use Rattle.std.proofs.lemmas.Bool.{eqb-true, eq-eqb, ltb-true, ltb-false, lt-ltb, le-ltb}
+use Rattle.std.proofs.lemmas.Bool.{and_parts, eqb-true, eq-eqb, ltb-true, ltb-false, lt-ltb, le-ltb}
 use Rattle.std.proofs.lemmas.Slice.Eq.{bytes_eq-Decides}
 use Rattle.std.proofs.lemmas.List.{get_or_past}
 use Rattle.std.proofs.lemmas.Nat.{div-mul-add, mod-mul-add}
 use Rattle.std.proofs.Math.Nat.{lt-mul-div-succ}
 use Rattle.std.proofs.lemmas.List.Folds.{list_any-append}
 use Rattle.encodings.specs.declared.encoding.Encoding.{Encoding}
-use Rattle.encodings.specs.declared.encoding.Encoding.TheVariants.{Bytes, Ot1, T1, Ly1, Latin1}
+use Rattle.encodings.specs.declared.encoding.Encoding.TheVariants.{Bytes, Ot1, T1, Ly1, Latin1, Vector}
 use Rattle.encodings.specs.declared.lookup.TheConstants.{CODES}
+use Rattle.encodings.specs.declared.tables.TheConstants.{NO_SINGLE}
+use Rattle.encodings.specs.declared.vector.Vector.{Vector as VectorValue}
 use Rattle.encodings.specs.Tables.{no, ot1_characters, t1_characters, ly1_characters, shared_others, ot1_others, t1_others, ly1_others}
 use Rattle.encodings.specs.Codes.{codes_of, codes_beside, own_code, characters_of, others_of}
-use Rattle.encodings.specs.Lookup.{is_punctuation, index_of, rows_of, looked_up, singles_in, others_in}
+use Rattle.encodings.specs.Lookup.{is_punctuation, is_table, index_of, rows_of, looked_up, singles_in, others_in}
 
 -- what all members of a list pass, each of them passes
 pub at_member : (p : ℕ → Bool) (c : ℕ) (xs : List ℕ) → list_all p xs ≡ true → list_any (λ x. nat_eq x c) xs ≡ true → p c ≡ true
@@ -83,6 +85,17 @@ same_is None (Some b) is = cc
 same_is (Some a) None is = cc
 same_is (Some a) (Some b) is = ap Some ((bytes_eq-Decides a b).0 is)
 
+-- ---- encodings whose codes are in tables
+
+-- what holds of each table, and of each vector, holds of each encoding
+pub by_table : (P : Encoding → Type 0) → ((encoding : Encoding) → is_table encoding ≡ true → P encoding) → ((vector : Bor VectorValue) → P (Vector vector)) → (encoding : Encoding) → P encoding
+by_table P table vectors Bytes = table Bytes refl
+by_table P table vectors Ot1 = table Ot1 refl
+by_table P table vectors T1 = table T1 refl
+by_table P table vectors Ly1 = table Ly1 refl
+by_table P table vectors Latin1 = table Latin1 refl
+by_table P table vectors (Vector vector) = vectors vector
+
 -- whether both tables give a character the same codes
 abbrev agree_at : Encoding → ℕ → Bool
 agree_at encoding c = nat_eq c no || same (looked_up (singles_in encoding) (rows_of (others_in encoding)) c) (codes_of encoding c)
@@ -91,13 +104,14 @@ agree_at encoding c = nat_eq c no || same (looked_up (singles_in encoding) (rows
 abbrev all_in : Encoding → List ℕ
 all_in encoding = range_with_len 0 384 ++ (range_with_len 0x2000 64 ++ (map (λ r. r.0) (rows_of (others_in encoding)) ++ (map (λ r. r.0) (others_of encoding) ++ characters_of encoding)))
 
-agrees : (encoding : Encoding) → list_all (agree_at encoding) (all_in encoding) ≡ true
+agrees : (encoding : Encoding) → is_table encoding ≡ true → list_all (agree_at encoding) (all_in encoding) ≡ true
 unfolding codes_of characters_of others_of ot1_characters t1_characters ly1_characters shared_others ot1_others t1_others ly1_others singles_in others_in
-agrees Bytes = refl
-agrees Ot1 = refl
-agrees T1 = refl
-agrees Ly1 = refl
-agrees Latin1 = refl
+agrees Bytes table = refl
+agrees Ot1 table = refl
+agrees T1 table = refl
+agrees Ly1 table = refl
+agrees Latin1 table = refl
+agrees (Vector vector) table = cc
 
 pub singles_end : (encoding : Encoding) → length (singles_in encoding) ≡ 1344
 unfolding singles_in
@@ -106,6 +120,7 @@ singles_end Ot1 = refl
 singles_end T1 = refl
 singles_end Ly1 = refl
 singles_end Latin1 = refl
+singles_end (Vector vector) = refl
 
 pub neither : (a b : Bool) → a || b ≡ false → (a ≡ false) × (b ≡ false)
 neither true b is = cc
@@ -166,11 +181,11 @@ agree_outside encoding c none =
     nothing _ _ _ _ c (no_single encoding c first.0 second.0) (no_row (rows_of (others_in encoding)) c third.0) (no_row (others_of encoding) c last.0) (no_own_code (characters_of encoding) c last.1)
 
 -- both tables give each character the same codes
-tables_agree : (encoding : Encoding) (c : ℕ) → c ≢ no → looked_up (singles_in encoding) (rows_of (others_in encoding)) c ≡ codes_of encoding c
-tables_agree encoding c character = by (list_any (λ x. nat_eq x c) (all_in encoding)) refl
+tables_agree : (encoding : Encoding) (c : ℕ) → is_table encoding ≡ true → c ≢ no → looked_up (singles_in encoding) (rows_of (others_in encoding)) c ≡ codes_of encoding c
+tables_agree encoding c table character = by (list_any (λ x. nat_eq x c) (all_in encoding)) refl
   where
     by : (b : Bool) → list_any (λ x. nat_eq x c) (all_in encoding) ≡ b → looked_up (singles_in encoding) (rows_of (others_in encoding)) c ≡ codes_of encoding c
-    by true is = here (nat_eq c no) refl (at_member (agree_at encoding) c (all_in encoding) (agrees encoding) is)
+    by true is = here (nat_eq c no) refl (at_member (agree_at encoding) c (all_in encoding) (agrees encoding table) is)
       where
         here : (b : Bool) → nat_eq c no ≡ b → b || same (looked_up (singles_in encoding) (rows_of (others_in encoding)) c) (codes_of encoding c) ≡ true → looked_up (singles_in encoding) (rows_of (others_in encoding)) c ≡ codes_of encoding c
         here true is it = absurd (character (eqb-true c no is))
@@ -178,14 +193,30 @@ tables_agree encoding c character = by (list_any (λ x. nat_eq x c) (all_in enco
     by false is = agree_outside encoding c is
 
 -- the codes of a character that has a single code in its table
+single_in_table : (encoding : Encoding) (c code : ℕ) → is_table encoding ≡ true → c < 0x110000 → get_or (singles_in encoding) (index_of c) 256 ≡ code → code < 256 → codes_of encoding c ≡ Some (code ∷ [])
+single_in_table encoding c code table character is below =
+    sym (tables_agree encoding c table (λ same. absurd (omega (arith, same)))) ∙ rw is (rw (lt-ltb code 256 below) refl)
+
+marked : (singles : List ℕ) (index : ℕ) → list_all (λ single. nat_eq single 256) singles ≡ true → get_or singles index 256 ≡ 256
+marked [] index all = refl
+marked (single ∷ singles) zero all = eqb-true single 256 (and_parts _ _ all).0
+marked (single ∷ singles) (suc index) all = marked singles index (and_parts _ _ all).1
+
+-- a vector has no single codes in a table
+none_in_vector : (vector : Bor VectorValue) (index : ℕ) → get_or (singles_in (Vector vector)) index 256 ≡ 256
+unfolding singles_in
+none_in_vector vector index = marked (flat_map (λ entries. entries) NO_SINGLE) index refl
+
 pub single_is : (encoding : Encoding) (c code : ℕ) → c < 0x110000 → get_or (singles_in encoding) (index_of c) 256 ≡ code → code < 256 → codes_of encoding c ≡ Some (code ∷ [])
-single_is encoding c code character is below =
-    sym (tables_agree encoding c (λ same. absurd (omega (arith, same)))) ∙ rw is (rw (lt-ltb code 256 below) refl)
+single_is encoding c code = by_table (λ e. c < 0x110000 → get_or (singles_in e) (index_of c) 256 ≡ code → code < 256 → codes_of e c ≡ Some (code ∷ []))
+    (λ e table. single_in_table e c code table)
+    (λ vector character is below. absurd (omega (arith, is, none_in_vector vector (index_of c))))
+    encoding
 
 -- the codes of a character that has none there
-pub other_is : (encoding : Encoding) (c : ℕ) → c < 0x110000 → 256 ≤ get_or (singles_in encoding) (index_of c) 256 → codes_of encoding c ≡ codes_beside (rows_of (others_in encoding)) c
-other_is encoding c character above =
-    sym (tables_agree encoding c (λ same. absurd (omega (arith, same)))) ∙ rw (le-ltb (get_or (singles_in encoding) (index_of c) 256) 256 above) refl
+pub other_is : (encoding : Encoding) (c : ℕ) → is_table encoding ≡ true → c < 0x110000 → 256 ≤ get_or (singles_in encoding) (index_of c) 256 → codes_of encoding c ≡ codes_beside (rows_of (others_in encoding)) c
+other_is encoding c table character above =
+    sym (tables_agree encoding c table (λ same. absurd (omega (arith, same)))) ∙ rw (le-ltb (get_or (singles_in encoding) (index_of c) 256) 256 above) refl
 
 pub ruleset found = (single_is, other_is)
 

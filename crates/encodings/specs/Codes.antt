@@ -1,13 +1,15 @@
 -- The codes of a character in an encoding.
 -- Public source: the guide to LaTeX's encodings (encguide) for OT1, T1 and LY1, and ISO/IEC 8859-1 for Latin 1.
 -- What becomes of the no-break space and of the soft hyphen is that of LaTeX's package inputenc, in a line that
--- isn't broken.
-use Rattle.std.specs.Prelude.{ℕ, List, [], ◌∷◌, ◌++◌, Option, Some, None, cond, nat_eq}
+-- isn't broken. Which code a character has in a vector, and which characters are set there as others, is
+-- defined in Vectors.
+use Rattle.std.specs.Prelude.{◌≡◌, ℕ, ◌<◌, List, [], ◌∷◌, ◌++◌, Option, Some, None, cond, nat_eq}
 use Rattle.std.specs.List.{position, range_with_len}
 use Rattle.std.specs.Option.{option_map, option_or}
 use Rattle.encodings.specs.declared.encoding.Encoding.{Encoding}
-use Rattle.encodings.specs.declared.encoding.Encoding.TheVariants.{Bytes, Ot1, T1, Ly1, Latin1}
-use Rattle.encodings.specs.Tables.{ot1_characters, t1_characters, ly1_characters, shared_others, ot1_others, t1_others, ly1_others}
+use Rattle.encodings.specs.declared.encoding.Encoding.TheVariants.{Bytes, Ot1, T1, Ly1, Latin1, Vector}
+use Rattle.encodings.specs.Tables.{no, ot1_characters, t1_characters, ly1_characters, shared_others, ot1_others, t1_others, ly1_others}
+use Rattle.encodings.specs.Vectors.{given_characters, numbers_of, others_among, unbroken, vector_characters}
 
 -- the characters of an encoding by code; a line of bytes isn't decoded, and therefore `bytes` has none
 unfoldable pub characters_of : Encoding → List ℕ
@@ -16,15 +18,17 @@ characters_of Ot1 = ot1_characters
 characters_of T1 = t1_characters
 characters_of Ly1 = ly1_characters
 characters_of Latin1 = range_with_len 0 256
+characters_of (Vector vector) = vector_characters vector.now.characters
 
 -- the characters that have other codes than their own, with these codes: in Latin 1 the no-break space and
--- the soft hyphen
+-- the soft hyphen, and in a vector also characters that are set as others that it has
 unfoldable pub others_of : Encoding → List (ℕ × List ℕ)
 others_of Bytes = []
 others_of Ot1 = shared_others ++ ot1_others
 others_of T1 = shared_others ++ t1_others
 others_of Ly1 = shared_others ++ ly1_others
-others_of Latin1 = (0xA0, 32 ∷ []) ∷ (0xAD, []) ∷ []
+others_of Latin1 = unbroken
+others_of (Vector vector) = others_among (vector_characters vector.now.characters)
 
 -- the codes beside a character in a list
 abbrev pub codes_beside : List (ℕ × List ℕ) → ℕ → Option (List ℕ)
@@ -40,3 +44,21 @@ own_code characters character =
 unfoldable pub codes_of : Encoding → ℕ → Option (List ℕ)
 codes_of encoding character =
     option_or (codes_beside (others_of encoding) character) (own_code (characters_of encoding) character)
+
+-- ---- encodings that are made of characters
+
+-- the codes of a character where the characters by code are these: other ones, or its own
+abbrev pub listed_codes : List ℕ → ℕ → Option (List ℕ)
+listed_codes characters character =
+    option_or (codes_beside (others_among characters) character) (own_code characters character)
+
+-- the codes of a character where a list gives the codes their characters: the code of the space for a
+-- no-break space, and an empty list for a soft hyphen; for any other character the lowest code that has it,
+-- or if there is none, the lowest one that has the character as which it is set
+abbrev pub given_codes : List (Option ℕ) → ℕ → Option (List ℕ)
+given_codes given character = listed_codes (given_characters (numbers_of given)) character
+
+-- an encoding has the characters of a list, each at its lowest code, and gives each character these codes
+pub record IsMadeOf (given : List (Option ℕ)) (encoding : Encoding) : Type 0 where
+  pub characters : characters_of encoding ≡ vector_characters (numbers_of given)
+  pub codes : (character : ℕ) → character < no → codes_of encoding character ≡ given_codes given character

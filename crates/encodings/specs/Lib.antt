@@ -1,5 +1,6 @@
 pub mod Names
 pub mod Tables
+pub mod Vectors
 pub mod Codes
 pub mod Lookup
 pub mod Lines

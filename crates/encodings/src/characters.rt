@@ -1,12 +1,14 @@
 //! The characters at codes.
-ghost use Rattle.std.specs.Prelude.{◌≡◌};
+ghost use Rattle.std.specs.Prelude.{◌≡◌, true};
 ghost use Rattle.encodings.specs.Characters.{character_of};
 ghost use Rattle.encodings.specs.CharacterTables.{characters_in};
+ghost use Rattle.encodings.specs.Lookup.{is_table};
 
 use crate::Encoding;
 use crate::characters::ly1::LY1_CHARACTERS;
 use crate::characters::ot1::OT1_CHARACTERS;
 use crate::characters::t1::T1_CHARACTERS;
+use crate::vector_characters::own_at;
 use std::char;
 
 mod ly1;
@@ -14,7 +16,7 @@ mod ot1;
 mod t1;
 
 /// In a table of characters, the mark of a code that is no character's own: a number above all characters.
-const X: u32 = 0x11_0000;
+pub(crate) const X: u32 = 0x11_0000;
 
 /// The characters of ISO 8859-1, by code.
 static LATIN1_CHARACTERS: [u32; 256] = [
@@ -52,13 +54,13 @@ static LATIN1_CHARACTERS: [u32; 256] = [
     0xF0, 0xF1, 0xF2, 0xF3, 0xF4, 0xF5, 0xF6, 0xF7, 0xF8, 0xF9, 0xFA, 0xFB, 0xFC, 0xFD, 0xFE, 0xFF,
 ];
 
-/// Returns the characters of an encoding, by code.
+/// Returns the characters of an encoding, by code; those of a vector aren't in a table.
 #[tactic(auto, unfolding(crate::specs::CharacterTables::characters_in))]
 fn characters(encoding: Encoding) -> &'static [u32]
     ensures { result.now ≡ characters_in encoding }
 {
     match encoding {
-        Encoding::Bytes => &[],
+        Encoding::Bytes | Encoding::Vector(_) => &[],
         Encoding::Ot1 => &OT1_CHARACTERS,
         Encoding::T1 => &T1_CHARACTERS,
         Encoding::Ly1 => &LY1_CHARACTERS,
@@ -66,12 +68,27 @@ fn characters(encoding: Encoding) -> &'static [u32]
     }
 }
 
-/// Returns the character at a code of an encoding, or `None` if the code is no character's own. With
-/// [`Encoding::Bytes`] no code has a character.
+/// Returns the character at a code in the table of an encoding.
 #[tactic(auto, using(crate::proofs::CharacterLemmas::found))]
-pub fn character_at(encoding: Encoding, code: u8) -> Option<char>
+fn character_in_table(encoding: Encoding, code: u8) -> Option<char>
+    requires { is_table encoding ≡ true }
     ensures { result ≡ character_of encoding code }
 {
     let character = *characters(encoding).get(usize::from(code))?;
     char::from_u32(character)
+}
+
+/// Returns the character at a code of an encoding, or `None` if the code is no character's own. With
+/// [`Encoding::Bytes`] no code has a character. A vector may list a character for several codes: it is the
+/// lowest code's own character.
+#[tactic(auto, using(crate::proofs::CharacterLemmas::of_vector))]
+pub fn character_at(encoding: Encoding, code: u8) -> Option<char>
+    ensures { result ≡ character_of encoding code }
+{
+    match encoding {
+        Encoding::Bytes | Encoding::Ot1 | Encoding::T1 | Encoding::Ly1 | Encoding::Latin1 => {
+            character_in_table(encoding, code)
+        }
+        Encoding::Vector(vector) => own_at(&vector.characters, code),
+    }
 }

@@ -1,5 +1,9 @@
-ghost use Rattle.std.specs.Prelude.{◌≡◌};
+ghost use Rattle.std.specs.Prelude.{◌≡◌, IfOk};
+ghost use Rattle.encodings.specs.Codes.{IsMadeOf};
 ghost use Rattle.encodings.specs.Names.{encoding_named, encodings, name_of};
+
+use crate::Vector;
+use std::alloc::{AllocError, Global};
 
 /// What a line of text is: bytes that are codes of the font, or a text in UTF-8, whose characters become the
 /// codes of a font with this encoding.
@@ -15,10 +19,12 @@ pub enum Encoding {
     Ly1,
     /// ISO 8859-1.
     Latin1,
+    /// An encoding that is made of the characters of 256 codes ([`of_characters`](Encoding::of_characters)).
+    Vector(&'static Vector),
 }
 
 impl Encoding {
-    /// All encodings.
+    /// All encodings that have a name of their own.
     pub const ALL: [Encoding; 5] = [
         Encoding::Bytes,
         Encoding::Ot1,
@@ -42,7 +48,30 @@ impl Encoding {
         }
     }
 
-    /// Returns the name.
+    /// Returns an encoding that is made of the characters of 256 codes, in the order of the codes; `None` is
+    /// a code without a character. Codes after the end of the list have none, and characters after the 256th
+    /// are ignored.
+    ///
+    /// Code 32 is the space, whatever the list has there, and no other code is. Code 10 has no character,
+    /// since it would end a line. A character that is listed for several other codes is set by the lowest of
+    /// them. Whatever the list has, a no-break space is set as code 32 and a soft hyphen has an empty list of
+    /// codes, as in OT1, T1 and LY1; neither is the character of any code.
+    ///
+    /// Six characters that have no code are set by the code of another character, if this has one: `'` as ’,
+    /// the grave accent (U+0060) as ‘, the hyphens U+2010 and U+2011 as `-`, the figure dash (U+2012) as –,
+    /// and the horizontal bar (U+2015) as —.
+    ///
+    /// Fails if an allocation fails. The memory of the encoding, 1 KB, is never freed, so that encodings can
+    /// be copied and kept anywhere: make one for a whole batch, not one for each line.
+    #[tactic(auto, using(crate::proofs::VectorLemmas::made_of))]
+    pub fn of_characters(alloc: Global, characters: &[Option<char>]) -> Result<Self, AllocError>
+        ensures { IfOk result (IsMadeOf characters.now) }
+    {
+        Ok(Encoding::Vector(Vector::leaked(alloc, characters)?))
+    }
+
+    /// Returns the name. That of a vector is `vector`, for which [`from_name`](Encoding::from_name) returns
+    /// `None`.
     pub fn name(self) -> &'static str
         ensures { result.now ≡ name_of self }
     {
@@ -52,6 +81,7 @@ impl Encoding {
             Encoding::T1 => "t1",
             Encoding::Ly1 => "ly1",
             Encoding::Latin1 => "latin1",
+            Encoding::Vector(_) => "vector",
         }
     }
 }

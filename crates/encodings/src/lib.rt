@@ -9,6 +9,7 @@ pub use laws::{codes_come_back, codes_of_characters};
 pub use lines::{EncodeFault, encode_line};
 pub use lookup::codes_of;
 pub use places::{Place, Places, first_uncoded};
+pub use vector::Vector;
 
 mod characters;
 mod coded;
@@ -21,3 +22,6 @@ mod lines;
 mod lookup;
 mod places;
 mod tables;
+mod vector;
+mod vector_characters;
+mod vector_codes;

@@ -49,7 +49,7 @@ pub(crate) fn single_codes(encoding: Encoding) -> &'static [u16]
     ensures { result.now ≡ singles_in encoding }
 {
     match encoding {
-        Encoding::Bytes => NO_SINGLE.as_flattened(),
+        Encoding::Bytes | Encoding::Vector(_) => NO_SINGLE.as_flattened(),
         Encoding::Ot1 => OT1_SINGLE.as_flattened(),
         Encoding::T1 => T1_SINGLE.as_flattened(),
         Encoding::Ly1 => LY1_SINGLE.as_flattened(),
@@ -63,7 +63,7 @@ pub(crate) fn other_codes(encoding: Encoding) -> &'static [OtherCodes]
     ensures { result.now ≡ others_in encoding }
 {
     match encoding {
-        Encoding::Bytes => &[],
+        Encoding::Bytes | Encoding::Vector(_) => &[],
         Encoding::Ot1 => &OT1_OTHERS,
         Encoding::T1 => &T1_OTHERS,
         Encoding::Ly1 => &LY1_OTHERS,

@@ -5,7 +5,7 @@ use Rattle.std.specs.Char.{encode_utf8, is_control}
 use Rattle.std.proofs.lemmas.Bool.Decides.{nat_tests}
 use Rattle.std.proofs.lemmas.List.{append-nil}
 use Rattle.encodings.specs.declared.encoding.Encoding.{Encoding}
-use Rattle.encodings.specs.declared.encoding.Encoding.TheVariants.{Bytes, Ot1, T1, Ly1, Latin1}
+use Rattle.encodings.specs.declared.encoding.Encoding.TheVariants.{Bytes, Ot1, T1, Ly1, Latin1, Vector}
 use Rattle.tfm_tables.specs.Font.{FontValue}
 use Rattle.font_texts.specs.Pairs.{pairs_of}
 use Rattle.font_texts.specs.PairsText.{line_end, pair_front, pair_line, pairs_head, pairs_text_of}
@@ -27,6 +27,7 @@ head_of_text Ot1 = refl
 head_of_text T1 = refl
 head_of_text Ly1 = refl
 head_of_text Latin1 = refl
+head_of_text (Vector vector) = refl
 
 pub head_of_json : (encoding : Encoding) → pairs_head_with encoding Json ≡ []
 unfolding pairs_head_with pairs_head
@@ -35,6 +36,7 @@ head_of_json Ot1 = refl
 head_of_json T1 = refl
 head_of_json Ly1 = refl
 head_of_json Latin1 = refl
+head_of_json (Vector vector) = refl
 
 pub head_of_csv : (encoding : Encoding) → encoding ≢ Bytes
     → pairs_head_with encoding Csv ≡ codes "left,right,action,value,left_character,right_character,value_character\n"
@@ -44,6 +46,7 @@ head_of_csv Ot1 other = refl
 head_of_csv T1 other = refl
 head_of_csv Ly1 other = refl
 head_of_csv Latin1 other = refl
+head_of_csv (Vector vector) other = refl
 
 pub ruleset heads = (head_of_bytes, head_of_text, head_of_json, head_of_csv)
 
@@ -62,6 +65,7 @@ text_beside Ot1 pair other = refl
 text_beside T1 pair other = refl
 text_beside Ly1 pair other = refl
 text_beside Latin1 pair other = refl
+text_beside (Vector vector) pair other = refl
 
 pub csv_beside : (encoding : Encoding) (pair : Pair) → encoding ≢ Bytes → characters_beside encoding Csv pair ≡ csv_fields encoding pair
 unfolding characters_beside
@@ -70,6 +74,7 @@ csv_beside Ot1 pair other = refl
 csv_beside T1 pair other = refl
 csv_beside Ly1 pair other = refl
 csv_beside Latin1 pair other = refl
+csv_beside (Vector vector) pair other = refl
 
 pub json_beside : (encoding : Encoding) (pair : Pair) → encoding ≢ Bytes → characters_beside encoding Json pair ≡ json_members encoding pair
 unfolding characters_beside
@@ -78,6 +83,7 @@ json_beside Ot1 pair other = refl
 json_beside T1 pair other = refl
 json_beside Ly1 pair other = refl
 json_beside Latin1 pair other = refl
+json_beside (Vector vector) pair other = refl
 
 pub ruleset beside = (none_beside, text_beside, csv_beside, json_beside)
 

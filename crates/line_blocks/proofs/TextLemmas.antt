@@ -15,7 +15,7 @@ use Rattle.set_line.specs.declared.version.Version.{Version}
 use Rattle.pair_texts.specs.Sums.{is_refused as is_refused_of_bytes}
 use Rattle.set_run.specs.Cuts.{cut, too_long, whole}
 use Rattle.encodings.specs.declared.encoding.Encoding.{Encoding}
-use Rattle.encodings.specs.declared.encoding.Encoding.TheVariants.{Bytes, Ot1, T1, Ly1, Latin1}
+use Rattle.encodings.specs.declared.encoding.Encoding.TheVariants.{Bytes, Ot1, T1, Ly1, Latin1, Vector}
 use Rattle.encodings.specs.declared.coded.Coded.{Coded}
 use Rattle.encodings.specs.declared.coded.Coded.TheVariants.{Code}
 use Rattle.encodings.specs.Lines.{Element, elements_of}
@@ -44,6 +44,7 @@ too_long_encoded terms Ot1 first line many = long terms Ot1 first line (λ same.
 too_long_encoded terms T1 first line many = long terms T1 first line (λ same. absurd (cc)) many
 too_long_encoded terms Ly1 first line many = long terms Ly1 first line (λ same. absurd (cc)) many
 too_long_encoded terms Latin1 first line many = long terms Latin1 first line (λ same. absurd (cc)) many
+too_long_encoded terms (Vector vector) first line many = long terms (Vector vector) first line (λ same. absurd (cc)) many
 
 -- a line has the same result in a block
 pub outcome_in-cut : (terms : TermsValue) (encoding : Encoding) (number : ℕ) (line : List ℕ)

@@ -8,7 +8,7 @@ use Rattle.std.specs.List.{concat}
 use Rattle.set_line.specs.Terms.{TermsValue}
 use Rattle.set_line.specs.Answer.{answer_of, outcome_of}
 use Rattle.encodings.specs.declared.encoding.Encoding.{Encoding}
-use Rattle.encodings.specs.declared.encoding.Encoding.TheVariants.{Bytes, Ot1, T1, Ly1, Latin1}
+use Rattle.encodings.specs.declared.encoding.Encoding.TheVariants.{Bytes, Ot1, T1, Ly1, Latin1, Vector}
 use Rattle.encoded_lines.specs.declared.outcome.EncodedOutcome.TheVariants.{Plain}
 use Rattle.encoded_lines.specs.Answer.{encoded_outcome}
 use Rattle.encoded_lines.specs.Record.{encoded_record_text, is_refused as is_refused_with}
@@ -61,6 +61,7 @@ module _ (same : (terms : TermsValue) (encoding : Encoding) (number : ℕ) (line
   result_of_cut terms T1 number line = same terms T1 number line
   result_of_cut terms Ly1 number line = same terms Ly1 number line
   result_of_cut terms Latin1 number line = same terms Latin1 number line
+  result_of_cut terms (Vector vector) number line = same terms (Vector vector) number line
 
   -- the records of lines in blocks
   records_of_cuts : (maker : MakerValue) (first : ℕ) (lines : List (List ℕ))

@@ -1,6 +1,7 @@
 -- A batch of blocks, and its sources of lines.
-use Rattle.std.proofs.Common.{◌≡◌, ℕ, suc, ◌+◌, List, [], ◌∷◌, ◌++◌, length, map, All, Option, refl, ap, subst, ◌∙◌, arith}
-use Rattle.std.specs.Prelude.{IsSome}
+use Rattle.std.proofs.Common.{◌≡◌, ◌≤◌, ℕ, suc, ◌+◌, List, [], ◌∷◌, ◌++◌, length, map, vec_len, All, Option, Result, Ok, Err, refl, ap, subst, sym, ◌∙◌, arith}
+use Rattle.std.specs.Prelude.{IfErr, IfOk, IsSome}
+use Rattle.std.proofs.lemmas.List.{length-map}
 use Rattle.std.proofs.lemmas.List.Elements.{All-cons, All-head, All-nil, All-tail}
 use Rattle.std.specs.Arc.{arc_value}
 use Rattle.std.specs.declared.sync.Arc.{Arc}
@@ -12,12 +13,15 @@ use Rattle.line_lane.specs.declared.fault.SourceFault.{SourceFault}
 use Rattle.line_blocks.specs.BlockText.{BlockTextValue, MakerValue, RecordStyle, block_text}
 use Rattle.line_blocks.specs.Gathering.{AreTextsOf, GathersFrom, gives_block, source_of}
 use Rattle.line_blocks.specs.declared.gathering.LineBlocks.{LineBlocks}
-use Rattle.set_run.specs.Closed.{AreBack, AreClosedOf, IsClosedOf}
+use Rattle.set_run.specs.Closed.{AreBack, AreClosedOf, HasNoOthers, IsClosedOf, IsCollectedOf, IsWhole}
 use Rattle.set_run.specs.Events.{Event, answers_in}
 use Rattle.set_run.specs.Reports.{IsClosed}
 use Rattle.set_run.specs.Sources.{gives_line}
+use Rattle.set_run.specs.declared.collector.Refusal.{Refusal}
 use Rattle.set_run.specs.declared.run_end.ClosedLane.{ClosedLane}
-use Rattle.run_texts.specs.BlockLanes.{AreClosedIn, AreRecordsOf, AreWrapped, maker_of, unwrapped}
+use Rattle.set_run.specs.declared.run_end.RunEnd.{RunEnd}
+use Rattle.set_run.specs.declared.run_fault.RunFault.{RunFault}
+use Rattle.run_texts.specs.BlockLanes.{AreClosedIn, AreLinesOf, AreRecordsOf, AreWrapped, IsCollectedIn, IsRunOfLines, maker_of, unwrapped}
 
 module _ {S : Type 0} where
   -- as many
@@ -99,3 +103,83 @@ module _ {S : Type 0} (to_come : S → Option (List (List ℕ))) (failed : S →
         ),
         closed_in style events (number + 1) (next + 1) sources others lanes (omega (arith, at)) are.2 closed.2,
       )
+
+  -- the closed lanes of blocks are those of lines
+  pub lines_of : (blocks : List (ClosedLane (LineBlocks S))) → AreLinesOf to_come failed blocks (map unwrapped blocks)
+  lines_of blocks = λ style events sources wrapped are closed. closed_in style events 0 1 sources wrapped blocks refl are closed
+
+-- ---- the end of a batch of lines, by that of the batch of blocks
+
+module _ {S C : Type 0} (to_come : S → Option (List (List ℕ))) (failed : S → Option SourceFault) (style : RecordStyle)
+    (sources : List (S × Arc TermsValue Global)) (wrapped : List (LineBlocks S × MakerValue)) (are : AreWrapped style 1 sources wrapped) where
+  -- what a collector of blocks received is that of lines
+  pub collected_lines : (given : C → List (Event BlockTextValue) → Type 0) (before after : C)
+      (ran : Result (RunEnd (LineBlocks S)) RunFault) (result : Result (RunEnd S) RunFault) → IsRunOfLines to_come failed ran result
+      → IfOk ran (λ blocks. IsCollectedOf (gives_block (gives_line to_come failed)) block_text given wrapped blocks before after)
+      → IfOk result (λ run. IsCollectedIn to_come failed style given sources run before after)
+  collected_lines given before after (Ok blocks) result (run, same, lanes, refusal, lines) collected =
+      subst (λ r. IfOk r (λ run. IsCollectedIn to_come failed style given sources run before after)) (sym same) (λ none.
+      let (events, has, closed, others) = collected none in (
+        events,
+        has,
+        lines style events sources wrapped are closed,
+        subst (HasNoOthers events) (wrapped_length style 1 sources wrapped are) others,
+      ))
+  collected_lines given before after (Err fault) result same collected =
+      subst (λ r. IfOk r (λ run. IsCollectedIn to_come failed style given sources run before after)) (sym same) tt
+
+module _ {S : Type 0} (to_come : S → Option (List (List ℕ))) (failed : S → Option SourceFault) (style : RecordStyle)
+    (sources : List (S × Arc TermsValue Global)) (wrapped : List (LineBlocks S × MakerValue)) (are : AreWrapped style 1 sources wrapped) where
+  -- the sources are those of the call
+  pub back_lines : {O : Type 0} (origin : S → O) (ran : Result (RunEnd (LineBlocks S)) RunFault) (result : Result (RunEnd S) RunFault)
+      → IsRunOfLines to_come failed ran result
+      → IfOk ran (λ blocks. AreBack (λ source. origin (source_of source)) wrapped (map (λ lane. lane.source) blocks.lanes.items))
+      → IfOk result (λ run. AreBack origin sources (map (λ lane. lane.source) run.lanes.items))
+  back_lines origin (Ok blocks) result (run, same, lanes, refusal, lines) back =
+      subst (λ r. IfOk r (λ run. AreBack origin sources (map (λ lane. lane.source) run.lanes.items))) (sym same)
+      (subst (λ closed. AreBack origin sources (map (λ lane. lane.source) closed)) (sym lanes)
+      (back_unwrapped origin style sources wrapped blocks.lanes.items are back))
+  back_lines origin (Err fault) result same back =
+      subst (λ r. IfOk r (λ run. AreBack origin sources (map (λ lane. lane.source) run.lanes.items))) (sym same) tt
+
+  -- there is room for the lanes
+  pub lanes_fit : {O : Type 0} (origin : S → O) (capacity : ℕ) (ran : Result (RunEnd (LineBlocks S)) RunFault) → length sources ≤ capacity
+      → IfOk ran (λ blocks. AreBack (λ source. origin (source_of source)) wrapped (map (λ lane. lane.source) blocks.lanes.items))
+      → IfOk ran (λ blocks. vec_len blocks.lanes ≤ capacity)
+  lanes_fit origin capacity (Ok blocks) room back = omega (
+    arith,
+    ap length back,
+    length-map (map (λ lane. lane.source) blocks.lanes.items) (λ source. origin (source_of source)),
+    length-map blocks.lanes.items (λ lane. lane.source),
+    length-map wrapped (λ source. origin (source_of source.0)),
+    wrapped_length style 1 sources wrapped are,
+    blocks.lanes.ok.0,
+    room,
+  )
+  lanes_fit origin capacity (Err fault) room back = tt
+
+module _ {S : Type 0} (to_come : S → Option (List (List ℕ))) (failed : S → Option SourceFault) where
+  -- each lane has ended, unless there is a refusal
+  pub whole_lines : (ran : Result (RunEnd (LineBlocks S)) RunFault) (result : Result (RunEnd S) RunFault) → IsRunOfLines to_come failed ran result
+      → IfOk ran IsWhole → IfOk result IsWhole
+  whole_lines (Ok blocks) result (run, same, lanes, refusal, lines) whole =
+      subst (λ r. IfOk r IsWhole) (sym same) (λ none.
+      subst (All (λ lane. IsSome lane.end)) (sym lanes) (whole_unwrapped blocks.lanes.items (whole (sym refusal ∙ none))))
+  whole_lines (Err fault) result same whole = subst (λ r. IfOk r IsWhole) (sym same) tt
+
+  -- what holds of the refusal, and of the error, holds of those of lines
+  pub refusal_lines : (P : Option Refusal → Type 0) (ran : Result (RunEnd (LineBlocks S)) RunFault) (result : Result (RunEnd S) RunFault)
+      → IsRunOfLines to_come failed ran result → IfOk ran (λ blocks. P blocks.refusal) → IfOk result (λ run. P run.refusal)
+  refusal_lines P (Ok blocks) result (run, same, lanes, refusal, lines) has =
+      subst (λ r. IfOk r (λ run. P run.refusal)) (sym same) (subst P (sym refusal) has)
+  refusal_lines P (Err fault) result same has = subst (λ r. IfOk r (λ run. P run.refusal)) (sym same) tt
+
+  pub fault_lines : (P : RunFault → Type 0) (ran : Result (RunEnd (LineBlocks S)) RunFault) (result : Result (RunEnd S) RunFault)
+      → IsRunOfLines to_come failed ran result → IfErr ran P → IfErr result P
+  fault_lines P (Ok blocks) result (run, same, lanes, refusal, lines) has = subst (λ r. IfErr r P) (sym same) tt
+  fault_lines P (Err fault) result same has = subst (λ r. IfErr r P) (sym same) has
+
+-- what follows from what holds of an error
+pub err_map : {A : Type 0} (r : Result A RunFault) (P Q : RunFault → Type 0) → ((fault : RunFault) → P fault → Q fault) → IfErr r P → IfErr r Q
+err_map (Ok a) P Q to has = tt
+err_map (Err fault) P Q to has = to fault has

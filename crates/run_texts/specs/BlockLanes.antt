@@ -1,20 +1,22 @@
 -- The closed lanes of a batch whose results are the texts of blocks, compared with the lines of the sources.
 -- This project's own.
-use Rattle.std.specs.Prelude.{◌≡◌, ◌<◌, ℕ, ◌+◌, ◌^◌, List, [], ◌∷◌, length, flat_map, Option}
+use Rattle.std.specs.Prelude.{◌≡◌, ◌<◌, ℕ, ◌+◌, ◌^◌, List, [], ◌∷◌, length, map, flat_map, Option, Result, Ok, Err, MatchResult}
 use Rattle.std.specs.Arc.{arc_value}
 use Rattle.std.specs.declared.sync.Arc.{Arc}
 use Rattle.std.specs.declared.alloc.Global.{Global}
 use Rattle.set_line.specs.Terms.{TermsValue}
 use Rattle.set_line.specs.Answer.{AnswerValue}
 use Rattle.line_lane.specs.declared.fault.SourceFault.{SourceFault}
-use Rattle.line_blocks.specs.BlockText.{BlockTextValue, MakerValue, RecordStyle}
-use Rattle.line_blocks.specs.Gathering.{GathersFrom, source_of}
+use Rattle.line_blocks.specs.BlockText.{BlockTextValue, MakerValue, RecordStyle, block_text}
+use Rattle.line_blocks.specs.Gathering.{GathersFrom, gives_block, source_of}
 use Rattle.line_blocks.specs.declared.gathering.LineBlocks.{LineBlocks}
-use Rattle.set_run.specs.Closed.{HasNoOthers}
+use Rattle.set_run.specs.Closed.{AreClosedOf, HasNoOthers}
 use Rattle.set_run.specs.Events.{Event, answers_in, lane_events, of_lane}
 use Rattle.set_run.specs.Reports.{IsClosed}
+use Rattle.set_run.specs.Sources.{gives_line}
 use Rattle.set_run.specs.declared.run_end.ClosedLane.{ClosedLane}
 use Rattle.set_run.specs.declared.run_end.RunEnd.{RunEnd}
+use Rattle.set_run.specs.declared.run_fault.RunFault.{RunFault}
 use Rattle.run_texts.specs.RunText.{refused_lines}
 use Rattle.run_texts.specs.LaneText.{block_lines, records_of, refused_of}
 use Rattle.run_texts.specs.Streaming.{record_lines}
@@ -73,3 +75,22 @@ module _ {S : Type 0} where
   -- a closed lane with its source of lines
   abbrev pub unwrapped : ClosedLane (LineBlocks S) → ClosedLane S
   unwrapped lane = record { source = source_of lane.source; end = lane.end }
+
+module _ {S : Type 0} (to_come : S → Option (List (List ℕ))) (failed : S → Option SourceFault) where
+  -- if these are the closed lanes of sources of blocks, then those are the closed lanes of their sources of lines
+  abbrev pub AreLinesOf : List (ClosedLane (LineBlocks S)) → List (ClosedLane S) → Type 0
+  AreLinesOf blocks lanes =
+      (style : RecordStyle) (events : List (Event BlockTextValue)) (sources : List (S × Arc TermsValue Global))
+      (wrapped : List (LineBlocks S × MakerValue))
+      → AreWrapped style 1 sources wrapped
+      → AreClosedOf (gives_block (gives_line to_come failed)) block_text events 0 wrapped blocks
+      → AreClosedIn to_come failed style events 0 sources lanes
+
+  -- the end of a batch with these sources of lines is that of the batch with the sources of blocks, or its error
+  abbrev pub IsRunOfLines : Result (RunEnd (LineBlocks S)) RunFault → Result (RunEnd S) RunFault → Type 0
+  IsRunOfLines ran result =
+      MatchResult ran (λ blocks. (run : RunEnd S)
+      × (result ≡ Ok run)
+      × (run.lanes.items ≡ map unwrapped blocks.lanes.items)
+      × (run.refusal ≡ blocks.refusal)
+      × AreLinesOf blocks.lanes.items run.lanes.items) (λ fault. result ≡ Err fault)

@@ -1,8 +1,8 @@
 //! Runs a batch whose results are the texts of blocks of lines.
-ghost use Rattle.std.specs.Prelude.{◌≡◌, ◌+◌, ◌≤◌, ◌⊎◌, ◌++◌, None, IfErr, IfOk, map, vec_capacity, vec_len};
+ghost use Rattle.std.specs.Prelude.{◌≡◌, ◌+◌, ◌≤◌, ◌⊎◌, ◌++◌, [], None, IfErr, IfOk, map, vec_capacity, vec_len};
 ghost use Rattle.set_run.specs.declared.run_fault.RunFault.TheVariants.{OutOfMemory as NoMemory, Thread};
 ghost use Rattle.set_run.specs.Closed.{AreBack, IsWhole};
-ghost use Rattle.run_texts.specs.BlockLanes.{AreWrapped, IsCollectedIn, unwrapped};
+ghost use Rattle.run_texts.specs.BlockLanes.{AreWrapped, IsCollectedIn, IsRunOfLines, unwrapped};
 ghost use Rattle.run_texts.specs.RunText.{style_of};
 
 use crate::OutputOptions;
@@ -59,6 +59,55 @@ fn unwrap_lanes<S: LineSource + Drop>(
     closed
 }
 
+/// Returns each source as a source of blocks, with the maker of its records, and a list with room for the
+/// closed lanes of the sources. A block has at most as many lines as the options state. The only error is
+/// `OutOfMemory`.
+pub(crate) fn wrap_sources<S, G>(
+    alloc: Global,
+    sources: Vec<(S, Arc<Terms>)>,
+    options: &OutputOptions<'_, G>,
+) -> Result<(Vec<(LineBlocks<S>, RecordMaker)>, Vec<ClosedLane<S>>), RunFault>
+where
+    S: LineSource + Drop,
+    ensures wrapped { IfOk result (λ made.
+        AreWrapped (style_of options.now) 1 sources.items made.0.items) }
+    ensures room { IfOk result (λ made.
+        (made.1.items ≡ []) × (vec_len sources ≤ vec_capacity made.1)) }
+    ensures fault { IfErr result (λ fault. fault ≡ NoMemory) }
+{
+    let Ok(closed) = Vec::with_capacity(alloc, sources.len()) else {
+        return Err(RunFault::OutOfMemory);
+    };
+    let most = options.most_lines();
+    match with_makers(alloc, sources, options.encoding, options.version, most) {
+        Ok(wrapped) => Ok((wrapped, closed)),
+        Err(_) => Err(RunFault::OutOfMemory),
+    }
+}
+
+/// Returns the end of a batch of blocks as that of a batch of lines: each lane has its source of lines.
+/// `closed` is empty, and has room for the lanes.
+pub(crate) fn unwrap_run<S: LineSource + Drop>(
+    ran: Result<RunEnd<LineBlocks<S>>, RunFault>,
+    closed: Vec<ClosedLane<S>>,
+) -> Result<RunEnd<S>, RunFault>
+    requires empty { closed.items ≡ [] }
+    requires room { IfOk ran (λ run. vec_len run.lanes ≤ vec_capacity closed) }
+    ensures { IsRunOfLines S.to_come S.failed ran result }
+{
+    // For the proof: laws of lines in blocks, and of lanes of lines.
+    kept_lines();
+    lanes_of_lines::<S>();
+    lane_of_lines::<S>();
+    match ran {
+        Ok(RunEnd { lanes, refusal }) => {
+            let lanes = unwrap_lanes(lanes, closed);
+            Ok(RunEnd { lanes, refusal })
+        }
+        Err(fault) => Err(fault),
+    }
+}
+
 /// Sets the lines of all sources, each with its settings, in blocks, in one batch, and gives the texts of the
 /// blocks to a collector. A block has at most as many lines as the options state. The errors are those of
 /// `run_items`.
@@ -87,22 +136,10 @@ where
     ensures few { vec_len sources ≤ 64
         → IfErr result.1 (λ fault. (fault ≡ NoMemory) ⊎ (fault ≡ Thread)) }
 {
-    let Ok(closed) = Vec::with_capacity(alloc, sources.len()) else {
-        return (collector, Err(RunFault::OutOfMemory));
-    };
-    let (encoding, most) = (options.encoding, options.most_lines());
-    let Ok(wrapped) = with_makers(alloc, sources, encoding, options.version, most) else {
-        return (collector, Err(RunFault::OutOfMemory));
-    };
-    // For the proof: laws of lines in blocks, and of lanes of lines.
-    kept_lines();
-    lanes_of_lines::<S>();
-    lane_of_lines::<S>();
-    let (collector, ran) = run_items(rt, alloc, wrapped, options.batch(), collector);
-    match ran {
-        Ok(RunEnd { lanes, refusal }) => {
-            let lanes = unwrap_lanes(lanes, closed);
-            (collector, Ok(RunEnd { lanes, refusal }))
+    match wrap_sources(alloc, sources, options) {
+        Ok((wrapped, closed)) => {
+            let (collector, ran) = run_items(rt, alloc, wrapped, options.batch(), collector);
+            (collector, unwrap_run(ran, closed))
         }
         Err(fault) => (collector, Err(fault)),
     }

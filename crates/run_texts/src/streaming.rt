@@ -15,7 +15,7 @@ ghost use Rattle.run_texts.specs.Setting.{AreOwnReports, AreOwnReportsWith};
 ghost use Rattle.run_texts.specs.Streaming.{IsCutAtLine, IsCutShort, IsStreamed, with_own_terms, with_these_terms};
 ghost use Rattle.run_texts.specs.StreamState.{IsStreamOf, MovesOut};
 
-use crate::block_run::run_blocks;
+use crate::block_run::{unwrap_run, wrap_sources};
 use crate::font_setting::with_font;
 use crate::lane_count::LaneCount;
 use crate::run_summary::{all_refused, summary_of};
@@ -24,7 +24,7 @@ use crate::{FontSetting, OutputOptions, Summary, ToolFault};
 use line_blocks::BlockText;
 use line_lane::LaneEnd;
 use set_line::Terms;
-use set_run::{Collector, Gate, LineSource, MOST_SOURCES, Refusal, RunEnd, RunFault};
+use set_run::{Collector, Gate, LineSource, MOST_SOURCES, Refusal, RunEnd, RunFault, run_items};
 use std::alloc::Global;
 use std::io::Write;
 use std::marker::{Brand, PhantomData};
@@ -113,8 +113,13 @@ where
         stream,
         of: PhantomData,
     };
-    let (begun, ran) = run_blocks(rt, alloc, sources, options, begun);
-    (begun.stream, ran)
+    match wrap_sources(alloc, sources, options) {
+        Ok((wrapped, closed)) => {
+            let (begun, ran) = run_items(rt, alloc, wrapped, options.batch(), begun);
+            (begun.stream, unwrap_run(ran, closed))
+        }
+        Err(fault) => (begun.stream, Err(fault)),
+    }
 }
 
 /// Writes the contents of the buffer, and returns the summary of a batch with this end. If an allocation

@@ -11,7 +11,7 @@ use Rattle.std.proofs.lemmas.List.{length-map}
 use Rattle.std.proofs.lemmas.Str.{is_utf8-from_IsUtf8, IsUtf8-from_is_utf8}
 use Rattle.encodings.specs.declared.coded.Coded.TheVariants.{Code, Uncoded}
 use Rattle.encodings.specs.declared.encoding.Encoding.{Encoding}
-use Rattle.encodings.specs.declared.encoding.Encoding.TheVariants.{Bytes, Ot1, T1, Ly1, Latin1}
+use Rattle.encodings.specs.declared.encoding.Encoding.TheVariants.{Bytes, Ot1, T1, Ly1, Latin1, Vector}
 use Rattle.encodings.specs.declared.places.Place.{Place}
 use Rattle.encodings.specs.Codes.{characters_of, codes_of, others_of}
 use Rattle.encodings.specs.Lines.{coded_of, fault_in, places_of}
@@ -20,6 +20,7 @@ use Rattle.encodings.specs.Tables.{ot1_characters, t1_characters, ly1_characters
 use Rattle.encodings.proofs.LawLemmas.{places_few}
 use Rattle.encodings.proofs.LineLemmas.{fault_found, no_fault}
 use Rattle.encodings.proofs.PlaceLemmas.{characters_in}
+use Rattle.encodings.proofs.VectorLemmas.{feed_alone}
 use Rattle.encoded_lines.proofs.RefusalLemmas.{is_decoded}
 use Rattle.encoded_lines.specs.Record.{encoded_record}
 use Rattle.set_line.specs.Terms.{TermsValue}
@@ -87,6 +88,7 @@ feed_coded Ot1 other = refl
 feed_coded T1 other = refl
 feed_coded Ly1 other = refl
 feed_coded Latin1 other = refl
+feed_coded (Vector vector) other = feed_alone vector
 
 few_at : (encoding : Encoding) (character : ℕ) → encoding ≢ Bytes → length (unwrap_or (text_codes encoding character) []) ≤ length (coded_of encoding character)
 unfolding coded_of
@@ -127,6 +129,7 @@ told_few Ot1 text decoded = few_in Ot1 text (λ is. cc) decoded
 told_few T1 text decoded = few_in T1 text (λ is. cc) decoded
 told_few Ly1 text decoded = few_in Ly1 text (λ is. cc) decoded
 told_few Latin1 text decoded = few_in Latin1 text (λ is. cc) decoded
+told_few (Vector vector) text decoded = few_in (Vector vector) text (λ is. cc) decoded
 
 -- ---- the whole text
 
@@ -235,6 +238,7 @@ text_uncoded Ot1 text other = refl
 text_uncoded T1 text other = refl
 text_uncoded Ly1 text other = refl
 text_uncoded Latin1 text other = refl
+text_uncoded (Vector vector) text other = refl
 
 pub text_told : (encoding : Encoding) (text : List ℕ) → encoding ≢ Bytes → codes_told encoding text ≡ codes_at encoding (places_of true text)
 unfolding codes_told
@@ -243,6 +247,7 @@ text_told Ot1 text other = refl
 text_told T1 text other = refl
 text_told Ly1 text other = refl
 text_told Latin1 text other = refl
+text_told (Vector vector) text other = refl
 
 pub text_decoded : (encoding : Encoding) (text : List ℕ) → is_utf8 text ≡ true → fault_in encoding text ≡ None
 text_decoded encoding text utf8 = no_fault encoding text (IsUtf8-from_is_utf8 text utf8)

@@ -1,216 +1,154 @@
-//! Encoding vectors.
-use encoding_vectors::{MOST_BYTES, VectorFault, read_vector};
+//! Encodings that are made of characters.
+use encodings::{EncodedLine, Encoding, character_at, codes_of, encode_line};
 use std::alloc::{AllocError, Global};
+use std::process::Abort;
 use std::test::Fail;
 
-/// Names, and their characters in the Adobe Glyph List or by their numbers.
-static NAMES: [(&str, Option<char>); 48] = [
-    (".notdef", None),
-    ("A", Some('A')),
-    ("z", Some('z')),
-    ("AE", Some('Æ')),
-    ("ae", Some('æ')),
-    ("Delta", Some('\u{2206}')),
-    ("increment", Some('\u{2206}')),
-    ("Deltagreek", Some('Δ')),
-    ("Gamma", Some('Γ')),
-    ("Omega", Some('\u{2126}')),
-    ("mu", Some('µ')),
-    ("quoteright", Some('’')),
-    ("quotesingle", Some('\'')),
-    ("quoteleft", Some('‘')),
-    ("grave", Some('`')),
-    ("dotlessi", Some('ı')),
-    ("ff", Some('\u{FB00}')),
-    ("ffl", Some('\u{FB04}')),
-    ("germandbls", Some('ß')),
-    ("Tcommaaccent", Some('Ţ')),
-    ("sfthyphen", Some('\u{AD}')),
-    ("nbspace", Some('\u{A0}')),
-    ("nonbreakingspace", Some('\u{A0}')),
-    ("zerowidthnonjoiner", Some('\u{200C}')),
-    ("space", Some(' ')),
-    ("hyphen", Some('-')),
-    ("Euro", Some('€')),
-    ("zdotaccent", Some('ż')),
-    ("zero", Some('0')),
-    ("uni00A0", Some('\u{A0}')),
-    ("uni20AC", Some('€')),
-    ("uniD7FF", Some('\u{D7FF}')),
-    ("uniD800", None),
-    ("uniDFFF", None),
-    ("uniE000", Some('\u{E000}')),
-    ("uni20ac", None),
-    ("uni20A", None),
-    ("uni20AC0", None),
-    ("u20AC", Some('€')),
-    ("u020AC", None),
-    ("u1F600", Some('😀')),
-    ("u10FFFF", Some('\u{10FFFF}')),
-    ("u110000", None),
-    ("u0041", Some('A')),
-    ("u041", None),
-    ("A.sc", None),
-    ("f_f", None),
-    ("dotlessj", None),
-];
-
-/// Appends so many names that have no characters.
-fn push_names(count: usize, text: &mut Vec<u8>) -> Result<(), AllocError> {
-    for _ in 0..count {
-        text.extend_from_slice(b"/.notdef\n")?;
+/// Returns an encoding that is made of the characters of T1.
+fn like_t1(alloc: Global) -> Result<Encoding, AllocError> {
+    let mut characters = [None; 256];
+    for code in 0..=255 {
+        characters[usize::from(code)] = character_at(Encoding::T1, code);
     }
-    Ok(())
-}
-
-/// A vector whose name and first names have these characters, and of which so many names and these bytes are
-/// the rest.
-fn vector(alloc: Global, front: &[u8], count: usize, end: &[u8]) -> Result<Vec<u8>, AllocError> {
-    let mut text = Vec::new(alloc);
-    text.extend_from_slice(front)?;
-    push_names(count, &mut text)?;
-    text.extend_from_slice(end)?;
-    Ok(text)
+    Encoding::of_characters(alloc, &characters)
 }
 
 #[test]
-fn names_with_characters(rt: HostRuntime) -> Result<(), Fail> {
-    for (name, wanted) in &NAMES {
-        let mut text = vector(rt.alloc(), b"/E [ ", 7, b"/")?;
-        text.extend_from_slice(name.as_bytes())?;
-        text.push(b'\n')?;
-        push_names(248, &mut text)?;
-        text.extend_from_slice(b"] def")?;
-        let read = read_vector(&text);
-        assert!(rt; read.is_ok(), "{name}");
-        if let Ok(characters) = read {
-            assert!(rt; characters[7] == *wanted, "{name}");
-            assert!(rt; characters[6] == None, "{name}");
-            assert!(rt; characters[8] == None, "{name}");
+fn a_vector_with_the_characters_of_t1_has_its_codes(rt: HostRuntime) -> Result<(), Fail> {
+    let vector = like_t1(rt.alloc())?;
+    for code in 0..=255 {
+        let character = character_at(Encoding::T1, code);
+        assert!(rt; character_at(vector, code) == character, "{code}");
+        if let Some(character) = character {
+            let codes = codes_of(vector, character);
+            assert!(rt; codes == codes_of(Encoding::T1, character), "{code}");
         }
     }
     Ok(())
 }
 
-/// The first bytes of a vector, the number of names that follow, and the bytes after them. The first and the
-/// last name of each vector are A and B.
-static VECTORS: [(&[u8], usize, &[u8]); 10] = [
-    (b"/E [ /A\n", 254, b"/B ] def\n"),
-    (b"/E[/A", 254, b"/B]def"),
-    (b"% /X [\n/E % a [ /b\r[%]\r\n/A", 254, b"/B%def\n]def%"),
-    (b"\0\t\n\x0C\r /E\0[\t/A\x0C", 254, b"/B\r]\0def\0"),
-    (b"%\xFF LIGKERN f f =: ff ; ((\n/E [/A ", 254, b"/B] def"),
-    (b"/E [ /A ", 254, b"/B ] def ( <never read> }"),
-    (b"/E [ /A ", 254, b"/B ] def /X [ /Y"),
-    (b"/E.\xE9'\"* [ /A ", 254, b"/B ] def["),
-    (b"%\n%\n%/E [ ]\n/E [ /A % /C\n", 254, b"/B ] % def\ndef"),
-    (b"/1 [/A ", 254, b"/B ]\rdef %"),
-];
-
-#[test]
-fn vectors_of_any_layout(rt: HostRuntime) -> Result<(), Fail> {
-    for (front, count, end) in &VECTORS {
-        let text = vector(rt.alloc(), front, *count, end)?;
-        let read = read_vector(&text);
-        assert!(rt; read.is_ok(), "{end:?}");
-        if let Ok(characters) = read {
-            assert!(rt; characters[0] == Some('A'), "{end:?}");
-            assert!(rt; characters[1] == None, "{end:?}");
-            assert!(rt; characters[255] == Some('B'), "{end:?}");
+/// Returns an encoding that is made of these characters, each at its code, in a list that is longer than 256.
+fn with_characters(alloc: Global, placed: &[(usize, char)]) -> Result<Encoding, AllocError> {
+    let mut characters = [None; 300];
+    for (code, character) in placed {
+        if let Some(place) = characters.get_mut(*code) {
+            *place = Some(*character);
         }
     }
-    Ok(())
+    Encoding::of_characters(alloc, &characters)
 }
 
-/// Texts that aren't vectors: the first bytes, the number of names, each on a line of its own, and the bytes
-/// after them; and the line at which the text is refused.
-static REFUSED: [(&[u8], usize, &[u8], usize); 38] = [
-    // too short
-    (b"", 0, b"", 1),
-    (b"\n", 0, b"", 2),
-    (b"\r\n\r\r\n", 0, b"", 4),
-    (b"% /E [", 0, b"", 1),
-    (b"/E", 0, b"", 1),
-    (b"/E\n[\n", 0, b"", 3),
-    (b"/E [\n", 255, b"\n", 258),
-    (b"/E [\n", 256, b"% ] def", 258),
-    (b"/E [\n", 256, b"]\n", 259),
-    (b"/E [\n", 256, b"]%def\n", 259),
-    // the name of the vector
-    (b"E [\n", 256, b"] def", 1),
-    (b"\n\n  E [\n", 256, b"] def", 3),
-    (b"/ [\n", 256, b"] def", 1),
-    (b"//E [\n", 256, b"] def", 1),
-    (b"[\n", 256, b"] def", 1),
-    (b"# a text\n", 256, b"] def", 1),
-    // the bracket
-    (b"/E\n/F [\n", 256, b"] def", 2),
-    (b"/E ]\n", 256, b"] def", 1),
-    (b"/E {\n", 256, b"} def", 1),
-    (b"/E\r\n\n<\n", 256, b"] def", 3),
-    // names
-    (b"/E [\nA\n", 255, b"] def", 2),
-    (b"/E [\n/\n", 255, b"] def", 2),
-    (b"/E [\n//A\n", 255, b"] def", 2),
-    (b"/E [\n(A)\n", 255, b"] def", 2),
-    (b"/E [\n/A(b)\n", 255, b"] def", 2),
-    (b"/E [\n/A/B[\n", 254, b"] def", 2),
-    (b"/E [\n", 255, b"] def", 257),
-    (b"/E [\n", 257, b"] def", 258),
-    (b"/E [\n", 256, b"/A] def", 258),
-    (b"/E [ % a comment\r% of two lines\n\r{\n", 256, b"] def", 4),
-    // the end
-    (b"/E [\n", 256, b"] de", 258),
-    (b"/E [\n", 256, b"] defs", 258),
-    (b"/E [\n", 256, b"]\nDEF", 259),
-    (b"/E [\n", 256, b"]\r\n/def", 259),
-    (b"/E [\n", 256, b"] readonly def", 258),
-    (b"/E [\n", 256, b"} def", 258),
-    (b"/E [\n", 256, b"]] def", 258),
-    (b"/E [\n", 256, b"]\n%\n(def)", 260),
+/// Characters with their codes, a text, and its codes.
+static CODED: [(&[(usize, char)], &str, &[u8]); 15] = [
+    // two codes of a character
+    (&[(65, 'x'), (66, 'x'), (33, 'é')], "xé", b"A!"),
+    // codes 10 and 32
+    (&[(10, 'x'), (32, 'x'), (33, 'x')], "x ", b"! "),
+    (&[(5, ' ')], " ", b" "),
+    (&[(3, '\n')], "\n", b"\x03"),
+    // a character at its own code, and at a lower one
+    (&[(120, 'x'), (5, 'x')], "x", b"\x05"),
+    // the no-break space and the soft hyphen, also if they are listed
+    (&[(1, 'a')], "a\u{A0}\u{AD}a", b"\x01 \x01"),
+    (
+        &[(1, 'a'), (127, '\u{AD}'), (160, '\u{A0}')],
+        "a\u{AD}\u{A0}a",
+        b"\x01 \x01",
+    ),
+    // characters that are set as others
+    (&[(39, '’'), (96, '‘')], "`'’‘", b"`''`"),
+    (
+        &[(45, '-'), (21, '–'), (22, '—')],
+        "\u{2010}\u{2011}\u{2012}\u{2015}-–—",
+        b"--\x15\x16-\x15\x16",
+    ),
+    (&[(3, '’'), (2, '’')], "'", b"\x02"),
+    // the same where they are listed, each at a code of its own
+    (
+        &[(39, '’'), (13, '\''), (96, '‘'), (18, '`')],
+        "`'’‘",
+        b"\x12\r'`",
+    ),
+    (
+        &[
+            (45, '-'),
+            (21, '–'),
+            (22, '—'),
+            (1, '\u{2010}'),
+            (2, '\u{2011}'),
+            (3, '\u{2012}'),
+            (4, '\u{2015}'),
+        ],
+        "\u{2010}\u{2011}\u{2012}\u{2015}-–—",
+        b"\x01\x02\x03\x04-\x15\x16",
+    ),
+    (&[(39, '\''), (45, '\u{2011}')], "'\u{2011}", b"'-"),
+    // no character
+    (&[], " \u{A0}\u{AD}", b"  "),
+    // all lengths in UTF-8
+    (
+        &[(0, 'A'), (1, 'é'), (254, '—'), (255, '\u{1D49C}')],
+        "Aé—\u{1D49C}A",
+        b"\x00\x01\xFE\xFF\x00",
+    ),
 ];
 
 #[test]
-fn texts_that_are_no_vectors(rt: HostRuntime) -> Result<(), Fail> {
-    for (front, count, end, line) in &REFUSED {
-        let text = vector(rt.alloc(), front, *count, end)?;
-        let wanted = VectorFault { line: *line };
-        assert!(rt; read_vector(&text) == Err(wanted), "{front:?} {end:?}");
+fn texts_with_codes_in_a_vector(rt: HostRuntime) -> Result<(), Fail> {
+    let mut line = EncodedLine::new(rt.alloc());
+    for (placed, text, codes) in &CODED {
+        let vector = with_characters(rt.alloc(), *placed)?;
+        let encoded = encode_line(vector, false, text.as_bytes(), &mut line);
+        assert!(rt; encoded == Ok(()), "{text}");
+        assert!(rt; line.codes() == *codes, "{text}");
+        assert!(rt; !line.has_uncoded(), "{text}");
     }
     Ok(())
 }
 
-/// A vector of 258 lines is as long as it can be with 63,221 more lines, which are empty.
+/// Characters with their codes, and a character without codes.
+static UNCODED: [(&[(usize, char)], char); 12] = [
+    (&[], 'x'),
+    (&[], '\n'),
+    (&[(10, 'x'), (32, 'x')], 'x'),
+    (&[(10, '\n')], '\n'),
+    (&[(256, 'x'), (299, 'x')], 'x'),
+    // characters that are set as others, which aren't there, or only at codes 10 and 32
+    (&[(39, '‘')], '\''),
+    (&[(96, '’')], '`'),
+    (&[(45, '\u{2011}')], '\u{2010}'),
+    (&[(45, '–')], '\u{2011}'),
+    (&[(10, '–'), (32, '–')], '\u{2012}'),
+    // none is set as a character that isn't their own
+    (&[(39, '\'')], '’'),
+    (&[(45, '\u{2010}')], '-'),
+];
+
 #[test]
-fn long_texts(rt: HostRuntime) -> Result<(), Fail> {
-    let mut text = vector(rt.alloc(), b"/E [\n", 256, b"] def\n")?;
-    for _ in 0..63_221 {
-        text.push(b'\r')?;
+fn characters_without_codes_in_a_vector(rt: HostRuntime) -> Result<(), Fail> {
+    for (placed, character) in &UNCODED {
+        let vector = with_characters(rt.alloc(), *placed)?;
+        assert!(rt; codes_of(vector, *character).is_none(), "{character}");
     }
-    assert_eq!(rt; text.len(), MOST_BYTES);
-    assert!(rt; read_vector(&text).is_ok());
-    text.push(b'x')?;
-    let wanted = VectorFault { line: 63_480 };
-    assert!(rt; read_vector(&text) == Err(wanted));
     Ok(())
 }
 
-/// A text that is too long is refused at the same line if its first byte is no slash.
 #[test]
-fn long_texts_that_are_no_vectors(rt: HostRuntime) -> Result<(), Fail> {
-    let mut text = vector(rt.alloc(), b"E [\n", 256, b"] def\n")?;
-    for _ in 0..63_223 {
-        text.push(b'\n')?;
+fn characters_at_the_codes_of_a_vector(rt: HostRuntime) -> Result<(), Fail> {
+    let vector = Encoding::of_characters(rt.alloc(), &[Some('a'), None, Some('a'), Some('b')])?;
+    let wanted = [Some('a'), None, None, Some('b'), None];
+    for (code, character) in wanted.iter().enumerate() {
+        assert!(rt; character_at(vector, code as u8) == *character, "{code}");
     }
-    let wanted = VectorFault { line: 63_481 };
-    assert!(rt; read_vector(&text) == Err(wanted));
-    Ok(())
-}
-
-#[test]
-fn text_of_the_fault(rt: HostRuntime) -> Result<(), Fail> {
-    let fault = VectorFault { line: 1024 };
-    let text = format!(in rt.alloc(); "{fault}")?;
-    assert!(rt; text.as_str() == "encoding refused: line 1024");
+    assert!(rt; character_at(vector, 32) == Some(' '));
+    let unbroken = Encoding::of_characters(
+        rt.alloc(),
+        &[Some('\u{A0}'), Some('\u{AD}'), Some('’')],
+    )?;
+    for code in 0..2 {
+        assert!(rt; character_at(unbroken, code).is_none(), "{code}");
+    }
+    assert!(rt; character_at(unbroken, 2) == Some('’'));
+    assert!(rt; vector.name() == "vector");
     Ok(())
 }

@@ -2,7 +2,7 @@
 use crate::glyphs::GlyphRow;
 
 /// The names, sorted, with their characters.
-pub(crate) static C_AND_D: [GlyphRow; 25] = [
+pub(crate) static C_AND_D: [GlyphRow; 27] = [
     ("c", 'c'),
     ("cacute", 'ć'),
     ("caron", 'ˇ'),
@@ -15,6 +15,7 @@ pub(crate) static C_AND_D: [GlyphRow; 25] = [
     ("comma", ','),
     ("copyright", '©'),
     ("currency", '¤'),
+    ("cwm", '\u{200C}'),
     ("d", 'd'),
     ("dagger", '†'),
     ("daggerdbl", '‡'),
@@ -27,5 +28,6 @@ pub(crate) static C_AND_D: [GlyphRow; 25] = [
     ("dollar", '$'),
     ("dotaccent", '˙'),
     ("dotlessi", 'ı'),
+    ("dotlessj", 'ȷ'),
     ("dzcaron", 'ǆ'),
 ];

@@ -22,7 +22,7 @@ pub(crate) static CAPITAL_A_TO_D: [GlyphRow; 23] = [
     ("DZcaron", 'Ǆ'),
     ("Dcaron", 'Ď'),
     ("Dcroat", 'Đ'),
-    ("Delta", '\u{2206}'),
+    ("Delta", 'Δ'),
     ("Deltagreek", 'Δ'),
     ("Dslash", 'Đ'),
     ("Dzcaron", 'ǅ'),

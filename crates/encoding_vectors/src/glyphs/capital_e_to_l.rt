@@ -2,7 +2,7 @@
 use crate::glyphs::GlyphRow;
 
 /// The names, sorted, with their characters.
-pub(crate) static CAPITAL_E_TO_L: [GlyphRow; 32] = [
+pub(crate) static CAPITAL_E_TO_L: [GlyphRow; 33] = [
     ("E", 'E'),
     ("Eacute", 'É'),
     ("Ecaron", 'Ě'),
@@ -17,6 +17,7 @@ pub(crate) static CAPITAL_E_TO_L: [GlyphRow; 32] = [
     ("G", 'G'),
     ("Gamma", 'Γ'),
     ("Gbreve", 'Ğ'),
+    ("Germandbls", 'ẞ'),
     ("H", 'H'),
     ("I", 'I'),
     ("IJ", 'Ĳ'),

@@ -2,7 +2,7 @@
 use crate::glyphs::GlyphRow;
 
 /// The names, sorted, with their characters.
-pub(crate) static CAPITAL_M_TO_S: [GlyphRow; 32] = [
+pub(crate) static CAPITAL_M_TO_S: [GlyphRow; 31] = [
     ("M", 'M'),
     ("N", 'N'),
     ("NJ", 'Ǌ'),
@@ -17,9 +17,8 @@ pub(crate) static CAPITAL_M_TO_S: [GlyphRow; 32] = [
     ("Odblacute", 'Ő'),
     ("Odieresis", 'Ö'),
     ("Ograve", 'Ò'),
-    ("Ohm", '\u{2126}'),
     ("Ohungarumlaut", 'Ő'),
-    ("Omega", '\u{2126}'),
+    ("Omega", 'Ω'),
     ("Oslash", 'Ø'),
     ("Otilde", 'Õ'),
     ("P", 'P'),

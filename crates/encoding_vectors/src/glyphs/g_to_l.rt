@@ -2,7 +2,7 @@
 use crate::glyphs::GlyphRow;
 
 /// The names, sorted, with their characters.
-pub(crate) static G_TO_L: [GlyphRow; 31] = [
+pub(crate) static G_TO_L: [GlyphRow; 30] = [
     ("g", 'g'),
     ("gbreve", 'ğ'),
     ("germandbls", 'ß'),
@@ -24,7 +24,6 @@ pub(crate) static G_TO_L: [GlyphRow; 31] = [
     ("igrave", 'ì'),
     ("ij", 'ĳ'),
     ("ilde", '˜'),
-    ("increment", '\u{2206}'),
     ("j", 'j'),
     ("k", 'k'),
     ("l", 'l'),

@@ -2,7 +2,7 @@
 use crate::glyphs::GlyphRow;
 
 /// The names, sorted, with their characters.
-pub(crate) static M_TO_O: [GlyphRow; 34] = [
+pub(crate) static M_TO_O: [GlyphRow; 35] = [
     ("m", 'm'),
     ("macron", '¯'),
     ("middot", '·'),
@@ -29,6 +29,7 @@ pub(crate) static M_TO_O: [GlyphRow; 34] = [
     ("ograve", 'ò'),
     ("ohungarumlaut", 'ő'),
     ("one", '1'),
+    ("one.superior", '¹'),
     ("onehalf", '½'),
     ("onequarter", '¼'),
     ("onesuperior", '¹'),

@@ -2,7 +2,7 @@
 use crate::glyphs::GlyphRow;
 
 /// The names, sorted, with their characters.
-pub(crate) static S_AND_T: [GlyphRow; 26] = [
+pub(crate) static S_AND_T: [GlyphRow; 28] = [
     ("s", 's'),
     ("sacute", 'ś'),
     ("scaron", 'š'),
@@ -23,10 +23,12 @@ pub(crate) static S_AND_T: [GlyphRow; 26] = [
     ("tcommaaccent", 'ţ'),
     ("thorn", 'þ'),
     ("three", '3'),
+    ("three.superior", '³'),
     ("threequarters", '¾'),
     ("threesuperior", '³'),
     ("tilde", '˜'),
     ("trademark", '™'),
     ("two", '2'),
+    ("two.superior", '²'),
     ("twosuperior", '²'),
 ];

@@ -1,0 +1,755 @@
+-- Vectors: the characters of a list by code, each at its lowest code, and the codes of a character among them.
+use Rattle.std.proofs.Common.{◌≡◌, ◌≢◌, ◌⊎◌, inl, inr, ℕ, suc, ◌+◌, ◌<◌, ◌≤◌, Bool, true, false, List, [], ◌∷◌, ◌++◌, ◌&&◌, ◌||◌, not, cond, if◌then◌else◌, Option, Some, None, length, get_or, map, flat_map, position, Bor, arith, refl, ap, sym, subst, ◌∙◌}
+use Rattle.std.specs.Prelude.{◌==◌, nat_eq, nat_lt, MatchOption}
+use Rattle.std.specs.Char.{IsScalar}
+use Rattle.std.specs.List.{list_all, list_any, position_or_len}
+use Rattle.std.specs.Option.{SomeIff, option_and_then, option_map, option_map_or, option_or}
+use lib.Utf8.{scalar}
+use Rattle.std.proofs.lemmas.Bool.Decides.{nat_tests}
+use Rattle.std.proofs.lemmas.Bool.{and_parts, eqb-true, eq-eqb, le-ltb, lt-ltb, ltb-true}
+use Rattle.std.proofs.lemmas.Option.{none-some, same_Some}
+use Rattle.std.proofs.lemmas.List.{get_or_default, length-map}
+use Rattle.std.proofs.lemmas.List.Folds.{list_any_at}
+use Rattle.std.proofs.lemmas.List.FromFn.{fill_by_all, get_or-map-range_with_len, length-map-range_with_len}
+use Rattle.std.proofs.lemmas.List.Quantifiers.{position-Some}
+use Rattle.std.proofs.lemmas.List.Sums.{fails_before_first, passes_at_first, position_or_len_is}
+use Rattle.encodings.specs.declared.encoding.Encoding.TheVariants.{Vector}
+use Rattle.encodings.specs.declared.vector.Vector.{Vector as VectorValue}
+use Rattle.encodings.specs.declared.coded.Coded.TheVariants.{Code, Uncoded}
+use Rattle.encodings.specs.Tables.{no}
+use Rattle.encodings.specs.Codes.{IsMadeOf, characters_of, codes_beside, codes_of, listed_codes, others_of, own_code}
+use Rattle.encodings.specs.Characters.{character_of, unmarked}
+use Rattle.encodings.specs.Lines.{coded_of}
+use Rattle.encodings.specs.Lookup.{character_beside, substitute_of}
+use Rattle.encodings.specs.Vectors.{given_at, given_characters, is_fixed, lowest, number_at, numbers_of, own_at, own_characters, substituted, substituted_in, substitutes, unbroken, unless_fixed, vector_characters}
+
+abbrev is : ℕ → ℕ → Bool
+is c each = nat_eq each c
+
+other_than : (a b : ℕ) → a ≢ b → nat_eq a b ≡ false
+other_than a b other = grind (arith, nat_tests)
+
+-- ---- the first code of a character
+
+-- a character that is at a code, and at no lower one
+first_at : (xs : List ℕ) (c at : ℕ) → at < length xs → ((k : ℕ) → k < at → nat_eq (get_or xs k no) c ≡ false) → get_or xs at no ≡ c → lowest xs c ≡ at
+first_at xs c at within before same = position_or_len_is (is c) xs at no (omega arith) before (λ _. eq-eqb (get_or xs at no) c same)
+
+found_at : (xs : List ℕ) (c at : ℕ) → lowest xs c ≡ at → at < length xs → position (is c) xs ≡ Some at
+found_at xs c at same within = rw (same, lt-ltb at (length xs) within) refl
+
+found_is : (xs : List ℕ) (c at : ℕ) → position (is c) xs ≡ Some at → (at < length xs) × (get_or xs at no ≡ c) × (lowest xs c ≡ at)
+found_is xs c at found =
+    let here = position-Some (is c) xs at no found in
+    let same : get_or xs at no ≡ c = eqb-true (get_or xs at no) c here.1 in
+    (here.0, same, first_at xs c at here.0 here.2 same)
+
+none_at : (xs : List ℕ) (c : ℕ) → length xs ≤ lowest xs c → position (is c) xs ≡ None
+none_at xs c past = rw (le-ltb (lowest xs c) (length xs) past) refl
+
+none_found : (xs : List ℕ) (c : ℕ) → position (is c) xs ≡ None → length xs ≤ lowest xs c
+none_found xs c none = by (nat_lt (lowest xs c) (length xs)) refl none
+  where
+    by : (b : Bool) → nat_lt (lowest xs c) (length xs) ≡ b → cond b (Some (lowest xs c)) None ≡ None → length xs ≤ lowest xs c
+    by true below none = absurd (none-some _ (sym none))
+    by false above none = grind (arith, nat_tests)
+
+never : (p : ℕ → Bool) (xs : List ℕ) → length xs ≤ position_or_len p xs → list_any p xs ≡ false
+never p [] none = refl
+never p (x ∷ xs) none = by (never p xs) (p x) none
+  where
+    by : (length xs ≤ position_or_len p xs → list_any p xs ≡ false) → (b : Bool) → suc (length xs) ≤ cond (not b) (1 + position_or_len p xs) 0 → b || list_any p xs ≡ false
+    by rest true none = absurd (omega arith)
+    by rest false none = rest (omega arith)
+
+lowest_within : (xs : List ℕ) (c : ℕ) → lowest xs c ≤ length xs
+lowest_within [] c = omega arith
+lowest_within (x ∷ xs) c = by (nat_eq x c) (lowest_within xs c)
+  where
+    by : (b : Bool) → lowest xs c ≤ length xs → cond (not b) (1 + lowest xs c) 0 ≤ suc (length xs)
+    by true rest = omega arith
+    by false rest = omega arith
+
+-- ---- characters that are set by other codes than their own
+
+-- a character that isn't fixed isn't among the unbroken ones, and no other one but the space is fixed
+unfixed : (c : ℕ) → is_fixed c ≡ false → codes_beside unbroken c ≡ None
+unfixed c other = by (nat_eq c 0x20) (nat_eq 0xA0 c) (nat_eq 0xAD c) other
+  where
+    by : (s n h : Bool) → s || (n || (h || false)) ≡ false → ◌≡◌ {A = Option (List ℕ)} (cond n (Some (32 ∷ [])) (cond h (Some []) None)) None
+    by false false false other = refl
+    by true n h other = cc
+    by false true h other = cc
+    by false false true other = cc
+
+not_fixed : (c : ℕ) → c ≢ 0x20 → codes_beside unbroken c ≡ None → is_fixed c ≡ false
+not_fixed c space none = rw (other_than c 0x20 space) (by (nat_eq 0xA0 c) (nat_eq 0xAD c) none)
+  where
+    by : (n h : Bool) → ◌≡◌ {A = Option (List ℕ)} (cond n (Some (32 ∷ [])) (cond h (Some []) None)) None → n || (h || false) ≡ false
+    by false false none = refl
+    by true h none = absurd (none-some _ (sym none))
+    by false true none = absurd (none-some _ (sym none))
+
+or_none : (o : Option (List ℕ)) → option_or o None ≡ o
+or_none None = refl
+or_none (Some codes) = refl
+
+beside_append : (rows more : List (ℕ × List ℕ)) (c : ℕ) → codes_beside (rows ++ more) c ≡ option_or (codes_beside rows c) (codes_beside more c)
+beside_append [] more c = refl
+beside_append (row ∷ rows) more c = by (nat_eq row.0 c) (beside_append rows more c)
+  where
+    by : (b : Bool) → codes_beside (rows ++ more) c ≡ option_or (codes_beside rows c) (codes_beside more c)
+        → cond b (Some row.1) (codes_beside (rows ++ more) c) ≡ option_or (cond b (Some row.1) (codes_beside rows c)) (codes_beside more c)
+    by true rest = refl
+    by false rest = rest
+
+-- the codes of a character that a list has, and of one that it doesn't, by one of the rows
+row_left : (xs : List ℕ) (row : ℕ × ℕ) (c : ℕ) → list_any (is c) xs ≡ true → codes_beside (substituted_in xs row) c ≡ None
+row_left xs row c any = by (list_any (is row.0) xs) refl (position (is row.1) xs) (nat_eq row.0 c) refl
+  where
+    by : (h : Bool) → list_any (is row.0) xs ≡ h → (o : Option ℕ) (q : Bool) → nat_eq row.0 c ≡ q
+        → codes_beside (cond h [] (option_map_or (λ code. (row.0, code ∷ []) ∷ []) o [])) c ≡ None
+    by true has o q same = refl
+    by false without None q same = refl
+    by false without (Some at) true same = cc (ap (λ x. list_any (is x) xs) (eqb-true row.0 c same), any, without)
+    by false without (Some at) false same = rw same refl
+
+row_kept : (xs : List ℕ) (row : ℕ × ℕ) (c : ℕ) → list_any (is c) xs ≡ false → codes_beside (substituted_in xs row) c ≡ cond (nat_eq row.0 c) (own_code xs row.1) None
+row_kept xs row c none = by (list_any (is row.0) xs) refl (position (is row.1) xs) (nat_eq row.0 c) refl
+  where
+    by : (h : Bool) → list_any (is row.0) xs ≡ h → (o : Option ℕ) (q : Bool) → nat_eq row.0 c ≡ q
+        → codes_beside (cond h [] (option_map_or (λ code. (row.0, code ∷ []) ∷ []) o [])) c ≡ cond q (option_map (λ code. code ∷ []) o) None
+    by true has o true same = cc (ap (λ x. list_any (is x) xs) (eqb-true row.0 c same), none, has)
+    by true has o false same = refl
+    by false without None true same = refl
+    by false without None false same = refl
+    by false without (Some at) true same = rw same refl
+    by false without (Some at) false same = rw same refl
+
+-- the same by all rows, each of which is that of another character
+rows_left : (xs : List ℕ) (rows : List (ℕ × ℕ)) (c : ℕ) → list_any (is c) xs ≡ true → codes_beside (flat_map (substituted_in xs) rows) c ≡ None
+rows_left xs [] c any = refl
+rows_left xs (row ∷ rows) c any =
+    beside_append (substituted_in xs row) (flat_map (substituted_in xs) rows) c
+    ∙ ap (λ o. option_or o (codes_beside (flat_map (substituted_in xs) rows) c)) (row_left xs row c any)
+    ∙ rows_left xs rows c any
+
+abbrev apart : List (ℕ × ℕ) → Bool
+apart [] = true
+apart (row ∷ rows) = not (list_any (λ each. nat_eq each.0 row.0) rows) && apart rows
+
+absent : (rows : List (ℕ × ℕ)) (c : ℕ) → not (list_any (λ each. nat_eq each.0 c) rows) ≡ true → character_beside rows c ≡ None
+absent [] c none = refl
+absent (row ∷ rows) c none = by (absent rows c) (nat_eq row.0 c) none
+  where
+    by : (not (list_any (λ each. nat_eq each.0 c) rows) ≡ true → character_beside rows c ≡ None) → (b : Bool) → not (b || list_any (λ each. nat_eq each.0 c) rows) ≡ true
+        → cond b (Some row.1) (character_beside rows c) ≡ None
+    by rest true none = cc
+    by rest false none = rest none
+
+rows_kept : (xs : List ℕ) (rows : List (ℕ × ℕ)) (c : ℕ) → apart rows ≡ true → list_any (is c) xs ≡ false
+    → codes_beside (flat_map (substituted_in xs) rows) c ≡ option_and_then (own_code xs) (character_beside rows c)
+rows_kept xs [] c each none = refl
+rows_kept xs (row ∷ rows) c each none =
+    beside_append (substituted_in xs row) (flat_map (substituted_in xs) rows) c
+    ∙ ap (λ o. option_or o (codes_beside (flat_map (substituted_in xs) rows) c)) (row_kept xs row c none)
+    ∙ by (rows_kept xs rows c parts.1 none) (nat_eq row.0 c) refl
+  where
+    parts : (not (list_any (λ other. nat_eq other.0 row.0) rows) ≡ true) × (apart rows ≡ true)
+    parts = and_parts _ _ each
+
+    by : codes_beside (flat_map (substituted_in xs) rows) c ≡ option_and_then (own_code xs) (character_beside rows c)
+        → (b : Bool) → nat_eq row.0 c ≡ b → option_or (cond b (own_code xs row.1) None) (codes_beside (flat_map (substituted_in xs) rows) c)
+        ≡ option_and_then (own_code xs) (cond b (Some row.1) (character_beside rows c))
+    by rest true same =
+        let gone : character_beside rows c ≡ None =
+        absent rows c (subst (λ x. not (list_any (λ other. nat_eq other.0 x) rows) ≡ true) (eqb-true row.0 c same) parts.0) in
+        ap (option_or (own_code xs row.1)) (rest ∙ ap (option_and_then (own_code xs)) gone) ∙ or_none (own_code xs row.1)
+    by rest false other = rest
+
+-- the codes of a character: those that it always has, its own, or those of the one as which it is set
+abbrev as_other : List ℕ → ℕ → Option (List ℕ)
+as_other xs c = option_and_then (own_code xs) (substitute_of c)
+
+listed_is : (xs : List ℕ) (c : ℕ) → listed_codes xs c ≡ option_or (codes_beside unbroken c) (option_or (own_code xs c) (as_other xs c))
+listed_is xs c = ap (λ o. option_or o (own_code xs c)) (beside_append unbroken (substituted xs) c) ∙ by (codes_beside unbroken c)
+  where
+    last : (o : Option ℕ) → position (is c) xs ≡ o
+        → option_or (codes_beside (substituted xs) c) (option_map (λ code. code ∷ []) o) ≡ option_or (option_map (λ code. code ∷ []) o) (as_other xs c)
+    last (Some at) found =
+        let here = position-Some (is c) xs at no found in
+        ap (λ o. option_or o (Some (at ∷ []))) (rows_left xs substitutes c (list_any_at (is c) xs at no here.0 here.1))
+    last None none = or_none (codes_beside (substituted xs) c) ∙ rows_kept xs substitutes c refl (never (is c) xs (none_found xs c none))
+
+    by : (o : Option (List ℕ)) → option_or (option_or o (codes_beside (substituted xs) c)) (own_code xs c) ≡ option_or o (option_or (own_code xs c) (as_other xs c))
+    by (Some codes) = refl
+    by None = last (position (is c) xs) refl
+
+listed_fixed : (xs : List ℕ) (c : ℕ) (codes : List ℕ) → codes_beside unbroken c ≡ Some codes → listed_codes xs c ≡ Some codes
+listed_fixed xs c codes found = listed_is xs c ∙ ap (λ o. option_or o (option_or (own_code xs c) (as_other xs c))) found
+
+listed_other : (xs : List ℕ) (c : ℕ) → codes_beside unbroken c ≡ None → listed_codes xs c ≡ option_or (own_code xs c) (as_other xs c)
+listed_other xs c fixed = listed_is xs c ∙ ap (λ o. option_or o (option_or (own_code xs c) (as_other xs c))) fixed
+
+listed_found : (xs : List ℕ) (c at : ℕ) → codes_beside unbroken c ≡ None → position (is c) xs ≡ Some at → listed_codes xs c ≡ Some (at ∷ [])
+listed_found xs c at fixed found = listed_other xs c fixed ∙ ap (λ (o : Option ℕ). option_or (option_map (λ code. code ∷ []) o) (as_other xs c)) found
+
+listed_as : (xs : List ℕ) (c : ℕ) → codes_beside unbroken c ≡ None → position (is c) xs ≡ None → listed_codes xs c ≡ as_other xs c
+listed_as xs c fixed none = listed_other xs c fixed ∙ ap (λ (o : Option ℕ). option_or (option_map (λ code. code ∷ []) o) (as_other xs c)) none
+
+-- what holds of each character as which others are set
+beside_all : (p : ℕ → Bool) (rows : List (ℕ × ℕ)) (c other : ℕ) → list_all (λ row. p row.1) rows ≡ true → character_beside rows c ≡ Some other → p other ≡ true
+beside_all p [] c other all found = absurd (none-some other found)
+beside_all p (row ∷ rows) c other all found = by (beside_all p rows c other) (nat_eq row.0 c) (and_parts _ _ all) found
+  where
+    by : (list_all (λ each. p each.1) rows ≡ true → character_beside rows c ≡ Some other → p other ≡ true) → (b : Bool) → (p row.1 ≡ true) × (list_all (λ each. p each.1) rows ≡ true) → cond b (Some row.1) (character_beside rows c) ≡ Some other → p other ≡ true
+    by rest true parts found = ap p (sym (same_Some _ _ found)) ∙ parts.0
+    by rest false parts found = rest parts.1 found
+
+other_character : (c other : ℕ) → substitute_of c ≡ Some other → other < no
+other_character c other found = ltb-true other no (beside_all (λ each. nat_lt each no) substitutes c other refl found)
+
+other_unfixed : (c other : ℕ) → substitute_of c ≡ Some other → is_fixed other ≡ false
+other_unfixed c other found = by (is_fixed other) (beside_all (λ each. not (is_fixed each)) substitutes c other refl found)
+  where
+    by : (b : Bool) → not b ≡ true → b ≡ false
+    by true not_is = cc
+    by false not_is = refl
+
+-- ---- each character at its lowest code
+
+own_length : (xs : List ℕ) → length (own_characters xs) ≡ length xs
+unfolding own_characters
+own_length xs = length-map-range_with_len (own_at xs) 0 (length xs)
+
+own_there : (xs : List ℕ) (code : ℕ) → code < length xs → get_or (own_characters xs) code no ≡ own_at xs code
+unfolding own_characters
+own_there xs code within = get_or-map-range_with_len (own_at xs) 0 (length xs) code code no within (omega arith)
+
+own_if_lowest : (xs : List ℕ) (code : ℕ) → lowest xs (get_or xs code no) ≡ code → own_at xs code ≡ get_or xs code no
+own_if_lowest xs code same = rw (eq-eqb _ _ same) refl
+
+-- a code has the character of the list, or none
+own_or_none : (xs : List ℕ) (code : ℕ) → ((own_at xs code ≡ get_or xs code no) × (lowest xs (get_or xs code no) ≡ code)) ⊎ (own_at xs code ≡ no)
+own_or_none xs code = by (nat_eq (lowest xs (get_or xs code no)) code) refl
+  where
+    by : (b : Bool) → nat_eq (lowest xs (get_or xs code no)) code ≡ b
+        → ((cond b (get_or xs code no) no ≡ get_or xs code no) × (lowest xs (get_or xs code no) ≡ code)) ⊎ (cond b (get_or xs code no) no ≡ no)
+    by true same = inl (refl, eqb-true _ _ same)
+    by false other = inr refl
+
+-- the lowest code of a character doesn't change
+own_lowest : (xs : List ℕ) (c : ℕ) → c ≢ no → lowest (own_characters xs) c ≡ lowest xs c
+own_lowest xs c some = position_or_len_is (is c) (own_characters xs) (lowest xs c) no most before there
+  where
+    most : lowest xs c ≤ length (own_characters xs)
+    most = omega (arith, own_length xs, lowest_within xs c)
+
+    at : (k : ℕ) → k < lowest xs c → k < length xs → ((own_at xs k ≡ get_or xs k no) × (lowest xs (get_or xs k no) ≡ k)) ⊎ (own_at xs k ≡ no) → nat_eq (get_or (own_characters xs) k no) c ≡ false
+    at k below within (inl here) = ap (λ x. nat_eq x c) (own_there xs k within ∙ here.0) ∙ fails_before_first (is c) xs k no below
+    at k below within (inr none) = ap (λ x. nat_eq x c) (own_there xs k within ∙ none) ∙ other_than no c (λ same. some (sym same))
+
+    before : (k : ℕ) → k < lowest xs c → nat_eq (get_or (own_characters xs) k no) c ≡ false
+    before k below = at k below (omega (arith, lowest_within xs c)) (own_or_none xs k)
+
+    there : lowest xs c < length (own_characters xs) → nat_eq (get_or (own_characters xs) (lowest xs c) no) c ≡ true
+    there inside =
+        let within : lowest xs c < length xs = omega (arith, own_length xs) in
+        let here : get_or xs (lowest xs c) no ≡ c = eqb-true _ _ (passes_at_first (is c) xs no within) in
+        eq-eqb _ c (own_there xs (lowest xs c) within ∙ own_if_lowest xs (lowest xs c) (ap (lowest xs) here) ∙ here)
+
+own_position : (xs : List ℕ) (c : ℕ) → c ≢ no → position (is c) (own_characters xs) ≡ position (is c) xs
+own_position xs c some = rw (own_length xs, own_lowest xs c some) refl
+
+-- a code's own character is at no lower code
+own_alone : (xs : List ℕ) (code : ℕ) → code < length (own_characters xs) → get_or (own_characters xs) code no ≢ no → lowest (own_characters xs) (get_or (own_characters xs) code no) ≡ code
+own_alone xs code inside some = by (own_or_none xs code)
+  where
+    within : code < length xs
+    within = omega (arith, own_length xs)
+
+    by : ((own_at xs code ≡ get_or xs code no) × (lowest xs (get_or xs code no) ≡ code)) ⊎ (own_at xs code ≡ no) → lowest (own_characters xs) (get_or (own_characters xs) code no) ≡ code
+    by (inl here) = own_lowest xs _ some ∙ ap (lowest xs) (own_there xs code within ∙ here.0) ∙ here.1
+    by (inr none) = absurd (some (own_there xs code within ∙ none))
+
+-- the codes of a character don't change
+own_codes : (xs : List ℕ) (c : ℕ) → c ≢ no → listed_codes (own_characters xs) c ≡ listed_codes xs c
+own_codes xs c some =
+    listed_is (own_characters xs) c
+    ∙ ap (λ (o : Option ℕ). option_or (codes_beside unbroken c) (option_or (option_map (λ code. code ∷ []) o) (as_other (own_characters xs) c))) (own_position xs c some)
+    ∙ ap (λ o. option_or (codes_beside unbroken c) (option_or (own_code xs c) o)) (by (substitute_of c) refl)
+    ∙ sym (listed_is xs c)
+  where
+    by : (o : Option ℕ) → substitute_of c ≡ o → option_and_then (own_code (own_characters xs)) o ≡ option_and_then (own_code xs) o
+    by None none = refl
+    by (Some other) found = ap (option_map (λ (code : ℕ). code ∷ [])) (own_position xs other (λ same. absurd (omega (arith, same, other_character c other found))))
+
+-- ---- the characters at the 256 codes
+
+given_length : (numbers : List ℕ) → length (given_characters numbers) ≡ 256
+unfolding given_characters
+given_length numbers = length-map-range_with_len (given_at numbers) 0 256
+
+given_there : (numbers : List ℕ) (code : ℕ) → code < 256 → get_or (given_characters numbers) code no ≡ given_at numbers code
+unfolding given_characters
+given_there numbers code below = get_or-map-range_with_len (given_at numbers) 0 256 code code no below (omega arith)
+
+given_feed : (numbers : List ℕ) → given_at numbers 10 ≡ no
+unfolding given_at
+given_feed numbers = refl
+
+given_space : (numbers : List ℕ) → given_at numbers 32 ≡ 0x20
+unfolding given_at
+given_space numbers = refl
+
+given_else : (numbers : List ℕ) (code : ℕ) → code ≢ 10 → code ≢ 32 → given_at numbers code ≡ unless_fixed (get_or numbers code no)
+unfolding given_at
+given_else numbers code not_feed not_space = rw (other_than code 10 not_feed, other_than code 32 not_space) refl
+
+-- a character that isn't fixed, or none
+unless_other : (number c : ℕ) → is_fixed c ≡ true → c ≢ no → unless_fixed number ≢ c
+unless_other number c fixed some = by (scalar number) (is_fixed number) refl
+  where
+    by : (s q : Bool) → is_fixed number ≡ q → cond (s && not q) number no ≢ c
+    by true true same = λ equal. some (sym equal)
+    by true false other = λ equal. cc (ap is_fixed equal, fixed, other)
+    by false q other = λ equal. some (sym equal)
+
+unspaced : (number : ℕ) → unless_fixed number ≢ 0x20
+unspaced number = unless_other number 0x20 refl (λ equal. omega (arith, equal))
+
+unless_unbroken : (number : ℕ) → codes_beside unbroken (unless_fixed number) ≡ None
+unless_unbroken number = by (scalar number) (is_fixed number) refl
+  where
+    by : (s q : Bool) → is_fixed number ≡ q → codes_beside unbroken (cond (s && not q) number no) ≡ None
+    by true true same = refl
+    by true false other = unfixed number other
+    by false q other = refl
+
+unless_is : (number : ℕ) → (unless_fixed number ≡ number) ⊎ (unless_fixed number ≡ no)
+unless_is number = by (scalar number && not (is_fixed number))
+  where
+    by : (b : Bool) → (cond b number no ≡ number) ⊎ (cond b number no ≡ no)
+    by true = inl refl
+    by false = inr refl
+
+unless_same : (number : ℕ) → scalar number ≡ true → is_fixed number ≡ false → unless_fixed number ≡ number
+unless_same number character other = rw (character, other) refl
+
+-- what is at code 10, at code 32, and at another code
+feed_or_other : (numbers : List ℕ) (code : ℕ) → ((code ≡ 10) × (given_at numbers code ≡ no)) ⊎ (((code ≡ 32) × (given_at numbers code ≡ 0x20)) ⊎ ((code ≢ 10) × (code ≢ 32) × (given_at numbers code ≡ unless_fixed (get_or numbers code no))))
+feed_or_other numbers code = by (nat_eq code 10) refl (nat_eq code 32) refl
+  where
+    by : (f : Bool) → nat_eq code 10 ≡ f → (s : Bool) → nat_eq code 32 ≡ s
+        → ((code ≡ 10) × (given_at numbers code ≡ no)) ⊎ (((code ≡ 32) × (given_at numbers code ≡ 0x20)) ⊎ ((code ≢ 10) × (code ≢ 32) × (given_at numbers code ≡ unless_fixed (get_or numbers code no))))
+    by true feed s space = inl (eqb-true code 10 feed, ap (given_at numbers) (eqb-true code 10 feed) ∙ given_feed numbers)
+    by false feed true space = inr (inl (eqb-true code 32 space, ap (given_at numbers) (eqb-true code 32 space) ∙ given_space numbers))
+    by false feed false space =
+        let not_feed : code ≢ 10 = λ same. cc (eq-eqb code 10 same, feed) in
+        let not_space : code ≢ 32 = λ same. cc (eq-eqb code 32 same, space) in
+        inr (inr (not_feed, not_space, given_else numbers code not_feed not_space))
+
+-- no code has a no-break space or a soft hyphen
+given_unbroken : (numbers : List ℕ) (code : ℕ) → codes_beside unbroken (given_at numbers code) ≡ None
+given_unbroken numbers code = by (feed_or_other numbers code)
+  where
+    by : ((code ≡ 10) × (given_at numbers code ≡ no)) ⊎ (((code ≡ 32) × (given_at numbers code ≡ 0x20)) ⊎ ((code ≢ 10) × (code ≢ 32) × (given_at numbers code ≡ unless_fixed (get_or numbers code no)))) → codes_beside unbroken (given_at numbers code) ≡ None
+    by (inl feed) = ap (codes_beside unbroken) feed.1
+    by (inr (inl space)) = ap (codes_beside unbroken) space.1
+    by (inr (inr other)) = ap (codes_beside unbroken) other.2 ∙ unless_unbroken (get_or numbers code no)
+
+-- only code 32 has the space
+spaced : (numbers : List ℕ) (code : ℕ) → given_at numbers code ≡ 0x20 → code ≡ 32
+spaced numbers code same = by (feed_or_other numbers code)
+  where
+    by : ((code ≡ 10) × (given_at numbers code ≡ no)) ⊎ (((code ≡ 32) × (given_at numbers code ≡ 0x20)) ⊎ ((code ≢ 10) × (code ≢ 32) × (given_at numbers code ≡ unless_fixed (get_or numbers code no)))) → code ≡ 32
+    by (inl feed) = absurd (omega (arith, sym feed.1 ∙ same))
+    by (inr (inl space)) = space.0
+    by (inr (inr other)) = absurd (unspaced (get_or numbers code no) (sym other.2 ∙ same))
+
+space_lowest : (numbers : List ℕ) → lowest (given_characters numbers) 0x20 ≡ 32
+space_lowest numbers =
+    first_at (given_characters numbers) 0x20 32 (omega (arith, given_length numbers))
+    (λ k below. other_than _ 0x20 (λ same. absurd (omega (arith, spaced numbers k (sym (given_there numbers k (omega arith)) ∙ same)))))
+    (given_there numbers 32 (omega arith) ∙ given_space numbers)
+
+-- ---- the characters of a vector
+
+vector_length : (numbers : List ℕ) → length (vector_characters numbers) ≡ 256
+vector_length numbers = own_length (given_characters numbers) ∙ given_length numbers
+
+vector_there : (numbers : List ℕ) (code : ℕ) → code < 256 → get_or (vector_characters numbers) code no ≡ own_at (given_characters numbers) code
+vector_there numbers code below = own_there (given_characters numbers) code (omega (arith, given_length numbers))
+
+vector_at_feed : (numbers : List ℕ) → get_or (vector_characters numbers) 10 no ≡ no
+vector_at_feed numbers = vector_there numbers 10 (omega arith) ∙ by (own_or_none (given_characters numbers) 10)
+  where
+    by : ((own_at (given_characters numbers) 10 ≡ get_or (given_characters numbers) 10 no) × (lowest (given_characters numbers) (get_or (given_characters numbers) 10 no) ≡ 10)) ⊎ (own_at (given_characters numbers) 10 ≡ no)
+        → own_at (given_characters numbers) 10 ≡ no
+    by (inl here) = here.0 ∙ given_there numbers 10 (omega arith) ∙ given_feed numbers
+    by (inr none) = none
+
+vector_at_space : (numbers : List ℕ) → get_or (vector_characters numbers) 32 no ≡ 0x20
+vector_at_space numbers =
+    let space : get_or (given_characters numbers) 32 no ≡ 0x20 = given_there numbers 32 (omega arith) ∙ given_space numbers in
+    vector_there numbers 32 (omega arith) ∙ own_if_lowest (given_characters numbers) 32 (ap (lowest (given_characters numbers)) space ∙ space_lowest numbers) ∙ space
+
+vector_unbroken : (numbers : List ℕ) (code : ℕ) → code < 256 → codes_beside unbroken (get_or (vector_characters numbers) code no) ≡ None
+vector_unbroken numbers code below = ap (codes_beside unbroken) (vector_there numbers code below) ∙ by (own_or_none (given_characters numbers) code)
+  where
+    by : ((own_at (given_characters numbers) code ≡ get_or (given_characters numbers) code no) × (lowest (given_characters numbers) (get_or (given_characters numbers) code no) ≡ code)) ⊎ (own_at (given_characters numbers) code ≡ no)
+        → codes_beside unbroken (own_at (given_characters numbers) code) ≡ None
+    by (inl here) = ap (codes_beside unbroken) (here.0 ∙ given_there numbers code below) ∙ given_unbroken numbers code
+    by (inr none) = ap (codes_beside unbroken) none
+
+-- the codes of a vector are those among its characters
+pub of_vector : (vector : Bor VectorValue) (c : ℕ) → codes_of (Vector vector) c ≡ listed_codes (vector_characters vector.now.characters) c
+unfolding codes_of characters_of others_of
+of_vector vector c = refl
+
+-- ---- the laws of a vector
+
+-- the code at which a list has a character, or the one as which this is set
+record IsAt (xs : List ℕ) (c : ℕ) (codes : List ℕ) (code : ℕ) : Type 0 where
+  within : code < length xs
+  same : get_or xs code no ≡ c
+  alone : codes ≡ code ∷ []
+
+record IsAsOther (xs : List ℕ) (c : ℕ) (codes : List ℕ) : Type 0 where
+  other : ℕ
+  code : ℕ
+  substitute : substitute_of c ≡ Some other
+  at : IsAt xs other codes code
+
+-- the codes of a character: that of the space, none, or one of these
+abbrev Cases : List ℕ → ℕ → List ℕ → Type 0
+Cases xs c codes = ((code : ℕ) × IsAt xs c codes code) ⊎ (((c ≡ 0xA0) × (codes ≡ 32 ∷ [])) ⊎ (((c ≡ 0xAD) × (codes ≡ [])) ⊎ IsAsOther xs c codes))
+
+fixed_cases : (xs : List ℕ) (c : ℕ) (codes : List ℕ) → codes_beside unbroken c ≡ Some codes → Cases xs c codes
+fixed_cases xs c codes found = by (nat_eq 0xA0 c) refl (nat_eq 0xAD c) refl found
+  where
+    by : (b : Bool) → nat_eq 0xA0 c ≡ b → (q : Bool) → nat_eq 0xAD c ≡ q → cond b (Some (32 ∷ [])) (cond q (Some []) None) ≡ Some codes → Cases xs c codes
+    by true same q soft one = inr (inl (sym (eqb-true 0xA0 c same), sym (same_Some _ _ one)))
+    by false other true soft one = inr (inr (inl (sym (eqb-true 0xAD c soft), sym (same_Some _ _ one))))
+    by false other false soft one = absurd (none-some _ one)
+
+own_case : (xs : List ℕ) (c : ℕ) (codes : List ℕ) → own_code xs c ≡ Some codes → (code : ℕ) × IsAt xs c codes code
+own_case xs c codes found = by (position (is c) xs) refl found
+  where
+    by : (o : Option ℕ) → position (is c) xs ≡ o → option_map (λ code. code ∷ []) o ≡ Some codes → (code : ℕ) × IsAt xs c codes code
+    by (Some code) here one =
+        let parts = found_is xs c code here in
+        (code, record { within = parts.0; same = parts.1; alone = sym (same_Some _ _ one) })
+    by None none one = absurd (none-some codes one)
+
+code_cases : (xs : List ℕ) (c : ℕ) (codes : List ℕ) → listed_codes xs c ≡ Some codes → Cases xs c codes
+code_cases xs c codes found = by (codes_beside unbroken c) refl (own_code xs c) refl (substitute_of c) refl (sym (listed_is xs c) ∙ found)
+  where
+    by : (f : Option (List ℕ)) → codes_beside unbroken c ≡ f → (o : Option (List ℕ)) → own_code xs c ≡ o → (s : Option ℕ) → substitute_of c ≡ s
+        → option_or f (option_or o (option_and_then (own_code xs) s)) ≡ Some codes → Cases xs c codes
+    by (Some fixed) listed o own s substitute one = fixed_cases xs c codes (listed ∙ one)
+    by None unlisted (Some here) own s substitute one = inl (own_case xs c codes (own ∙ one))
+    by None unlisted None own (Some other) substitute one =
+        let here = own_case xs other codes one in
+        inr (inr (inr (record { other = other; code = here.0; substitute = substitute; at = here.1 })))
+    by None unlisted None own None substitute one = absurd (none-some codes one)
+
+pub vector_few : (xs : List ℕ) (c : ℕ) (codes : List ℕ) → listed_codes xs c ≡ Some codes → length codes ≤ 1
+vector_few xs c codes found = by (code_cases xs c codes found)
+  where
+    by : Cases xs c codes → length codes ≤ 1
+    by (inl here) = omega (arith, ap length here.1.alone)
+    by (inr (inl space)) = omega (arith, ap length space.1)
+    by (inr (inr (inl soft))) = omega (arith, ap length soft.1)
+    by (inr (inr (inr via))) = omega (arith, ap length via.at.alone)
+
+abbrev has : List ℕ → ℕ → Bool
+has codes code = list_any (λ each. each == code) codes
+
+only_has : (code number : ℕ) → has (code ∷ []) number ≡ true → code ≡ number
+only_has code number any = by (nat_eq code number) refl any
+  where
+    by : (b : Bool) → nat_eq code number ≡ b → b || false ≡ true → code ≡ number
+    by true same any = eqb-true code number same
+    by false other any = cc
+
+-- the character at a code is that of a list there
+at_code : (xs : List ℕ) (c : ℕ) (codes : List ℕ) (code number : ℕ) → IsAt xs c codes code → has codes number ≡ true → c ≡ get_or xs number no
+at_code xs c codes code number here any =
+    sym here.same ∙ ap (λ k. get_or xs k no) (only_has code number (subst (λ l. has l number ≡ true) here.alone any))
+
+pub vector_feed : (numbers : List ℕ) (c : ℕ) (codes : List ℕ) → c < no → listed_codes (vector_characters numbers) c ≡ Some codes → has codes 10 ≡ true → c ≡ 10
+vector_feed numbers c codes below found ten = by (code_cases (vector_characters numbers) c codes found)
+  where
+    by : Cases (vector_characters numbers) c codes → c ≡ 10
+    by (inl here) =
+        let none : c ≡ no = at_code (vector_characters numbers) c codes here.0 10 here.1 ten ∙ vector_at_feed numbers in
+        absurd (omega (arith, none))
+    by (inr (inl space)) = cc (subst (λ l. has l 10 ≡ true) space.1 ten)
+    by (inr (inr (inl soft))) = cc (subst (λ l. has l 10 ≡ true) soft.1 ten)
+    by (inr (inr (inr via))) =
+        let none : via.other ≡ no = at_code (vector_characters numbers) via.other codes via.code 10 via.at ten ∙ vector_at_feed numbers in
+        absurd (omega (arith, none, other_character c via.other via.substitute))
+
+pub vector_space : (numbers : List ℕ) (c : ℕ) (codes : List ℕ) → listed_codes (vector_characters numbers) c ≡ Some codes → has codes 32 ≡ true → (c ≡ 32) ⊎ (c ≡ 0xA0)
+vector_space numbers c codes found word = by (code_cases (vector_characters numbers) c codes found)
+  where
+    by : Cases (vector_characters numbers) c codes → (c ≡ 32) ⊎ (c ≡ 0xA0)
+    by (inl here) = inl (at_code (vector_characters numbers) c codes here.0 32 here.1 word ∙ vector_at_space numbers)
+    by (inr (inl space)) = inr space.0
+    by (inr (inr (inl soft))) = cc (subst (λ l. has l 32 ≡ true) soft.1 word)
+    by (inr (inr (inr via))) =
+        let space : via.other ≡ 0x20 = at_code (vector_characters numbers) via.other codes via.code 32 via.at word ∙ vector_at_space numbers in
+        absurd (cc (ap is_fixed space, other_unfixed c via.other via.substitute))
+
+-- a line feed is one code, or an element without codes
+pub feed_alone : (vector : Bor VectorValue) → length (coded_of (Vector vector) 10) ≡ 1
+unfolding coded_of
+feed_alone vector = by (codes_of (Vector vector) 10) refl
+  where
+    here : (c : ℕ) (codes : List ℕ) → c ≡ 10 → Cases (vector_characters vector.now.characters) c codes → length codes ≡ 1
+    here c codes ten (inl at) = ap length at.1.alone
+    here c codes ten (inr (inl space)) = absurd (omega (arith, ten, space.0))
+    here c codes ten (inr (inr (inl soft))) = absurd (omega (arith, ten, soft.0))
+    here c codes ten (inr (inr (inr via))) = ap length via.at.alone
+
+    by : (o : Option (List ℕ)) → codes_of (Vector vector) 10 ≡ o → length (option_map_or (map Code) o (Uncoded 10 ∷ [])) ≡ 1
+    by None none = refl
+    by (Some codes) found = length-map codes Code ∙ here 10 codes refl (code_cases (vector_characters vector.now.characters) 10 codes (sym (of_vector vector 10) ∙ found))
+
+pub vector_comes : (numbers : List ℕ) (code : ℕ) → code < length (vector_characters numbers) → get_or (vector_characters numbers) code no ≢ no
+    → listed_codes (vector_characters numbers) (get_or (vector_characters numbers) code no) ≡ Some (code ∷ [])
+vector_comes numbers code within some =
+    listed_found (vector_characters numbers) _ code
+    (vector_unbroken numbers code (omega (arith, vector_length numbers)))
+    (found_at (vector_characters numbers) _ code (own_alone (given_characters numbers) code within some) within)
+
+-- ---- encodings that are made of a list
+
+pub filled : (given : List (Option ℕ)) (numbers : List ℕ) → length numbers ≡ 256 → ((k : ℕ) → k < 256 → get_or numbers k 0 ≡ number_at given k) → numbers ≡ numbers_of given
+unfolding numbers_of
+filled given numbers long each = fill_by_all (number_at given) numbers 256 0 long each
+
+pub made_of : (given : List (Option ℕ)) (vector : Bor VectorValue) → vector.now.characters ≡ numbers_of given → IsMadeOf given (Vector vector)
+unfolding characters_of
+made_of given vector same = record {
+  characters = ap vector_characters same;
+  codes = λ c below. of_vector vector c ∙ ap (λ l. listed_codes (vector_characters l) c) same ∙ own_codes (given_characters (numbers_of given)) c (λ none. absurd (omega (arith, none)));
+}
+
+-- ---- the lowest code of a character
+
+-- a character is searched for in the numbers
+given_here : (numbers : List ℕ) (c code : ℕ) → scalar c ≡ true → is_fixed c ≡ false → code < length numbers → get_or numbers code 0 ≡ c → code ≢ 10 → code ≢ 32 → given_at numbers code ≡ c
+given_here numbers c code character other within same not_feed not_space =
+    given_else numbers code not_feed not_space ∙ ap unless_fixed (get_or_default numbers code no 0 within ∙ same) ∙ unless_same c character other
+
+given_elsewhere : (numbers : List ℕ) (c code : ℕ) → scalar c ≡ true → c ≢ 0x20 → code < length numbers → get_or numbers code 0 ≢ c → given_at numbers code ≢ c
+given_elsewhere numbers c code character other within differs = by (feed_or_other numbers code)
+  where
+    not_mark : no ≢ c
+    not_mark = λ same. cc (subst (λ n. scalar n ≡ true) (sym same) character)
+
+    kept : (unless_fixed (get_or numbers code no) ≡ get_or numbers code no) ⊎ (unless_fixed (get_or numbers code no) ≡ no) → unless_fixed (get_or numbers code no) ≢ c
+    kept (inl here) = λ same. differs (sym (get_or_default numbers code no 0 within) ∙ sym here ∙ same)
+    kept (inr none) = λ same. not_mark (sym none ∙ same)
+
+    by : ((code ≡ 10) × (given_at numbers code ≡ no)) ⊎ (((code ≡ 32) × (given_at numbers code ≡ 0x20)) ⊎ ((code ≢ 10) × (code ≢ 32) × (given_at numbers code ≡ unless_fixed (get_or numbers code no)))) → given_at numbers code ≢ c
+    by (inl feed) = λ same. not_mark (sym feed.1 ∙ same)
+    by (inr (inl space)) = λ same. other (sym (sym space.1 ∙ same))
+    by (inr (inr there)) = λ same. kept (unless_is (get_or numbers code no)) (sym there.2 ∙ same)
+
+-- no code before this one has the character
+pub record AreBefore (numbers : List ℕ) (c code : ℕ) : Type 0 where
+  none : (k : ℕ) → k < code → given_at numbers k ≢ c
+
+pub none_before : (numbers : List ℕ) (c : ℕ) → AreBefore numbers c 0
+none_before numbers c = record { none = λ k below. absurd (omega arith) }
+
+before_more : (numbers : List ℕ) (c code : ℕ) → AreBefore numbers c code → given_at numbers code ≢ c → AreBefore numbers c (code + 1)
+before_more numbers c code before here = record { none = λ k below. by k below (nat_eq k code) refl }
+  where
+    by : (k : ℕ) → k < code + 1 → (b : Bool) → nat_eq k code ≡ b → given_at numbers k ≢ c
+    by k below true same = subst (λ j. given_at numbers j ≢ c) (sym (eqb-true k code same)) here
+    by k below false other = before.none k (grind (arith, nat_tests))
+
+pub goes_on : (numbers : List ℕ) (c code : ℕ) → IsScalar c → c ≢ 0x20 → code < length numbers → AreBefore numbers c code → get_or numbers code 0 ≢ c → AreBefore numbers c (code + 1)
+goes_on numbers c code character other within before differs =
+    before_more numbers c code before (given_elsewhere numbers c code character other within differs)
+
+pub goes_on_feed : (numbers : List ℕ) (c code : ℕ) → IsScalar c → AreBefore numbers c code → code ≡ 10 → AreBefore numbers c (code + 1)
+goes_on_feed numbers c code character before feed =
+    before_more numbers c code before (λ same. cc (subst (λ n. scalar n ≡ true) (sym same ∙ ap (given_at numbers) feed ∙ given_feed numbers) character))
+
+pub goes_on_space : (numbers : List ℕ) (c code : ℕ) → c ≢ 0x20 → AreBefore numbers c code → code ≡ 32 → AreBefore numbers c (code + 1)
+goes_on_space numbers c code other before space =
+    before_more numbers c code before (λ same. other (sym same ∙ ap (given_at numbers) space ∙ given_space numbers))
+
+found_here : (numbers : List ℕ) (c code : ℕ) → code < 256 → AreBefore numbers c code → given_at numbers code ≡ c → Some code ≡ position (is c) (given_characters numbers)
+found_here numbers c code below before same =
+    let xs = given_characters numbers in
+    let within : code < length xs = omega (arith, given_length numbers) in
+    sym (found_at xs c code (first_at xs c code within (λ k lower. other_than _ c (λ equal. before.none k lower (sym (given_there numbers k (omega arith)) ∙ equal))) (given_there numbers code below ∙ same)) within)
+
+pub is_lowest : (numbers : List ℕ) (c code : ℕ) → IsScalar c → c ≢ 0x20 → codes_beside unbroken c ≡ None → length numbers ≡ 256 → code < 256 → AreBefore numbers c code → get_or numbers code 0 ≡ c → code ≢ 10 → code ≢ 32
+    → Some code ≡ position (is c) (given_characters numbers)
+is_lowest numbers c code character space other long below before same not_feed not_space =
+    found_here numbers c code below before (given_here numbers c code character (not_fixed c space other) (omega (arith, long)) same not_feed not_space)
+
+pub nowhere : (numbers : List ℕ) (c code : ℕ) → 256 ≤ code → AreBefore numbers c code → None ≡ position (is c) (given_characters numbers)
+nowhere numbers c code all before =
+    let xs = given_characters numbers in
+    let past : lowest xs c ≡ length xs =
+    position_or_len_is (is c) xs (length xs) no (omega arith)
+    (λ k lower. other_than _ c (λ equal. before.none k (omega (arith, given_length numbers)) (sym (given_there numbers k (omega (arith, given_length numbers))) ∙ equal)))
+    (λ inside. absurd (omega arith)) in
+    sym (none_at xs c (omega (arith, past)))
+
+pub space_found : (numbers : List ℕ) (c : ℕ) → c ≡ 0x20 → Some 32 ≡ position (is c) (given_characters numbers)
+space_found numbers c same =
+    subst (λ x. Some 32 ≡ position (is x) (given_characters numbers)) (sym same)
+    (sym (found_at (given_characters numbers) 0x20 32 (space_lowest numbers) (omega (arith, given_length numbers))))
+
+pub ruleset searched = (none_before, goes_on, goes_on_feed, goes_on_space, is_lowest)
+
+-- the codes of a character
+own_here : (numbers : List ℕ) (c : ℕ) (o : Option ℕ) → c < 0x110000 → o ≡ position (is c) (given_characters numbers) → position (is c) (vector_characters numbers) ≡ o
+own_here numbers c o character found = own_position (given_characters numbers) c (λ none. absurd (omega (arith, none))) ∙ sym found
+
+pub code_found : (numbers : List ℕ) (c code : ℕ) → c < 0x110000 → codes_beside unbroken c ≡ None → Some code ≡ position (is c) (given_characters numbers)
+    → listed_codes (vector_characters numbers) c ≡ Some (code ∷ [])
+code_found numbers c code character fixed found = listed_found (vector_characters numbers) c code fixed (own_here numbers c (Some code) character found)
+
+-- a character as which another one is set
+pub other_unbroken : (c other : ℕ) → Some other ≡ substitute_of c → codes_beside unbroken other ≡ None
+other_unbroken c other found = unfixed other (other_unfixed c other (sym found))
+
+pub as_none : (numbers : List ℕ) (c : ℕ) → c < 0x110000 → codes_beside unbroken c ≡ None → None ≡ position (is c) (given_characters numbers) → None ≡ substitute_of c
+    → listed_codes (vector_characters numbers) c ≡ None
+as_none numbers c character fixed none without =
+    listed_as (vector_characters numbers) c fixed (own_here numbers c None character none) ∙ ap (option_and_then (own_code (vector_characters numbers))) (sym without)
+
+as_another : (numbers : List ℕ) (c other : ℕ) (o : Option ℕ) → c < 0x110000 → codes_beside unbroken c ≡ None → None ≡ position (is c) (given_characters numbers) → Some other ≡ substitute_of c
+    → o ≡ position (is other) (given_characters numbers) → listed_codes (vector_characters numbers) c ≡ option_map (λ code. code ∷ []) o
+as_another numbers c other o character fixed none found there =
+    listed_as (vector_characters numbers) c fixed (own_here numbers c None character none)
+    ∙ ap (option_and_then (own_code (vector_characters numbers))) (sym found)
+    ∙ ap (option_map (λ (code : ℕ). code ∷ [])) (own_here numbers other o (other_character c other (sym found)) there)
+
+pub as_result : (numbers : List ℕ) (c other : ℕ) (o : Option ℕ) → c < 0x110000 → codes_beside unbroken c ≡ None → None ≡ position (is c) (given_characters numbers) → Some other ≡ substitute_of c
+    → o ≡ position (is other) (given_characters numbers)
+    → MatchOption o (listed_codes (vector_characters numbers) c ≡ None) (λ code. listed_codes (vector_characters numbers) c ≡ Some (code ∷ []))
+as_result numbers c other (Some code) character fixed none found there = as_another numbers c other (Some code) character fixed none found there
+as_result numbers c other None character fixed none found there = as_another numbers c other None character fixed none found there
+
+pub ruleset coded = (other_unbroken, as_none)
+
+pub fixed_codes : (numbers : List ℕ) (c : ℕ) (codes : List ℕ) → codes_beside unbroken c ≡ Some codes → listed_codes (vector_characters numbers) c ≡ Some codes
+fixed_codes numbers c codes = listed_fixed (vector_characters numbers) c codes
+
+pub ruleset found = (fixed_codes)
+
+-- ---- the character at a code
+
+unmarked_some : (number : ℕ) → number ≢ no → unmarked number ≡ Some number
+unmarked_some number some = rw (other_than number no some) refl
+
+pub at_feed : (numbers : List ℕ) (code : ℕ) → code ≡ 10 → None ≡ unmarked (given_at numbers code)
+at_feed numbers code feed = rw (ap (given_at numbers) feed ∙ given_feed numbers) refl
+
+pub at_space : (numbers : List ℕ) (code : ℕ) → code ≡ 32 → Some 32 ≡ unmarked (given_at numbers code)
+at_space numbers code space = rw (ap (given_at numbers) space ∙ given_space numbers) refl
+
+-- a number that is made a character, if it is one
+pub at_other : (numbers : List ℕ) (code number made : ℕ) (o : Option ℕ) → code ≢ 10 → code ≢ 32 → code < length numbers → number ≡ get_or numbers code 0 → SomeIff o (IsScalar number) number → o ≡ Some made → is_fixed made ≡ false
+    → Some made ≡ unmarked (given_at numbers code)
+at_other numbers code number made (Some c) not_feed not_space within same is_made here other =
+    let made_is : made ≡ number = sym (same_Some _ _ here) ∙ is_made.1 in
+    let given : given_at numbers code ≡ made =
+    given_here numbers made code (subst (λ n. scalar n ≡ true) (sym made_is) is_made.0) other within (sym same ∙ sym made_is) not_feed not_space in
+    sym (ap unmarked given ∙ unmarked_some made (λ mark. cc (subst (λ n. scalar n ≡ true) (sym made_is ∙ mark) is_made.0)))
+at_other numbers code number made None not_feed not_space within same is_made here other = absurd (none-some made here)
+
+pub at_fixed : (numbers : List ℕ) (code number made : ℕ) (o : Option ℕ) → code ≢ 10 → code ≢ 32 → code < length numbers → number ≡ get_or numbers code 0 → SomeIff o (IsScalar number) number → o ≡ Some made → is_fixed made ≡ true
+    → None ≡ unmarked (given_at numbers code)
+at_fixed numbers code number made (Some c) not_feed not_space within same is_made here fixed =
+    let number_is : number ≡ made = sym is_made.1 ∙ same_Some _ _ here in
+    let default : get_or numbers code no ≡ made = get_or_default numbers code no 0 within ∙ sym same ∙ number_is in
+    rw (given_else numbers code not_feed not_space, default, fixed) (by (scalar made))
+  where
+    by : (b : Bool) → None ≡ unmarked (cond (b && false) made no)
+    by true = refl
+    by false = refl
+at_fixed numbers code number made None not_feed not_space within same is_made here fixed = absurd (none-some made here)
+
+pub at_none : (numbers : List ℕ) (code number : ℕ) (o : Option ℕ) → code ≢ 10 → code ≢ 32 → code < length numbers → number ≡ get_or numbers code 0 → SomeIff o (IsScalar number) number → o ≡ None
+    → None ≡ unmarked (given_at numbers code)
+at_none numbers code number (Some c) not_feed not_space within same is_made here = absurd (none-some c (sym here))
+at_none numbers code number None not_feed not_space within same is_made here = by (scalar number) refl
+  where
+    default : get_or numbers code no ≡ number
+    default = get_or_default numbers code no 0 within ∙ sym same
+
+    by : (b : Bool) → scalar number ≡ b → None ≡ unmarked (given_at numbers code)
+    by true character = absurd (is_made character)
+    by false outside = rw (given_else numbers code not_feed not_space, default, outside) refl
+
+pub ruleset given = (at_feed, at_space, at_other, at_fixed, at_none)
+
+-- the character at its lowest code
+given_some : (numbers : List ℕ) (code c : ℕ) → code < 256 → Some c ≡ unmarked (given_at numbers code) → (get_or (given_characters numbers) code no ≡ c) × (c ≢ no)
+given_some numbers code c below here = by (nat_eq (given_at numbers code) no) refl here
+  where
+    by : (b : Bool) → nat_eq (given_at numbers code) no ≡ b → Some c ≡ (if b then None else Some (given_at numbers code)) → (get_or (given_characters numbers) code no ≡ c) × (c ≢ no)
+    by true mark one = absurd (none-some c (sym one))
+    by false other one =
+        let same : given_at numbers code ≡ c = sym (same_Some _ _ one) in
+        (given_there numbers code below ∙ same, λ mark. cc (eq-eqb _ _ (same ∙ mark), other))
+
+-- it is no no-break space and no soft hyphen
+pub own_unbroken : (numbers : List ℕ) (code c : ℕ) → code < 256 → Some c ≡ unmarked (given_at numbers code) → codes_beside unbroken c ≡ None
+own_unbroken numbers code c below here =
+    let same : given_at numbers code ≡ c = sym (given_there numbers code below) ∙ (given_some numbers code c below here).0 in
+    subst (λ x. codes_beside unbroken x ≡ None) same (given_unbroken numbers code)
+
+pub own_is : (numbers : List ℕ) (code c low : ℕ) → code < 256 → Some c ≡ unmarked (given_at numbers code) → Some low ≡ position (is c) (given_characters numbers) → low ≡ code
+    → Some c ≡ unmarked (own_at (given_characters numbers) code)
+own_is numbers code c low below here found same =
+    let xs = given_characters numbers in
+    let some = given_some numbers code c below here in
+    let at = found_is xs c low (sym found) in
+    sym (ap unmarked (own_if_lowest xs code (ap (lowest xs) some.0 ∙ at.2 ∙ same) ∙ some.0) ∙ unmarked_some c some.1)
+
+own_no : (xs : List ℕ) (code c : ℕ) → get_or xs code no ≡ c → lowest xs c ≢ code → own_at xs code ≡ no
+own_no xs code c here differs = rw (other_than (lowest xs (get_or xs code no)) code (λ same. differs (ap (lowest xs) (sym here) ∙ same))) refl
+
+pub own_lower : (numbers : List ℕ) (code c low : ℕ) → code < 256 → Some c ≡ unmarked (given_at numbers code) → Some low ≡ position (is c) (given_characters numbers) → low ≢ code
+    → None ≡ unmarked (own_at (given_characters numbers) code)
+own_lower numbers code c low below here found differs =
+    let some = given_some numbers code c below here in
+    let at = found_is (given_characters numbers) c low (sym found) in
+    rw (own_no (given_characters numbers) code c some.0 (λ same. differs (sym at.2 ∙ same))) refl
+
+pub own_nowhere : (numbers : List ℕ) (code c : ℕ) → code < 256 → Some c ≡ unmarked (given_at numbers code) → None ≡ position (is c) (given_characters numbers)
+    → None ≡ unmarked (own_at (given_characters numbers) code)
+own_nowhere numbers code c below here none =
+    let some = given_some numbers code c below here in
+    let past = none_found (given_characters numbers) c (sym none) in
+    rw (own_no (given_characters numbers) code c some.0 (λ same. absurd (omega (arith, past, same, given_length numbers)))) refl
+
+pub own_none : (numbers : List ℕ) (code : ℕ) → code < 256 → None ≡ unmarked (given_at numbers code) → None ≡ unmarked (own_at (given_characters numbers) code)
+own_none numbers code below here = by (nat_eq (given_at numbers code) no) refl here (own_or_none (given_characters numbers) code)
+  where
+    by : (b : Bool) → nat_eq (given_at numbers code) no ≡ b → None ≡ (if b then None else Some (given_at numbers code))
+        → ((own_at (given_characters numbers) code ≡ get_or (given_characters numbers) code no) × (lowest (given_characters numbers) (get_or (given_characters numbers) code no) ≡ code)) ⊎ (own_at (given_characters numbers) code ≡ no)
+        → None ≡ unmarked (own_at (given_characters numbers) code)
+    by true mark one (inl same) = rw (same.0 ∙ given_there numbers code below ∙ eqb-true _ no mark) refl
+    by true mark one (inr none) = rw none refl
+    by false other one which = absurd (none-some _ one)
+
+pub ruleset own = (own_unbroken, own_is, own_lower, own_nowhere, own_none)
+
+-- the character at a code of a vector
+pub vector_character : (vector : Bor VectorValue) (code : ℕ) → code < 256 → character_of (Vector vector) code ≡ unmarked (own_at (given_characters vector.now.characters) code)
+unfolding character_of characters_of
+vector_character vector code below = ap unmarked (vector_there vector.now.characters code below)
