@@ -1,21 +1,21 @@
 """The characters of glyphs in `encoding_vectors`, compared with the Adobe Glyph List and with `encodings`.
 
-The rows of the definition (Glyphs.antt) are those of the list for the characters in the tables of `encodings`.
-The names in encoding files of dvips for OT1, T1 and LY1 have the characters of these tables at the same codes.
+The rows of the definition (Glyphs.antt) are those of the list for the characters in the tables of `encodings`,
+with the names of encoding files of dvips that the list lacks, or gives another character. The names in the
+files for OT1, T1 and LY1 have the characters of these tables at the same codes.
 That the code has the rows of the definition is proved.
 """
 import re
 
 from lib.base import Case, execute, read, rows
 
-ROW = re.compile(r'^    (?:∷ )?\(codes "(\w+)", 0x([0-9A-F]+)\)$', re.M)
+ROW = re.compile(r'^    (?:∷ )?\(codes "([\w.]+)", 0x([0-9A-F]+)\)$', re.M)
 FILES = {"ot1": "7t.enc", "t1": "ec.enc", "ly1": "lm-texnansi.enc"}
 NO = 0x110000
-# The characters that the list gives to names of letters in OT1: the increment and the ohm sign.
-SIGNS = {0x2206, 0x2126}
-# Characters of the tables whose names in the files aren't in the list, or are those of other characters there.
-# Names with a period are left out.
-OTHER = {"ot1": {0x237, 0x394}, "t1": {0x20, 0x237, 0x200C, 0x1E9E}, "ly1": {0x237}}
+# Names of the files that the list lacks, or gives another character: the increment and the ohm sign are Δ and Ω in
+# OT1. In T1 the space is the name of a visible space, and a name that ends with .dup is there twice.
+OF_TEX = {"Delta": 0x394, "Omega": 0x3A9, "Germandbls": 0x1E9E, "cwm": 0x200C, "dotlessj": 0x237,
+          "one.superior": 0xB9, "two.superior": 0xB2, "three.superior": 0xB3}
 
 
 def glyphs():
@@ -46,10 +46,10 @@ class Glyphs(Case):
 
     def test_adobe_glyph_list(self):
         """The rows are those of the list for the characters of the tables, sorted by name."""
-        characters = SIGNS | {*range(0x20, 0x7F), *range(0xA0, 0x100)}
+        characters = {*range(0x20, 0x7F), *range(0xA0, 0x100)}
         characters |= {number for numbers in tables().values() for number in numbers}
-        wanted = sorted((name, number) for name, number in self.listed().items() if number in characters)
-        self.same("rows", wanted, glyphs())
+        wanted = {name: number for name, number in self.listed().items() if number in characters} | OF_TEX
+        self.same("rows", sorted(wanted.items()), glyphs())
         self.none([], len(wanted), 300)
 
     @rows((name, name) for name in FILES)
@@ -63,7 +63,7 @@ class Glyphs(Case):
         names = re.findall(r"/([\w.]+)", text[text.index("["):])
         found, seen = dict(glyphs()), 0
         for code, number in enumerate(tables()[f"{name}_characters"]):
-            if number != NO and number not in OTHER[name] and "." not in names[code]:
+            if number not in (NO, 0x20) and not names[code].endswith(".dup"):
                 seen += 1
                 self.same(f"code {code}", number, found.get(names[code]))
         self.none([], seen, 80)

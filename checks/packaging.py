@@ -81,7 +81,8 @@ class Help(Case):
         else:
             choices = option["choices"]
             self.assertIn(f"[possible values: {', '.join(choices)}]", message)
-            self.assertIn(", ".join(choices[:-1]) + " or " + choices[-1], about)
+            self.assertIn(", ".join(choices) + ", or a file" if "files" in option else
+                          ", ".join(choices[:-1]) + " or " + choices[-1], about)
         default = option.get("default")
         default = default.get(command) if isinstance(default, dict) else default
         seen = re.findall(r"\[default: (\S+)\]", about)
@@ -121,7 +122,7 @@ class ManPage(Case):
         self.same("subcommands", TABLE.names(), [head for head, _ in entries("COMMANDS")])
 
     def test_exit_statuses_are_those_of_the_help(self):
-        wanted = [line.split()[0] for line in section(help_of("tfmset"), "Exit status")]
+        wanted = re.findall(r"^ *(\d) ", "\n".join(section(help_of("tfmset"), "Exit status")), re.M)
         self.same("exit statuses", wanted, [head for head, _ in entries("EXIT STATUS")])
 
     def test_diagnostics_are_those_of_errors_md(self):
@@ -156,7 +157,7 @@ class ManPage(Case):
 
 
 def questions():
-    """Beginnings of commands, each with exactly the words that complete it, or with one file among them."""
+    """Beginnings of commands, each with exactly the words that complete it, or with words and files among them."""
     names = TABLE.names()
     asked = [("tfmset ", names), ("tfmset help ", names), ("tfmset -", PAGES.words_of(TABLE, None))]
     for command in TABLE.commands[:-1]:
@@ -165,6 +166,7 @@ def questions():
         for option in command["options"]:
             if "value" in TABLE.options[option]:
                 values = PAGES.values_of(TABLE.options[option])
+                values = (*values, "v.enc") if "files" in TABLE.options[option] else values
                 asked += [(f"tfmset {name} --{option}{end}", values) for end in (" ", "=")]
         asked.append((f"tfmset {name} ", "a.tfm"))
     return asked + CASES["questions"]
@@ -175,7 +177,7 @@ class Completions(Case):
 
     def setUp(self):
         super().setUp()
-        for name in ("a.tfm", "text", "directory/file"):
+        for name in ("a.tfm", "v.enc", "text", "directory/file"):
             self.file("here/" + name, "")
         self.here = self.room + "/here"
         self.env = environment(HOME=self.room, LC_ALL="C.UTF-8", TERM="dumb")
@@ -190,8 +192,9 @@ class Completions(Case):
             seen = answers.get(line, ["no answer"])
             if isinstance(wanted, list):
                 self.same(repr(line), sorted(wanted), sorted(seen))
-            elif wanted not in seen:
-                self.wrong.append(f"{line!r}: no file {wanted}")
+            for word in (wanted,) if isinstance(wanted, str) else wanted:
+                if word not in seen:
+                    self.wrong.append(f"{line!r}: no word {word}")
 
     @rows((shell, shell, *options) for shell, *options in (("bash",), ("fish", "--no-config")))
     def test_answers(self, shell, *options):

@@ -1,7 +1,8 @@
 """The program: its arguments, its help, and its exit status and outputs for fonts and files.
 
 The cases are the tables of checks/cases/program. A font in a table is `@NAME CHANGES`, with the changes of
-docs/ERRORS.md, and bytes that aren't UTF-8 are `hex DIGITS`; other contents are written as they are.
+docs/ERRORS.md. An encoding vector is `vector CODE=GLYPH ..`, or `vector-crlf CODE=GLYPH ..` with lines that end
+with CR LF. Bytes that aren't UTF-8 are `hex DIGITS`; other contents are written as they are.
 `checks/run --update` writes the files of checks/help.
 """
 import itertools
@@ -13,7 +14,7 @@ from lib.base import PROGRAM, ROOT, Case, bash, execute, read, rows, table, writ
 from lib.tfm import sample
 
 GROUPS = ("counts list pairs check unread_fonts unread_files set stream before_a_stream each crlf encoding "
-          "verbose").split()
+          "vectors verbose").split()
 COMMANDS = ("counts", "list", "pairs", "check", "set", "each", "stream")
 HELP = os.path.join(ROOT, "checks", "help")
 
@@ -22,6 +23,11 @@ def content(text):
     """The bytes that a table describes."""
     if text.startswith("hex "):
         return bytes.fromhex(text[4:])
+    if text.startswith("vector"):
+        form, *words = text.split()
+        glyphs = dict(word.split("=") for word in words)
+        lines = ["/Vector [", *("/" + glyphs.get(str(code), ".notdef") for code in range(256)), "] def", ""]
+        return ("\r\n" if form == "vector-crlf" else "\n").join(lines).encode()
     return sample(*text[1:].split(" ", 1)) if text.startswith("@") else text.encode()
 
 
@@ -267,9 +273,13 @@ class ManyFiles(Case):
         in_order = "".join(sorted(lines, key=lambda line: int(line.replace(":", " ").split()[0])))
         self.same("stream", by_set, (by_stream[0], in_order, by_stream[2]))
 
-    def test_65_files_are_too_many(self):
-        for args in (["set"] + ["no"] * 66, ["stream"] + ["no"] * 66, ["each"] + ["no", "x", "no"] * 65):
-            self.same(args[0], (2, "", "tfmset: more than 64 files\n"), run(args, b"", self.room))
+    # Mutant of tfm_tool: the error of an encoding vector comes before that of the number of files.
+    @rows((" ".join(["65 files", *options]), options) for options in ([], ["--encoding", "no.enc"]))
+    def test_too_many(self, options):
+        """65 files are too many, also if an encoding vector isn't read."""
+        for command, *others in (["set"] + ["no"] * 66, ["stream"] + ["no"] * 66, ["each"] + ["no", "x", "no"] * 65):
+            self.same(command, (2, "", "tfmset: more than 64 files\n"),
+                      run([command, *options, *others], b"", self.room))
 
 
 class Numbers(Case):

@@ -43,9 +43,11 @@ COMMANDS, LONG = ([Command(*row) for row in CASES[name]] for name in ("commands"
 
 
 def make_files(room):
-    """A font, texts with set and refused lines, and one of several buffers."""
+    """A font, an encoding vector, texts with set and refused lines, and one of several buffers."""
     font, long = read(DEMO, "rb"), "the office after all of it affable five\n" * 1500
-    for name, text in {"font.tfm": font, "other.tfm": font, "cut.tfm": font[:100], "long": long,
+    glyphs = ["/" + (chr(code) if chr(code).isalpha() and code < 128 else ".notdef") for code in range(256)]
+    vector = "/Letters [\n" + "\n".join(glyphs) + "\n] def\n"
+    for name, text in {"font.tfm": font, "other.tfm": font, "cut.tfm": font[:100], "long": long, "letters.enc": vector,
                        **CASES["texts"]}.items():
         write(os.path.join(room, name), text)
 
@@ -164,7 +166,10 @@ def is_right_file(command, got, what, on, error):
     """A read or an opening of a file that failed: the line that names it, or the end of its source."""
     name = os.path.basename(got.told[0])
     number = (command.fonts if name in command.fonts else command.sources).index(name) + 1
-    if name in command.fonts:
+    if name.endswith(".enc"):
+        # If all reads fail from this one on, the font isn't read either, and its error comes first.
+        line = MESSAGES["font" if on else "encoding"]
+    elif name in command.fonts:
         line = f"tfmset: font {number} not read\n" if command.kind == "each" else MESSAGES["font"]
     elif what == "open":
         line = f"tfmset: file {number} not read\n"

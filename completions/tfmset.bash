@@ -20,15 +20,16 @@ _tfmset_options() {
     esac
 }
 
-# Sets `values` to the values of an option if it has only a few. Fails if the option has no value.
+# Sets `values` to the values of an option if it has only a few, and `files` to the pattern of files that its
+# value can be. Fails if the option has no value.
 _tfmset_values() {
-    values=''
+    values='' files=''
     case $1 in
         --size) values='' ;;
         --format) values='text csv json' ;;
         --limit) values='' ;;
         --missing) values='refuse skip' ;;
-        --encoding) values='bytes ot1 t1 ly1 latin1' ;;
+        --encoding) values='bytes ot1 t1 ly1 latin1' files='*.enc' ;;
         --workers) values='1 2 3 4 5 6 7 8 9 10 11 12 13 14 15 16' ;;
         --capacity) values='' ;;
         --block) values='1 2 3 4 5 6 7 8' ;;
@@ -44,13 +45,21 @@ _tfmset_font() {
     if ((${#COMPREPLY[@]})); then compopt -o filenames; else compopt -o default; fi
 }
 
+# Adds the files of the pattern in `files`, and directories. If nothing completes the value, any file name does.
+_tfmset_value_file() {
+    local found
+    mapfile -t found < <(compgen -f -X "!$files" -- "$1"; compgen -d -- "$1")
+    COMPREPLY+=("${found[@]}")
+    if ((${#COMPREPLY[@]})); then compopt -o filenames; else compopt -o default; fi
+}
+
 # Completes a file name in the default way of the shell.
 _tfmset_file() {
     compopt -o default
 }
 
 _tfmset() {
-    local word=${COMP_WORDS[COMP_CWORD]} before=${COMP_WORDS[COMP_CWORD - 1]} options values count=0 ended='' i
+    local word=${COMP_WORDS[COMP_CWORD]} before=${COMP_WORDS[COMP_CWORD - 1]} options values files count=0 ended='' i
     COMPREPLY=()
 
     if ((COMP_CWORD == 1)); then
@@ -89,6 +98,7 @@ _tfmset() {
         fi
         if _tfmset_values "$before"; then
             [[ ! $values ]] || mapfile -t COMPREPLY < <(compgen -W "$values" -- "$word")
+            [[ ! $files ]] || _tfmset_value_file "$word"
             return
         fi
         if [[ $word == -* ]]; then

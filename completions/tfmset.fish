@@ -71,7 +71,7 @@ complete -c tfmset -n '__tfmset_is pairs' -l format -x -a 'text csv json' -d 'Ou
 complete -c tfmset -n '__tfmset_is set stream' -l limit -x -d 'Maximum steps per line, 1 to 16777216'
 complete -c tfmset -n '__tfmset_is set each stream' -l missing -x -a 'refuse skip' -d 'On a missing character'
 complete -c tfmset -n '__tfmset_is set each stream' -l crlf -d 'Leave out one carriage return before each line feed'
-complete -c tfmset -n '__tfmset_is pairs set each stream' -l encoding -x -a 'bytes ot1 t1 ly1 latin1' -d 'Encoding of the font, for text in UTF-8'
+complete -c tfmset -n '__tfmset_is pairs set each stream' -l encoding -rF -a 'bytes ot1 t1 ly1 latin1' -d 'Encoding of the font, for text in UTF-8'
 complete -c tfmset -n '__tfmset_is set each stream' -l workers -x -a '(seq 1 16)' -d 'Maximum threads that set lines'
 complete -c tfmset -n '__tfmset_is set each stream' -l capacity -x -d 'Slots per queue between threads, 1 to 65536'
 complete -c tfmset -n '__tfmset_is set each stream' -l block -x -a '(seq 1 8)' -d 'Lines per message; 8 is fastest'

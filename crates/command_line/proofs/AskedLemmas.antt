@@ -10,6 +10,7 @@ use Rattle.font_texts.specs.declared.pairs_layout.PairsLayout.{PairsLayout}
 use Rattle.command_line.specs.Asked.{AsksFor, Finds, IsAskedOf, IsAskedWith, IsPairsLayout, kind_without_request}
 use Rattle.command_line.specs.Commands.{AllChoices, tfmset_app}
 use Rattle.command_line.specs.declared.request.Request.{Request}
+use Rattle.command_line.specs.declared.request.Requested.{Requested}
 use Rattle.command_line.specs.declared.request.Request.TheVariants.{Counts, List as ListFont, Pairs, Check, Set, Stream, Each}
 
 module _ (choices : AllChoices) where
@@ -30,16 +31,16 @@ module _ (choices : AllChoices) where
     kind_in_words m kind has is = is ∙ ap kind_without_request (rows_of_words m has)
 
     -- the request found in the matches is the one that the arguments state
-    pub asked_in_words : (m : ArgMatches) (found : Option Request) (request : Request) → HasMatchesOf app words m → Finds (IsAskedOf (subcommand_rows_of m)) found
-        → found ≡ Some request → IsAskedOf (subcommand_of (tfmset_app choices) words) request
-    asked_in_words m (Some other) request has finds one =
-        subst (IsAskedOf (subcommand_of (tfmset_app choices) words)) (same_Some other request one) (subst (λ s. IsAskedOf s other) (rows_of_words m has) finds)
-    asked_in_words m None request has finds one = absurd (none-some request one)
+    pub asked_in_words : (m : ArgMatches) (found : Option Requested) (asked : Requested) → HasMatchesOf app words m → Finds (IsAskedOf (subcommand_rows_of m)) found
+        → found ≡ Some asked → IsAskedOf (subcommand_of (tfmset_app choices) words) asked
+    asked_in_words m (Some other) asked has finds one =
+        subst (IsAskedOf (subcommand_of (tfmset_app choices) words)) (same_Some other asked one) (subst (λ s. IsAskedOf s other) (rows_of_words m has) finds)
+    asked_in_words m None asked has finds one = absurd (none-some asked one)
 
-    pub nothing_in_words : (m : ArgMatches) (found : Option Request) → HasMatchesOf app words m → Finds (IsAskedOf (subcommand_rows_of m)) found
-        → found ≡ None → (request : Request) → ¬ IsAskedWith choices words request
-    nothing_in_words m (Some other) has finds none request asks = none-some other (sym none)
-    nothing_in_words m None has finds none request asks = finds request (subst (λ s. IsAskedOf s request) (sym (rows_of_words m has)) asks.1)
+    pub nothing_in_words : (m : ArgMatches) (found : Option Requested) → HasMatchesOf app words m → Finds (IsAskedOf (subcommand_rows_of m)) found
+        → found ≡ None → (asked : Requested) → ¬ IsAskedWith choices words asked
+    nothing_in_words m (Some other) has finds none asked asks = none-some other (sym none)
+    nothing_in_words m None has finds none asked asks = finds asked (subst (λ s. IsAskedOf s asked) (sym (rows_of_words m has)) asks.1)
 
     -- a parse fails with the first error of the arguments, and otherwise they have no error
     pub faults : {T : Type 0} (r : Result T Error) → (is_simple_and_free app ≡ true → FailsBy (fault_of app words) r) → FailsBy (fault_of (tfmset_app choices) words) r

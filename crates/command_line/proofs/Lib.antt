@@ -1,5 +1,4 @@
 pub mod CommandLemmas
 pub mod ValueLemmas
-pub mod EncodingLemmas
 pub mod AskedLemmas
 pub mod WorkedRows

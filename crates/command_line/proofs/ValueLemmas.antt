@@ -65,3 +65,10 @@ flag_of (Some t) set none when_true when_false = (λ is. when_true (ap Some is),
 pub flag_found : (f : Found) (id : Text) (set : Bool) → (one_text f id ≡ None → set ≡ false) → (one_text f id ≡ Some (codes "true") → set ≡ true)
     → (one_text f id ≡ Some (codes "false") → set ≡ false) → IsFlag (one_of id (rows_of f)) set
 flag_found f id set none when_true when_false = subst (λ text. IsFlag text set) (one_text-rows f id) (flag_of (one_text f id) set none when_true when_false)
+
+-- ---- a value that is determined
+
+-- a value is what was found
+pub finds_same : {A : Type 0} (r given : Option A) → r ≡ given → Finds (λ x. given ≡ Some x) r
+finds_same (Some x) given is = sym is
+finds_same None given is = λ any has. none-some any (is ∙ has)

@@ -1,14 +1,18 @@
--- The request that the arguments after the program's name state, by the values that a parse finds for them.
+-- The request that the arguments after the program's name state, and the encoding vector that they name, by the
+-- values that a parse finds for them.
 -- This project's own.
-use Rattle.std.specs.Prelude.{◌≡◌, ◌⊎◌, ◌≤◌, ℕ, List, [], Bool, true, false, cond, Option, Some, None, IsSomeAnd, codes, is_none, map, option_map, unwrap_or}
-use Rattle.std.specs.Option.{option_map_or}
+use Rattle.std.specs.Prelude.{◌≡◌, ◌⊎◌, ◌≤◌, ◌&&◌, ◌||◌, ◌==◌, ℕ, List, [], Bool, true, false, cond, Option, Some, None, IsSomeAnd, codes, is_none, map, option_and_then, option_map, unwrap_or}
+use Rattle.std.specs.List.{list_any}
+use Rattle.std.specs.Option.{option_map_or, option_or}
 use Rattle.std.specs.Borrow.{Bor}
 use Rattle.std.specs.Str.Parse.{IsNumeral, digits_value, without_leading_plus}
 use Rattle.clap.specs.Words.{HasKind, Row, Text, all_of, fault_of, first_of, kind_of, one_of, subcommand_of}
 use Rattle.clap.specs.declared.error.Error.{Error}
 use Rattle.clap.specs.declared.error.kind.ErrorKind.{ErrorKind}
-use Rattle.clap.specs.declared.error.kind.ErrorKind.TheVariants.{MissingSubcommand, OutOfMemory, ValueValidation}
-use Rattle.encodings.specs.Names.{name_of}
+use Rattle.clap.specs.declared.error.kind.ErrorKind.TheVariants.{InvalidValue, MissingSubcommand, OutOfMemory, ValueValidation}
+use Rattle.encodings.specs.Names.{encoding_named}
+use Rattle.encodings.specs.declared.encoding.Encoding.{Encoding}
+use Rattle.encodings.specs.declared.encoding.Encoding.TheVariants.{Bytes}
 use Rattle.tex_sizes.specs.Sizes.{is_plain, size_of}
 use Rattle.font_texts.specs.declared.pairs_format.PairsFormat.{PairsFormat}
 use Rattle.font_texts.specs.declared.pairs_layout.PairsLayout.{PairsLayout}
@@ -24,6 +28,7 @@ use Rattle.command_line.specs.declared.request.Jobs.{Jobs}
 use Rattle.command_line.specs.declared.request.Layout.{Layout}
 use Rattle.command_line.specs.declared.request.Request.{Request}
 use Rattle.command_line.specs.declared.request.Request.TheVariants.{Counts, List as ListFont, Pairs, Check, Set, Stream, Each}
+use Rattle.command_line.specs.declared.request.Requested.{Requested}
 use Rattle.command_line.specs.declared.request.Setting.{Setting}
 
 -- a value that satisfies Fits, or None if no value does
@@ -50,6 +55,20 @@ IsNumberIn least most text number = IsSomeAnd text (λ t. Writes t number) × (l
 abbrev pub IsBlock : Option Text → Option Text → ℕ → Type 0
 IsBlock None only lines = lines ≡ 8
 IsBlock (Some first) only lines = IsNumberIn 1 8 only lines
+
+-- a value of `--encoding` can be the path of a file: it contains a slash or a period
+abbrev pub is_path : Text → Bool
+is_path value = list_any (λ byte. (byte == 47) || (byte == 46)) value
+
+-- the file with an encoding vector that a value of `--encoding` names, if it names one: the value is no name of an
+-- encoding, and it contains a slash or a period
+abbrev pub vector_named : Text → Option Text
+vector_named value = cond (is_none (encoding_named value) && is_path value) (Some value) None
+
+-- the encoding that a value of `--encoding` states: the encoding of this name; for a file with an encoding vector,
+-- `Bytes`, until the vector is read; any other value states none
+abbrev pub encoding_stated : Text → Option Encoding
+encoding_stated value = option_or (encoding_named value) (option_map (λ _. Bytes) (vector_named value))
 
 -- the value of `--missing` for a policy
 abbrev pub policy_word : Policy → Text
@@ -99,6 +118,14 @@ module _ (rows : List Row) where
   abbrev pub IsVerbose : Bool → Type 0
   IsVerbose verbose = IsFlag (one_of (codes "verbose") rows) verbose
 
+  -- the value of `--encoding` states this encoding
+  abbrev pub IsEncoding : Encoding → Type 0
+  IsEncoding encoding = option_and_then encoding_stated (first_of (codes "encoding") rows) ≡ Some encoding
+
+  -- the file with an encoding vector that the value of `--encoding` names, if it names one
+  abbrev pub vector_in : Option Text
+  vector_in = option_and_then vector_named (first_of (codes "encoding") rows)
+
   -- the values of the options that `set`, `stream` and `each` have in common
   abbrev pub IsLayout : Layout → Type 0
   IsLayout layout =
@@ -106,7 +133,7 @@ module _ (rows : List Row) where
       × (layout.plain_size ≡ has_plain_size)
       × (first_of (codes "missing") rows ≡ Some (policy_word layout.policy))
       × IsFlag (one_of (codes "crlf") rows) layout.crlf
-      × (first_of (codes "encoding") rows ≡ Some (name_of layout.encoding))
+      × IsEncoding layout.encoding
       × IsPlan layout.plan
       × (layout.whole_reads ≡ has_no_block)
       × (first_of (codes "record") rows ≡ Some (version_word layout.version))
@@ -116,7 +143,7 @@ module _ (rows : List Row) where
   abbrev pub IsPairsLayout : PairsLayout → Type 0
   IsPairsLayout layout =
       (first_of (codes "format") rows ≡ Some (format_word layout.format))
-      × (first_of (codes "encoding") rows ≡ Some (name_of layout.encoding))
+      × IsEncoding layout.encoding
 
   -- the fonts of `check`, in order, their size, and whether `--verbose` is given
   abbrev pub IsChecking : Checking → Type 0
@@ -158,37 +185,50 @@ module _ (rows : List Row) where
   AsksFor name (Stream asked) = (name ≡ codes "stream") × IsSetting asked
   AsksFor name (Each asked) = (name ≡ codes "each") × AreJobs asked
 
+  -- they state this request, and name this file with an encoding vector
+  abbrev pub Asks : Text → Requested → Type 0
+  Asks name asked = AsksFor name asked.request × (option_map (λ file. file.now) asked.vector ≡ vector_in)
+
 -- there is a subcommand, which states this request with its values
-abbrev pub IsAskedOf : Option (Text × List Row) → Request → Type 0
-IsAskedOf subcommand request = IsSomeAnd subcommand (λ s. AsksFor s.1 s.0 request)
+abbrev pub IsAskedOf : Option (Text × List Row) → Requested → Type 0
+IsAskedOf subcommand asked = IsSomeAnd subcommand (λ s. Asks s.1 s.0 asked)
 
 -- `--size` has a value that states no size
 abbrev pub misstates_size : List Row → Bool
 misstates_size rows = option_map_or (λ text. is_none (size_of text)) (first_of (codes "size") rows) false
 
+-- `--encoding` has a value that states no encoding and names no file
+abbrev pub misstates_encoding : List Row → Bool
+misstates_encoding rows = option_map_or (λ text. is_none (encoding_stated text)) (first_of (codes "encoding") rows) false
+
+-- the kind of the error if a parse has none and the values of a subcommand state no request; the size comes first
+abbrev pub kind_of_values : List Row → ErrorKind
+kind_of_values rows = cond (misstates_size rows) ValueValidation (cond (misstates_encoding rows) InvalidValue MissingSubcommand)
+
 -- the kind of the error if a parse has none and the subcommand states no request
 abbrev pub kind_without_request : Option (Text × List Row) → ErrorKind
-kind_without_request subcommand = cond (option_map_or (λ s. misstates_size s.1) subcommand false) ValueValidation MissingSubcommand
+kind_without_request subcommand = option_map_or (λ s. kind_of_values s.1) subcommand MissingSubcommand
 
 -- ---- requests, by the arguments
 
 module _ (choices : AllChoices) (words : List Text) where
   -- a parse of the arguments has no error, and they state this request
-  abbrev pub IsAskedWith : Request → Type 0
-  IsAskedWith request = (fault_of (tfmset_app choices) words ≡ []) × IsAskedOf (subcommand_of (tfmset_app choices) words) request
+  abbrev pub IsAskedWith : Requested → Type 0
+  IsAskedWith asked = (fault_of (tfmset_app choices) words ≡ []) × IsAskedOf (subcommand_of (tfmset_app choices) words) asked
 
   -- the error of the arguments: out of memory, or the first error of a parse; or, if a parse has none, that
-  -- they state no request, since `--size` states no size or since there is no subcommand
+  -- they state no request, since `--size` states no size, since `--encoding` states no encoding and names no file,
+  -- or since there is no subcommand
   abbrev pub IsRefusedWith : Error → Type 0
   IsRefusedWith error =
       HasKind (fault_of (tfmset_app choices) words) error
       ⊎ ((fault_of (tfmset_app choices) words ≡ [])
       × (kind_of error ≡ kind_without_request (subcommand_of (tfmset_app choices) words))
-      × ((request : Request) → ¬ IsAskedWith request))
+      × ((asked : Requested) → ¬ IsAskedWith asked))
 
 -- the arguments state this request for the command with some parsers
-abbrev pub IsAskedBy : List Text → Request → Type 0
-IsAskedBy words request = (choices : AllChoices) × IsAskedWith choices words request
+abbrev pub IsAskedBy : List Text → Requested → Type 0
+IsAskedBy words asked = (choices : AllChoices) × IsAskedWith choices words asked
 
 -- the error of the arguments for the command with some parsers, or out of memory, which can also occur
 -- before there is a command

@@ -10,7 +10,6 @@ use Rattle.clap.specs.declared.builder.command.Command.TheViews.{out-Command as 
 use Rattle.clap.specs.declared.builder.action.ArgAction.TheVariants.{SetTrue}
 use Rattle.clap.specs.declared.builder.value_parser.ValueParser.{ValueParser}
 use Rattle.clap.specs.declared.builder.value_parser.ValueParser.TheVariants as parser
-use Rattle.encodings.specs.Names.{encodings, name_of}
 
 -- ---- arguments
 
@@ -53,10 +52,6 @@ TakesWords words _ = ⊥
 abbrev pub missing_words : List Text
 missing_words = codes "refuse" ∷ codes "skip" ∷ []
 
--- the values of `--encoding`: the names of the encodings
-abbrev pub encoding_words : List Text
-encoding_words = map name_of encodings
-
 -- the values of `--record`
 abbrev pub record_words : List Text
 record_words = codes "1" ∷ codes "2" ∷ codes "json" ∷ []
@@ -65,29 +60,29 @@ record_words = codes "1" ∷ codes "2" ∷ codes "json" ∷ []
 abbrev pub format_words : List Text
 format_words = codes "text" ∷ codes "csv" ∷ codes "json" ∷ []
 
--- the parsers of `--missing`, `--encoding` and `--record`
+-- the parsers of `--missing` and `--record`
 pub record Choices : Type 0 where
   pub missing : ValueParser
-  pub encodings : ValueParser
   pub records : ValueParser
   pub missing_taken : TakesWords missing_words missing
-  pub encodings_taken : TakesWords encoding_words encodings
   pub records_taken : TakesWords record_words records
 
--- the parsers of `--format` and `--encoding` of `pairs`
+-- the parser of `--format`
 pub record PairsChoices : Type 0 where
   pub formats : ValueParser
-  pub encodings : ValueParser
   pub formats_taken : TakesWords format_words formats
-  pub encodings_taken : TakesWords encoding_words encodings
 
--- the option `--encoding` with this parser
-abbrev pub encoding_rule : ValueParser → Rule
-encoding_rule encodings = with_default (codes "bytes") (choice_rule (codes "encoding") encodings)
+-- the option of this name whose value is any text for a parse
+abbrev pub text_rule : Text → Rule
+text_rule name = record (new_rule name) { long = Some name; value_names = 1 }
 
--- the option `--size`, whose value is any text for a parse
+-- the option `--size`
 abbrev pub size_rule : Rule
-size_rule = record (new_rule (codes "size")) { long = Some (codes "size"); value_names = 1 }
+size_rule = text_rule (codes "size")
+
+-- the option `--encoding`
+abbrev pub encoding_rule : Rule
+encoding_rule = with_default (codes "bytes") (text_rule (codes "encoding"))
 
 -- the option `--block`
 abbrev pub block_rule : Rule
@@ -98,7 +93,7 @@ abbrev pub run_rules : Rule → Choices → List Rule
 run_rules block choices =
     with_default (codes "refuse") (choice_rule (codes "missing") choices.missing)
     ∷ flag_rule (codes "crlf")
-    ∷ encoding_rule choices.encodings
+    ∷ encoding_rule
     ∷ with_default (codes "2") (number_rule (codes "workers") 16)
     ∷ with_default (codes "16") (number_rule (codes "capacity") 65536)
     ∷ block
@@ -125,11 +120,11 @@ counts_shape = subcommand_with (codes "counts") (verbose_rule ∷ needed (new_ru
 abbrev pub list_shape : Shape
 list_shape = subcommand_with (codes "list") (size_rule ∷ flag_rule (codes "all") ∷ verbose_rule ∷ needed (new_rule (codes "FONT")) ∷ [])
 
--- `pairs` takes `--size`, `--format` and `--encoding` with these parsers, the flag `--verbose`, and one font
+-- `pairs` takes `--size`, `--format` with this parser, `--encoding`, the flag `--verbose`, and one font
 abbrev pub pairs_shape : PairsChoices → Shape
 pairs_shape choices =
     subcommand_with (codes "pairs")
-    (size_rule ∷ with_default (codes "text") (choice_rule (codes "format") choices.formats) ∷ encoding_rule choices.encodings ∷ verbose_rule
+    (size_rule ∷ with_default (codes "text") (choice_rule (codes "format") choices.formats) ∷ encoding_rule ∷ verbose_rule
     ∷ needed (new_rule (codes "FONT")) ∷ [])
 
 -- `check` takes `--size`, the flag `--verbose`, and one or more fonts

@@ -3,7 +3,7 @@ ghost use Rattle.std.specs.Prelude.{codes, IfOk, IsOkAnd};
 ghost use Rattle.clap.specs.declared.builder.value_parser.ValueParser.{ValueParser};
 ghost use Rattle.clap.specs.declared.builder.value_parser.ValueParser.TheVariants.{Names};
 ghost use Rattle.clap.specs.Words.{App, Rule, Shape, new_app, new_rule, with_rule, with_subcommand};
-ghost use Rattle.command_line.specs.Commands.{AllChoices, Choices, IsArgument, IsCommandOf, IsSubcommand, PairsChoices, TakesWords, bare_app, block_rule, check_shape, choice_rule, counts_shape, each_shape, encoding_words, flag_rule, format_words, list_shape, missing_words, needed, number_rule, pairs_shape, record_words, run_rules, set_shape, setting_rules, size_rule, stream_shape, tfmset_app, verbose_rule, with_default, with_rules, words_rule};
+ghost use Rattle.command_line.specs.Commands.{AllChoices, Choices, IsArgument, IsCommandOf, IsSubcommand, PairsChoices, TakesWords, bare_app, block_rule, check_shape, choice_rule, counts_shape, each_shape, encoding_rule, flag_rule, format_words, list_shape, missing_words, needed, number_rule, pairs_shape, record_words, run_rules, set_shape, setting_rules, size_rule, stream_shape, text_rule, tfmset_app, verbose_rule, with_default, with_rules, words_rule};
 
 use crate::help::{
     ABOUT, AFTER_HELP, ALL_HELP, BLOCK_HELP, CAPACITY_HELP, CAUSES_HELP, CHECK_ABOUT,
@@ -192,10 +192,7 @@ fn font_argument<'a>(alloc: Global) -> Arg<'a>
 fn size_option<'a>(alloc: Global) -> Arg<'a>
     ensures { IsArgument size_rule result }
 {
-    Arg::new(alloc, "size")
-        .long("size")
-        .value_name("N")
-        .help(SIZE_HELP)
+    text_option(alloc, "size", "N", SIZE_HELP)
 }
 
 fn missing_option<'a>(alloc: Global) -> Arg<'a>
@@ -207,11 +204,9 @@ fn missing_option<'a>(alloc: Global) -> Arg<'a>
 }
 
 fn encoding_option<'a>(alloc: Global) -> Arg<'a>
-    ensures { (parser : ValueParser) × TakesWords encoding_words parser
-        × IsArgument (with_default (codes "bytes") (choice_rule (codes "encoding") parser)) result }
+    ensures { IsArgument encoding_rule result }
 {
-    let words = &["bytes", "ot1", "t1", "ly1", "latin1"];
-    choice_option(alloc, "encoding", "E", ENCODING_HELP, words).default_value("bytes")
+    text_option(alloc, "encoding", "E", ENCODING_HELP).default_value("bytes")
 }
 
 fn record_option<'a>(alloc: Global) -> Arg<'a>
@@ -251,6 +246,16 @@ fn verbose_option<'a>(alloc: Global, help: &'a str) -> Arg<'a>
     ensures { IsArgument verbose_rule result }
 {
     flag_option(alloc, "verbose", help).short('v')
+}
+
+/// Builds an option whose value is any text for a parse.
+fn text_option<'a>(alloc: Global, name: &'a str, value: &'a str, help: &'a str) -> Arg<'a>
+    ensures { IsArgument (text_rule name.now) result }
+{
+    Arg::new(alloc, name)
+        .long(name)
+        .value_name(value)
+        .help(help)
 }
 
 /// Builds an option whose value is a number, 1 to `most`.

@@ -25,8 +25,10 @@ Exit status:
   0  Success. Help and version output also end with 0.
   1  Success, but a line (or, with `check`, a font) was refused.
   2  The arguments are invalid. The output is empty.
-  3  A font is refused (except with `check`). The output is empty.
-  4  A font or a file could not be opened, or could not be read to its end.
+  3  A font (except with `check`) or an encoding vector is refused. The output
+     is empty.
+  4  A font, an encoding vector or a file could not be opened, or could not be
+     read to its end.
   5  Memory allocation, a thread start or writing the output failed.";
 
 pub(crate) const COUNTS_ABOUT: &str = "Prints the twelve counts and the design size of a font";
@@ -78,17 +80,19 @@ is the code of the inserted character. With csv, commas separate the fields and
 the first line names them; json prints one JSON object per line.
 
 With --encoding, the characters that the encoding of the font (ot1 for cmr10,
-t1 for ecrm1000; ly1; latin1) gives LEFT, RIGHT and the CODE of an OPERATION
-are printed after these fields, in UTF-8: 86 65 kern -72819 V A. A code that
-has no character is none, and a space, a no-break space, a soft hyphen or a
-control character is printed as U+0020 and so on. With csv, a field without a
-character is empty; with json, a character is a string, or null.
+t1 for ecrm1000; ly1; latin1; or a file, as for `tfmset set`) gives LEFT, RIGHT
+and the CODE of an OPERATION are printed after these fields, in UTF-8:
+86 65 kern -72819 V A. A code that has no character is none, and a space, a
+no-break space, a soft hyphen or a control character is printed as U+0020 and
+so on. With csv, a field without a character is empty; with json, a character
+is a string, or null.
 
 Exit status:
   0  The pairs were printed.
   2  The arguments are invalid. The output is empty.
-  3  The font is refused. The output is empty.
-  4  The font could not be opened, or could not be read to its end.
+  3  The font or the encoding vector is refused. The output is empty.
+  4  The font or the encoding vector could not be opened, or could not be read
+     to its end.
   5  Memory allocation or writing the output failed.";
 
 pub(crate) const CHECK_ABOUT: &str =
@@ -139,7 +143,9 @@ Without --encoding, bytes are character codes of the font, not Unicode. Byte 32
 is a space, and a carriage return is a code like any other. With the encoding
 of the font (ot1 for cmr10, t1 for ecrm1000; ly1; latin1), the lines are text
 in UTF-8, and each character is set with its codes. A character without codes
-in the encoding is treated as a missing character.
+in the encoding is treated as a missing character. For any other encoding, pass
+the path of a file with its encoding vector, such as texnansi.enc of dvips. A
+path contains a slash or a period.
 
 Without --size, the font is set at its design size. A size is a number directly
 followed by pt, in, pc, cm, mm, bp, dd, cc or sp, such as 10.95pt or 4mm, and
@@ -166,8 +172,9 @@ Exit status:
   0  Every line of every FILE was set, and the output was written.
   1  The output was written, but at least one line was refused.
   2  The arguments are invalid, or there are more than 64 FILEs.
-  3  FONT is refused.
-  4  FONT or a FILE could not be opened, or could not be read to its end.
+  3  FONT or the encoding vector is refused.
+  4  FONT, the encoding vector or a FILE could not be opened, or could not be
+     read to its end.
   5  Memory allocation, a thread start or writing the output failed.
 With 2 and 3, the output is empty.";
 
@@ -211,8 +218,9 @@ Exit status:
   1  The output was written, but at least one line was refused.
   2  The arguments are invalid, there are more than 64 FILEs, or FONT and the
      lines are both on standard input.
-  3  FONT is refused.
-  4  FONT or a FILE could not be opened, or could not be read to its end.
+  3  FONT or the encoding vector is refused.
+  4  FONT, the encoding vector or a FILE could not be opened, or could not be
+     read to its end.
   5  Memory allocation, a thread start or writing the output failed.
 With 2 and 3, the output is empty.";
 
@@ -237,8 +245,9 @@ Exit status:
   0  Every line of every FILE was set, and the output was written.
   1  The output was written, but at least one line was refused.
   2  The arguments are invalid, are not triples, or are more than 64 triples.
-  3  A FONT is refused.
-  4  A FONT or a FILE could not be opened, or could not be read to its end.
+  3  A FONT or the encoding vector is refused.
+  4  A FONT, the encoding vector or a FILE could not be opened, or could not be
+     read to its end.
   5  Memory allocation, a thread start or writing the output failed.
 With 2 and 3, the output is empty.";
 
@@ -269,7 +278,12 @@ pub(crate) const MISSING_HELP: &str = "On a missing character: refuse or skip";
 
 pub(crate) const CRLF_HELP: &str = "Leave out one carriage return before each line feed";
 
-pub(crate) const ENCODING_HELP: &str = "Encoding: bytes, ot1, t1, ly1 or latin1";
+pub(crate) const ENCODING_HELP: &str = "bytes, ot1, t1, ly1, latin1, or a file";
+
+pub(crate) const ENCODING_ERROR: &str = "
+  [possible values: bytes, ot1, t1, ly1, latin1]
+
+  tip: a value with a slash or a period is the path of an encoding vector";
 
 pub(crate) const RECORD_HELP: &str = "Record format: 1, 2 or json; 1 omits steps";
 

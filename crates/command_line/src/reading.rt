@@ -1,13 +1,13 @@
-//! Returns the request that the arguments state, from the values that a parse finds for them.
+//! Returns the request that the arguments state, and the encoding vector that they name, from the values that
+//! a parse finds for them.
 ghost use Rattle.std.specs.Prelude.{◌≡◌, [], map, IfErr, IfOk, Some, codes, option_map, unwrap_or};
 ghost use Rattle.clap.specs.Words.{all_of, first_of, found_of, kind_of, one_of, rows_of, subcommand_rows_of};
-ghost use Rattle.encodings.specs.Names.{name_of};
 ghost use Rattle.command_line.specs.Commands.{AllChoices, IsCommandOf, tfmset_app};
-ghost use Rattle.command_line.specs.Asked.{AreJobs, AsksFor, Finds, format_word, has_no_block, has_plain_size, IsAskedBy, IsAskedOf, IsAskedWith, IsBlock, IsChecking, IsFlag, IsLayout, IsNumberIn, IsPairsLayout, IsPlan, IsRefusedBy, IsRefusedWith, IsSetting, IsSize, IsVerbose, kind_without_request, misstates_size, policy_word, texts, version_word};
+ghost use Rattle.command_line.specs.Asked.{AreJobs, Asks, AsksFor, Finds, encoding_stated, format_word, has_no_block, has_plain_size, IsAskedBy, IsAskedOf, IsAskedWith, IsBlock, IsChecking, IsEncoding, IsFlag, IsLayout, IsNumberIn, IsPairsLayout, IsPlan, IsRefusedBy, IsRefusedWith, IsSetting, IsSize, IsVerbose, is_path, kind_of_values, kind_without_request, misstates_encoding, misstates_size, policy_word, texts, vector_in, vector_named, version_word};
 
 use crate::commands::tfmset_command;
-use crate::help::SIZE_ERROR;
-use crate::request::{Checking, Jobs, Layout, Request, Setting};
+use crate::help::{ENCODING_ERROR, SIZE_ERROR};
+use crate::request::{Checking, Jobs, Layout, Request, Requested, Setting};
 use clap::error::ErrorKind;
 use clap::{ArgMatches, Command, Error};
 use encodings::Encoding;
@@ -19,9 +19,10 @@ use std::convert::AsStr;
 use tex_sizes::{is_plain, read_size};
 use tfm_words::Size;
 
-/// Parses the arguments that follow the program's name, and returns the request that they state. The error is
-/// the first usage error, or the help or version text if the arguments request it, or a failed allocation.
-pub fn requested<'a, S: AsStr>(alloc: Global, words: &'a [S]) -> Result<Request<'a>, Error>
+/// Parses the arguments that follow the program's name, and returns the request that they state, with the
+/// name of the file with its encoding vector if `--encoding` names one. The error is the first usage error,
+/// or the help or version text if the arguments request it, or a failed allocation.
+pub fn requested<'a, S: AsStr>(alloc: Global, words: &'a [S]) -> Result<Requested<'a>, Error>
     ensures asked { IfOk result (IsAskedBy (map S.text words.entry.now)) }
     ensures refused { IfErr result (IsRefusedBy (map S.text words.entry.now)) }
 {
@@ -35,7 +36,7 @@ fn requested_of<'a, S: AsStr>(
     alloc: Global,
     command: &mut Command<'a>,
     words: &'a [S],
-) -> Result<Request<'a>, Error>
+) -> Result<Requested<'a>, Error>
     ensures asked { (choices : AllChoices) → IsCommandOf (tfmset_app choices) command.old
         → IfOk result (IsAskedWith choices (map S.text words.entry.now)) }
     ensures refused { (choices : AllChoices) → IsCommandOf (tfmset_app choices) command.old
@@ -43,13 +44,13 @@ fn requested_of<'a, S: AsStr>(
 {
     let matches = command.try_get_matches_from_mut(words)?;
     match given(alloc, &matches)? {
-        Some(request) => Ok(request),
+        Some(requested) => Ok(requested),
         None => Err(without_request(alloc, command, &matches)?),
     }
 }
 
 /// Returns the error of arguments that state no request although the parse has no error: `--size` states no
-/// size, or there is no subcommand.
+/// size, `--encoding` states no encoding and names no file, or there is no subcommand.
 fn without_request<'a>(
     alloc: Global,
     command: &mut Command<'a>,
@@ -58,9 +59,33 @@ fn without_request<'a>(
     ensures { IfOk result (λ error. kind_of error ≡ kind_without_request (subcommand_rows_of matches.now)) }
 {
     match matches.subcommand() {
-        Some((_, matches)) if misstated(matches) => wrong_size(alloc, command, matches),
-        _ => command.error(ErrorKind::MissingSubcommand, "no subcommand was given"),
+        Some((_, matches)) => wrong_values(alloc, command, matches),
+        None => no_subcommand(command),
     }
+}
+
+/// Returns the error of the values of a subcommand that state no request.
+fn wrong_values<'a>(
+    alloc: Global,
+    command: &mut Command<'a>,
+    matches: &ArgMatches<'a>,
+) -> Result<Error, AllocError>
+    ensures { IfOk result (λ error. kind_of error ≡ kind_of_values (rows_of (found_of matches.now))) }
+{
+    if misstated(matches) {
+        return wrong_size(alloc, command, matches);
+    }
+    if misnamed(matches) {
+        return wrong_encoding(alloc, command, matches);
+    }
+    no_subcommand(command)
+}
+
+/// Returns the error of a missing subcommand.
+fn no_subcommand(command: &mut Command<'_>) -> Result<Error, AllocError>
+    ensures { IfOk result (λ error. kind_of error ≡ ErrorKind.MissingSubcommand) }
+{
+    command.error(ErrorKind::MissingSubcommand, "no subcommand was given")
 }
 
 /// Returns whether `--size` has a value that states no size.
@@ -86,12 +111,57 @@ fn wrong_size<'a>(
     command.error(ErrorKind::ValueValidation, message.as_str())
 }
 
+/// Returns whether `--encoding` has a value that states no encoding and names no file.
+fn misnamed(matches: &ArgMatches<'_>) -> bool
+    ensures { result ≡ misstates_encoding (rows_of (found_of matches.now)) }
+{
+    match value_of(matches, "encoding") {
+        Some(value) => encoding_of(value).is_none(),
+        None => false,
+    }
+}
+
+/// Returns the error of a value of `--encoding` that states no encoding and names no file.
+fn wrong_encoding<'a>(
+    alloc: Global,
+    command: &mut Command<'a>,
+    matches: &ArgMatches<'a>,
+) -> Result<Error, AllocError>
+    ensures { IfOk result (λ error. kind_of error ≡ ErrorKind.InvalidValue) }
+{
+    let value = value_of(matches, "encoding").unwrap_or("");
+    let message = if value.is_empty() {
+        format!(in alloc;
+            "a value is required for '--encoding <E>' but none was supplied{ENCODING_ERROR}"
+        )?
+    } else {
+        format!(in alloc; "invalid value '{value}' for '--encoding <E>'{ENCODING_ERROR}")?
+    };
+    command.error(ErrorKind::InvalidValue, message.as_str())
+}
+
 /// Returns the request of the subcommand that the parse found, or `None` if it states none.
-fn given<'a>(alloc: Global, matches: &ArgMatches<'a>) -> Result<Option<Request<'a>>, AllocError>
+fn given<'a>(alloc: Global, matches: &ArgMatches<'a>) -> Result<Option<Requested<'a>>, AllocError>
     ensures { IfOk result (Finds (IsAskedOf (subcommand_rows_of matches.now))) }
 {
     match matches.subcommand() {
-        Some((name, matches)) => asked_by(alloc, name, matches),
+        Some((name, matches)) => asked_with_vector(alloc, name, matches),
+        None => Ok(None),
+    }
+}
+
+/// Returns the request that the subcommand of this name states, with the file of its encoding vector, or
+/// `None` if it states none.
+fn asked_with_vector<'a>(
+    alloc: Global,
+    name: &str,
+    matches: &ArgMatches<'a>,
+) -> Result<Option<Requested<'a>>, AllocError>
+    ensures { IfOk result (Finds (Asks (rows_of (found_of matches.now)) name.now)) }
+{
+    let vector = asked_vector(matches);
+    match asked_by(alloc, name, matches)? {
+        Some(request) => Ok(Some(Requested { request, vector })),
         None => Ok(None),
     }
 }
@@ -214,11 +284,12 @@ fn font_limit_layout<'a>(matches: &ArgMatches<'a>) -> Option<(&'a str, Limit, La
         × IsNumberIn 1 16777216 (one_of (codes "limit") (rows_of (found_of matches.now))) found.1
         × IsLayout (rows_of (found_of matches.now)) found.2) result }
 {
-    Some((
-        text(matches, "FONT")?,
-        asked_limit(matches)?,
-        asked_layout(matches)?,
-    ))
+    let font = text(matches, "FONT")?;
+    let limit = asked_limit(matches)?;
+    let Some(layout) = asked_layout(matches) else {
+        return None;
+    };
+    Some((font, limit, layout))
 }
 
 /// Returns the files with lines, an empty list if there are none.
@@ -280,11 +351,51 @@ fn asked_policy(matches: &ArgMatches<'_>) -> Option<Policy>
     }
 }
 
+/// Returns the encoding that `--encoding` states: `Bytes` if it names a file.
 fn asked_encoding(matches: &ArgMatches<'_>) -> Option<Encoding>
-    ensures { Finds (λ encoding. first_of (codes "encoding") (rows_of (found_of matches.now))
-        ≡ Some (name_of encoding)) result }
+    ensures { Finds (IsEncoding (rows_of (found_of matches.now))) result }
 {
-    Encoding::from_name(text(matches, "encoding")?)
+    match value_of(matches, "encoding") {
+        Some(value) => encoding_of(value),
+        None => None,
+    }
+}
+
+/// Returns the encoding that a value of `--encoding` states: `Bytes` if it names a file.
+fn encoding_of(value: &str) -> Option<Encoding>
+    ensures { result ≡ encoding_stated value.now }
+{
+    match Encoding::from_name(value) {
+        Some(encoding) => Some(encoding),
+        None => vector_of(value).map(|_| Encoding::Bytes),
+    }
+}
+
+/// Returns the file with an encoding vector that `--encoding` names, if it names one.
+fn asked_vector<'a>(matches: &ArgMatches<'a>) -> Option<&'a str>
+    ensures { option_map (λ file. file.now) result ≡ vector_in (rows_of (found_of matches.now)) }
+{
+    match value_of(matches, "encoding") {
+        Some(value) => vector_of(value),
+        None => None,
+    }
+}
+
+/// Returns this value of `--encoding` if it names a file with an encoding vector.
+fn vector_of(value: &str) -> Option<&str>
+    ensures { option_map (λ file. file.now) result ≡ vector_named value.now }
+{
+    if Encoding::from_name(value).is_none() && has_path_mark(value) {
+        return Some(value);
+    }
+    None
+}
+
+/// Returns whether this value contains a slash or a period.
+fn has_path_mark(value: &str) -> bool
+    ensures { result ≡ is_path value.now }
+{
+    value.bytes().any(|byte| byte == b'/' || byte == b'.')
 }
 
 fn asked_version(matches: &ArgMatches<'_>) -> Option<Version>

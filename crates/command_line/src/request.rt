@@ -1,9 +1,23 @@
 //! The requests that arguments can state.
+ghost use Rattle.std.specs.Prelude.{◌≡◌};
+ghost use Rattle.command_line.specs.WithEncoding.{with_encoding};
+
 use encodings::Encoding;
 use font_texts::PairsLayout;
 use run_plan::Plan;
 use set_line::{Limit, Policy, Version};
 use tfm_words::Size;
+
+/// What the arguments state: a request, and the file with its encoding vector if `--encoding` names one.
+#[derive(Drop)]
+pub struct Requested<'a> {
+    /// The request. If `vector` names a file, the encoding in the request is `Bytes`, until `set_encoding`
+    /// replaces it by that of the vector.
+    pub request: Request<'a>,
+    /// The name of the file with the encoding vector; `None` if the encoding is one that has a name, or if
+    /// the request has no encoding.
+    pub vector: Option<&'a str>,
+}
 
 /// The request that the arguments state, one variant for each subcommand.
 #[derive(Drop)]
@@ -46,6 +60,21 @@ pub enum Request<'a> {
     Stream(Setting<'a>),
     /// Sets the lines of files, each with its own font and step limit, and prints nothing until all are set.
     Each(Jobs<'a>),
+}
+
+impl Request<'_> {
+    /// Replaces the encoding. A request of `counts`, `list` or `check`, which has no encoding, is unchanged.
+    pub fn set_encoding(&mut self, encoding: Encoding)
+        ensures { self.new ≡ with_encoding encoding self.old }
+    {
+        match self {
+            Request::Pairs { layout, .. } => layout.encoding = encoding,
+            Request::Set(setting) => setting.layout.encoding = encoding,
+            Request::Stream(setting) => setting.layout.encoding = encoding,
+            Request::Each(jobs) => jobs.layout.encoding = encoding,
+            Request::Counts { .. } | Request::List { .. } | Request::Check(_) => {}
+        }
+    }
 }
 
 /// The options that `set`, `stream` and `each` have in common: how lines are set, and how they are printed.

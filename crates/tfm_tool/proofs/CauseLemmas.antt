@@ -6,6 +6,7 @@ use Rattle.std.proofs.lemmas.List.{length-map}
 use Rattle.std.proofs.lemmas.Slice.Zip.{AllZip-long}
 use Rattle.std.specs.Prelude.{◌==◌, ◌||◌, All, IfErr, IfOk, IfSome, IsErrAnd, Result, Ok, Err}
 use Rattle.std.specs.Arc.{arc_value}
+use Rattle.clap.specs.Words.{Text}
 use Rattle.std.specs.List.{AllZip}
 use Rattle.std.specs.declared.alloc.Global.{Global}
 use Rattle.std.specs.declared.sync.Arc.{Arc}
@@ -31,6 +32,7 @@ use Rattle.tfm_tool.specs.Kept.{HaveSameFont}
 use Rattle.tfm_tool.specs.Named.{OfKnown, file_bytes_of, font_bytes_of}
 use Rattle.tfm_tool.specs.Told.{Told}
 use Rattle.tfm_tool.specs.Requests.{IsSourceWith}
+use Rattle.tfm_tool.specs.Served.{IsServed, IsStoppedBy}
 use Rattle.tfm_tool.specs.Status.{BeforeText, failure_of, is_refusal, status_of}
 use Rattle.tfm_tool.specs.declared.failure.Failure.{Failure}
 use Rattle.tfm_tool.specs.declared.failure.Failure.TheVariants.{Tool, FontRefused, FontAndText, TooManyFiles, TwoFonts}
@@ -203,6 +205,20 @@ pub served_of : (r : Result ℕ Failure) (Done Served : ℕ → Type 0) (IsFault
 served_of (Ok status) Done Served IsFault Same done refused to = to status done (λ failure is. (refused failure is).0)
 served_of (Err failure) Done Served IsFault Same done refused to = tt
 
+-- what follows from what had been written at the end with exit status 5
+pub stopped_map : {A : Type 0} (r : Result A Failure) (P Q : Type 0) → (P → Q) → IfErr r (λ failure. status_of failure ≡ 5 → P) → IfErr r (λ failure. status_of failure ≡ 5 → Q)
+stopped_map (Ok a) P Q to has = tt
+stopped_map (Err failure) P Q to has = λ five. to (has five)
+
+-- the whole output was written, and then the last flush failed
+pub stopped_after : (words : List Text) (input before after : Option (List ℕ)) (r : Result ℕ Failure) (status : ℕ) → r ≡ Ok status
+    → IfOk r (IsServed words input before after) → IsStoppedBy words input before after
+stopped_after words input before after r status is served = by (subst (λ r. IfOk r (IsServed words input before after)) is served)
+  where
+    by : IsServed words input before after status → IsStoppedBy words input before after
+    by (inl (asked, stated, without, done)) = inr (inl (asked, stated, inr (status, done)))
+    by (inr (error, refused, answer, none)) = inr (inr (error, refused, answer))
+
 -- ---- a fault of a request comes before one of its fonts
 
 not_of_font_set : (setting : Setting) (bytes : Option (List ℕ)) (failure : Failure) → IsFaultOfSet setting failure → IsRefusedFont bytes failure → ⊥
@@ -240,10 +256,10 @@ module _ (known : List ℕ → Option (List ℕ)) (input : Option (List ℕ)) wh
   memory_not_of_font (Each jobs) is = is.5
 
   -- so a request with a fault of a font has none of its own
-  pub cause_of : (request : Request) (Same : Type 0) (r : Result ℕ Failure)
+  pub cause_of : {A : Type 0} (request : Request) (Same : Type 0) (r : Result A Failure)
       → BeforeText r (λ failure. IsFaultOf request failure ⊎ IsFontFaultOf known input request failure)
       → ((failure : Failure) → IsFaultOf request failure → IsRefused (IsFaultOf request) r × Same) → BeforeText r (IsCauseOf known input request)
-  cause_of request Same (Ok status) cause refused = tt
+  cause_of request Same (Ok a) cause refused = tt
   cause_of request Same (Err failure) cause refused = λ before.
       elim (cause before) [
         | inl fault ↦ inl fault

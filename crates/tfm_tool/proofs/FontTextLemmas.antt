@@ -1,6 +1,6 @@
 -- Lemmas on the errors of the texts of fonts.
-use Rattle.std.proofs.Common.{rules, ◌≡◌, ℕ, List, Option, Some, None, Result, Ok, Err, refl, ap, subst, ◌∙◌}
-use Rattle.std.specs.Prelude.{OnErr, OnOk}
+use Rattle.std.proofs.Common.{rules, ◌≡◌, ◌⊎◌, inl, inr, ℕ, List, Option, Some, None, Result, Ok, Err, refl, ap, subst, ◌∙◌}
+use Rattle.std.specs.Prelude.{IfErr, OnErr, OnOk}
 use Rattle.std.specs.Result.{IsErrAnd}
 use Rattle.font_texts.specs.CountsText.{IsHeadRefusalOf, head_fault_of}
 use Rattle.tfm_tables.specs.Acceptance.{font_fault_of}
@@ -9,7 +9,7 @@ use Rattle.tfm_tables.specs.declared.fault.FontFault.{FontFault}
 use Rattle.tfm_tables.specs.declared.fault.FontFault.TheVariants.{OutOfMemory as NoRoom}
 use Rattle.run_texts.specs.Refusals.{fault_of_font}
 use Rattle.run_texts.specs.declared.fault.ToolFault.{ToolFault}
-use Rattle.run_texts.specs.declared.fault.ToolFault.TheVariants.{Font, Run, Write}
+use Rattle.run_texts.specs.declared.fault.ToolFault.TheVariants.{Font, OutOfMemory, Run, Write}
 use Rattle.set_run.specs.declared.run_fault.RunFault.{RunFault}
 
 -- an error is the first one of a font, or that an allocation failed if it has none
@@ -36,6 +36,17 @@ first_is first fault f is has = search rules
 not_of_run : (fault : FontFault) (f : RunFault) → fault_of_font fault ≡ Run f → ⊥
 not_of_run NoRoom f is = absurd (search rules)
 not_of_run fault f is = absurd (search rules)
+
+-- the error of a font is a font error, or that an allocation failed
+which_fault : (fault : FontFault) → (fault_of_font fault ≡ OutOfMemory) ⊎ ((f : FontFault) × (fault_of_font fault ≡ Font f))
+which_fault NoRoom = inl refl
+which_fault fault = inr (fault, refl)
+
+pub told_which : {A : Type 0} (fault : FontFault) (r : Result A ToolFault) → IsErrAnd r (λ told. told ≡ fault_of_font fault)
+    → IfErr r (λ told. (told ≡ OutOfMemory) ⊎ ((f : FontFault) × (told ≡ Font f)))
+told_which fault (Ok a) tells = tt
+told_which fault (Err told) tells =
+    elim (which_fault fault) [ inl memory ↦ inl (tells ∙ memory) | inr font ↦ inr (font.0, tells ∙ font.1) ]
 
 not_of_write : (fault : FontFault) → fault_of_font fault ≡ Write → ⊥
 not_of_write NoRoom is = absurd (search rules)

@@ -16,3 +16,6 @@ pub mod OpeningLemmas
 pub mod WorkedRows
 pub mod WarningLemmas
 pub mod VerboseLemmas
+pub mod VectorLemmas
+pub mod FontErrorLemmas
+pub mod VectorTextLemmas

@@ -1,6 +1,6 @@
 -- Fonts come before files: a font that is refused is found before a file is opened.
-use Rattle.std.proofs.Common.{◌≡◌, ◌⊎◌, inl, inr, ℕ, true, List, [], ◌∷◌, ◌++◌, map, Option, Some, None, Bor, subst, sym}
-use Rattle.std.specs.Prelude.{Result, Ok, Err}
+use Rattle.std.proofs.Common.{◌≡◌, ◌∙◌, ◌⊎◌, ap, inl, inr, ℕ, true, List, [], ◌∷◌, ◌++◌, map, Option, Some, None, Bor, refl, subst, sym}
+use Rattle.std.specs.Prelude.{IfSome, IsErr, Result, Ok, Err}
 use Rattle.std.specs.Result.{IsErrAnd}
 use Rattle.std.specs.Arc.{arc_value}
 use Rattle.std.specs.List.{AllZip}
@@ -8,11 +8,14 @@ use Rattle.std.specs.declared.alloc.Global.{Global}
 use Rattle.std.specs.declared.sync.Arc.{Arc}
 use Rattle.tfm_tables.specs.Acceptance.{font_fault_of}
 use Rattle.tfm_tables.specs.Font.{FontValue, IsFontOf}
+use Rattle.tfm_tables.specs.declared.fault.FontFault.{FontFault}
 use Rattle.set_line.specs.Terms.{TermsValue}
-use Rattle.run_texts.specs.declared.fault.ToolFault.TheVariants.{OutOfMemory}
+use Rattle.run_texts.specs.declared.fault.ToolFault.{ToolFault}
+use Rattle.run_texts.specs.declared.fault.ToolFault.TheVariants.{Font, OutOfMemory}
 use Rattle.command_line.specs.declared.request.Layout.{Layout}
 use Rattle.tfm_tool.specs.FontFaults.{HasRefusedJob, IsAcceptedJob, IsKnownRefused}
 use Rattle.tfm_tool.specs.Jobs.{AreTermsFor, HasTermsOf, IsFaultOfWords, JobValue, job_value}
+use Rattle.tfm_tool.specs.Kept.{HaveSameFont}
 use Rattle.tfm_tool.specs.Named.{OfKnown}
 use Rattle.tfm_tool.specs.Status.{is_before_files}
 use Rattle.tfm_tool.specs.declared.failure.Failure.{Failure}
@@ -30,6 +33,31 @@ order_handed (Err told) failure is first = subst (λ f. is_before_files f ≡ tr
 pub not_ok : {A E : Type 0} (r : Result A E) (a : A) (P : E → Type 0) → r ≡ Ok a → IsErrAnd r P → ⊥
 not_ok (Ok b) a P was is = elim is [ ]
 not_ok (Err e) a P was is = let bad : Err e ≡ Ok a = was in cc
+
+-- a font that was read from the bytes that are kept has no error in its known bytes
+pub sound_kept : (known : Option (List ℕ)) (bytes : List ℕ) (size : Option ℕ) (font : FontValue) → IfSome known (λ all. HaveSameFont bytes all)
+    → IsFontOf bytes size font → IsKnownRefused known → ⊥
+sound_kept known bytes size font same is (all, fault, there, refused) =
+    let has : HaveSameFont bytes all = subst (λ k. IfSome k (λ all. HaveSameFont bytes all)) there same in
+    let none : font_fault_of all ≡ None = (has.font size font is).accepted in
+    let some : font_fault_of all ≡ Some fault = refused in cc
+
+-- a font error in the known bytes is one of the bytes that are kept
+pub refused_kept : (known : Option (List ℕ)) (bytes : List ℕ) → IfSome known (λ all. HaveSameFont bytes all) → IsKnownRefused known
+    → (fault : FontFault) × (font_fault_of bytes ≡ Some fault)
+refused_kept known bytes same (all, fault, there, refused) =
+    let has : HaveSameFont bytes all = subst (λ k. IfSome k (λ all. HaveSameFont bytes all)) there same in
+    (fault, has.fault ∙ refused)
+
+-- a font error comes before the files
+pub font_told : {A : Type 0} (r : Result A ToolFault) (fault : ToolFault) (f : FontFault) → r ≡ Err fault → r ≡ Err (Font f) → is_before_files (Tool fault) ≡ true
+font_told r fault f was told =
+    let same : fault ≡ Font f = cc in ap (λ t. is_before_files (Tool t)) same
+
+-- an error that is handed on is an error
+pub err_of : {A E : Type 0} (r : Result A E) (P : E → Type 0) → IsErrAnd r P → IsErr r
+err_of (Ok a) P is = elim is [ ]
+err_of (Err e) P is = refl
 
 -- a font that was read has no error in its known bytes
 pub sound_font : (bytes : Option (List ℕ)) (size : Option ℕ) (font : FontValue) → OfKnown bytes (λ all. IsFontOf all size font) → IsKnownRefused bytes → ⊥

@@ -2,7 +2,7 @@
 use Rattle.std.proofs.Common.{arith, ◌≡◌, ◌≤◌, ◌<◌, ℕ, [], ◌∷◌, Contains, lit<, refl, sym}
 use Rattle.std.specs.Prelude.{IfOk, Result, Ok, Err}
 use Rattle.tfm_tool.specs.declared.failure.Failure.{Failure}
-use Rattle.tfm_tool.specs.declared.failure.Failure.TheVariants.{Usage, NotInThrees, TooManyFiles, LimitRange, FontAndText, TwoFonts, NotRead, FontNotRead, SomeFontNotRead, FontRefused, FileNotOpened, FileNotEnded, Tool}
+use Rattle.tfm_tool.specs.declared.failure.Failure.TheVariants.{Usage, NotInThrees, TooManyFiles, LimitRange, FontAndText, TwoFonts, NotRead, FontNotRead, SomeFontNotRead, FontRefused, EncodingNotRead, EncodingRefused, FileNotOpened, FileNotEnded, Tool}
 use Rattle.run_texts.specs.declared.fault.ToolFault.TheVariants.{Font, Run, OutOfMemory, Write}
 use Rattle.set_run.specs.declared.run_fault.RunFault.TheVariants.{TooManySources, OutOfMemory as RunOutOfMemory, Thread}
 use Rattle.tfm_tool.specs.Status.{AfterText, status_of}
@@ -20,6 +20,8 @@ status_listed (LimitRange _) = (2, lit< tt, refl)
 status_listed FontAndText = (2, lit< tt, refl)
 status_listed TwoFonts = (2, lit< tt, refl)
 status_listed (FontRefused _ _) = (3, lit< tt, refl)
+status_listed (EncodingRefused _) = (3, lit< tt, refl)
+status_listed EncodingNotRead = (4, lit< tt, refl)
 status_listed NotRead = (4, lit< tt, refl)
 status_listed (FontNotRead _) = (4, lit< tt, refl)
 status_listed SomeFontNotRead = (4, lit< tt, refl)
@@ -41,6 +43,8 @@ status_of_fault (LimitRange _) = omega arith
 status_of_fault FontAndText = omega arith
 status_of_fault TwoFonts = omega arith
 status_of_fault (FontRefused _ _) = omega arith
+status_of_fault (EncodingRefused _) = omega arith
+status_of_fault EncodingNotRead = omega arith
 status_of_fault NotRead = omega arith
 status_of_fault (FontNotRead _) = omega arith
 status_of_fault SomeFontNotRead = omega arith

@@ -59,11 +59,11 @@ module _ (known : List ℕ → Option (List ℕ)) (input : Option (List ℕ)) wh
   IsFontFaultOf (Stream setting) failure = IsRefusedFont (font_bytes_of known input setting.font.now) failure
   IsFontFaultOf (Each jobs) failure = IsFirstRefused known jobs.layout (jobs_in jobs.words.items) failure
 
-  -- the bytes of a font of a request that sets lines are known, and the font has a font error
+  -- the bytes of a font of a request that sets lines, or of `pairs`, are known, and the font has a font error
   abbrev pub HasRefusedFont : Request → Type 0
   HasRefusedFont (Counts _ _) = ⊥
   HasRefusedFont (ListFont _ _ _ _) = ⊥
-  HasRefusedFont (Pairs _ _ _ _) = ⊥
+  HasRefusedFont (Pairs font _ _ _) = IsKnownRefused (font_bytes_of known input font.now)
   HasRefusedFont (Check _) = ⊥
   HasRefusedFont (Set setting) = IsKnownRefused (font_bytes_of known input setting.font.now)
   HasRefusedFont (Stream setting) = IsKnownRefused (font_bytes_of known input setting.font.now)

@@ -10,6 +10,7 @@ pub mod Requests
 pub mod Stopped
 pub mod FontFaults
 pub mod Faults
+pub mod Vectors
 pub mod Served
 pub mod FailureTexts
 pub mod Verbose

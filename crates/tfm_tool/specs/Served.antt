@@ -1,15 +1,16 @@
--- The effect of the whole program if it ends with exit status 0 or 1, and the reason if it ends with 2 or 3.
+-- The effect of the whole program if it ends with exit status 0, 1 or 5, and the reason if it ends with 2 or 3.
 -- This project's own.
 use Rattle.std.specs.Prelude.{◌≡◌, ◌⊎◌, ℕ, List, Bool, true, false, Option, None}
+use Rattle.std.specs.Io.KnownBytes.{Keeps}
 use Rattle.clap.specs.Words.{Text, kind_of}
 use Rattle.clap.specs.declared.error.Error.{Error}
 use Rattle.clap.specs.declared.error.kind.ErrorKind.{ErrorKind}
 use Rattle.clap.specs.declared.error.kind.ErrorKind.TheVariants.{DisplayHelp, DisplayVersion, OutOfMemory}
 use Rattle.command_line.specs.Asked.{IsAskedBy, IsRefusedBy}
-use Rattle.command_line.specs.declared.request.Request.{Request}
-use Rattle.tfm_tool.specs.Faults.{HasNoFault, IsCauseOf}
-use Rattle.tfm_tool.specs.Requests.{IsDone}
+use Rattle.command_line.specs.declared.request.Requested.{Requested}
+use Rattle.tfm_tool.specs.Faults.{HasNoFault}
 use Rattle.tfm_tool.specs.Status.{status_of}
+use Rattle.tfm_tool.specs.Vectors.{HasFailedAs, IsCauseOfAsked, IsDoneAs}
 use Rattle.tfm_tool.specs.declared.failure.Failure.{Failure}
 use Rattle.tfm_tool.specs.declared.failure.Failure.TheVariants.{Usage}
 
@@ -31,15 +32,25 @@ is_usage _ = true
 -- the arguments request help or the version
 abbrev pub IsServed : List Text → Option (List ℕ) → Option (List ℕ) → Option (List ℕ) → ℕ → Type 0
 IsServed words input before after status =
-    ((request : Request) × IsAskedBy words request × HasNoFault request × IsDone (λ _. None) input before after request status)
+    ((asked : Requested) × IsAskedBy words asked × HasNoFault asked.request × IsDoneAs (λ _. None) input before after asked status)
     ⊎ ((error : Error) × IsRefusedBy words error × (is_answer (kind_of error) ≡ true) × (status ≡ 0))
 
--- the arguments are invalid, or their request has a usage error or a font error, with files whose contents
--- aren't known
+-- what had been written at the end with exit status 5, with files whose contents aren't known: nothing; what the
+-- request of the arguments had written when an allocation or the writer failed; or its whole output, if the last
+-- flush failed. Nothing is stated about the text of help and of the version.
+abbrev pub IsStoppedBy : List Text → Option (List ℕ) → Option (List ℕ) → Option (List ℕ) → Type 0
+IsStoppedBy words input before after =
+    Keeps before after
+    ⊎ (((asked : Requested) × IsAskedBy words asked
+    × (HasFailedAs (λ _. None) input before after asked ⊎ ((status : ℕ) × IsDoneAs (λ _. None) input before after asked status)))
+    ⊎ ((error : Error) × IsRefusedBy words error × (is_answer (kind_of error) ≡ true)))
+
+-- the arguments are invalid, or their request has a usage error, a font error or the error of an encoding vector,
+-- with files whose contents aren't known
 abbrev pub IsTurnedDownBy : List Text → Option (List ℕ) → Failure → Type 0
 IsTurnedDownBy words input failure =
     ((error : Error) × IsRefusedBy words error × (is_usage (kind_of error) ≡ true) × (failure ≡ Usage error))
-    ⊎ ((request : Request) × IsAskedBy words request × IsCauseOf (λ _. None) input request failure)
+    ⊎ ((asked : Requested) × IsAskedBy words asked × IsCauseOfAsked (λ _. None) input asked failure)
 
 -- the same for the exit status of the failure
 abbrev pub IsTurnedDown : List Text → Option (List ℕ) → ℕ → Type 0

@@ -5,6 +5,7 @@ use Rattle.clap.specs.Words.{Text}
 use Rattle.command_line.specs.Asked.{IsAskedBy}
 use Rattle.command_line.specs.declared.request.Layout.{Layout}
 use Rattle.command_line.specs.declared.request.Request.{Request}
+use Rattle.command_line.specs.declared.request.Requested.{Requested}
 use Rattle.command_line.specs.declared.request.Request.TheVariants.{Counts, List as ListFont, Pairs, Check, Set, Stream, Each}
 
 -- whether a request has `--verbose`
@@ -19,7 +20,7 @@ is_verbose (Each jobs) = jobs.layout.verbose
 
 -- the arguments state a request with `--verbose`
 abbrev pub IsVerbose : List Text → Type 0
-IsVerbose words = (request : Request) × IsAskedBy words request × (is_verbose request ≡ true)
+IsVerbose words = (asked : Requested) × IsAskedBy words asked × (is_verbose asked.request ≡ true)
 
 -- the layout with `--verbose` if the flag is true, and without it otherwise
 abbrev pub layout_with : Bool → Layout → Layout

@@ -5,6 +5,7 @@ use Rattle.clap.specs.Words.{Text}
 use Rattle.command_line.specs.Asked.{IsAskedBy}
 use Rattle.command_line.specs.declared.request.Layout.{Layout}
 use Rattle.command_line.specs.declared.request.Request.{Request}
+use Rattle.command_line.specs.declared.request.Requested.{Requested}
 use Rattle.command_line.specs.declared.request.Request.TheVariants.{Set, Stream, Each}
 
 -- this number of sp, if it is below 65,536, which is one point
@@ -34,4 +35,4 @@ warning_text size =
 
 -- the arguments state a request that warns of its size
 abbrev pub IsWarned : List Text → Type 0
-IsWarned words = (request : Request) × IsAskedBy words request × IsSome (warned_size request)
+IsWarned words = (asked : Requested) × IsAskedBy words asked × IsSome (warned_size asked.request)

@@ -73,7 +73,7 @@ where
 }
 
 /// Returns the number of these names that are `-`.
-fn dashes(names: &[&str]) -> usize
+pub(crate) fn dashes(names: &[&str]) -> usize
     ensures { result ≡ dashes_in names.now }
 {
     names.iter().filter(|name| **name == "-").count()

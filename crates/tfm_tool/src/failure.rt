@@ -40,6 +40,11 @@ pub enum Failure {
         /// The first font error.
         fault: FontFault,
     },
+    /// The file with the encoding vector wasn't opened, or wasn't read to its end.
+    EncodingNotRead,
+    /// The file of the encoding isn't an encoding vector. The value is the number of a line of the file,
+    /// starting at 1, as `encoding_vectors::read_vector` returns it.
+    EncodingRefused(usize),
     /// A file wasn't opened. The value is its number, starting at 1.
     FileNotOpened(usize),
     /// A file or standard input wasn't read to its end. The output was written.
@@ -69,6 +74,8 @@ impl fmt::Display for Failure {
                 let numbered = Numbered(*fault);
                 writeln!(f, "tfmset: font {number} refused: {numbered}")
             }
+            Failure::EncodingNotRead => f.write_str("tfmset: encoding not read\n"),
+            Failure::EncodingRefused(line) => writeln!(f, "tfmset: encoding refused: line {line}"),
             Failure::FileNotOpened(number) => writeln!(f, "tfmset: file {number} not read"),
             Failure::FileNotEnded => { f.write_str("tfmset: some file was not read to its end\n") }
             Failure::Tool(fault) => writeln!(f, "tfmset: {fault}"),
@@ -86,8 +93,9 @@ impl Failure {
             Failure::NotInThrees | Failure::TooManyFiles | Failure::LimitRange(_) => 2,
             Failure::FontAndText | Failure::TwoFonts => 2,
             Failure::Tool(ToolFault::Font(_)) | Failure::FontRefused { .. } => 3,
+            Failure::EncodingRefused(_) => 3,
             Failure::NotRead | Failure::FontNotRead(_) | Failure::SomeFontNotRead => 4,
-            Failure::FileNotOpened(_) | Failure::FileNotEnded => 4,
+            Failure::EncodingNotRead | Failure::FileNotOpened(_) | Failure::FileNotEnded => 4,
             Failure::Tool(ToolFault::Run(RunFault::TooManySources)) => 2,
             Failure::Tool(ToolFault::Run(RunFault::OutOfMemory | RunFault::Thread)) => 5,
             Failure::Tool(ToolFault::OutOfMemory | ToolFault::Write) => 5,

@@ -1,5 +1,5 @@
 //! Reads the fonts of a request to their end, and opens its files with lines.
-ghost use Rattle.std.specs.Prelude.{◌≡◌, ◌≢◌, ℕ, ◌++◌, List, map, Some, true, false, codes, Err, IfErr, IfOk, IfSome, OnOk, is_ok};
+ghost use Rattle.std.specs.Prelude.{◌≡◌, ◌≢◌, ℕ, ◌++◌, List, map, Some, true, false, codes, Err, IfErr, IfOk, IfSome, IsErr, OnOk, is_ok};
 ghost use Rattle.std.specs.Io.KnownBytes.{IsAtEnd};
 ghost use Rattle.std.specs.List.{AllZip};
 ghost use Rattle.tfm_tool.specs.Jobs.{IsOpenedWith};
@@ -97,8 +97,9 @@ pub(crate) fn font_file<F: Opens>(
     files: &F,
     name: &str,
 ) -> Result<Vec<u8>, ReadFault>
-    ensures { IfOk result (λ bytes.
+    ensures bytes { IfOk result (λ bytes.
         IfSome (F.known files.now name.now) (λ all. bytes.items ≡ kept_of all)) }
+    ensures unopened { F.opens files.now name.now ≡ Some false → IsErr result }
 {
     let mut file = opened(files, name)?;
     kept_bytes(alloc, &mut file)

@@ -9,16 +9,17 @@ ghost use Rattle.tfm_tables.specs.Font.{FontValue, IsFontOf};
 ghost use Rattle.tfm_tables.specs.declared.fault.FontFault.{FontFault};
 ghost use Rattle.tfm_tool.specs.Faults.{HasRefusedFont, IsCauseOf, IsFaultOf, IsRefused, IsUnreadFontOf, IsWithoutInput};
 ghost use Rattle.tfm_tool.specs.FailureTexts.{failure_text};
-ghost use Rattle.tfm_tool.specs.FontFaults.{IsRefusedFont, IsRefusedHead};
+ghost use Rattle.tfm_tool.specs.FontFaults.{IsKnownRefused, IsRefusedFont, IsRefusedHead};
 ghost use Rattle.tfm_tool.specs.Named.{font_bytes_of};
 ghost use Rattle.tfm_tool.specs.Opening.{IsFirstUnopened, file_names_of};
 ghost use Rattle.tfm_tool.specs.Requests.{ArePairsTold, CountsAreTold, IsDone, IsListed, list_text_of};
-ghost use Rattle.tfm_tool.specs.Served.{IsServed, IsTurnedDown, IsTurnedDownBy, is_answer, is_usage};
+ghost use Rattle.tfm_tool.specs.Served.{IsServed, IsStoppedBy, IsTurnedDown, IsTurnedDownBy, is_answer, is_usage};
 ghost use Rattle.tfm_tool.specs.declared.failure.Failure.TheVariants.{FileNotOpened, FontNotRead, Tool, Usage};
 ghost use Rattle.tfm_tool.specs.Stopped.{AreCountsInPart, ArePairsInPart, HasBroken, HasStopped, IsListedInPart};
 ghost use Rattle.tfm_tool.specs.Verbose.{IsVerbose};
 ghost use Rattle.tfm_tool.specs.Warnings.{IsWarned};
-ghost use Rattle.tfm_tool.specs.Status.{AfterText, BeforeText, is_before_files, is_refusal, is_without_text, status_of};
+ghost use Rattle.tfm_tool.specs.Status.{AfterText, BeforeText, is_before_files, is_before_opening, is_refusal, is_without_text, status_of};
+ghost use Rattle.tfm_tool.specs.Vectors.{HasBrokenAs, HasStoppedAs, IsCauseOfAsked, IsDoneAs, IsUnusable};
 
 use crate::checking::check;
 use crate::each::set_jobs;
@@ -26,7 +27,9 @@ use crate::failure::Failure;
 use crate::files::font_bytes;
 use crate::font_output::list_file_text;
 use crate::runs::{set_files, stream};
+use crate::stated::Stated;
 use crate::usage_text::say_usage;
+use crate::vectors::encode_request;
 use crate::verbose::carry_out;
 use crate::warning::warn;
 use crate::{Opens, counts_text, list_all_text, pairs_text};
@@ -70,6 +73,8 @@ where
     ensures font { result ≡ 3 → Keeps (O.contents out.old) (O.contents out.new) }
     ensures cause { (result ≡ 2) ⊎ (result ≡ 3)
         → IsTurnedDown (map S.text words.now) (I.remaining input.old) result }
+    ensures stopped { result ≡ 5 → (written : Option (List ℕ)) × Keeps written (O.contents out.new)
+        × IsStoppedBy (map S.text words.now) (I.remaining input.old) (O.contents out.old) written }
 {
     let answered = answer(rt, words, input, out, err);
     let flushed = out.flush();
@@ -117,17 +122,69 @@ where
     ensures status { IfOk result (λ status. Contains (0 ∷ 1 ∷ []) status) }
     ensures untouched { IfErr result (λ failure. is_refusal failure ≡ true → out.new ≡ out.old) }
     ensures cause { BeforeText result (IsTurnedDownBy (map S.text words.now) (I.remaining input.old)) }
+    ensures stopped { IfErr result (λ failure. status_of failure ≡ 5
+        → IsStoppedBy (map S.text words.now) (I.remaining input.old)
+        (O.contents out.old) (O.contents out.new)) }
 {
     match requested(rt.alloc(), words) {
-        Ok(request) => {
-            warn(&request, err);
-            carry_out(rt, &request, input, out, err)
+        Ok(mut requested) => {
+            warn(&requested.request, err);
+            carry_out(rt, &mut requested, input, out, err)
         }
         Err(error) => {
             show(error, out)?;
             Ok(0)
         }
     }
+}
+
+/// Carries out what arguments state, with the files that `files` opens: the request, as `perform` does, with
+/// the encoding of the encoding vector in the file that they name, if they name one. The file is read to its
+/// end before any other file is opened.
+///
+/// The errors are those of `perform`, `EncodingNotRead` if the file wasn't opened or read, and
+/// `EncodingRefused` if it isn't an encoding vector. Usage errors and the errors of fonts come before these
+/// two, for which the fonts are read, and these two come before those of the files with lines, none of which
+/// is then opened. `out` is unchanged after both.
+pub fn perform_requested<R, F, I, O, Q>(
+    rt: &R,
+    files: &F,
+    requested: &mut Q,
+    input: &mut I,
+    out: &mut O,
+) -> Result<u8, Failure>
+where
+    R: AllocGlobal + Threads + Wait + Sync,
+    F: Opens,
+    I: Read + Send,
+    O: Write,
+    Q: Stated,
+    ensures text { AfterText result (IsDoneAs (F.known files.now) (I.remaining input.old)
+        (O.contents out.old) (O.contents out.new) (Q.requested requested.old)) }
+    ensures status { IfOk result (λ status. Contains (0 ∷ 1 ∷ []) status) }
+    ensures untouched { IfErr result (λ failure. is_without_text failure ≡ true → out.new ≡ out.old) }
+    ensures unread { IsWithoutInput (Q.requested requested.old).request → input.new ≡ input.old }
+    ensures cause { BeforeText result
+        (IsCauseOfAsked (F.known files.now) (I.remaining input.old) (Q.requested requested.old)) }
+    ensures refused { (fault : Failure) → IsFaultOf (Q.requested requested.old).request fault
+        → IsRefused (IsFaultOf (Q.requested requested.old).request) result × (out.new ≡ out.old) }
+    ensures number { (n : ℕ) → result ≡ Err (FontNotRead n)
+        → IsUnreadFontOf (F.known files.now) (I.remaining input.old) (Q.requested requested.old).request n }
+    ensures file { (n : ℕ) → result ≡ Err (FileNotOpened n)
+        → IsFirstUnopened (F.opens files.now) (file_names_of (Q.requested requested.old).request) n }
+    ensures order { HasRefusedFont (F.known files.now) (I.remaining input.old) (Q.requested requested.old).request
+        → IsErrAnd result (λ failure. is_before_files failure ≡ true) }
+    ensures vector { IsUnusable (F.known files.now) (F.opens files.now) (Q.requested requested.old).vector
+        → IsErrAnd result (λ failure. is_before_opening failure ≡ true) × (out.new ≡ out.old) }
+    ensures run { (fault : RunFault) → result ≡ Err (Tool (ToolFault.Run fault)) → out.new ≡ out.old }
+    ensures memory { result ≡ Err (Tool ToolFault.OutOfMemory) → Keeps (O.contents out.old) (O.contents out.new)
+        ⊎ HasStoppedAs (F.known files.now) (I.remaining input.old)
+        (O.contents out.old) (O.contents out.new) (Q.requested requested.old) }
+    ensures write { result ≡ Err (Tool ToolFault.Write) → HasBrokenAs (F.known files.now) (I.remaining input.old)
+        (O.contents out.old) (O.contents out.new) (Q.requested requested.old) }
+{
+    encode_request(rt.alloc(), files, requested, input)?;
+    perform(rt, files, requested.request(), input, out)
 }
 
 /// Carries out a request with the files that `files` opens. Returns the exit status: 1 if a line was refused
@@ -342,6 +399,9 @@ where
     ensures file { (n : ℕ) → result ≢ Err (FileNotOpened n) }
     ensures run { (fault : RunFault) → result ≢ Err (Tool (ToolFault.Run fault)) }
     ensures unread { asked.now.font.now ≢ codes "-" → input.new ≡ input.old }
+    ensures order { IsKnownRefused
+        (font_bytes_of (F.known files.now) (I.remaining input.old) asked.now.font.now)
+        → IsErrAnd result (λ failure. is_before_files failure ≡ true) }
     ensures cause { BeforeText result
         (IsRefusedFont (font_bytes_of (F.known files.now) (I.remaining input.old) asked.now.font.now)) }
 {
@@ -355,6 +415,8 @@ fn show<O: Write>(error: clap::Error, out: &mut O) -> Result<(), Failure>
     ensures answer { OnOk result (is_answer (kind_of error) ≡ true) }
     ensures untouched { IfErr result (λ failure. is_refusal failure ≡ true → out.new ≡ out.old) }
     ensures cause { BeforeText result (λ failure. (is_usage (kind_of error) ≡ true) × (failure ≡ Usage error)) }
+    ensures stopped { IfErr result (λ failure. status_of failure ≡ 5
+        → (out.new ≡ out.old) ⊎ (is_answer (kind_of error) ≡ true)) }
 {
     match error.kind() {
         WordsKind::DisplayHelp | WordsKind::DisplayVersion => {

@@ -1,18 +1,19 @@
 //! Carries out a request with the files of the file system, and prints what `--verbose` adds.
 ghost use Rattle.std.specs.Prelude.{◌≡◌, true, false, [], ◌∷◌, Contains, None, IfErr, IfOk};
-ghost use Rattle.tfm_tool.specs.Faults.{IsCauseOf, IsFaultOf, IsRefused};
-ghost use Rattle.tfm_tool.specs.Requests.{IsDone};
-ghost use Rattle.tfm_tool.specs.Status.{AfterText, BeforeText, is_without_text};
+ghost use Rattle.tfm_tool.specs.Faults.{IsFaultOf, IsRefused};
+ghost use Rattle.tfm_tool.specs.Status.{AfterText, BeforeText, is_without_text, status_of};
+ghost use Rattle.tfm_tool.specs.Vectors.{HasFailedAs, IsCauseOfAsked, IsDoneAs};
 ghost use Rattle.tfm_tool.specs.Verbose.{is_verbose as is_verbose_request};
 
 use crate::Disk;
 use crate::failure::Failure;
 use crate::notes::Notes;
-use crate::program::perform;
+use crate::program::perform_requested;
+use crate::stated::Stated;
 use crate::summary::{say_causes, say_summary};
 use crate::tally::Tally;
 use crate::watched::{Called, WatchedFiles, WatchedReader, WatchedWriter, Written};
-use command_line::Request;
+use command_line::{Request, Requested};
 use std::io::{Read, Write};
 use std::marker::Brand;
 use std::rt::Files;
@@ -43,6 +44,16 @@ fn crlf_of(request: &Request<'_>) -> Option<bool> {
     }
 }
 
+/// Returns the number of files that are opened before the files with lines: the file of the encoding vector
+/// if one is named, and the fonts of a request that sets lines.
+fn files_before_lines<Q: Stated>(requested: &Q) -> u64 {
+    let vectors = match requested.vector() {
+        Some(_) => 1,
+        None => 0,
+    };
+    fonts_of(requested.request()).saturating_add(vectors)
+}
+
 /// Returns the number of files that a request opens as fonts before its files with lines, 0 if it has none.
 fn fonts_of(request: &Request<'_>) -> u64 {
     match request {
@@ -66,11 +77,11 @@ fn is_whole(done: &Result<u8, Failure>) -> bool {
     matches!(done, Ok(_) | Err(Failure::FileNotEnded))
 }
 
-/// Carries out a request as `perform` does, with the files of the file system. With `--verbose` it then prints
-/// on `err`, whose errors are ignored, the causes of errors and a summary.
+/// Carries out what arguments state as `perform_requested` does, with the files of the file system. With
+/// `--verbose` it then prints on `err`, whose errors are ignored, the causes of errors and a summary.
 pub(crate) fn carry_out<R, I, O, E>(
     rt: &R,
-    request: &Request<'_>,
+    requested: &mut Requested<'_>,
     input: &mut I,
     out: &mut O,
     err: &mut E,
@@ -81,24 +92,29 @@ where
     I: Read + Send,
     O: Write,
     E: Write,
-    ensures silent { is_verbose_request request.now ≡ false → err.new ≡ err.old }
-    ensures text { AfterText result (IsDone (λ _. None) (I.remaining input.old)
-        (O.contents out.old) (O.contents out.new) request.now) }
+    ensures silent { is_verbose_request requested.old.request ≡ false → err.new ≡ err.old }
+    ensures text { AfterText result (IsDoneAs (λ _. None) (I.remaining input.old)
+        (O.contents out.old) (O.contents out.new) requested.old) }
     ensures status { IfOk result (λ status. Contains (0 ∷ 1 ∷ []) status) }
     ensures untouched { IfErr result (λ failure. is_without_text failure ≡ true → out.new ≡ out.old) }
-    ensures cause { BeforeText result (IsCauseOf (λ _. None) (I.remaining input.old) request.now) }
-    ensures refused { (fault : Failure) → IsFaultOf request.now fault
-        → IsRefused (IsFaultOf request.now) result × (out.new ≡ out.old) }
+    ensures cause { BeforeText result (IsCauseOfAsked (λ _. None) (I.remaining input.old) requested.old) }
+    ensures stopped { IfErr result (λ failure. status_of failure ≡ 5
+        → HasFailedAs (λ _. None) (I.remaining input.old)
+        (O.contents out.old) (O.contents out.new) requested.old) }
+    ensures refused { (fault : Failure) → IsFaultOf requested.old.request fault
+        → IsRefused (IsFaultOf requested.old.request) result × (out.new ≡ out.old) }
 {
-    let verbose = is_verbose(request);
-    let crlf = crlf_of(request);
+    let verbose = is_verbose(&requested.request);
+    let crlf = crlf_of(&requested.request);
     let notes = Notes::new(rt.alloc(), verbose, crlf.unwrap_or(true));
     let written = Written {
         out,
         tally: Tally::new(),
         error: None,
     };
-    let (written, done) = perform_watched::<R, I, O, Brand>(rt, &notes, request, input, written);
+    let (written, done) = perform_watched::<R, I, O, Brand, Requested<'_>>(
+        rt, &notes, requested, input, written,
+    );
     let Written {
         out: writer,
         tally,
@@ -116,11 +132,12 @@ where
     done
 }
 
-/// Carries out a request as `perform` does, with the files of the file system, and notes errors and counts.
-fn perform_watched<'a, R, I, O, K>(
+/// Carries out what arguments state as `perform_requested` does, with the files of the file system, and notes
+/// errors and counts.
+fn perform_watched<'a, R, I, O, K, Q>(
     rt: &R,
     notes: &Notes,
-    request: &Request<'_>,
+    requested: &mut Q,
     input: &mut I,
     written: Written<'a, O>,
 ) -> (Written<'a, O>, Result<u8, Failure>)
@@ -130,20 +147,27 @@ where
     I: Read + Send,
     O: Write,
     K: Called,
+    Q: Stated,
     requires { written.out.ghost_name ≡ K.name }
     ensures same_reference { result.0.out.ghost_name ≡ written.entry.out.ghost_name }
-    ensures text { AfterText result.1 (IsDone (λ _. None) (I.remaining input.old)
-        (O.contents written.entry.out.now) (O.contents result.0.out.now) request.now) }
+    ensures text { AfterText result.1 (IsDoneAs (λ _. None) (I.remaining input.old)
+        (O.contents written.entry.out.now) (O.contents result.0.out.now) (Q.requested requested.old)) }
     ensures status { IfOk result.1 (λ status. Contains (0 ∷ 1 ∷ []) status) }
     ensures untouched { IfErr result.1 (λ failure. is_without_text failure ≡ true
         → result.0.out.now ≡ written.entry.out.now) }
-    ensures cause { BeforeText result.1 (IsCauseOf (λ _. None) (I.remaining input.old) request.now) }
-    ensures refused { (fault : Failure) → IsFaultOf request.now fault
-        → IsRefused (IsFaultOf request.now) result.1 × (result.0.out.now ≡ written.entry.out.now) }
+    ensures cause { BeforeText result.1
+        (IsCauseOfAsked (λ _. None) (I.remaining input.old) (Q.requested requested.old)) }
+    ensures stopped { IfErr result.1 (λ failure. status_of failure ≡ 5
+        → HasFailedAs (λ _. None) (I.remaining input.old)
+        (O.contents written.entry.out.now) (O.contents result.0.out.now) (Q.requested requested.old)) }
+    ensures refused { (fault : Failure) → IsFaultOf (Q.requested requested.old).request fault
+        → IsRefused (IsFaultOf (Q.requested requested.old).request) result.1
+        × (result.0.out.now ≡ written.entry.out.now) }
 {
-    let files = WatchedFiles::new(rt, Disk::new(rt), notes, fonts_of(request));
-    let mut input = WatchedReader::new(rt, notes, input, "standard input", reads_lines(request));
+    let files = WatchedFiles::new(rt, Disk::new(rt), notes, files_before_lines(requested));
+    let has_lines = reads_lines(requested.request());
+    let mut input = WatchedReader::new(rt, notes, input, "standard input", has_lines);
     let mut out: WatchedWriter<'a, O, K> = WatchedWriter::new(written, notes.is_on());
-    let done = perform(rt, &files, request, &mut input, &mut out);
+    let done = perform_requested(rt, &files, requested, &mut input, &mut out);
     (out.into_written(), done)
 }

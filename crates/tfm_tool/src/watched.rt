@@ -16,30 +16,31 @@ pub(crate) struct WatchedFiles<'r, 'n, R, F> {
     rt: &'r R,
     files: F,
     notes: &'n Notes,
-    /// The number of files that are still to be opened as fonts. All later ones have lines.
-    fonts: AtomicU64,
+    /// The number of files that are still to be opened as an encoding vector or as fonts. All later ones have
+    /// lines.
+    others: AtomicU64,
 }
 
 impl<'r, 'n, R, F> WatchedFiles<'r, 'n, R, F> {
-    /// Returns these files. The first `fonts` ones to be opened are fonts; the other ones have lines, whose
-    /// carriage returns are counted.
-    pub fn new(rt: &'r R, files: F, notes: &'n Notes, fonts: u64) -> Self
+    /// Returns these files. The first `others` ones to be opened are an encoding vector or fonts; the other
+    /// ones have lines, whose carriage returns are counted.
+    pub fn new(rt: &'r R, files: F, notes: &'n Notes, others: u64) -> Self
         ensures { result.files ≡ files }
     {
         WatchedFiles {
             rt,
             files,
             notes,
-            fonts: AtomicU64::new(fonts),
+            others: AtomicU64::new(others),
         }
     }
 
     /// Returns whether the next file has lines.
     fn has_lines(&self) -> bool {
-        if self.fonts.load(Ordering::Relaxed) == 0 {
+        if self.others.load(Ordering::Relaxed) == 0 {
             return true;
         }
-        self.fonts.fetch_sub(1, Ordering::Relaxed);
+        self.others.fetch_sub(1, Ordering::Relaxed);
         false
     }
 }

@@ -21,6 +21,7 @@ mod set_each_calls;
 mod set_text_calls;
 mod settings;
 mod stream_text_calls;
+mod vector_requests;
 mod verbose_lines;
 mod words_given;
 

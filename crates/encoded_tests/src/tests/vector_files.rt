@@ -215,10 +215,20 @@ fn long_texts_that_are_no_vectors(rt: HostRuntime) -> Result<(), Fail> {
     Ok(())
 }
 
+/// Lines, and the texts of faults with these lines.
+static FAULT_TEXTS: [(usize, &str); 4] = [
+    (1, "encoding refused: line 1"),
+    (10, "encoding refused: line 10"),
+    (65_537, "encoding refused: line 65537"),
+    (usize::MAX, "encoding refused: line 18446744073709551615"),
+];
+
 #[test]
-fn text_of_the_fault(rt: HostRuntime) -> Result<(), Fail> {
-    let fault = VectorFault { line: 1024 };
-    let text = format!(in rt.alloc(); "{fault}")?;
-    assert!(rt; text.as_str() == "encoding refused: line 1024");
+fn texts_of_faults(rt: HostRuntime) -> Result<(), Fail> {
+    for (line, wanted) in &FAULT_TEXTS {
+        let fault = VectorFault { line: *line };
+        let text = format!(in rt.alloc(); "{fault}")?;
+        assert!(rt; text.as_str() == *wanted, "line {line}");
+    }
     Ok(())
 }

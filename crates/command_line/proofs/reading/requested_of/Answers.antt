@@ -18,8 +18,8 @@ returns-in-Some-clause-asked g c = λ choices is.
     let words = map g.S.AsStr.text c.args.words.now in
     let none = faults choices words (app_of c.args.command.now) is.0 {T = ArgMatches} (Ok c.in_ok-matches.matches) c.in_ok-matches.ensures.kinds in (
       none,
-      asked_in_words choices words (app_of c.args.command.now) is.0 c.in_ok-matches.matches c.in_ok-request.field-0 c.in-Some.request
-          c.in_ok-matches.ensures.ok.2 c.in_ok-request.ensures (search rules),
+      asked_in_words choices words (app_of c.args.command.now) is.0 c.in_ok-matches.matches c.in_ok-requested.field-0 c.in-Some.requested
+          c.in_ok-matches.ensures.ok.2 c.in_ok-requested.ensures (search rules),
     )
 
 pub returns-clause-refused : goal.returns-clause-refused
@@ -30,6 +30,6 @@ returns-clause-refused g c = λ choices is.
       none,
       kind_in_words choices words (app_of c.args.command.now) is.0 c.in_ok-matches.matches _ c.in_ok-matches.ensures.ok.2
           c.in_ok-without_request-in-None.ensures,
-      nothing_in_words choices words (app_of c.args.command.now) is.0 c.in_ok-matches.matches c.in_ok-request.field-0
-          c.in_ok-matches.ensures.ok.2 c.in_ok-request.ensures (search rules),
+      nothing_in_words choices words (app_of c.args.command.now) is.0 c.in_ok-matches.matches c.in_ok-requested.field-0
+          c.in_ok-matches.ensures.ok.2 c.in_ok-requested.ensures (search rules),
     )

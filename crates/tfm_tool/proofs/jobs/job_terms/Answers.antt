@@ -11,7 +11,7 @@ pub returns-in-Ok-terms_of-clause-terms : goal.returns-in-Ok-terms_of-clause-ter
 returns-in-Ok-terms_of-clause-terms g c =
     let known : Option (List ℕ) = g.F.Opens.known c.args.files.now c.args.job.now.font.now in
     known_terms known c.in-Ok.bytes.items c.args.layout.now c.args.job.now.limit (arc_value c.in-Ok-terms_of.terms)
-    (same_of_kept known c.in-Ok.bytes.items c.in-Ok.ensures) (subst (λ b. (f : FontValue) × IsFontOf b c.args.layout.now.size f
+    (same_of_kept known c.in-Ok.bytes.items c.in-Ok.ensures.bytes) (subst (λ b. (f : FontValue) × IsFontOf b c.args.layout.now.size f
     × (arc_value c.in-Ok-terms_of.terms ≡ record { font = f; limit = c.args.job.now.limit; policy = c.args.layout.now.policy }))
     c.as_slice.ensures.value c.in-Ok-terms_of.ensures.terms)
 
@@ -21,5 +21,5 @@ returns-in-Err-Font-clause-cause g c =
     let here : font_fault_of c.in-Ok.bytes.items ≡ Some c.in-Err-Font.fault = subst (λ b. font_fault_of b ≡ Some c.in-Err-Font.fault) c.as_slice.ensures.value
     (c.terms_of.ensures.font c.in-Err-Font.fault (c.in-Err-Font.is ∙ ap Err c.in-Err-Font.field-0-is)) in
     let told : OfKnown known (λ all. font_fault_of all ≡ Some c.in-Err-Font.fault) =
-    of_known known c.in-Ok.bytes.items (λ all. font_fault_of all ≡ Some c.in-Err-Font.fault) (same_of_kept known c.in-Ok.bytes.items c.in-Ok.ensures) here
+    of_known known c.in-Ok.bytes.items (λ all. font_fault_of all ≡ Some c.in-Err-Font.fault) (same_of_kept known c.in-Ok.bytes.items c.in-Ok.ensures.bytes) here
     (λ all has. sym has.fault ∙ here) in λ before. (refl, told)

@@ -1,6 +1,7 @@
-use Rattle.std.proofs.Common.{◌≡◌, ◌∙◌, Some, Err, ap, refl, subst}
+use Rattle.std.proofs.Common.{◌≡◌, ◌∙◌, Some, Err, ap, refl, subst, sym}
 use Rattle.std.specs.Io.KnownBytes.{Appends}
 use Rattle.font_texts.specs.PairCharacters.{pairs_text_with}
+use Rattle.tfm_tables.specs.Acceptance.{font_fault_of}
 use Rattle.tfm_tables.specs.Font.{FontValue, IsFontOf}
 use Rattle.run_texts.specs.CutOff.{IsCutOff}
 use Rattle.run_texts.specs.declared.fault.ToolFault.{ToolFault}
@@ -11,7 +12,8 @@ use Rattle.tfm_tool.specs.Status.{failure_of}
 use Rattle.tfm_tool.specs.declared.failure.Failure.TheVariants.{Tool}
 use Rattle.tfm_tool.proofs.KnownLemmas.{of_font}
 use Rattle.tfm_tool.proofs.CauseLemmas.{font_cause, told_cause, tool_cause, unread_later}
-use Rattle.tfm_tool.proofs.StoppedLemmas.{handed_as, not_of_batch, unread_early}
+use Rattle.tfm_tool.proofs.OrderLemmas.{font_told, order_handed, refused_kept, sound_kept}
+use Rattle.tfm_tool.proofs.StoppedLemmas.{handed_as, not_of_batch, unread_early, unread_first}
 use Rattle.tfm_tool.proofs.program.pairs.Goals as goal
 
 pub returns-clause-text : goal.returns-clause-text
@@ -34,6 +36,24 @@ returns-in_err-pairs_text-clause-cause g c =
 
 pub returns-in_err-bytes-clause-cause : goal.returns-in_err-bytes-clause-cause
 returns-in_err-bytes-clause-cause g c = unread_later c.from_residual.result c.in_err-bytes.field-0.0 _ c.from_residual.ensures.1
+
+pub returns-clause-order : goal.returns-clause-order
+returns-clause-order g c = λ has.
+    let text = c.in_ok-pairs_text.ensures.text in
+    absurd (sound_kept (font_bytes_of (g.F.Opens.known c.args.files.now) (g.I.Read.remaining c.args.input.now) c.args.asked.now.font.now) c.in_ok-bytes.bytes.items c.args.asked.now.size text.0 c.in_ok-bytes.ensures.bytes
+    (subst (λ b. IsFontOf b c.args.asked.now.size text.0) c.as_slice.ensures.value text.1) has)
+
+pub returns-in_err-bytes-clause-order : goal.returns-in_err-bytes-clause-order
+returns-in_err-bytes-clause-order g c = λ has.
+    order_handed c.from_residual.result (failure_of c.in_err-bytes.field-0.0) c.from_residual.ensures.1 (unread_first c.in_err-bytes.field-0.0)
+
+pub returns-in_err-pairs_text-clause-order : goal.returns-in_err-pairs_text-clause-order
+returns-in_err-pairs_text-clause-order g c = λ has.
+    let fault : ToolFault = c.in_err-pairs_text.field-0.0 in
+    let found = refused_kept (font_bytes_of (g.F.Opens.known c.args.files.now) (g.I.Read.remaining c.args.input.now) c.args.asked.now.font.now) c.in_ok-bytes.bytes.items c.in_ok-bytes.ensures.bytes has in
+    order_handed c.from_residual-in_err-pairs_text.result (Tool fault) c.from_residual-in_err-pairs_text.ensures.1
+    (font_told c.pairs_text.result fault found.0 c.in_err-pairs_text.was
+    (c.pairs_text.ensures.refused found.0 (subst (λ b. font_fault_of b ≡ Some found.0) (sym c.as_slice.ensures.value) found.1)))
 
 pub returns-in_err-bytes-clause-write : goal.returns-in_err-bytes-clause-write
 returns-in_err-bytes-clause-write g c = λ same.

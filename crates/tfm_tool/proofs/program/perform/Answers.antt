@@ -345,7 +345,7 @@ pub returns-in-Pairs-clause-order : goal.returns-in-Pairs-clause-order
 returns-in-Pairs-clause-order g c = λ has.
     let known : List ℕ → Option (List ℕ) = g.F.Opens.known c.args.files.now in
     let input : Option (List ℕ) = g.I.Read.remaining c.args.input.now in
-    absurd (subst (HasRefusedFont known input) c.in-Pairs.is has)
+    c.pairs.ensures.order (subst (HasRefusedFont known input) c.in-Pairs.is has)
 
 pub returns-in-Check-clause-order : goal.returns-in-Check-clause-order
 returns-in-Check-clause-order g c = λ has.

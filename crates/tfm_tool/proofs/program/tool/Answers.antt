@@ -1,7 +1,7 @@
 use Rattle.std.proofs.Common.{◌≡◌, true}
 use Rattle.tfm_tool.specs.Status.{is_refusal}
 use Rattle.tfm_tool.specs.declared.failure.Failure.{Failure}
-use Rattle.tfm_tool.proofs.CauseLemmas.{before_at, before_of}
+use Rattle.tfm_tool.proofs.CauseLemmas.{before_at, before_of, stopped_after}
 use Rattle.tfm_tool.proofs.StatusLemmas.{no_fault_below, status_listed}
 use Rattle.tfm_tool.proofs.program.tool.Goals as goal
 
@@ -16,3 +16,10 @@ returns-in-Err-default-clause-cause g c = λ which.
     let failure : Failure = c.in-Err-default.failure in
     let before : is_refusal failure ≡ true = before_of c.fail-in-Err-default.result failure c.fail-in-Err-default.ensures which in
     (failure, before_at c.answer-answered.result failure _ c.in-Err-default.is-0 c.answer-answered.ensures.cause before, c.fail-in-Err-default.ensures)
+
+pub returns-in-Ok-Err-clause-stopped : goal.returns-in-Ok-Err-clause-stopped
+returns-in-Ok-Err-clause-stopped g c = λ five. (
+  g.O.Write.contents c.answer-answered.new.out,
+  c.flush-flushed.ensures.bytes,
+  stopped_after _ _ _ _ c.answer-answered.result c.in-Ok-Err.field-0-0 c.in-Ok-Err.is-0 c.answer-answered.ensures.served,
+)
