@@ -336,7 +336,7 @@ unless_is number = by (scalar number && not (is_fixed number))
 unless_same : (number : ℕ) → scalar number ≡ true → is_fixed number ≡ false → unless_fixed number ≡ number
 unless_same number character other = rw (character, other) refl
 
--- what is at code 10, at code 32, and at another code
+-- the characters at code 10, at code 32, and at another code
 feed_or_other : (numbers : List ℕ) (code : ℕ) → ((code ≡ 10) × (given_at numbers code ≡ no)) ⊎ (((code ≡ 32) × (given_at numbers code ≡ 0x20)) ⊎ ((code ≢ 10) × (code ≢ 32) × (given_at numbers code ≡ unless_fixed (get_or numbers code no))))
 feed_or_other numbers code = by (nat_eq code 10) refl (nat_eq code 32) refl
   where

@@ -8,7 +8,8 @@ use Rattle.std.specs.List.{position, range_with_len}
 use Rattle.std.specs.Option.{option_map, option_or}
 use Rattle.encodings.specs.declared.encoding.Encoding.{Encoding}
 use Rattle.encodings.specs.declared.encoding.Encoding.TheVariants.{Bytes, Ot1, T1, Ly1, Latin1, Vector}
-use Rattle.encodings.specs.Tables.{no, ot1_characters, t1_characters, ly1_characters, shared_others, ot1_others, t1_others, ly1_others}
+use Rattle.encodings.specs.Tables.{no, ot1_characters, t1_characters, ly1_characters}
+use Rattle.encodings.specs.Tables.{shared_others, ot1_others, t1_others, ly1_others}
 use Rattle.encodings.specs.Vectors.{given_characters, numbers_of, others_among, unbroken, vector_characters}
 
 -- the characters of an encoding by code; a line of bytes isn't decoded, and therefore `bytes` has none

@@ -8,7 +8,7 @@ use set_run::{ItemSource, LineSource, ReaderSource};
 use std::test::Fail;
 use test_support::{TricklingReader, line};
 
-/// What is expected before each block, and after the last one: whether the block is ready, and its number of lines.
+/// Before each block, and after the last one: whether the block is ready, and its number of lines.
 type Blocks<'a> = &'a [(bool, usize)];
 
 /// A text, the number of bytes of each read, the most lines of a block, and the blocks. The last pair is for the

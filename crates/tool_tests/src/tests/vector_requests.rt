@@ -38,7 +38,7 @@ fn vector(alloc: Global) -> Result<Vec<u8>, AllocError> {
     Ok(text)
 }
 
-/// What a call leaves: its exit status, what it appended to the output, and the message of its failure.
+/// The exit status of a call, the bytes that it appended to the output, and the message of its failure.
 #[derive(Drop)]
 struct Done {
     status: u8,
