@@ -1,11 +1,11 @@
 -- Decoding a text: which bytes have an entry in a table of single codes, and how far a text is decoded.
-use Rattle.std.proofs.Common.{◌≡◌, ◌⊎◌, inl, inr, ℕ, zero, suc, ◌+◌, ◌-◌, ◌*◌, ◌%◌, ◌<◌, ◌≤◌, Bool, true, false, List, [], ◌∷◌, ◌++◌, ◌&&◌, ◌||◌, not, cond, length, length-append, get_or, take, drop, set, map, flat_map, Some, arith, refl, ap, sym, subst, ◌∙◌, append-nil}
+use Rattle.std.proofs.Common.{◌≡◌, ◌⊎◌, inl, inr, ℕ, zero, suc, ◌+◌, ◌-◌, ◌*◌, ◌/◌, ◌%◌, ◌<◌, ◌≤◌, Bool, true, false, List, [], ◌∷◌, ◌++◌, ◌&&◌, ◌||◌, not, cond, length, length-append, get_or, take, drop, set, map, flat_map, Some, None, Bor, arith, refl, ap, sym, subst, ◌∙◌, append-nil}
 use lib.Utf8.{encode, low_scalar}
 use Rattle.std.specs.Prelude.{nat_eq, nat_le, nat_lt}
 use Rattle.std.specs.Char.{encode_utf8}
 use Rattle.std.specs.Int.{from_bool}
 use Rattle.std.specs.List.{list_all, range_with_len}
-use Rattle.std.specs.Option.{option_map_or}
+use Rattle.std.specs.Option.{option_and_then, option_map_or}
 use Rattle.std.specs.Str.{chars, IsUtf8, IsAscii}
 use Rattle.std.proofs.lemmas.Bool.{cases_lt, eqb-true, le-ltb, lt-ltb, ltb-true}
 use Rattle.std.proofs.lemmas.Bool.Decides.{nat_tests}
@@ -20,11 +20,14 @@ use Rattle.encodings.specs.declared.encoding.Encoding.{Encoding}
 use Rattle.encodings.specs.declared.encoding.Encoding.TheVariants.{Bytes, Ot1, T1, Ly1, Latin1, Vector}
 use Rattle.encodings.specs.declared.coded.Coded.TheVariants.{Code, Uncoded}
 use Rattle.encodings.specs.declared.decoding.TheConstants.{OFFSETS}
-use Rattle.encodings.specs.Codes.{codes_of}
+use Rattle.encodings.specs.Codes.{codes_of, listed_codes}
 use Rattle.encodings.specs.Lines.{coded_of}
-use Rattle.encodings.specs.Lookup.{singles_in}
+use Rattle.encodings.specs.declared.vector.Vector.{Vector as VectorValue}
+use Rattle.encodings.specs.Vectors.{vector_characters}
+use Rattle.encodings.specs.VectorTables.{is_lead, is_second, single_of}
+use Rattle.encodings.specs.Lookup.{is_table, singles_in}
 use Rattle.encodings.specs.Decoding.{coded_text, is_plain, offset_after, IsFront, IsDecodedTo}
-use Rattle.encodings.proofs.TableLemmas.{at_member, in_range, index_below, index_of_two, index_of_punctuation, single_is, singles_end}
+use Rattle.encodings.proofs.TableLemmas.{at_member, by_table, in_range, index_below, index_of_two, index_of_punctuation, single_is, single_there, singles_end}
 
 -- a text without its first character is shorter
 pub shorter_text : (c : ℕ) (text rest : List ℕ) → text ≡ encode_utf8 c ++ rest → length rest < length text
@@ -127,14 +130,14 @@ abbrev all_placed : ℕ → List ℕ → Bool
 all_placed from [] = true
 all_placed from (single ∷ singles) = (not (nat_lt single 256) || is_placed from) && all_placed (from + 1) singles
 
-placed : (encoding : Encoding) → all_placed 0 (singles_in encoding) ≡ true
+placed : (encoding : Encoding) → is_table encoding ≡ true → all_placed 0 (singles_in encoding) ≡ true
 unfolding singles_in
-placed Bytes = refl
-placed Ot1 = refl
-placed T1 = refl
-placed Ly1 = refl
-placed Latin1 = refl
-placed (Vector vector) = refl
+placed Bytes table = refl
+placed Ot1 table = refl
+placed T1 table = refl
+placed Ly1 table = refl
+placed Latin1 table = refl
+placed (Vector vector) table = cc
 
 both : (a b : Bool) → a && b ≡ true → (a ≡ true) × (b ≡ true)
 both true b is = (refl, is)
@@ -152,10 +155,35 @@ placed_at (single ∷ singles) from (suc k) all below =
     let same : from + 1 + k ≡ from + suc k = omega arith in
     subst (λ i. is_placed i ≡ true) same (placed_at singles (from + 1) k (both _ _ all).1 below)
 
-code_placed : (encoding : Encoding) (index code : ℕ) → get_or (singles_in encoding) index 256 ≡ code → code < 256 → is_placed index ≡ true
-code_placed encoding index code is below =
+placed_in_table : (encoding : Encoding) (index code : ℕ) → is_table encoding ≡ true → get_or (singles_in encoding) index 256 ≡ code → code < 256 → is_placed index ≡ true
+placed_in_table encoding index code table is below =
     let same : 0 + index ≡ index = omega arith in
-    subst (λ i. is_placed i ≡ true) same (placed_at (singles_in encoding) 0 index (placed encoding) (omega (arith, is)))
+    subst (λ i. is_placed i ≡ true) same (placed_at (singles_in encoding) 0 index (placed encoding table) (omega (arith, is)))
+
+placed_in_vector : (vector : Bor VectorValue) (index code : ℕ) → get_or (singles_in (Vector vector)) index 256 ≡ code → code < 256 → is_placed index ≡ true
+unfolding singles_in
+placed_in_vector vector index code is below = by (is_lead index) (nat_lt index 128) (nat_le 1280 index) (is_second index) (sym (single_there (vector_characters vector.now.characters) index within) ∙ is)
+  where
+    within : index < 1344
+    within = elim (cases_lt index 1344) [
+      | inl small ↦ small
+      | inr big ↦ absurd (omega (arith, below, sym is ∙ get_or_past (singles_in (Vector vector)) index 256 (omega (arith, singles_end (Vector vector)))))
+    ]
+
+    by : (lead ascii mark second : Bool)
+        → cond lead 0 (single_of (option_and_then (listed_codes (vector_characters vector.now.characters)) (cond ascii (Some index) (cond mark (Some (0x2000 + (index - 1280))) (cond second (Some (64 * (index / 256 + 1) + (index % 256 - 128))) None))))) ≡ code
+        → ascii || (lead || (second || mark)) ≡ true
+    by lead true mark second single = refl
+    by true false mark second single = refl
+    by false false mark true single = refl
+    by false false true false single = refl
+    by false false false false single = absurd (omega (arith, single, below))
+
+code_placed : (encoding : Encoding) (index code : ℕ) → get_or (singles_in encoding) index 256 ≡ code → code < 256 → is_placed index ≡ true
+code_placed encoding index code = by_table (λ e. get_or (singles_in e) index 256 ≡ code → code < 256 → is_placed index ≡ true)
+    (λ e table. placed_in_table e index code table)
+    (λ vector. placed_in_vector vector index code)
+    encoding
 
 first_placed : (byte : ℕ) → byte < 256 → 128 ≤ byte → is_placed byte ≡ true → (0xC2 ≤ byte) × (byte ≤ 0xC5)
 first_placed byte below above is = grind (arith, nat_tests)

@@ -1,9 +1,9 @@
 -- The tables by character and the tables by code give the same codes, which is computed for every character in
 -- either of them.
-use Rattle.std.proofs.Common.{◌≡◌, ◌≢◌, ℕ, zero, suc, ◌<◌, ◌≤◌, ◌+◌, ◌-◌, ◌*◌, ◌/◌, Bool, true, false, List, [], ◌∷◌, ◌++◌, ◌||◌, ◌&&◌, Option, Some, None, Bor, length, get_or, take, drop, flat_map, arith, refl, ap, sym, ◌∙◌}
+use Rattle.std.proofs.Common.{◌≡◌, ◌≢◌, ℕ, zero, suc, ◌<◌, ◌≤◌, ◌+◌, ◌-◌, ◌*◌, ◌/◌, Bool, true, false, List, [], ◌∷◌, ◌++◌, ◌||◌, ◌&&◌, Option, Some, None, Bor, length, get_or, take, drop, arith, refl, ap, sym, ◌∙◌}
 use Rattle.std.specs.Prelude.{not, nat_eq, nat_lt, map, bytes_eq, cond}
 use Rattle.std.specs.List.{list_all, list_any, range_with_len, position_or_len}
-use Rattle.std.specs.Option.{option_or}
+use Rattle.std.specs.Option.{option_and_then, option_or}
 use Rattle.std.proofs.lemmas.Bool.Decides.{nat_tests}
 use Rattle.std.proofs.lemmas.Bool.{and_parts, eqb-true, eq-eqb, ltb-true, ltb-false, lt-ltb, le-ltb}
 use Rattle.std.proofs.lemmas.Slice.Eq.{bytes_eq-Decides}
@@ -11,14 +11,17 @@ use Rattle.std.proofs.lemmas.List.{get_or_past}
 use Rattle.std.proofs.lemmas.Nat.{div-mul-add, mod-mul-add}
 use Rattle.std.proofs.Math.Nat.{lt-mul-div-succ}
 use Rattle.std.proofs.lemmas.List.Folds.{list_any-append}
+use Rattle.std.proofs.lemmas.List.FromFn.{fill_by_all, get_or-map-range_with_len, length-map-range_with_len}
 use Rattle.encodings.specs.declared.encoding.Encoding.{Encoding}
 use Rattle.encodings.specs.declared.encoding.Encoding.TheVariants.{Bytes, Ot1, T1, Ly1, Latin1, Vector}
 use Rattle.encodings.specs.declared.lookup.TheConstants.{CODES}
-use Rattle.encodings.specs.declared.tables.TheConstants.{NO_SINGLE}
 use Rattle.encodings.specs.declared.vector.Vector.{Vector as VectorValue}
 use Rattle.encodings.specs.Tables.{no, ot1_characters, t1_characters, ly1_characters, shared_others, ot1_others, t1_others, ly1_others}
-use Rattle.encodings.specs.Codes.{codes_of, codes_beside, own_code, characters_of, others_of}
+use Rattle.encodings.specs.Codes.{codes_of, codes_beside, listed_codes, own_code, characters_of, others_of}
+use Rattle.encodings.specs.Vectors.{vector_characters}
+use Rattle.encodings.specs.VectorTables.{character_indexed, is_lead, single_at, single_of, singles_of}
 use Rattle.encodings.specs.Lookup.{is_punctuation, is_table, index_of, rows_of, looked_up, singles_in, others_in}
+pub use Rattle.encodings.proofs.VectorLemmas.{of_vector}
 
 -- what all members of a list pass, each of them passes
 pub at_member : (p : ℕ → Bool) (c : ℕ) (xs : List ℕ) → list_all p xs ≡ true → list_any (λ x. nat_eq x c) xs ≡ true → p c ≡ true
@@ -113,6 +116,10 @@ agrees Ly1 table = refl
 agrees Latin1 table = refl
 agrees (Vector vector) table = cc
 
+singles_length : (xs : List ℕ) → length (singles_of xs) ≡ 1344
+unfolding singles_of
+singles_length xs = length-map-range_with_len (single_at xs) 0 1344
+
 pub singles_end : (encoding : Encoding) → length (singles_in encoding) ≡ 1344
 unfolding singles_in
 singles_end Bytes = refl
@@ -120,7 +127,7 @@ singles_end Ot1 = refl
 singles_end T1 = refl
 singles_end Ly1 = refl
 singles_end Latin1 = refl
-singles_end (Vector vector) = refl
+singles_end (Vector vector) = singles_length (vector_characters vector.now.characters)
 
 pub neither : (a b : Bool) → a || b ≡ false → (a ≡ false) × (b ≡ false)
 neither true b is = cc
@@ -197,20 +204,76 @@ single_in_table : (encoding : Encoding) (c code : ℕ) → is_table encoding ≡
 single_in_table encoding c code table character is below =
     sym (tables_agree encoding c table (λ same. absurd (omega (arith, same)))) ∙ rw is (rw (lt-ltb code 256 below) refl)
 
-marked : (singles : List ℕ) (index : ℕ) → list_all (λ single. nat_eq single 256) singles ≡ true → get_or singles index 256 ≡ 256
-marked [] index all = refl
-marked (single ∷ singles) zero all = eqb-true single 256 (and_parts _ _ all).0
-marked (single ∷ singles) (suc index) all = marked singles index (and_parts _ _ all).1
+-- ---- the table of a vector
 
--- a vector has no single codes in a table
-none_in_vector : (vector : Bor VectorValue) (index : ℕ) → get_or (singles_in (Vector vector)) index 256 ≡ 256
+pub table_filled : (xs singles : List ℕ) → length singles ≡ 1344 → ((k : ℕ) → k < 1344 → get_or singles k 0 ≡ single_at xs k) → singles ≡ singles_of xs
+unfolding singles_of
+table_filled xs singles long each = fill_by_all (single_at xs) singles 1344 0 long each
+
+pub single_there : (xs : List ℕ) (index : ℕ) → index < 1344 → get_or (singles_of xs) index 256 ≡ single_at xs index
+unfolding singles_of
+single_there xs index below = get_or-map-range_with_len (single_at xs) 0 1344 index index 256 below (omega arith)
+
+abbrev is_number : Option ℕ → ℕ → Bool
+is_number None number = false
+is_number (Some other) number = nat_eq other number
+
+number_is : (o : Option ℕ) (number : ℕ) → is_number o number ≡ true → o ≡ Some number
+number_is None number is = cc
+number_is (Some other) number is = ap Some (eqb-true other number is)
+
+-- whether the entry with the index of a character is that of the character
+abbrev is_indexed : ℕ → Bool
+is_indexed c = nat_lt (index_of c) 1344 && (not (is_lead (index_of c)) && is_number (character_indexed (index_of c)) c)
+
+all_indexed : list_all is_indexed (range_with_len 0 384) ≡ true
+all_indexed = refl
+
+all_marks_indexed : list_all is_indexed (range_with_len 0x2000 64) ≡ true
+all_marks_indexed = refl
+
+not_is : (b : Bool) → not b ≡ true → b ≡ false
+not_is true is = cc
+not_is false is = refl
+
+entry_of : (xs : List ℕ) (c : ℕ) → is_indexed c ≡ true → get_or (singles_of xs) (index_of c) 256 ≡ single_of (listed_codes xs c)
+entry_of xs c is =
+    let within = and_parts _ _ is in
+    let here = and_parts _ _ within.1 in
+    single_there xs (index_of c) (ltb-true (index_of c) 1344 within.0)
+    ∙ ap (λ b. cond b 0 (single_of (option_and_then (listed_codes xs) (character_indexed (index_of c))))) (not_is (is_lead (index_of c)) here.0)
+    ∙ ap (λ o. single_of (option_and_then (listed_codes xs) o)) (number_is (character_indexed (index_of c)) c here.1)
+
+alone : (o : Option (List ℕ)) (code : ℕ) → single_of o ≡ code → code < 256 → o ≡ Some (code ∷ [])
+alone None code is below = absurd (omega (arith, is))
+alone (Some []) code is below = absurd (omega (arith, is))
+alone (Some (only ∷ [])) code is below = ap (λ k. Some (k ∷ [])) is
+alone (Some (first ∷ second ∷ codes)) code is below = absurd (omega (arith, is))
+
+single_listed : (xs : List ℕ) (c code : ℕ) → get_or (singles_of xs) (index_of c) 256 ≡ code → code < 256 → listed_codes xs c ≡ Some (code ∷ [])
+single_listed xs c code single below = by (nat_lt c 384) refl (is_punctuation c) refl
+  where
+    by : (b : Bool) → nat_lt c 384 ≡ b → (p : Bool) → is_punctuation c ≡ p → listed_codes xs c ≡ Some (code ∷ [])
+    by true is p _ =
+        let here = at_member is_indexed c (range_with_len 0 384) all_indexed (in_range c 0 384 (omega arith) (ltb-true c 384 is)) in
+        alone (listed_codes xs c) code (sym (entry_of xs c here) ∙ single) below
+    by false is true inside =
+        let bounds = punctuation_bounds c inside in
+        let here = at_member is_indexed c (range_with_len 0x2000 64) all_marks_indexed (in_range c 0x2000 64 bounds.0 bounds.1) in
+        alone (listed_codes xs c) code (sym (entry_of xs c here) ∙ single) below
+    by false is false outside =
+        let past = get_or_past (singles_of xs) (index_of c) 256 (omega (arith, singles_length xs, index_outside c (ltb-false c 384 is) outside)) in
+        absurd (omega (arith, single, past, below))
+
+-- the codes of a character that has a single code in the table of a vector
+single_in_vector : (vector : Bor VectorValue) (c code : ℕ) → get_or (singles_in (Vector vector)) (index_of c) 256 ≡ code → code < 256 → codes_of (Vector vector) c ≡ Some (code ∷ [])
 unfolding singles_in
-none_in_vector vector index = marked (flat_map (λ entries. entries) NO_SINGLE) index refl
+single_in_vector vector c code single below = of_vector vector c ∙ single_listed (vector_characters vector.now.characters) c code single below
 
 pub single_is : (encoding : Encoding) (c code : ℕ) → c < 0x110000 → get_or (singles_in encoding) (index_of c) 256 ≡ code → code < 256 → codes_of encoding c ≡ Some (code ∷ [])
 single_is encoding c code = by_table (λ e. c < 0x110000 → get_or (singles_in e) (index_of c) 256 ≡ code → code < 256 → codes_of e c ≡ Some (code ∷ []))
     (λ e table. single_in_table e c code table)
-    (λ vector character is below. absurd (omega (arith, is, none_in_vector vector (index_of c))))
+    (λ vector character. single_in_vector vector c code)
     encoding
 
 -- the codes of a character that has none there
@@ -218,7 +281,7 @@ pub other_is : (encoding : Encoding) (c : ℕ) → is_table encoding ≡ true �
 other_is encoding c table character above =
     sym (tables_agree encoding c table (λ same. absurd (omega (arith, same)))) ∙ rw (le-ltb (get_or (singles_in encoding) (index_of c) 256) 256 above) refl
 
-pub ruleset found = (single_is, other_is)
+pub ruleset found = (single_is, other_is, of_vector)
 
 -- a character that isn't in ASCII has bits above its lowest six
 pub bits_above : (c : ℕ) → 128 ≤ c → 1 ≤ c / 64

@@ -229,6 +229,10 @@ own_there xs code within = get_or-map-range_with_len (own_at xs) 0 (length xs) c
 own_if_lowest : (xs : List ℕ) (code : ℕ) → lowest xs (get_or xs code no) ≡ code → own_at xs code ≡ get_or xs code no
 own_if_lowest xs code same = rw (eq-eqb _ _ same) refl
 
+own_each : (xs : List ℕ) → ((k : ℕ) → k < length xs → get_or xs k no ≡ own_at xs k) → xs ≡ own_characters xs
+unfolding own_characters
+own_each xs each = fill_by_all (own_at xs) xs (length xs) no refl each
+
 -- a code has the character of the list, or none
 own_or_none : (xs : List ℕ) (code : ℕ) → ((own_at xs code ≡ get_or xs code no) × (lowest xs (get_or xs code no) ≡ code)) ⊎ (own_at xs code ≡ no)
 own_or_none xs code = by (nat_eq (lowest xs (get_or xs code no)) code) refl
@@ -293,6 +297,10 @@ given_length numbers = length-map-range_with_len (given_at numbers) 0 256
 given_there : (numbers : List ℕ) (code : ℕ) → code < 256 → get_or (given_characters numbers) code no ≡ given_at numbers code
 unfolding given_characters
 given_there numbers code below = get_or-map-range_with_len (given_at numbers) 0 256 code code no below (omega arith)
+
+given_each : (xs : List ℕ) → length xs ≡ 256 → ((k : ℕ) → k < 256 → get_or xs k no ≡ given_at xs k) → xs ≡ given_characters xs
+unfolding given_characters
+given_each xs long each = fill_by_all (given_at xs) xs 256 no long each
 
 given_feed : (numbers : List ℕ) → given_at numbers 10 ≡ no
 unfolding given_at
@@ -530,12 +538,75 @@ pub filled : (given : List (Option ℕ)) (numbers : List ℕ) → length numbers
 unfolding numbers_of
 filled given numbers long each = fill_by_all (number_at given) numbers 256 0 long each
 
-pub made_of : (given : List (Option ℕ)) (vector : Bor VectorValue) → vector.now.characters ≡ numbers_of given → IsMadeOf given (Vector vector)
+-- a list in which each character is at its lowest code is that of its own characters
+own_again : (xs : List ℕ) → own_characters (own_characters xs) ≡ own_characters xs
+own_again xs = sym (own_each (own_characters xs) each)
+  where
+    each : (k : ℕ) → k < length (own_characters xs) → get_or (own_characters xs) k no ≡ own_at (own_characters xs) k
+    each k within = by (nat_eq (get_or (own_characters xs) k no) no) refl (own_or_none (own_characters xs) k)
+      where
+        by : (b : Bool) → nat_eq (get_or (own_characters xs) k no) no ≡ b
+            → ((own_at (own_characters xs) k ≡ get_or (own_characters xs) k no) × (lowest (own_characters xs) (get_or (own_characters xs) k no) ≡ k)) ⊎ (own_at (own_characters xs) k ≡ no)
+            → get_or (own_characters xs) k no ≡ own_at (own_characters xs) k
+        by b mark (inl here) = sym here.0
+        by true mark (inr none) = eqb-true _ no mark ∙ sym none
+        by false other (inr none) =
+            sym (own_if_lowest (own_characters xs) k (own_alone xs k within (λ same. cc (eq-eqb (get_or (own_characters xs) k no) no same, other))))
+
+unless_twice : (number : ℕ) → unless_fixed (unless_fixed number) ≡ unless_fixed number
+unless_twice number = by (scalar number && not (is_fixed number)) refl
+  where
+    by : (b : Bool) → scalar number && not (is_fixed number) ≡ b → unless_fixed (cond b number no) ≡ cond b number no
+    by true kept = ap (λ b. cond b number no) kept
+    by false gone = refl
+
+given_again : (numbers : List ℕ) → given_characters (vector_characters numbers) ≡ vector_characters numbers
+given_again numbers = sym (given_each (vector_characters numbers) (vector_length numbers) each)
+  where
+    kept : (k : ℕ) → k ≢ 10 → k ≢ 32
+        → ((own_at (given_characters numbers) k ≡ get_or (given_characters numbers) k no) × (lowest (given_characters numbers) (get_or (given_characters numbers) k no) ≡ k)) ⊎ (own_at (given_characters numbers) k ≡ no)
+        → k < 256 → unless_fixed (own_at (given_characters numbers) k) ≡ own_at (given_characters numbers) k
+    kept k not_feed not_space (inl here) below =
+        let is : own_at (given_characters numbers) k ≡ unless_fixed (get_or numbers k no) = here.0 ∙ given_there numbers k below ∙ given_else numbers k not_feed not_space in
+        ap unless_fixed is ∙ unless_twice (get_or numbers k no) ∙ sym is
+    kept k not_feed not_space (inr none) below = ap unless_fixed none ∙ sym none
+
+    each : (k : ℕ) → k < 256 → get_or (vector_characters numbers) k no ≡ given_at (vector_characters numbers) k
+    each k below = by (feed_or_other (vector_characters numbers) k)
+      where
+        by : ((k ≡ 10) × (given_at (vector_characters numbers) k ≡ no)) ⊎ (((k ≡ 32) × (given_at (vector_characters numbers) k ≡ 0x20)) ⊎ ((k ≢ 10) × (k ≢ 32) × (given_at (vector_characters numbers) k ≡ unless_fixed (get_or (vector_characters numbers) k no))))
+            → get_or (vector_characters numbers) k no ≡ given_at (vector_characters numbers) k
+        by (inl feed) = ap (λ j. get_or (vector_characters numbers) j no) feed.0 ∙ vector_at_feed numbers ∙ sym feed.1
+        by (inr (inl space)) = ap (λ j. get_or (vector_characters numbers) j no) space.0 ∙ vector_at_space numbers ∙ sym space.1
+        by (inr (inr other)) =
+            let there = vector_there numbers k below in
+            there ∙ sym (kept k other.0 other.1 (own_or_none (given_characters numbers) k) below) ∙ ap unless_fixed (sym there) ∙ sym other.2
+
+-- the characters of a vector are those of a vector with these characters
+pub vector_again : (numbers : List ℕ) → vector_characters (vector_characters numbers) ≡ vector_characters numbers
+vector_again numbers = ap own_characters (given_again numbers) ∙ own_again (given_characters numbers)
+
+pub is_again : (numbers xs : List ℕ) → xs ≡ vector_characters numbers → xs ≡ vector_characters xs
+is_again numbers xs same = same ∙ sym (vector_again numbers) ∙ ap vector_characters (sym same)
+
+pub ruleset made = (is_again)
+
+pub made_of : (given : List (Option ℕ)) (vector : Bor VectorValue) → vector.now.characters ≡ vector_characters (numbers_of given) → IsMadeOf given (Vector vector)
 unfolding characters_of
-made_of given vector same = record {
-  characters = ap vector_characters same;
-  codes = λ c below. of_vector vector c ∙ ap (λ l. listed_codes (vector_characters l) c) same ∙ own_codes (given_characters (numbers_of given)) c (λ none. absurd (omega (arith, none)));
-}
+made_of given vector same =
+    let kept : vector_characters vector.now.characters ≡ vector_characters (numbers_of given) = ap vector_characters same ∙ vector_again (numbers_of given) in
+    record {
+      characters = kept;
+      codes = λ c below. of_vector vector c ∙ ap (λ l. listed_codes l c) kept ∙ own_codes (given_characters (numbers_of given)) c (λ none. absurd (omega (arith, none)));
+    }
+
+-- a code that has a character is its code
+pub hinted : (xs : List ℕ) (c code : ℕ) → xs ≡ vector_characters xs → c < 0x110000 → code < 256 → get_or xs code 0 ≡ c → listed_codes (vector_characters xs) c ≡ Some (code ∷ [])
+hinted xs c code own character below same =
+    let within : code < length xs = omega (arith, ap length own, vector_length xs) in
+    let there : get_or (vector_characters xs) code no ≡ c = ap (λ l. get_or l code no) (sym own) ∙ get_or_default xs code no 0 within ∙ same in
+    subst (λ x. listed_codes (vector_characters xs) x ≡ Some (code ∷ [])) there
+    (vector_comes xs code (omega (arith, below, vector_length xs)) (λ mark. absurd (omega (arith, sym there ∙ mark, character))))
 
 -- ---- the lowest code of a character
 
@@ -753,3 +824,27 @@ pub ruleset own = (own_unbroken, own_is, own_lower, own_nowhere, own_none)
 pub vector_character : (vector : Bor VectorValue) (code : ℕ) → code < 256 → character_of (Vector vector) code ≡ unmarked (own_at (given_characters vector.now.characters) code)
 unfolding character_of characters_of
 vector_character vector code below = ap unmarked (vector_there vector.now.characters code below)
+
+-- ---- the characters of a vector as they are made
+
+pub numbered_some : (number c : ℕ) → Some c ≡ unmarked number → c ≡ number
+numbered_some number c is = by (nat_eq number no) is
+  where
+    by : (b : Bool) → Some c ≡ (if b then None else Some number) → c ≡ number
+    by true one = absurd (none-some c (sym one))
+    by false one = same_Some _ _ one
+
+pub numbered_none : (number : ℕ) → None ≡ unmarked number → no ≡ number
+numbered_none number is = by (nat_eq number no) refl is
+  where
+    by : (b : Bool) → nat_eq number no ≡ b → None ≡ (if b then None else Some number) → no ≡ number
+    by true mark one = sym (eqb-true number no mark)
+    by false other one = absurd (none-some number one)
+
+pub ruleset numbered = (numbered_some, numbered_none)
+
+pub own_filled : (numbers own : List ℕ) → length own ≡ 256 → ((k : ℕ) → k < 256 → get_or own k 0 ≡ own_at (given_characters numbers) k) → own ≡ vector_characters numbers
+unfolding own_characters
+own_filled numbers own long each =
+    let xs = given_characters numbers in
+    fill_by_all (own_at xs) own (length xs) 0 (long ∙ sym (given_length numbers)) (λ k below. each k (omega (arith, given_length numbers)))

@@ -1,6 +1,8 @@
 pub mod Names
 pub mod Tables
+pub mod VectorContents
 pub mod Vectors
+pub mod VectorTables
 pub mod Codes
 pub mod Lookup
 pub mod Lines

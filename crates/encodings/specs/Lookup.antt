@@ -9,9 +9,10 @@ use Rattle.encodings.specs.declared.tables.t1.TheConstants.{T1_SINGLE, T1_OTHERS
 use Rattle.encodings.specs.declared.tables.ly1.TheConstants.{LY1_SINGLE, LY1_OTHERS}
 use Rattle.encodings.specs.declared.tables.latin1.TheConstants.{LATIN1_SINGLE, LATIN1_OTHERS}
 use Rattle.encodings.specs.Codes.{codes_beside}
-use Rattle.encodings.specs.Vectors.{substitutes}
+use Rattle.encodings.specs.Vectors.{substitutes, vector_characters}
+use Rattle.encodings.specs.VectorTables.{singles_of}
 
--- whether the codes of an encoding are in tables of the code; those of a vector aren't
+-- whether the codes of an encoding are all in tables of the code; those of a vector aren't
 abbrev pub is_table : Encoding → Bool
 is_table Bytes = true
 is_table Ot1 = true
@@ -20,15 +21,16 @@ is_table Ly1 = true
 is_table Latin1 = true
 is_table (Vector vector) = false
 
--- the single codes in the tables of the code: 256 entries by byte for bytes with which characters begin, and then
--- as many each for bytes after 0xC2, 0xC3, 0xC4 and 0xC5; then 64 for the characters from U+2000 to U+203F
+-- the single codes in the tables of the code, and in that of a vector: 256 entries by byte for bytes with which
+-- characters begin, and then as many each for bytes after 0xC2, 0xC3, 0xC4 and 0xC5; then 64 for the characters from
+-- U+2000 to U+203F
 unfoldable pub singles_in : Encoding → List ℕ
 singles_in Bytes = flat_map (λ entries. entries) NO_SINGLE
 singles_in Ot1 = flat_map (λ entries. entries) OT1_SINGLE
 singles_in T1 = flat_map (λ entries. entries) T1_SINGLE
 singles_in Ly1 = flat_map (λ entries. entries) LY1_SINGLE
 singles_in Latin1 = flat_map (λ entries. entries) LATIN1_SINGLE
-singles_in (Vector vector) = flat_map (λ entries. entries) NO_SINGLE
+singles_in (Vector vector) = singles_of (vector_characters vector.now.characters)
 
 -- whether a character is one from U+2000 to U+203F, the first part of the block General Punctuation
 abbrev pub is_punctuation : ℕ → Bool

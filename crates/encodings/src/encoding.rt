@@ -61,8 +61,10 @@ impl Encoding {
     /// the grave accent (U+0060) as ‘, the hyphens U+2010 and U+2011 as `-`, the figure dash (U+2012) as –,
     /// and the horizontal bar (U+2015) as —.
     ///
-    /// Fails if an allocation fails. The memory of the encoding, 1 KB, is never freed, so that encodings can
-    /// be copied and kept anywhere: make one for a whole batch, not one for each line.
+    /// Fails if an allocation fails. The memory of the encoding, 4.6 KB, is never freed, so that encodings
+    /// can be copied and kept anywhere. Most of it is tables by character, from which the codes of a text are
+    /// looked up. Making them takes longer than setting a short text: make one encoding for a whole batch, not
+    /// one for each line.
     #[tactic(auto, using(crate::proofs::VectorLemmas::made_of))]
     pub fn of_characters(alloc: Global, characters: &[Option<char>]) -> Result<Self, AllocError>
         ensures { IfOk result (IsMadeOf characters.now) }

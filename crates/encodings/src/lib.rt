@@ -25,3 +25,4 @@ mod tables;
 mod vector;
 mod vector_characters;
 mod vector_codes;
+mod vector_tables;

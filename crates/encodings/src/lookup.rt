@@ -1,11 +1,11 @@
 //! Looks up the codes of a character.
 ghost use Rattle.std.specs.Prelude.{◌≡◌, ◌≤◌, true, [], ◌∷◌, None, Some, MatchOption, get_or};
 ghost use Rattle.encodings.specs.Codes.{codes_beside, codes_of as codes_of_character};
-ghost use Rattle.encodings.specs.Lookup.{index_of, is_table, rows_of, singles_in};
+ghost use Rattle.encodings.specs.Lookup.{index_of, rows_of, singles_in};
 
 use crate::Encoding;
 use crate::tables::{OtherCodes, PUNCTUATION, other_codes, single_codes};
-use crate::vector_codes::codes_in_vector;
+use crate::vector_codes::codes_by_hint;
 
 /// Every code, at its own index.
 static CODES: [u8; 256] = [
@@ -71,30 +71,30 @@ fn single_code(encoding: Encoding, character: char) -> Option<u8>
     u8::try_from(single).ok()
 }
 
-/// Returns the codes of a character in the tables of an encoding.
+/// Returns the codes of a character that has no single code in the table.
 #[tactic(auto, using(crate::proofs::TableLemmas::found))]
-fn codes_in_tables(encoding: Encoding, character: char) -> Option<&'static [u8]>
-    requires { is_table encoding ≡ true }
-    ensures { MatchOption result (codes_of_character encoding character ≡ None)
-        (λ codes. codes_of_character encoding character ≡ Some codes.now) }
-{
-    match single_code(encoding, character) {
-        Some(code) => Some(only(code)),
-        None => codes_in_row(other_codes(encoding), character),
-    }
-}
-
-/// Returns the codes of a character in an encoding, or `None` if it has none. A character that vanishes, such
-/// as the soft hyphen, has an empty list of codes. With [`Encoding::Bytes`] no character has codes.
-#[tactic(auto, using(crate::proofs::VectorLemmas::of_vector))]
-pub fn codes_of(encoding: Encoding, character: char) -> Option<&'static [u8]>
+fn other_codes_of(encoding: Encoding, character: char) -> Option<&'static [u8]>
+    requires { 256 ≤ get_or (singles_in encoding) (index_of character) 256 }
     ensures { MatchOption result (codes_of_character encoding character ≡ None)
         (λ codes. codes_of_character encoding character ≡ Some codes.now) }
 {
     match encoding {
         Encoding::Bytes | Encoding::Ot1 | Encoding::T1 | Encoding::Ly1 | Encoding::Latin1 => {
-            codes_in_tables(encoding, character)
+            codes_in_row(other_codes(encoding), character)
         }
-        Encoding::Vector(vector) => codes_in_vector(&vector.characters, character),
+        Encoding::Vector(vector) => codes_by_hint(vector, character),
+    }
+}
+
+/// Returns the codes of a character in an encoding, or `None` if it has none. A character that vanishes, such
+/// as the soft hyphen, has an empty list of codes. With [`Encoding::Bytes`] no character has codes.
+#[tactic(auto, using(crate::proofs::TableLemmas::found))]
+pub fn codes_of(encoding: Encoding, character: char) -> Option<&'static [u8]>
+    ensures { MatchOption result (codes_of_character encoding character ≡ None)
+        (λ codes. codes_of_character encoding character ≡ Some codes.now) }
+{
+    match single_code(encoding, character) {
+        Some(code) => Some(only(code)),
+        None => other_codes_of(encoding, character),
     }
 }

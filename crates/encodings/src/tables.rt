@@ -23,6 +23,9 @@ pub(crate) const X: u16 = 256;
 /// bytes themselves is any code. The last 64 entries are those of the characters from U+2000.
 pub(crate) type SingleCodes = [[u16; 64]; 21];
 
+/// The entries of a table of single codes, one after the other.
+pub(crate) type SingleEntries = [u16; 1344];
+
 /// The index of the entry of U+2000 in a table of single codes.
 pub(crate) const PUNCTUATION: usize = 1280;
 
@@ -49,15 +52,16 @@ pub(crate) fn single_codes(encoding: Encoding) -> &'static [u16]
     ensures { result.now ≡ singles_in encoding }
 {
     match encoding {
-        Encoding::Bytes | Encoding::Vector(_) => NO_SINGLE.as_flattened(),
+        Encoding::Bytes => NO_SINGLE.as_flattened(),
         Encoding::Ot1 => OT1_SINGLE.as_flattened(),
         Encoding::T1 => T1_SINGLE.as_flattened(),
         Encoding::Ly1 => LY1_SINGLE.as_flattened(),
         Encoding::Latin1 => LATIN1_SINGLE.as_flattened(),
+        Encoding::Vector(vector) => &vector.singles,
     }
 }
 
-/// Returns the codes of all other characters that have any.
+/// Returns the codes of all other characters that have any; those of a vector aren't in a table.
 #[tactic(auto, unfolding(crate::specs::Lookup::others_in))]
 pub(crate) fn other_codes(encoding: Encoding) -> &'static [OtherCodes]
     ensures { result.now ≡ others_in encoding }

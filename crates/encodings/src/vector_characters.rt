@@ -2,7 +2,7 @@
 ghost use Rattle.std.specs.Prelude.{◌≡◌, None, position, nat_eq};
 ghost use Rattle.encodings.specs.Characters.{unmarked};
 ghost use Rattle.encodings.specs.Codes.{codes_beside};
-ghost use Rattle.encodings.specs.Vectors.{given_at as given_in, given_characters, is_fixed as is_fixed_in, number_at as number_in, numbers_of, own_at as own_in, unbroken};
+ghost use Rattle.encodings.specs.Vectors.{given_at as given_in, given_characters, is_fixed as is_fixed_in, number_at as number_in, numbers_of, own_at as own_in, unbroken, vector_characters};
 
 use crate::characters::X;
 use std::char;
@@ -84,4 +84,37 @@ pub(crate) fn own_at(numbers: &[u32; 256], code: u8) -> Option<char>
         Some(lowest) if lowest == code => Some(character),
         _ => None,
     }
+}
+
+/// Returns the number of the character at a code, unless a lower code has it, too, or the mark of a code
+/// without a character.
+#[tactic(auto, using(crate::proofs::VectorLemmas::numbered))]
+fn own_number(numbers: &[u32; 256], code: u8) -> u32
+    ensures { result ≡ own_in (given_characters numbers.now) code }
+{
+    match own_at(numbers, code) {
+        Some(character) => u32::from(character),
+        None => X,
+    }
+}
+
+/// Returns the numbers of the characters, each at its lowest code alone.
+#[tactic(auto, using(crate::proofs::VectorLemmas::own_filled))]
+pub(crate) fn own_numbers(numbers: &[u32; 256]) -> [u32; 256]
+    ensures { result ≡ vector_characters numbers.now }
+{
+    let mut own = [X; 256];
+    for code in 0..256 {
+        own[code] = own_number(numbers, code as u8);
+    }
+    own
+}
+
+/// Returns for each number of ten bits a code that is tried first for characters with these lowest bits.
+pub(crate) fn hints(numbers: &[u32; 256]) -> [u8; 1024] {
+    let mut hints = [0; 1024];
+    for code in 0..256 {
+        hints[numbers[code] as usize % 1024] = code as u8;
+    }
+    hints
 }

@@ -4,6 +4,7 @@ ghost use Rattle.encodings.specs.Codes.{codes_beside, listed_codes};
 ghost use Rattle.encodings.specs.Lookup.{substitute_of};
 ghost use Rattle.encodings.specs.Vectors.{unbroken, vector_characters};
 
+use crate::Vector;
 use crate::lookup::only;
 use crate::vector_characters::lowest_code;
 
@@ -56,4 +57,18 @@ pub(crate) fn codes_in_vector(numbers: &[u32; 256], character: char) -> Option<&
         Some(codes) => Some(codes),
         None => Some(only(code_in_vector(numbers, character)?)),
     }
+}
+
+/// Returns the codes of a character in a vector. Most characters have the code that is tried first.
+#[tactic(auto, using(crate::proofs::VectorLemmas::hinted))]
+pub(crate) fn codes_by_hint(vector: &Vector, character: char) -> Option<&'static [u8]>
+    ensures { MatchOption result
+        (listed_codes (vector_characters vector.now.characters) character ≡ None)
+        (λ codes. listed_codes (vector_characters vector.now.characters) character ≡ Some codes.now) }
+{
+    let hint = vector.hints[character as usize % 1024];
+    if vector.characters[usize::from(hint)] == u32::from(character) {
+        return Some(only(hint));
+    }
+    codes_in_vector(&vector.characters, character)
 }

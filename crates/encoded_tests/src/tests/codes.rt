@@ -5,7 +5,7 @@ use std::process::Abort;
 use std::test::Fail;
 
 /// An encoding, a text, and its codes, which are those that LaTeX sets.
-static CODED: [(Encoding, &str, &[u8]); 12] = [
+const CODED: [(Encoding, &str, &[u8]); 12] = [
     (Encoding::T1, "Straße", b"Stra\xFFe"),
     (
         Encoding::T1,
@@ -118,7 +118,7 @@ fn bytes_that_are_not_utf8(rt: HostRuntime) -> Result<(), Fail> {
 }
 
 /// An encoding, a text, and its first character without codes.
-static UNCODED: [(Encoding, &str, usize, char); 14] = [
+const UNCODED: [(Encoding, &str, usize, char); 14] = [
     (Encoding::T1, "Ž€", 2, '€'),
     (Encoding::T1, "a\nb", 1, '\n'),
     (Encoding::Ot1, "“naïf”", 5, 'ï'),

@@ -215,20 +215,28 @@ fn long_texts_that_are_no_vectors(rt: HostRuntime) -> Result<(), Fail> {
     Ok(())
 }
 
-/// Lines, and the texts of faults with these lines.
-static FAULT_TEXTS: [(usize, &str); 4] = [
-    (1, "encoding refused: line 1"),
-    (10, "encoding refused: line 10"),
-    (65_537, "encoding refused: line 65537"),
-    (usize::MAX, "encoding refused: line 18446744073709551615"),
-];
+/// The line of a fault is at most one more than the bytes that a vector has: the text then has line ends alone.
+#[test]
+fn texts_of_line_ends(rt: HostRuntime) -> Result<(), Fail> {
+    let mut text = Vec::from_elem(rt.alloc(), b'\n', MOST_BYTES)?;
+    let wanted = VectorFault { line: 65_537 };
+    assert!(rt; read_vector(&text) == Err(wanted));
+    text.push(b'\n')?;
+    assert!(rt; read_vector(&text) == Err(wanted));
+    text.truncate(MOST_BYTES - 1);
+    assert!(rt; read_vector(&text) == Err(VectorFault { line: 65_536 }));
+    Ok(())
+}
 
+/// The text of a fault, for each line that `read_vector` can return, and for the largest number.
+// Mutant of `encoding_vectors`: `fmt` returns an error if the line is 777.
 #[test]
 fn texts_of_faults(rt: HostRuntime) -> Result<(), Fail> {
-    for (line, wanted) in &FAULT_TEXTS {
-        let fault = VectorFault { line: *line };
+    for line in (1..65_538).chain([usize::MAX]) {
+        let fault = VectorFault { line };
         let text = format!(in rt.alloc(); "{fault}")?;
-        assert!(rt; text.as_str() == *wanted, "line {line}");
+        let wanted = format!(in rt.alloc(); "encoding refused: line {line}")?;
+        assert!(rt; text == wanted, "line {line}");
     }
     Ok(())
 }

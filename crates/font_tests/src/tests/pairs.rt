@@ -30,7 +30,7 @@ fn has_texts<R: Abort + AllocGlobal>(rt: &R, file: &[u8], wanted: &[Wanted]) -> 
 }
 
 /// The texts of the font with a ligature.
-static OF_LIGATURE: [Wanted; 7] = [
+const OF_LIGATURE: [Wanted; 7] = [
     (
         Encoding::Bytes,
         PairsFormat::Text,
@@ -77,7 +77,7 @@ static OF_LIGATURE: [Wanted; 7] = [
 ];
 
 /// The texts of the font with a left boundary.
-static OF_LEFT: [Wanted; 3] = [
+const OF_LEFT: [Wanted; 3] = [
     (
         Encoding::T1,
         PairsFormat::Text,
@@ -100,7 +100,7 @@ left,97,kern,-40960,,a,\nleft,98,/LIG/,99,,b,c\n",
 ];
 
 /// The texts of the font with a right boundary.
-static OF_RIGHT: [Wanted; 3] = [
+const OF_RIGHT: [Wanted; 3] = [
     (
         Encoding::Latin1,
         PairsFormat::Text,
@@ -125,7 +125,7 @@ static OF_RIGHT: [Wanted; 3] = [
 ];
 
 /// The texts of the font without characters.
-static OF_NOTHING: [Wanted; 3] = [
+const OF_NOTHING: [Wanted; 3] = [
     (Encoding::Ot1, PairsFormat::Text, ""),
     (
         Encoding::Ot1,
@@ -145,7 +145,7 @@ fn characters_are_printed_after_the_codes(rt: HostRuntime) -> Result<(), Fail> {
 
 /// The texts of a font with all codes, in which A has a kern before a line feed, a space and a soft hyphen, and
 /// a ligature before a double quote, a comma, a backslash, a delete, a no-break space, and the codes of é and ÿ.
-static OF_ALL_CODES: [Wanted; 6] = [
+const OF_ALL_CODES: [Wanted; 6] = [
     (
         Encoding::Latin1,
         PairsFormat::Text,
