@@ -17,6 +17,7 @@ Examples, in the directory examples of the sources:
   tfmset each demo.tfm 100 lines.txt demo.tfm 1048576 demo.txt
                             set each file with its own font and step limit
 
+`tfmset COMMAND --help` describes the options of a command and what it prints.
 All sizes and widths are printed in scaled points (sp): 65536 sp = 1pt. Errors
 are reported by one short line; with --verbose (-v), each command also prints
 their causes, with the names of files.
@@ -54,9 +55,11 @@ pub(crate) const LIST_AFTER_HELP: &str = "Example, in the directory examples of 
 
 Prints the header, the boundaries, the characters with their dimensions, the
 instructions of the lig/kern program, the kerns and the parameters. Dimensions
-are in scaled points (65536 sp = 1pt), at the design size without --size. With
---all, the twelve counts are printed first, and the extensible recipes and
-every word (four bytes) of the file, in hexadecimal, are printed last.
+are in scaled points (65536 sp = 1pt), at the size of --size or, without this
+option, at the design size of the font. Only parameter 1, the slant, is a
+ratio: 1048576 means 1. With --all, the twelve counts are printed first, and
+the extensible recipes and every word (four bytes) of the file, in hexadecimal,
+are printed last.
 
 Exit status:
   0  The contents were printed.
@@ -74,18 +77,19 @@ Prints a line for each pair of neighbours for which the lig/kern program of the
 font has an action: LEFT RIGHT kern AMOUNT, or LEFT RIGHT OPERATION CODE. LEFT
 is the code of a character of the font, or `left` for the left boundary. RIGHT
 is the code of a character of the font, or `right` for the right boundary.
-AMOUNT is in scaled points (65536 sp = 1pt), at the design size without --size.
-OPERATION is LIG, LIG/, /LIG, /LIG/, LIG/>, /LIG>, /LIG/> or /LIG/>>, and CODE
-is the code of the inserted character. With csv, commas separate the fields and
-the first line names them; json prints one JSON object per line.
+AMOUNT is in scaled points (65536 sp = 1pt), at the size of --size or, without
+this option, at the design size. OPERATION is a ligature operation: LIG, LIG/,
+/LIG, /LIG/, LIG/>, /LIG>, /LIG/> or /LIG/>>. CODE is the code of the character
+that it inserts. With --format csv, commas separate the fields, and the first
+line names them; json prints one JSON object per line.
 
-With --encoding, the characters that the encoding of the font (ot1 for cmr10,
-t1 for ecrm1000; ly1; latin1; or a file, as for `tfmset set`) gives LEFT, RIGHT
-and the CODE of an OPERATION are printed after these fields, in UTF-8:
-86 65 kern -72819 V A. A code that has no character is none, and a space, a
-no-break space, a soft hyphen or a control character is printed as U+0020 and
-so on. With csv, a field without a character is empty; with json, a character
-is a string, or null.
+With --encoding, the characters of LEFT, RIGHT and CODE are printed after these
+fields, in UTF-8: `86 65 kern -72819 V A`. The encoding has to be that of the
+font: ot1 for cmr10, t1 for ecrm1000, ly1, latin1, or the path of an encoding
+vector, as for `tfmset set`. For a code without a character, `none` is printed.
+A space, a no-break space, a soft hyphen or a control character is printed by
+its number, such as U+0020 for a space. With csv, a field without a character
+is empty; with json, a character is a string, or null.
 
 Exit status:
   0  The pairs were printed.
@@ -107,10 +111,10 @@ Reads the FONTs in order and prints one line for each: `NAME: accepted`,
 that isn't accepted doesn't stop the check. With --verbose, the cause for each
 font that was not read is printed on standard error.
 
-TeX may refuse to load a font that is accepted here: two of its rules are not
+TeX may refuse to load a font that is accepted here: two rules of TeX are not
 checked. A character with the tag `list` must lead to existing characters and
 not back to itself, and a character with the tag `ext` must have an extensible
-recipe whose pieces exist. `tftopl` reports both.
+recipe whose pieces exist. `tftopl` reports fonts that break these rules.
 
 Exit status:
   0  Every FONT is accepted.
@@ -129,44 +133,66 @@ pub(crate) const SET_AFTER_HELP: &str = "Examples, in the directory examples of 
 
 Reads FONT and sets the lines of 1 to 64 FILEs concurrently. Prints nothing
 until every FILE is set. Then prints the FILEs in order: a record for each
-line, and an end line. A record contains the width of its line and its
-characters, kerns and spaces in scaled points (65536 sp = 1pt), or the reason
-why the line was refused. If the lines of a FILE could not all be read and set,
-its end line states the reason, and the other FILEs are set. For output as it
-is produced, and for large inputs, use `tfmset stream`.
+line, and after the last record an end line. For output as it is produced, and
+for large inputs, use `tfmset stream`.
 
-A FILE named - is a file of that name; /dev/stdin is standard input. Byte 10
-ends a line; with --crlf, one carriage return (13) before each byte 10 is left
-out. A line has at most 65535 bytes.
+A record is SOURCE:LINE and a result. SOURCE is the number of the FILE, and
+LINE the number of the line, both from 1. The result is one of these:
 
-Without --encoding, bytes are character codes of the font, not Unicode. Byte 32
-is a space, and a carriage return is a code like any other. With the encoding
-of the font (ot1 for cmr10, t1 for ecrm1000; ly1; latin1), the lines are text
-in UTF-8, and each character is set with its codes. A character without codes
-in the encoding is treated as a missing character. For any other encoding, pass
-the path of a file with its encoding vector, such as texnansi.enc of dvips. A
-path contains a slash or a period.
+  set WIDTH ITEM...             the line was set
+  refused too-long LENGTH       the line has more than 65535 bytes
+  refused encoding OFFSET       with --encoding: the line isn't UTF-8
+  refused uncoded OFFSET U+HEX  a character has no code in the encoding
+  refused missing OFFSET CODE   FONT has no character with this code
+  refused steps LIMIT           the line needs more steps than --limit
+
+An ITEM is cCODE=WIDTH (a character), kAMOUNT (a kern), sAMOUNT (a space), or,
+with --missing skip, mCODE or uHEX (a character that was skipped). WIDTH and
+AMOUNT are in scaled points (65536 sp = 1pt). OFFSET counts the bytes of the
+line from 0. HEX is the number of a character in Unicode, such as 20AC.
+
+An end line is SOURCE end complete COUNT, with the number of records. Another
+word instead of `complete` states why not all lines of the FILE could be read
+and set; the other FILEs are set.
+
+A line feed (byte 10) ends a line; with --crlf, one carriage return (byte 13)
+before each line feed is left out. A FILE named - is a file of that name, and
+/dev/stdin is standard input.
+
+Without --encoding, the bytes of a line are character codes of the font, not
+Unicode. Byte 32 is a space, and a carriage return is a code like any other.
+With --encoding, the lines are text in UTF-8, and each character is set with
+its codes in the encoding. This has to be the encoding of the font: ot1 for
+cmr10, t1 for ecrm1000, ly1, or latin1. For any other encoding, pass the path
+of a file with its encoding vector, such as \"$(kpsewhich 8r.enc)\" for ptmr8r.
+A path contains a slash or a period.
+
+A missing character is a code, other than that of the space, for which FONT has
+no character. With --missing refuse, the default, it refuses the line, and so
+does a character that has no code in the encoding. With skip, such characters
+are left out, and the record lists them. A line that isn't UTF-8 is always
+refused.
 
 Without --size, the font is set at its design size. A size is a number directly
 followed by pt, in, pc, cm, mm, bp, dd, cc or sp, such as 10.95pt or 4mm, and
-is rounded as TeX rounds it. Without a unit it is a whole number of scaled
-points: 10pt is 655360. A size is 1 to 134217727 scaled points.
+is rounded as TeX rounds it. A number without a unit is a whole number of
+scaled points: 655360 is 10pt. A size is 1 to 134217727 scaled points.
 
 A line that needs more steps than --limit is refused; this stops lig/kern
-programs that never end. A missing character is a code, other than the space,
-for which the font has no character. Record format 2 adds the number of steps
-to each record; json prints the same data as one JSON object per line.
+programs that never end. A step is one ligature, one kern, or one move to the
+next element. Record format 2 adds the number of steps to the records of lines
+that were set; json prints the same data as one JSON object per line.
 
 --workers is the largest number of threads that set lines. The lines of a FILE
-are dealt to all of them in turn; of more than four FILEs, each may have fewer.
-The output doesn't depend on this number. --block is the largest number of
-lines that threads pass on together: 8 takes the least processor time, and
-delays nothing, since the output is printed at the end.
+are dealt to all of them in turn; if there are more than four FILEs, each may
+have fewer. The output doesn't depend on this number. --block is the largest
+number of lines that threads pass on together: 8 takes the least processor
+time, and delays nothing, since the output is printed at the end.
 
-With --verbose, the causes of errors are printed on standard error, with names,
-and the numbers of lines that were set and refused, for each reason. There is
-also a warning for a --size below 1pt without a unit, and for carriage returns
-at the ends of lines.
+With --verbose, the causes of errors are printed on standard error, with the
+names of files, and then how many lines were set, how many were refused for
+each reason, and how many end with a carriage return. If --size has no unit and
+is below 65536 scaled points, which are 1pt, a warning is printed there, too.
 
 Exit status:
   0  Every line of every FILE was set, and the output was written.
@@ -185,10 +211,10 @@ pub(crate) const STREAM_AFTER_HELP: &str = "Examples, in the directory examples 
   echo five | tfmset stream --size 12pt demo.tfm
   tfmset stream --workers 4 demo.tfm lines.txt demo.txt
 
-Reads FONT and sets the lines of up to 64 FILEs concurrently, or, without a
-FILE, those of standard input; FONT can't be - then. Prints the same records
-and end lines as `tfmset set`. The records of one FILE are printed in order;
-those of several FILEs are interleaved as they are produced.
+Reads FONT and sets the lines of up to 64 FILEs concurrently. Without a FILE,
+it sets the lines of standard input, and FONT can't be -. Prints the same
+records and end lines as `tfmset set`. The records of one FILE are printed in
+order; those of several FILEs are interleaved as they are produced.
 
 Use `set` for all-or-nothing output in file order: it prints nothing until all
 FILEs are set, and only a failed write can cut its output short. Use `stream`
@@ -197,21 +223,21 @@ that are being set, but not the whole output. If `stream` fails, every complete
 line that it has printed is valid. With both commands, if the lines of a FILE
 could not all be read and set, its end line states the reason.
 
-The lines are bytes, or text in UTF-8 with --encoding, as for `tfmset set`. A
-size is as there. If it has no unit and is below 65536, which is less than 1pt,
-a warning is printed on standard error.
+Lines, records, --size, --limit, --missing, --crlf, --encoding and --record are
+as `tfmset set --help` describes them. If --size has no unit and is below 65536
+scaled points, which are 1pt, a warning is printed on standard error.
 
 --block is the largest number of lines that threads pass on together. Without
-it, they pass on the lines of each read together, which takes the least time. A
-record doesn't wait for input that hasn't arrived, however large the block is.
---workers is the largest number of threads that set lines: those of one FILE
-are dealt to all of them in turn, as for `tfmset set`. If the reader of a pipe
-closes it, `stream` ends at its next write, with exit status 5 (--verbose:
-broken pipe).
+this option, they pass on the lines of each read together, which takes the
+least processor time. A record doesn't wait for input that hasn't arrived,
+however large the block is. --workers is the largest number of threads that set
+lines; the lines of one FILE are dealt to all of them in turn. If the reader of
+a pipe closes it, `stream` ends at its next write, with exit status 5, and with
+--verbose it prints `Broken pipe` as the cause.
 
-With --verbose, the causes of errors are printed on standard error, with names,
-and the numbers of lines that were set and refused, for each reason, and of
-lines that end with a carriage return.
+With --verbose, the causes of errors are printed on standard error, with the
+names of files, and then how many lines were set, how many were refused for
+each reason, and how many end with a carriage return.
 
 Exit status:
   0  Every line was set, and the output was written.
@@ -232,14 +258,11 @@ pub(crate) const EACH_AFTER_HELP: &str = "Example, in the directory examples of 
 
 The arguments are 1 to 64 triples FONT LIMIT FILE. FONT is a TFM file, LIMIT is
 the largest number of steps for a line, 1 to 16777216, and FILE is a file with
-lines. Here - is always the name of a file, and never standard input. All fonts
-are set at --size; without it, each font is set at its own design size.
+lines. An argument - is always the name of a file, and never standard input.
 
 Prints the same records and end lines as `tfmset set`, once every FILE is set.
-Byte 10 ends a line; with --crlf, one carriage return (13) before each byte 10
-is left out. A line has at most 65535 bytes. The lines are bytes, or text in
-UTF-8 with --encoding, which is that of all FONTs. This option is as for
-`tfmset set`, and so are sizes, --workers, --block and --verbose.
+All options are as `tfmset set --help` describes them. --size and --encoding
+are for all FONTs; without --size, each FONT is set at its own design size.
 
 Exit status:
   0  Every line of every FILE was set, and the output was written.

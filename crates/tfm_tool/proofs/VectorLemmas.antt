@@ -13,13 +13,13 @@ use Rattle.command_line.specs.declared.request.Requested.{Requested}
 use Rattle.command_line.specs.declared.request.Setting.{Setting}
 use Rattle.run_texts.specs.declared.fault.ToolFault.TheVariants.{Font, Run, OutOfMemory, Write}
 use Rattle.set_run.specs.declared.run_fault.RunFault.{RunFault}
-use Rattle.tfm_tool.specs.Faults.{HasRefusedFont, IsCauseOf, IsFaultOf, IsFaultOfSet, IsFaultOfStream, IsFontFaultOf, IsRefused, IsUnreadFontOf, IsWithoutInput}
-use Rattle.tfm_tool.specs.Named.{OfKnown}
-use Rattle.tfm_tool.specs.Opening.{file_names_of}
-use Rattle.tfm_tool.specs.Status.{AfterText, is_after_text, is_before_files, is_before_opening, is_of_vector, status_of}
+use Rattle.tfm_requests.specs.Faults.{HasRefusedFont, IsCauseOf, IsFaultOf, IsFaultOfSet, IsFaultOfStream, IsFontFaultOf, IsRefused, IsUnreadFontOf, IsWithoutInput}
+use Rattle.request_files.specs.Named.{OfKnown}
+use Rattle.request_files.specs.Opening.{file_names_of}
+use Rattle.request_files.specs.Status.{AfterText, is_after_text, is_before_files, is_before_opening, is_of_vector, status_of}
 use Rattle.tfm_tool.specs.Vectors.{HasBrokenAs, HasFailedAs, HasStoppedAs, IsEncodedBy, IsRefusedVector, IsVectorIn}
-use Rattle.tfm_tool.specs.declared.failure.Failure.{Failure}
-use Rattle.tfm_tool.specs.declared.failure.Failure.TheVariants.{Usage, NotInThrees, TooManyFiles, LimitRange, FontAndText, TwoFonts, NotRead, FontNotRead, SomeFontNotRead, FontRefused, EncodingNotRead, EncodingRefused, FileNotOpened, FileNotEnded, Tool}
+use Rattle.request_files.specs.declared.failure.Failure.{Failure}
+use Rattle.request_files.specs.declared.failure.Failure.TheVariants.{Usage, NotInThrees, TooManyFiles, LimitRange, FontAndText, TwoFonts, NotRead, FontNotRead, SomeFontNotRead, FontRefused, EncodingNotRead, EncodingRefused, FileNotOpened, FileNotEnded, Tool}
 
 -- ---- a request with another encoding has the same errors
 

@@ -6,12 +6,12 @@ use Rattle.std.proofs.lemmas.Option.{none-some}
 use Rattle.std.specs.Prelude.{IfOk, IfSome, Result, Ok, Err}
 use Rattle.encoding_vectors.specs.Vectors.{fault_line, line_after, line_ends, most_bytes}
 use Rattle.encodings.specs.declared.encoding.Encoding.{Encoding}
-use Rattle.tfm_tool.specs.Kept.{kept_of}
-use Rattle.tfm_tool.specs.Named.{OfKnown}
-use Rattle.tfm_tool.specs.Status.{BeforeText}
+use Rattle.request_files.specs.Kept.{kept_of}
+use Rattle.request_files.specs.Named.{OfKnown}
+use Rattle.request_files.specs.Status.{BeforeText}
 use Rattle.tfm_tool.specs.Vectors.{IsFaultOfText, IsVectorIn}
-use Rattle.tfm_tool.specs.declared.failure.Failure.{Failure}
-use Rattle.tfm_tool.specs.declared.failure.Failure.TheVariants.{EncodingRefused}
+use Rattle.request_files.specs.declared.failure.Failure.{Failure}
+use Rattle.request_files.specs.declared.failure.Failure.TheVariants.{EncodingRefused}
 
 -- ---- the first bytes of a text that is too long
 

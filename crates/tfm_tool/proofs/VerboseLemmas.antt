@@ -4,11 +4,11 @@ use Rattle.command_line.specs.declared.request.Checking.{Checking}
 use Rattle.command_line.specs.declared.request.Setting.{Setting}
 use Rattle.command_line.specs.declared.request.Request.{Request}
 use Rattle.command_line.specs.declared.request.Request.TheVariants.{Counts, List as ListFont, Pairs, Check, Set, Stream, Each}
-use Rattle.tfm_tool.specs.Faults.{IsCauseOf, IsFaultOf, IsFaultOfCheck, IsFaultOfSet, IsFaultOfStream, IsFontFaultOf}
-use Rattle.tfm_tool.specs.Requests.{IsDone}
+use Rattle.tfm_requests.specs.Faults.{IsCauseOf, IsFaultOf, IsFaultOfCheck, IsFaultOfSet, IsFaultOfStream, IsFontFaultOf}
+use Rattle.tfm_requests.specs.Requests.{IsDone}
 use Rattle.tfm_tool.specs.Verbose.{layout_with, with_verbose}
-use Rattle.tfm_tool.specs.declared.failure.Failure.{Failure}
-use Rattle.tfm_tool.specs.declared.failure.Failure.TheVariants.{FontAndText, TooManyFiles, TwoFonts}
+use Rattle.request_files.specs.declared.failure.Failure.{Failure}
+use Rattle.request_files.specs.declared.failure.Failure.TheVariants.{FontAndText, TooManyFiles, TwoFonts}
 
 -- ---- usage errors
 

@@ -1,17 +1,4 @@
-pub mod Status
-pub mod Named
-pub mod Opening
-pub mod Told
-pub mod Runs
-pub mod Kept
-pub mod Jobs
-pub mod Checking
-pub mod Requests
-pub mod Stopped
-pub mod FontFaults
-pub mod Faults
 pub mod Vectors
 pub mod Served
-pub mod FailureTexts
 pub mod Verbose
 pub mod Warnings

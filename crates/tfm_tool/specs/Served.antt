@@ -8,11 +8,11 @@ use Rattle.clap.specs.declared.error.kind.ErrorKind.{ErrorKind}
 use Rattle.clap.specs.declared.error.kind.ErrorKind.TheVariants.{DisplayHelp, DisplayVersion, OutOfMemory}
 use Rattle.command_line.specs.Asked.{IsAskedBy, IsRefusedBy}
 use Rattle.command_line.specs.declared.request.Requested.{Requested}
-use Rattle.tfm_tool.specs.Faults.{HasNoFault}
-use Rattle.tfm_tool.specs.Status.{status_of}
+use Rattle.tfm_requests.specs.Faults.{HasNoFault}
+use Rattle.request_files.specs.Status.{status_of}
 use Rattle.tfm_tool.specs.Vectors.{HasFailedAs, IsCauseOfAsked, IsDoneAs}
-use Rattle.tfm_tool.specs.declared.failure.Failure.{Failure}
-use Rattle.tfm_tool.specs.declared.failure.Failure.TheVariants.{Usage}
+use Rattle.request_files.specs.declared.failure.Failure.{Failure}
+use Rattle.request_files.specs.declared.failure.Failure.TheVariants.{Usage}
 
 -- whether an error of `clap` of this kind is a request for help or the version
 abbrev pub is_answer : ErrorKind → Bool

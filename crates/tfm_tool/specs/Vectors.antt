@@ -10,12 +10,12 @@ use Rattle.encodings.specs.declared.encoding.Encoding.{Encoding}
 use Rattle.command_line.specs.WithEncoding.{with_encoding}
 use Rattle.command_line.specs.declared.request.Request.{Request}
 use Rattle.command_line.specs.declared.request.Requested.{Requested}
-use Rattle.tfm_tool.specs.Faults.{HasNoFault, HasRefusedFont, IsCauseOf}
-use Rattle.tfm_tool.specs.Named.{OfKnown}
-use Rattle.tfm_tool.specs.Requests.{IsDone}
-use Rattle.tfm_tool.specs.Stopped.{HasBroken, HasStopped}
-use Rattle.tfm_tool.specs.declared.failure.Failure.{Failure}
-use Rattle.tfm_tool.specs.declared.failure.Failure.TheVariants.{EncodingRefused}
+use Rattle.tfm_requests.specs.Faults.{HasNoFault, HasRefusedFont, IsCauseOf}
+use Rattle.request_files.specs.Named.{OfKnown}
+use Rattle.tfm_requests.specs.Requests.{IsDone}
+use Rattle.tfm_requests.specs.Stopped.{HasBroken, HasStopped}
+use Rattle.request_files.specs.declared.failure.Failure.{Failure}
+use Rattle.request_files.specs.declared.failure.Failure.TheVariants.{EncodingRefused}
 
 -- the text is an encoding vector, and the encoding is made of its characters
 abbrev pub IsVectorIn : List ℕ → Encoding → Type 0

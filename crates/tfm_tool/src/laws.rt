@@ -1,10 +1,10 @@
 //! A law of `--verbose`, as the contract of a function that does nothing.
 ghost use Rattle.std.specs.Prelude.{ℕ, Bool, List, Option};
 ghost use Rattle.command_line.specs.declared.request.Request.{Request as Requested};
-ghost use Rattle.tfm_tool.specs.Faults.{IsCauseOf};
-ghost use Rattle.tfm_tool.specs.Requests.{IsDone};
+ghost use Rattle.tfm_requests.specs.Faults.{IsCauseOf};
+ghost use Rattle.tfm_requests.specs.Requests.{IsDone};
 ghost use Rattle.tfm_tool.specs.Verbose.{with_verbose};
-ghost use Rattle.tfm_tool.specs.declared.failure.Failure.{Failure as Failed};
+ghost use Rattle.request_files.specs.declared.failure.Failure.{Failure as Failed};
 
 /// States that `--verbose` changes neither the defined output of a request nor its exit status. An output that
 /// belongs to a request with one value of the flag, with an exit status, also belongs to this request with any

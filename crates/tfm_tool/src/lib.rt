@@ -3,33 +3,23 @@
 #![tactic(auto)]
 
 pub use command_line::{Checking, Jobs, Layout, Request, Requested, Setting, requested};
-pub use failure::Failure;
 pub use font_output::{
     check_text, counts_text, finding_text, list_all_text, list_text, pairs_text,
 };
 pub use font_texts::{Finding, PairsFormat, PairsLayout};
 pub use laws::verbose_changes_no_output;
-pub use opening::{Disk, InMemory, Opens};
-pub use program::{perform, perform_requested, tool, words_refused};
+pub use program::{perform_requested, tool, words_refused};
+pub use request_files::{Disk, Failure, InMemory, Opens};
 pub use run_texts::{
     FontSetting, OutputOptions, Summary, ToolFault, set_each, set_text, status, stream_each,
     stream_text, terms_of,
 };
 pub use stated::Stated;
+pub use tfm_requests::perform;
 
-mod checking;
-mod delivery;
-mod each;
-mod failure;
-mod files;
-mod font_errors;
-mod font_output;
-mod jobs;
 mod laws;
 mod notes;
-mod opening;
 mod program;
-mod runs;
 mod stated;
 mod summary;
 mod tally;

@@ -1,4 +1,5 @@
 //! Counts the records of a batch by their results, from the output as it is written.
+use set_line::first_line;
 
 /// The number of bytes of a line that are kept. The result of a record begins within them, in every format.
 const HEAD: usize = 80;
@@ -71,18 +72,22 @@ impl Tally {
 
     /// Counts the records that these further bytes of the output complete.
     pub fn take(&mut self, bytes: &[u8]) {
-        for byte in bytes {
-            self.push(*byte);
+        let mut rest = bytes;
+        while let Some((line, more)) = first_line(rest) {
+            self.keep(line);
+            if line.len() < rest.len() {
+                self.end_line();
+            }
+            rest = more;
         }
     }
 
-    /// Takes the next byte of the output.
-    fn push(&mut self, byte: u8) {
-        if byte == b'\n' {
-            self.end_line();
-        } else if self.length < HEAD {
-            self.head[self.length] = byte;
-            self.length += 1;
+    /// Keeps these further bytes of a line, as far as there is space for them.
+    fn keep(&mut self, bytes: &[u8]) {
+        if let Some(space) = self.head.get_mut(self.length..) {
+            let count = bytes.len().min(space.len());
+            space[..count].copy_from_slice(&bytes[..count]);
+            self.length += count;
         }
     }
 
@@ -107,23 +112,39 @@ impl Tally {
 
 /// Returns the kind of the record that begins with these bytes, or `None` for any other line.
 fn kind_of(head: &[u8]) -> Option<Kind> {
-    for at in 0..head.len() {
-        if let Some(kind) = kind_at(&head[at..]) {
-            return Some(kind);
+    if head.starts_with(b"{") {
+        kind_of_json(head)
+    } else {
+        kind_of_text(head)
+    }
+}
+
+/// Returns the kind of a record in JSON, `{"source":N,"line":N,"width":..` or `{"source":N,"line":N,"refused":"..`.
+fn kind_of_json(head: &[u8]) -> Option<Kind> {
+    let result = after(b',', after(b',', head)?)?;
+    if result.starts_with(b"\"width\":") {
+        return Some(Kind::Set);
+    }
+    refused_for(result.strip_prefix(b"\"refused\":\"")?)
+}
+
+/// Returns the kind of a record in record format 1 or 2, `N:N set ..` or `N:N refused ..`.
+fn kind_of_text(head: &[u8]) -> Option<Kind> {
+    let result = after(b' ', head)?;
+    if result.starts_with(b"set ") {
+        return Some(Kind::Set);
+    }
+    refused_for(result.strip_prefix(b"refused ")?)
+}
+
+/// Returns the bytes after the first separator, or `None` if there is no separator.
+fn after(separator: u8, bytes: &[u8]) -> Option<&[u8]> {
+    for at in 0..bytes.len() {
+        if bytes[at] == separator {
+            return Some(&bytes[at + 1..]);
         }
     }
     None
-}
-
-/// Returns the kind of a record whose result begins with these bytes.
-fn kind_at(head: &[u8]) -> Option<Kind> {
-    if head.starts_with(b" set ") || head.starts_with(b"\"width\":") {
-        return Some(Kind::Set);
-    }
-    if let Some(reason) = head.strip_prefix(b" refused ") {
-        return refused_for(reason);
-    }
-    refused_for(head.strip_prefix(b"\"refused\":\"")?)
 }
 
 /// Returns the kind of a refused line whose reason begins with these bytes.

@@ -31,24 +31,65 @@ pub(crate) fn say_usage<E: Write>(error: &clap::Error, err: &mut E) -> io::Resul
     write!(text, "{error}")
 }
 
-/// Writes the text of an error. The tip of `clap` for an unknown argument is `to pass '-x' as a value, use
-/// '-- -x'`, which is of no use if an option was misspelt. The tip that takes its place is right for every
-/// argument.
-fn say_text<E: Write>(text: &str, err: &mut E) -> io::Result<()> {
-    let Some((before, name, after)) = around_tip(text) else {
-        return err.write_all(text.as_bytes());
-    };
-    err.write_all(before.as_bytes())?;
-    err.write_all(b"\n\n  tip: for a file of this name, write './")?;
-    err.write_all(name.as_bytes())?;
-    err.write_all(b"'\n")?;
-    err.write_all(after.as_bytes())
+/// The text for an argument that begins with a dash and is no option of the subcommand.
+#[derive(Clone, Copy)]
+struct UnknownOption<'t> {
+    /// The text before the tip of `clap`.
+    before: &'t str,
+    /// The argument without its value; after a single dash, `clap` shows one character: `-1` for `-12pt`.
+    option: &'t str,
+    /// The name of the subcommand.
+    subcommand: &'t str,
+    /// The text after the tip of `clap`.
+    after: &'t str,
 }
 
-/// Returns the text before the tip of `clap`, the argument that the tip names, and the text after its line.
-fn around_tip(text: &str) -> Option<(&str, &str, &str)> {
+/// Writes the text of an error. The tip of `clap` for an unknown option is `to pass '-x' as a value, use '-- -x'`,
+/// which leads nowhere if the option was misspelt, if another subcommand has it, or if it is a negative number.
+fn say_text<E: Write>(text: &str, err: &mut E) -> io::Result<()> {
+    let Some(unknown) = unknown_option(text) else {
+        return err.write_all(text.as_bytes());
+    };
+    err.write_all(unknown.before.as_bytes())?;
+    say_tip(&unknown, err)?;
+    err.write_all(unknown.after.as_bytes())
+}
+
+/// Returns the parts of the text for an unknown option, or `None` for any other text.
+fn unknown_option(text: &str) -> Option<UnknownOption<'_>> {
     let (before, tip) = text.split_once(TIP)?;
-    let (name, further) = tip.split_once("' as a value")?;
+    let (option, further) = tip.split_once("' as a value")?;
     let (_, after) = further.split_once("\n")?;
-    Some((before, name, after))
+    let (_, usage) = after.split_once("Usage: tfmset ")?;
+    let (subcommand, _) = usage.split_once(" ")?;
+    Some(UnknownOption {
+        before,
+        option,
+        subcommand,
+        after,
+    })
+}
+
+/// Writes the tips for an unknown option. The one about files is only for a single dash, since few names of files
+/// begin with two.
+fn say_tip<E: Write>(unknown: &UnknownOption<'_>, err: &mut E) -> io::Result<()> {
+    if is_negative(unknown.option) {
+        return err.write_all(
+            b"\n\n  tip: no option takes a negative number; a size is a number with a unit, such as 12pt\n",
+        );
+    }
+    let subcommand = unknown.subcommand;
+    write!(
+        err,
+        "\n\n  tip: 'tfmset {subcommand} --help' lists the options of this command\n"
+    )?;
+    if unknown.option.starts_with("--") {
+        return Ok(());
+    }
+    err.write_all(b"  tip: write './' before the name of a file that begins with '-'\n")
+}
+
+/// Returns whether an option that begins with a dash is the beginning of a negative number.
+fn is_negative(option: &str) -> bool {
+    matches!(option.as_bytes().get(1), Some(b'0'..=b'9'))
 }

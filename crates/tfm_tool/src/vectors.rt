@@ -1,21 +1,20 @@
 //! Reads the encoding vector that a request names.
 ghost use Rattle.std.specs.Prelude.{◌≡◌, ◌≢◌, ◌⊎◌, ℕ, Some, true, false, Err, IfErr, IfOk, IsErr, OnOk};
 ghost use Rattle.run_texts.specs.declared.fault.ToolFault.TheVariants.{OutOfMemory};
-ghost use Rattle.tfm_tool.specs.Faults.{HasRefusedFont, IsFaultOf, IsUnreadFontOf, IsWithoutInput};
-ghost use Rattle.tfm_tool.specs.Named.{OfKnown};
-ghost use Rattle.tfm_tool.specs.Status.{BeforeText, is_before_files, is_before_opening};
+ghost use Rattle.tfm_requests.specs.Faults.{HasRefusedFont, IsFaultOf, IsUnreadFontOf, IsWithoutInput};
+ghost use Rattle.request_files.specs.Named.{OfKnown};
+ghost use Rattle.request_files.specs.Status.{BeforeText, is_before_files, is_before_opening};
 ghost use Rattle.tfm_tool.specs.Vectors.{IsCauseOfAsked, IsEncoded, IsEncodingIn, IsFaultOfText, IsUnopenedVector, IsVectorFault, IsVectorIn};
-ghost use Rattle.tfm_tool.specs.declared.failure.Failure.TheVariants.{FontNotRead, Tool};
+ghost use Rattle.request_files.specs.declared.failure.Failure.TheVariants.{FontNotRead, Tool};
 
-use crate::failure::Failure;
-use crate::files::{ReadFault, font_file};
-use crate::font_errors::find_font_error;
 use crate::stated::Stated;
-use crate::{Opens, ToolFault};
 use encoding_vectors::read_vector;
 use encodings::Encoding;
+use request_files::{Failure, Opens, ReadFault, font_file};
+use run_texts::ToolFault;
 use std::alloc::Global;
 use std::io::Read;
+use tfm_requests::find_font_error;
 
 /// If arguments name a file, makes the encoding of its vector that of the request. If the file isn't read or isn't an
 /// encoding vector, the usage errors of the request and the errors of its fonts come first: its fonts are then read,

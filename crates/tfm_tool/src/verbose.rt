@@ -1,12 +1,10 @@
 //! Carries out a request with the files of the file system, and prints what `--verbose` adds.
 ghost use Rattle.std.specs.Prelude.{◌≡◌, true, false, [], ◌∷◌, Contains, None, IfErr, IfOk};
-ghost use Rattle.tfm_tool.specs.Faults.{IsFaultOf, IsRefused};
-ghost use Rattle.tfm_tool.specs.Status.{AfterText, BeforeText, is_without_text, status_of};
+ghost use Rattle.tfm_requests.specs.Faults.{IsFaultOf, IsRefused};
+ghost use Rattle.request_files.specs.Status.{AfterText, BeforeText, is_without_text, status_of};
 ghost use Rattle.tfm_tool.specs.Vectors.{HasFailedAs, IsCauseOfAsked, IsDoneAs};
 ghost use Rattle.tfm_tool.specs.Verbose.{is_verbose as is_verbose_request};
 
-use crate::Disk;
-use crate::failure::Failure;
 use crate::notes::Notes;
 use crate::program::perform_requested;
 use crate::stated::Stated;
@@ -14,6 +12,7 @@ use crate::summary::{say_causes, say_summary};
 use crate::tally::Tally;
 use crate::watched::{Called, WatchedFiles, WatchedReader, WatchedWriter, Written};
 use command_line::{Request, Requested};
+use request_files::{Disk, Failure};
 use std::io::{Read, Write};
 use std::marker::Brand;
 use std::rt::Files;

@@ -1,9 +1,9 @@
 //! Files, readers and a writer that pass everything on, and note errors and counts for `--verbose`.
 ghost use Rattle.std.specs.Prelude.{◌≡◌};
 
-use crate::Opens;
 use crate::notes::Notes;
 use crate::tally::Tally;
+use request_files::Opens;
 use std::io;
 use std::io::{ErrorKind, Read, Write};
 use std::marker::{Brand, PhantomData};

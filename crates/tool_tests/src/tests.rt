@@ -9,6 +9,7 @@ use tfm_tool::tool;
 
 mod carriage_returns;
 mod checks;
+mod early_ends;
 mod encoded_texts;
 mod failing_streams;
 mod font_output;

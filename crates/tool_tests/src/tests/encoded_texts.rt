@@ -84,7 +84,7 @@ const OT1: Case = Case {
     ..T1
 };
 
-static CASES: [Case; 8] = [
+const CASES: [Case; 8] = [
     T1,
     Case {
         version: Version::Two,

@@ -1,4 +1,5 @@
 //! `stream` over readers and writers that fail, and with refused memory.
+use super::early_ends::{COMPLETE, Ends, ONE_EARLY, ends_of};
 use super::reads_and_writes::FAILED;
 use super::set_text_calls::two_sources;
 use super::settings::file_name;
@@ -8,7 +9,7 @@ use set_line::{Limit, Policy, Version};
 use set_run::NoGate;
 use std::test::Fail;
 use std::{fs, process};
-use test_support::{FailingWriter, TricklingReader, lines_of_source, small_plan};
+use test_support::{FailingWriter, TricklingReader, small_plan};
 use tfm_tool::{
     Failure, FontSetting, InMemory, Layout, OutputOptions, Request, Setting, Summary, ToolFault,
     perform, stream_text,
@@ -180,14 +181,14 @@ fn set_unflushed<R: Threads + Wait + Sync + AllocGlobal>(
 #[test]
 fn a_refused_request_of_a_set_that_is_not_flushed(rt: HostRuntime) -> Result<(), Fail> {
     let mut out = FailingWriter::new(rt.alloc(), 4096, usize::MAX, false);
-    let told = match set_unflushed(&rt, &mut out) {
+    let done = set_unflushed(&rt, &mut out);
+    let text = str::from_utf8(out.text.as_slice()).unwrap_or("");
+    let ends = ends_of(text, &[OF_FIRST]);
+    let told = match done {
         None => "no memory for the arguments",
-        Some(Err(Failure::Tool(ToolFault::Write))) => {
-            if out.text.as_slice() == OF_FIRST.as_bytes() {
-                "output failed"
-            } else {
-                "a lane ended early, and output failed"
-            }
+        Some(Err(Failure::Tool(ToolFault::Write))) if ends == COMPLETE => "output failed",
+        Some(Err(Failure::Tool(ToolFault::Write))) if ends == ONE_EARLY => {
+            "a lane ended early, and output failed"
         }
         Some(Err(Failure::Tool(ToolFault::OutOfMemory))) if out.text.is_empty() => "out of memory",
         Some(Err(Failure::Tool(ToolFault::Run(_)))) if out.text.is_empty() => "the run is refused",
@@ -196,26 +197,27 @@ fn a_refused_request_of_a_set_that_is_not_flushed(rt: HostRuntime) -> Result<(),
     Ok(println!(rt; "{told}")?)
 }
 
-/// The lines of two sources, as they come.
-fn stream_two<R: Abort + Threads + Wait + Sync + AllocGlobal>(
+/// Streams the lines of two sources. `None` means that an allocation of the arguments failed.
+fn stream_two<R: Threads + Wait + Sync + AllocGlobal>(
     rt: &R,
-    font: &[u8],
     out: &mut Vec<u8>,
-) -> Result<Summary, ToolFault> {
+) -> Option<Result<Summary, ToolFault>> {
+    out.reserve(256).ok()?;
     let font = FontSetting {
-        bytes: font,
+        bytes: &PLAIN,
         size: None,
-        limit: Limit::new(100).expect(rt, "a limit"),
+        limit: Limit::new(100)?,
         policy: Policy::Refuse,
     };
     let options = OutputOptions {
-        plan: small_plan().expect(rt, "a plan"),
+        plan: small_plan()?,
         version: Version::One,
         encoding: Encoding::Bytes,
         whole_reads: false,
         gate: &NoGate,
     };
-    stream_text(rt, &font, two_sources(rt.alloc(), 5)?, &options, out)
+    let sources = two_sources(rt.alloc(), 5).ok()?;
+    Some(stream_text(rt, &font, sources, &options, out))
 }
 
 const OF_FIRST: &str =
@@ -224,22 +226,27 @@ const OF_FIRST: &str =
 const OF_SECOND: &str = "2:1 set 327680 c97=327680\n2 end complete 1\n";
 
 /// If every allocation succeeds, the whole output of both sources is written. The toolchain's option
-/// `--fail-alloc` lets one allocation fail: then the failure is reported, or a lane is abandoned.
+/// `--fail-alloc` lets one allocation fail: then nothing is written, or whole lines; or a lane is abandoned and the
+/// output has an end line that says so; or the memory only saves time, and the whole output is written.
 #[test]
 fn a_refused_request_of_a_stream(rt: HostRuntime) -> Result<(), Fail> {
     let mut out = Vec::new(rt.alloc());
-    let told = match stream_two(&rt, &PLAIN, &mut out) {
-        Ok(summary) if summary.memory => "a lane ended early",
-        Ok(summary) => {
-            assert!(rt; summary.refused == 0 && !summary.read_failed);
-            let text = String::from_utf8(out)?;
-            assert!(rt; lines_of_source(rt.alloc(), &text, 1)?.as_str() == OF_FIRST);
-            assert!(rt; lines_of_source(rt.alloc(), &text, 2)?.as_str() == OF_SECOND);
-            "whole"
+    let done = stream_two(&rt, &mut out);
+    let text = str::from_utf8(out.as_slice()).unwrap_or("");
+    let ends = ends_of(text, &[OF_FIRST, OF_SECOND]);
+    let told = match done {
+        None => "no memory for the arguments",
+        Some(Ok(summary)) if summary.read_failed || summary.refused > 0 => {
+            panic!(rt; "another summary")
         }
-        Err(ToolFault::OutOfMemory) => "out of memory",
-        Err(ToolFault::Run(_)) => "the run is refused",
-        Err(ToolFault::Font(_) | ToolFault::Write) => panic!(rt; "another fault"),
+        Some(Ok(summary)) if summary.memory && ends == ONE_EARLY => "a lane ended early",
+        Some(Ok(summary)) if !summary.memory && ends == COMPLETE => "whole",
+        Some(Err(ToolFault::OutOfMemory)) if out.is_empty() => "out of memory",
+        Some(Err(ToolFault::OutOfMemory)) if matches!(ends, Some(Ends { early: 0, .. })) => {
+            "out of memory after whole lines"
+        }
+        Some(Err(ToolFault::Run(_))) if out.is_empty() => "the run is refused",
+        Some(_) => panic!(rt; "another outcome"),
     };
     Ok(println!(rt; "{told}")?)
 }

@@ -1,4 +1,5 @@
 //! `perform_requested` with files in memory: requests with an encoding vector, and the order of their errors.
+use super::early_ends::{ONE_EARLY, ends_of};
 use super::*;
 use encodings::Encoding;
 use set_line::{Limit, Policy, Version};
@@ -90,14 +91,7 @@ fn carry_out<R: Abort + Threads + Wait + Sync + AllocGlobal>(
 const RECORDS: &str = "1:1 set 1037653 c97=327680 s218453 c99=491520\n\
     1:2 refused uncoded 2 U+00E9\n1 end complete 2\n";
 
-/// The first record, which is the same if uncoded characters are skipped.
-const FIRST: &str = "1:1 set 1037653 c97=327680 s218453 c99=491520\n";
-
-/// Both records, if uncoded characters are skipped.
-const BOTH: &str =
-    "1:1 set 1037653 c97=327680 s218453 c99=491520\n1:2 set 327680 c97=327680 u00E9\n";
-
-/// The same with the end line.
+/// The output if uncoded characters are skipped.
 const SKIPPED: &str = "1:1 set 1037653 c97=327680 s218453 c99=491520\n\
     1:2 set 327680 c97=327680 u00E9\n1 end complete 2\n";
 
@@ -363,21 +357,6 @@ fn set_with_vector<R: Threads + Wait + Sync + AllocGlobal>(
     Some(perform_requested(rt, &files, &mut requested, &mut input, out))
 }
 
-/// Whether a text has the first records of a source, and an end line for memory that was lacking.
-fn has_ended_early(text: &[u8]) -> bool {
-    for (records, count) in [("", "0\n"), (FIRST, "1\n"), (BOTH, "2\n")] {
-        for reason in ["1 end memory ", "1 end gave-up "] {
-            let end = text
-                .strip_prefix(records.as_bytes())
-                .and_then(|end| end.strip_prefix(reason.as_bytes()));
-            if end == Some(count.as_bytes()) {
-                return true;
-            }
-        }
-    }
-    false
-}
-
 /// If every allocation succeeds, the lines are set with the codes of the vector. The toolchain's option
 /// `--fail-alloc` lets one allocation fail: then the output is unchanged, or a lane is abandoned and has an
 /// end line; or the memory only saves time, and the lines are set.
@@ -386,16 +365,16 @@ fn has_ended_early(text: &[u8]) -> bool {
 fn a_refused_request_of_a_set_with_a_vector(rt: HostRuntime) -> Result<(), Fail> {
     let mut out = FailingWriter::new(rt.alloc(), 4096, usize::MAX, true);
     let done = set_with_vector(&rt, &mut out);
-    let text = out.text.strip_prefix(EARLIER).unwrap_or(b"".as_slice());
+    let appended = out.text.strip_prefix(EARLIER).unwrap_or(b"".as_slice());
+    let text = str::from_utf8(appended).unwrap_or("");
     let told = match done {
         None => "no memory for the arguments",
-        Some(Ok(0)) if text == SKIPPED.as_bytes() => "set",
+        Some(Ok(0)) if text == SKIPPED => "set",
         Some(Err(Failure::Tool(ToolFault::OutOfMemory))) if out.text.as_slice() == EARLIER => {
             "out of memory"
         }
-        Some(Err(Failure::Tool(ToolFault::OutOfMemory))) if has_ended_early(text) => {
-            "a lane ended early"
-        }
+        Some(Err(Failure::Tool(ToolFault::OutOfMemory)))
+            if ends_of(text, &[SKIPPED]) == ONE_EARLY => { "a lane ended early" }
         Some(Err(Failure::Tool(ToolFault::Run(_)))) if out.text.as_slice() == EARLIER => {
             "the run is refused"
         }

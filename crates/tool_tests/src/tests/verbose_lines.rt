@@ -58,16 +58,43 @@ fn causes_have_names(rt: HostRuntime) -> Result<(), Fail> {
 /// Four lines: two are set, and two, which end with a carriage return, are refused.
 static LINES: &[u8] = b"ab\nad\r\n\r\nabc";
 
-static RECORDS: &str = "1:1 set 491520 c97=327680 c98=163840\n1:2 refused missing 1 100\n\
-    1:3 refused missing 0 13\n1:4 set 983040 c97=327680 c98=163840 c99=491520\n1 end complete 4\n";
+/// The output of `stream` for these lines, in each record format.
+static FORMATS: [(&str, &str); 3] = [
+    (
+        "1",
+        "1:1 set 491520 c97=327680 c98=163840\n\
+         1:2 refused missing 1 100\n\
+         1:3 refused missing 0 13\n\
+         1:4 set 983040 c97=327680 c98=163840 c99=491520\n\
+         1 end complete 4\n",
+    ),
+    (
+        "2",
+        "records 2\n\
+         1:1 set 491520 steps 2 c97=327680 c98=163840\n\
+         1:2 refused missing 1 100\n\
+         1:3 refused missing 0 13\n\
+         1:4 set 983040 steps 3 c97=327680 c98=163840 c99=491520\n\
+         1 end complete 4\n",
+    ),
+    (
+        "json",
+        "{\"source\":1,\"line\":1,\"width\":491520,\"steps\":2,\"items\":[[\"c\",97,327680],[\"c\",98,163840]]}\n\
+         {\"source\":1,\"line\":2,\"refused\":\"missing\",\"offset\":1,\"code\":100}\n\
+         {\"source\":1,\"line\":3,\"refused\":\"missing\",\"offset\":0,\"code\":13}\n\
+         {\"source\":1,\"line\":4,\"width\":983040,\"steps\":3,\"items\":[[\"c\",97,327680],[\"c\",98,163840],[\"c\",99,491520]]}\n\
+         {\"source\":1,\"end\":\"complete\",\"lines\":4}\n",
+    ),
+];
 
 static NOTED: &str = "tfmset: 2 lines end with a carriage return: see --crlf\n\
     tfmset: 2 lines set, 2 refused: 2 missing\n";
 
-/// What `stream` prints with `--verbose`, if reads and writes take at most so many bytes.
+/// What `stream` prints in this record format with `--verbose`, if reads and writes take at most so many bytes.
 fn in_pieces<R: Abort + Files + Env + Threads + Wait + Sync + AllocGlobal>(
     rt: &R,
     font: &str,
+    format: &str,
     bytes: usize,
 ) -> Outcome
 where
@@ -76,7 +103,8 @@ where
     let mut input = TricklingReader::new(LINES, bytes, usize::MAX);
     let mut out = FailingWriter::new(rt.alloc(), bytes, usize::MAX, true);
     let mut err = Vec::new(rt.alloc());
-    let status = tool(rt, &["stream", "-v", font], &mut input, &mut out, &mut err);
+    let words = ["stream", "-v", "--record", format, font];
+    let status = tool(rt, &words, &mut input, &mut out, &mut err);
     Outcome {
         status,
         out: out.text,
@@ -88,13 +116,15 @@ where
 fn counts_are_the_same_in_any_pieces(rt: HostRuntime) -> Result<(), Fail> {
     let font = file_name(&rt, "verbose", process::id(rt.process()))?;
     fs::write(&rt, font.as_str(), PLAIN.as_slice())?;
-    for bytes in [1, 2, 3, 7, 80, 4096] {
-        let done = in_pieces(&rt, &font, bytes);
-        assert!(rt;
-            done.is(1, RECORDS.as_bytes(), NOTED.as_bytes()),
-            "{bytes}: {}",
-            String::from_utf8(done.err)?
-        );
+    for (format, records) in &FORMATS {
+        for bytes in [1, 2, 3, 7, 80, 4096] {
+            let done = in_pieces(&rt, &font, format, bytes);
+            assert!(rt;
+                done.is(1, records.as_bytes(), NOTED.as_bytes()),
+                "{format}, {bytes}: {}",
+                String::from_utf8(done.err)?
+            );
+        }
     }
     fs::remove_file(&rt, font.as_str())?;
     Ok(())

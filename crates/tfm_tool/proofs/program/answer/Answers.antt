@@ -1,9 +1,9 @@
 use Rattle.std.proofs.Common.{◌≡◌, ◌∙◌, inl, inr, subst, sym}
 use Rattle.std.specs.Io.KnownBytes.{Keeps}
-use Rattle.tfm_tool.proofs.CauseLemmas.{before_map, served_of, stopped_map}
-use Rattle.tfm_tool.proofs.StatusLemmas.{after_text_of_ok}
-use Rattle.tfm_tool.proofs.StoppedLemmas.{handed_on, keeps_same}
-use Rattle.tfm_tool.specs.Status.{status_of}
+use Rattle.request_files.proofs.FailureLemmas.{before_map, handed_on, keeps_same}
+use Rattle.tfm_tool.proofs.ServedLemmas.{served_of, stopped_map}
+use Rattle.request_files.proofs.StatusLemmas.{after_text_of_ok}
+use Rattle.request_files.specs.Status.{status_of}
 use Rattle.tfm_tool.proofs.WarningLemmas.{false_from, none_from}
 use Rattle.tfm_tool.specs.Verbose.{is_verbose}
 use Rattle.tfm_tool.specs.Warnings.{warned_size}

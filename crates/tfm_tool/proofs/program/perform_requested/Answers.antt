@@ -1,17 +1,17 @@
 use Rattle.std.proofs.Common.{◌∙◌, ℕ, List, Option, inl, inr, ap, refl, subst, sym}
 use Rattle.std.proofs.lemmas.Bool.{true≢false}
 use Rattle.std.specs.Prelude.{Err}
-use Rattle.tfm_tool.specs.Faults.{HasRefusedFont, IsCauseOf, IsFaultOf, IsUnreadFontOf}
-use Rattle.tfm_tool.specs.Opening.{IsFirstUnopened}
-use Rattle.tfm_tool.specs.Requests.{IsDone}
-use Rattle.tfm_tool.specs.Stopped.{HasBroken, HasStopped}
+use Rattle.tfm_requests.specs.Faults.{HasRefusedFont, IsCauseOf, IsFaultOf, IsUnreadFontOf}
+use Rattle.request_files.specs.Opening.{IsFirstUnopened}
+use Rattle.tfm_requests.specs.Requests.{IsDone}
+use Rattle.tfm_requests.specs.Stopped.{HasBroken, HasStopped}
 use Rattle.tfm_tool.specs.Vectors.{IsEncoded}
-use Rattle.tfm_tool.specs.declared.failure.Failure.TheVariants.{FileNotOpened, FontNotRead, Tool}
+use Rattle.request_files.specs.declared.failure.Failure.TheVariants.{FileNotOpened, FontNotRead, Tool}
 use Rattle.run_texts.specs.declared.fault.ToolFault.TheVariants.{Write}
-use Rattle.tfm_tool.proofs.CauseLemmas.{before_map, refused_on, told_on}
-use Rattle.tfm_tool.proofs.KnownLemmas.{after_map}
-use Rattle.tfm_tool.proofs.OrderLemmas.{order_handed}
-use Rattle.tfm_tool.proofs.StoppedLemmas.{handed_as, keeps_same}
+use Rattle.request_files.proofs.FailureLemmas.{before_map, told_on, handed_as, keeps_same}
+use Rattle.tfm_requests.proofs.RequestLemmas.{refused_on}
+use Rattle.request_files.proofs.KnownLemmas.{after_map}
+use Rattle.tfm_requests.proofs.OrderLemmas.{order_handed}
 use Rattle.tfm_tool.proofs.VectorLemmas.{asked_cause, asked_fault, asked_names, asked_unread, encoded_fault, encoded_refused, encoded_without, handed_opening, not_of_opening, opening_not_after, refused_map, sound_vector}
 use Rattle.tfm_tool.proofs.program.perform_requested.Goals as goal
 

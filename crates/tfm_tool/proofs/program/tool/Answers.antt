@@ -1,8 +1,9 @@
 use Rattle.std.proofs.Common.{◌≡◌, true}
-use Rattle.tfm_tool.specs.Status.{is_refusal}
-use Rattle.tfm_tool.specs.declared.failure.Failure.{Failure}
-use Rattle.tfm_tool.proofs.CauseLemmas.{before_at, before_of, stopped_after}
-use Rattle.tfm_tool.proofs.StatusLemmas.{no_fault_below, status_listed}
+use Rattle.request_files.specs.Status.{is_refusal}
+use Rattle.request_files.specs.declared.failure.Failure.{Failure}
+use Rattle.request_files.proofs.FailureLemmas.{before_at, before_of}
+use Rattle.tfm_tool.proofs.ServedLemmas.{stopped_after}
+use Rattle.request_files.proofs.StatusLemmas.{no_fault_below, status_listed}
 use Rattle.tfm_tool.proofs.program.tool.Goals as goal
 
 pub returns-in-Err-default-clause-statuses : goal.returns-in-Err-default-clause-statuses

@@ -1,7 +1,7 @@
 use Rattle.tfm_tool.proofs.VectorTextLemmas.{read_fault_of, read_vector_of}
 use Rattle.std.proofs.Common.{subst}
 use Rattle.std.specs.Prelude.{IfOk}
-use Rattle.tfm_tool.specs.Status.{BeforeText}
+use Rattle.request_files.specs.Status.{BeforeText}
 use Rattle.tfm_tool.specs.Vectors.{IsFaultOfText, IsVectorIn}
 use Rattle.tfm_tool.proofs.vectors.read_encoding.Goals as goal
 

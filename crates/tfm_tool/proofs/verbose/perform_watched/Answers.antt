@@ -2,8 +2,8 @@ use Rattle.std.proofs.Common.{◌≡◌, None, MutBor, ap, subst, sym}
 use Rattle.std.specs.Prelude.{IfErr}
 use Rattle.std.specs.Io.KnownBytes.{Keeps}
 use Rattle.tfm_tool.specs.Vectors.{HasFailedAs, IsCauseOfAsked, IsDoneAs}
-use Rattle.tfm_tool.specs.Status.{AfterText, BeforeText, status_of}
-use Rattle.tfm_tool.proofs.StoppedLemmas.{keeps_same}
+use Rattle.request_files.specs.Status.{AfterText, BeforeText, status_of}
+use Rattle.request_files.proofs.FailureLemmas.{keeps_same}
 use Rattle.tfm_tool.proofs.VectorLemmas.{failed_as}
 use Rattle.tfm_tool.proofs.verbose.perform_watched.Goals as goal
 

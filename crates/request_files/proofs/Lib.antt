@@ -1,0 +1,11 @@
+pub mod StatusLemmas
+pub mod JobLemmas
+pub mod KeptLemmas
+pub mod NamedLemmas
+pub mod KnownLemmas
+pub mod FailureLemmas
+pub mod ReaderLemmas
+pub mod EachLemmas
+pub mod WordLemmas
+pub mod CauseLemmas
+pub mod OpeningLemmas

@@ -1,0 +1,5 @@
+pub mod Runs
+pub mod Checking
+pub mod Requests
+pub mod Stopped
+pub mod Faults
