@@ -39,10 +39,19 @@ class Package(Case):
         copy = shared("deb-copy", copy_for_scripts)
         self.same("status", 2, execute(copy + "/scripts/deb", self.room, env=environment(), cwd=copy)[0])
 
-    def test_name_version_and_maintainer(self):
+    # Mutants of scripts/deb: the temporary directory isn't removed; another default directory.
+    def test_without_a_directory(self):
+        """The package is written to the current directory, and no other file is left."""
+        copy, temporary = shared("deb-copy", copy_for_scripts), self.other_room()
+        env = environment(MAINTAINER=MAINTAINER, TMPDIR=temporary)
+        package = output(copy + "/scripts/deb", env=env, cwd=self.room).strip()
+        self.same("package", ([os.path.basename(package)], self.room), (os.listdir(self.room), os.path.dirname(package)))
+        self.same("temporary files", [], os.listdir(temporary))
+
+    def test_name_version_section_and_maintainer(self):
         version = output(PROGRAM, "--version").split()[1]
-        self.same("fields", f"tfmset {version} {MAINTAINER}",
-                  output("dpkg-deb", "--showformat=${Package} ${Version} ${Maintainer}", "-W", self.package))
+        self.same("fields", f"tfmset {version} tex {MAINTAINER}",
+                  output("dpkg-deb", "--showformat=${Package} ${Version} ${Section} ${Maintainer}", "-W", self.package))
 
     # Mutant of scripts/deb: the oldest version in place of the newest.
     def test_needed_version_of_the_c_library(self):

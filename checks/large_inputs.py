@@ -16,10 +16,12 @@ from lib.tfm import make, sample, scaled
 
 WEIGHT = 5
 MOST_LINE, MOST_WORDS = 65535, 32767  # bytes of a line that is set, words of a font
+MOST_VECTOR = 65536  # bytes of an encoding vector
 SIZES = sorted({2 ** i + more for i in range(22) for more in (-1, 0, 1)} | set(range(1000, 66000, 1000)))
 ITEMS = [(b"a", 327680, " c97=327680"), (b" ", 218453, " s218453"), (b"d", 0, " m100")]
 ENTRIES = {"width": 256, "height": 16, "depth": 16, "italic": 64}  # the largest tables of dimensions
 TEN_POINTS, SIXTEEN = 655360, 16 << 20  # a size in scaled points, a fix_word that is out of range
+FAR = range(1000, MOST_WORDS - 30, 1009)  # some entries and instructions of the largest tables
 MB = 1 << 20
 LONG_LINE, MOST_SPACE = 600 * MB, 300000  # bytes of a line, KB of address space
 
@@ -119,7 +121,7 @@ def font_errors():
             yield make([info] * code + [word] + [info] * (255 - code), **parts), error.format(code)
     for table, most in {**ENTRIES, "kern": 600, "param": 600}.items():
         parts = {"widths": [0], "program": [(128, 97, 128, 0)], "kerns": [0]}
-        for entry in range(table in ENTRIES, most):
+        for entry in [*range(table in ENTRIES, most), *([] if table in ENTRIES else FAR)]:
             parts[table + "s"] = [0] * entry + [SIXTEEN] + [0] * (most - 1 - entry)
             if table != "param" or entry:
                 yield make([(0, 0, 0, 0)], **parts), f"13 table {table}, entry {entry + (table == 'param')}"
@@ -127,7 +129,7 @@ def font_errors():
             yield make([(0, 0, 0, 0)], **{**parts, table + "s": [1]}), f"12 table {table}, first entry"
     for part, word in {"restart": (200, 97, 255, 255), "next": (0, 99, 128, 0), "ligature": (0, 97, 0, 99),
                        "kern": (0, 97, 128, 1), "skip": (127, 97, 128, 0)}.items():
-        for index in range(300):
+        for index in [*range(300), *FAR]:
             program = [(0, 97, 128, 0)] * index + [word, (128, 97, 128, 0)]
             font = make([(1, 0, 0, 0)], widths=[0, 1], program=program, kerns=[1])
             yield font, f"14 instruction {index}, {part}"
@@ -139,7 +141,7 @@ class Messages(Case):
     """Messages with each number"""
 
     def test_font_errors(self):
-        """`check` prints the font errors of 5,000 fonts, and other commands some of them.
+        """`check` prints the font errors of some 5,000 fonts, and other commands some of them.
 
         Mutants: a text fails for code 200; a request for each font after the hundredth.
         """
@@ -166,6 +168,43 @@ class Messages(Case):
                     (["set", *[font] * number, "none"], 4, f"file {number} not read"),
                     (["stream", *[font] * number, "none"], 4, f"file {number} not read")):
                 self.same(args[0], (status, "", f"tfmset: {error}\n"), run(*args, room=self.room))
+
+    # Mutant of request_files: the text of line 200 fails.
+    def test_lines_of_vectors(self):
+        """Each line of an encoding vector is printed. The files have line feeds alone: the last line is refused."""
+        font = self.file("font", sample("plain"))
+        for line in [*range(1, 600), *range(600, MOST_VECTOR, 997), MOST_VECTOR, MOST_VECTOR + 1]:
+            seen = run("stream", "--encoding", self.file("v.enc", b"\n" * (line - 1)), font)
+            self.same(line, (3, "", f"tfmset: encoding refused: line {line}\n"), seen)
+
+
+class Verbose(Case):
+    """What --verbose prints, however much it is: no contract states it"""
+
+    # Mutant of tfm_tool: only the first 4,096 bytes of the causes are printed.
+    def test_many_causes(self):
+        """Each of 3,000 fonts that aren't there has a cause."""
+        names = [f"font{number}" for number in range(3000)]
+        causes = [f"tfmset: {name}: No such file or directory (os error 2)\n" for name in names]
+        wanted = "".join(f"{name}: not read\n" for name in names)
+        seen = run("check", "-v", *names, room=self.room)
+        self.same("check", True, seen == (4, wanted, "".join(causes) + "tfmset: some font was not read\n"))
+
+    # Mutant of tfm_tool: a name of 200 bytes or more isn't kept for a note.
+    @rows((f"{length} bytes", length) for length in (199, 201, 257, 1023, 2049, 4095))
+    def test_long_names(self, length):
+        """The name of a directory is printed, which fails when it is read."""
+        name = "./" * (length // 2) + "."
+        cause = f"tfmset: {name}: Is a directory (os error 21)\n"
+        self.same("check", (4, f"{name}: not read\n", cause + "tfmset: some font was not read\n"), run("check", "-v", name))
+
+    # Mutant of tfm_tool: no more than 65,535 lines are counted.
+    def test_many_lines(self):
+        font, text = self.file("font", sample("plain")), b"a\nd\r\n" * 70000
+        status, _, err = run("stream", "-v", font, given=text)
+        wanted = ("tfmset: 70000 lines end with a carriage return: see --crlf\n"
+                  "tfmset: 70000 lines set, 70000 refused: 70000 missing\n")
+        self.same("counts", (1, wanted), (status, err))
 
 
 class Library(LibraryCase):

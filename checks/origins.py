@@ -18,6 +18,7 @@ is a number up to 131,072, such a constant of the same file, a length, or a sum 
 and each line with a larger number needs a row.
 """
 import re
+import tomllib
 
 from lib.base import ROOT, Case, files, read, rows, table
 
@@ -257,3 +258,13 @@ class Formats(Case):
     def test_wrong_request(self, body):
         """A request of an absurd size is found."""
         self.assertTrue(list(large_requests(f"const ROOM: usize = 1000;\nfn planted() {{\n    {body}\n}}\n")))
+
+
+class Mutants(Case):
+    """checks/mutants.toml"""
+
+    def test_each_text_is_in_its_file(self):
+        """Each text that a mutant replaces occurs once in its file."""
+        found = [(mutant["file"], old) for mutant in tomllib.loads(read("checks/mutants.toml"))["mutants"]
+                 for old, _ in mutant.get("changes") or [(mutant["old"], mutant["new"])]]
+        self.none([f"{name}: {old!r}" for name, old in found if read(name).count(old) != 1], len(found), 100)

@@ -88,6 +88,26 @@ class Help(Case):
         seen = re.findall(r"\[default: (\S+)\]", about)
         self.same(f"--{option['name']}: default", [default] if default else [], seen)
 
+    # Mutants of README.md: a default, the end of a range, a value, or a command that accepts an option.
+    def test_options_of_the_readme(self):
+        """The table of options in the README has the commands, values, ranges and defaults of the command table."""
+        found = {row[0]: row[1:] for row in re.findall(
+            r"^\| (?:`-\w`, )?`--([\w-]+)(?: \w)?` \| (.*?) \| (.*?) \|(.*?)\|$", read("README.md"), re.M)}
+        self.same("options", sorted(TABLE.options), sorted(found))
+        for name, (commands, about, default) in found.items():
+            option = TABLE.options[name]
+            if "`" in commands:
+                self.same(f"--{name}: commands", sorted(TABLE.accepting(name)), sorted(re.findall(r"`(\w+)`", commands)))
+            bounds = "{:,} to {:,}".format(*option["range"]) if "range" in option else ""
+            self.assertIn(bounds, about)
+            self.none([f"--{name}: {value}" for value in option.get("choices", ()) if f"`{value}`" not in about])
+            values = option.get("default", "")
+            if isinstance(values, dict):
+                for command, value in values.items():
+                    self.assertRegex(default, rf"{value} for [^,]*`{command}`")
+            elif values:
+                self.same(f"--{name}: default", values, default.strip(" `").replace(",", ""))
+
     def test_the_script_changes_nothing(self):
         copy_for_scripts(self.room)
         self.same("exit status", (0, "", ""), execute(self.room + "/scripts/command_pages"))
@@ -182,7 +202,7 @@ class Completions(Case):
         self.here = self.room + "/here"
         self.env = environment(HOME=self.room, LC_ALL="C.UTF-8", TERM="dumb")
 
-    def compare(self, text):
+    def compare(self, text, left_out=()):
         """Compares the completions that follow each question in a text with those that are wanted."""
         answers = {}
         for part in text.split("? ")[1:]:
@@ -195,7 +215,9 @@ class Completions(Case):
             for word in (wanted,) if isinstance(wanted, str) else wanted:
                 if word not in seen:
                     self.wrong.append(f"{line!r}: no word {word}")
+        self.none([f"{line!r}: {word}" for line, word in left_out if word in answers[line]])
 
+    # Mutants: in bash or zsh, a font is any file, or a vector is.
     @rows((shell, shell, *options) for shell, *options in (("bash",), ("fish", "--no-config")))
     def test_answers(self, shell, *options):
         """The shell completes what the command table has."""
@@ -204,7 +226,7 @@ class Completions(Case):
         ask, completions = f"{ROOT}/checks/lib/ask.{shell}", f"{ROOT}/completions/tfmset.{shell}"
         _, out, err = execute(shell, *options, ask, completions, lines, cwd=self.here, env=self.env)
         self.same("messages", "", err)
-        self.compare(out)
+        self.compare(out, CASES["left_out"] if shell == "bash" else ())
 
     def test_answers_of_zsh(self):
         """zsh completes only in a terminal."""
@@ -226,7 +248,7 @@ class Completions(Case):
             os.kill(child, signal.SIGKILL)
             os.waitpid(child, 0)
             os.close(terminal)
-        self.compare(read(said))
+        self.compare(read(said), CASES["left_out"])
 
     def wait_for(self, terminal, said, count):
         """Waits until the shell has given so many answers."""
@@ -253,13 +275,14 @@ class Install(Case):
         env = environment(**variables)
         return execute(copy + "/scripts/install", *words, cwd=self.room, env=env, umask=0o022)
 
-    @rows((("PREFIX", "/a prefix", ""), ("PREFIX with DESTDIR", "/usr", "/staged")))
+    # Mutant of scripts/install: a slash at the end of PREFIX is kept.
+    @rows((("PREFIX", "/a prefix", ""), ("PREFIX with DESTDIR", "/usr", "/staged"), ("PREFIX with a slash", "/usr/", "")))
     def test_installs(self, prefix, staged):
         """Five files are installed and named, with their modes, and the program works."""
         prefix, destination = self.room + prefix, staged and self.room + staged
         status, out, err = self.install(prefix, **({"DESTDIR": destination} if staged else {}))
         self.same("status", (0, ""), (status, err))
-        top, installed = destination + prefix, CASES["installed"]
+        top, installed = (destination + prefix).rstrip("/"), CASES["installed"]
         self.same("said", sorted(f"installed {top}/{name}" for name in installed), sorted(out.splitlines()))
         self.same("files", sorted(installed), files(top))
         self.same("other files", len(installed), len(files(self.room, ("copy",))))
@@ -270,6 +293,15 @@ class Install(Case):
         wanted = read("examples/README.md").partition("```text\n")[2].partition("```")[0]
         seen = execute(top + "/bin/tfmset", "set", "examples/demo.tfm", "examples/lines.txt", cwd=ROOT)
         self.same("the program", (0, wanted, ""), seen)
+
+    # Mutant of scripts/install: the directory of the link is taken for that of the script.
+    def test_through_a_link(self):
+        """A symbolic link to the script installs the files of its repository."""
+        copy = os.path.join(self.room, "copy")
+        copy_for_scripts(copy)
+        os.symlink(copy + "/scripts/install", self.room + "/link")
+        seen = execute(self.room + "/link", self.room + "/top", cwd=self.room, env=environment())
+        self.same("result", (0, sorted(CASES["installed"])), (seen[0], files(self.room + "/top")))
 
     @rows((f"{words} with exit status {status}", failed, words, status)
           for failed, words, status in CASES["installs_nothing"])

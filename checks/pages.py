@@ -353,11 +353,24 @@ class Scripts(Case):
 
     @rows((name, name, given, message) for name, given, message in (
         ("JSON", '{"source":1}\n', "JSON is not read"), ("format 2", "records 2\n", "format 2 is not read"),
-        ("a part that is cut", "1:1 set 5\n1:3 set 5\n", "part 1 is incomplete: 1:3 set 5")))
+        ("a part that is cut", "1:1 set 5\n1:3 set 5\n", "part 1 is incomplete: 1:3 set 5"),
+        ("too large a number in an end line", "1:1 set 5\n1 end complete 2\n", "part 1 is incomplete: 1 end complete 2"),
+        ("too small a number in an end line", "1 end complete 0\n1:1 set 5\n1 end complete 0\n", "part 2 is incomplete: 1 end"),
+        ("a part that wasn't read to its end", "1:1 set 5\n1 end read 1\n", "part 1 is incomplete: 1 end read 1"),
+        ("a part without an end line", "1 end complete 0\n1:1 set 5\n", "part 2 has no end line")))
     def test_renumber(self, name, given, message):
         status, out, err = execute(f"{ROOT}/scripts/renumber", given=given.encode())
-        self.same(name, (4, 1), (status, err.count("\n")))
+        self.same(name, (4, 1, 0), (status, err.count("\n"), out.count("end")))
         self.assertIn(message, err)
+
+    # Mutants of scripts/renumber: no number in the end line of no record; an end line with another number is accepted.
+    @rows((repr(given), given, wanted) for given, wanted in (
+        ("", "1 end complete 0\n"), ("1 end complete 0\n", "1 end complete 0\n"),
+        ("1:1 set 5\n1 end complete 1\n1 end complete 0\n1:1 set 6\n1:2 refused steps 9\n1 end complete 2\n",
+         "1:1 set 5\n1:2 set 6\n1:3 refused steps 9\n1 end complete 3\n")))
+    def test_renumber_joins(self, given, wanted):
+        """The records of all parts are numbered anew, and an end line has their number."""
+        self.same("output", (0, wanted, ""), execute(f"{ROOT}/scripts/renumber", given=given.encode()))
 
     def test_closed_pipe(self):
         """A closed pipe ends a script without a message."""

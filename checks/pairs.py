@@ -11,7 +11,7 @@ import json
 import re
 import unicodedata
 
-from json_records import is_valid
+from json_records import is_valid, loose_bounds
 from lib.base import PROGRAM, Case, execute, output, read, rows
 from lib.slow import pair_rows
 from lib.tex import fonts
@@ -170,27 +170,44 @@ class Characters(Case):
         self.none([], len(wanted), 100)
 
 
+# Lines that the schema refuses.
+REFUSED = (
+    '{"left":"right","right":98,"action":"kern","value":0}',
+    '{"left":97,"right":"left","action":"kern","value":0}',
+    *(f'{{"left":{left},"right":{right},"action":"kern","value":0}}' for left, right in (
+        (97, 256), (97, -1), (256, 97), (-1, 97))),
+    *(f'{{"left":97,"right":98,"action":"kern","value":{value}}}' for value in (1 << 31, -(1 << 31) - 1)),
+    '{"left":97,"right":98,"action":"LIG","value":-1}',
+    '{"left":97,"right":98,"action":"LIG>","value":0}',
+    '{"left":97,"right":98,"action":"LIG","value":256}', '{"left":97,"right":98,"action":"kern"}',
+    '{"left":97,"right":98,"action":"kern","value":0,"op":0}',
+    '{"left":97,"right":98,"action":"kern","value":0,"left_character":"a"}',
+    '{"left":97,"right":98,"action":"kern","value":0,"right_character":"b"}',
+    '{"left":97,"right":98,"action":"kern","value":0,"left_character":"a","right_character":"bc"}',
+    '{"left":97,"right":98,"action":"kern","value":0,"left_character":"","right_character":"b"}',
+    '{"left":97,"right":98,"action":"kern","value":0,"left_character":"ab","right_character":"b"}',
+    '{"left":97,"right":98,"action":"kern","value":0,"left_character":"a","right_character":""}',
+    *('{"left":97,"right":98,"action":"LIG","value":0,"left_character":"a","right_character":"b",'
+      f'"value_character":"{character}"}}' for character in ("", "ab")),
+    '{"left":97,"right":98,"action":"kern","value":0,"left_character":97,"right_character":"b"}',
+    '{"left":97,"right":98,"action":"kern","value":0,"left_character":"a","right_character":"b",'
+    '"value_character":null}',
+    '{"left":97,"right":98,"action":"LIG","value":0,"left_character":"a","right_character":"b"}',
+    '{"left":97,"right":98,"action":"LIG","value":0,"value_character":"a"}',
+    '{"left":"left","right":98,"action":"kern","value":0,"left_character":"a","right_character":"b"}',
+    '{"left":97,"right":"right","action":"kern","value":0,"left_character":"a","right_character":"b"}')
+
+
 class Lines(Case):
     """Single lines of JSON"""
 
-    @rows((line, line) for line in (
-        '{"left":"right","right":98,"action":"kern","value":0}',
-        '{"left":97,"right":"left","action":"kern","value":0}',
-        '{"left":97,"right":256,"action":"kern","value":0}',
-        '{"left":97,"right":98,"action":"LIG>","value":0}',
-        '{"left":97,"right":98,"action":"LIG","value":256}', '{"left":97,"right":98,"action":"kern"}',
-        '{"left":97,"right":98,"action":"kern","value":0,"op":0}',
-        '{"left":97,"right":98,"action":"kern","value":0,"left_character":"a"}',
-        '{"left":97,"right":98,"action":"kern","value":0,"right_character":"b"}',
-        '{"left":97,"right":98,"action":"kern","value":0,"left_character":"a","right_character":"bc"}',
-        '{"left":97,"right":98,"action":"kern","value":0,"left_character":"","right_character":"b"}',
-        '{"left":97,"right":98,"action":"kern","value":0,"left_character":97,"right_character":"b"}',
-        '{"left":97,"right":98,"action":"kern","value":0,"left_character":"a","right_character":"b",'
-        '"value_character":null}',
-        '{"left":97,"right":98,"action":"LIG","value":0,"left_character":"a","right_character":"b"}',
-        '{"left":97,"right":98,"action":"LIG","value":0,"value_character":"a"}',
-        '{"left":"left","right":98,"action":"kern","value":0,"left_character":"a","right_character":"b"}',
-        '{"left":97,"right":"right","action":"kern","value":0,"left_character":"a","right_character":"b"}'))
+    @rows((line, line) for line in REFUSED)
     def test_schema(self, line):
         """The schema refuses a line."""
         self.assertFalse(is_valid(json.loads(line), SCHEMA))
+
+    # Mutants of docs/pairs.schema.json: a number has no maximum; other members are accepted.
+    def test_each_bound_of_the_schema(self):
+        """Without any bound of the schema, one of these lines is accepted."""
+        loose, count = loose_bounds(SCHEMA, REFUSED)
+        self.none(loose, count, 20)

@@ -285,7 +285,7 @@ class ManyFiles(Case):
 class Numbers(Case):
     """The number of a font or a file in a message"""
 
-    # Mutants of tfm_tool: each number is 1; or at most 9; or too small by one if it is above 9.
+    # Mutants of request_files: each number is 1; or at most 9; or too small by one if it is above 9.
     @rows((f"number {number}", number) for number in (1, 2, 9, 64))
     def test_number(self, number):
         """One of 64 fonts or files isn't there, or is refused."""
@@ -414,3 +414,16 @@ class Expectations(Case):
             compare(other, {**case, name: value}, files)
             other.doCleanups()
             self.same(name, 1, len(other.wrong))
+
+    # Mutants of checks/lib/base.py: `none` drops the errors, or doesn't count; a test with one error passes.
+    def test_each_error_fails_a_test(self):
+        """One error, or too few comparisons, fails a test at its end."""
+        for arguments, wrong in (((["an error"],), 1), (([], 0), 1), (([], 1, 2), 1), (([],), 0)):
+            other = Case()
+            other.setUp()
+            other.none(*arguments)
+            self.same(arguments, wrong, len(other.wrong))
+            if wrong:
+                self.assertRaises(AssertionError, other.tearDown)
+            else:
+                other.tearDown()

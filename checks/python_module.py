@@ -75,7 +75,8 @@ print(font, lines, *lines, lines[1].items[1], font.pair(111, 120), font.metrics(
 """, "[665189, None, 334233] [0, 665189] []\n<Font of {bytes} bytes at 10pt>\n<Lines: 5>\n<Line of width 334233, 1 items>\n"
      "<Line of width 665189, 3 items>\nRefusal(reason='missing', place=0, code=81)\n<Line of width 0, 0 items>\n"
      "<Line of width 665189, 3 items>\nItem(kind=1, code=0, width=-16384)\nKern(width=-16384)\n334233\n"),
-    # Mutants: the ends of a range are swapped; a name of an argument is that of another one.
+    # Mutants: the ends of a range are swapped; a name of an argument is that of another one; the number of a character
+    # has fewer than four digits.
     ("The texts of exceptions", """
 for call in (lambda: tfmset.Font(data, 0), lambda: tfmset.Font(data, 1 << 27), lambda: tfmset.Font(data, "1em"),
              lambda: tfmset.Font("x"), lambda: font.metrics(256), lambda: font.metrics(-1), lambda: font.pair(257, 1),
@@ -84,7 +85,8 @@ for call in (lambda: tfmset.Font(data, 0), lambda: tfmset.Font(data, 1 << 27), l
              lambda: font.set("x", encoding="T1"), lambda: font.set("x", encoding=1),
              lambda: font.records(b"", version=4), lambda: font.records(b"", source=-1),
              lambda: font.records(b"abc", first_line=1 << 64), lambda: font.set(b"x")[1],
-             lambda: tfmset.encode("5 €", "t1"), lambda: tfmset.encode("a\\ud800", "ot1"), lambda: tfmset.Font(data[:9])):
+             lambda: tfmset.encode("5 €", "t1"), lambda: tfmset.encode("a\\ud800", "ot1"), lambda: tfmset.encode("naïve", "ot1"), lambda: tfmset.encode("\\U0001f600", "t1"),
+             lambda: tfmset.Font(data[:9])):
     try:
         print("accepted", call())
     except (IndexError, TypeError, ValueError) as error:
@@ -110,6 +112,8 @@ ValueError: first_line is 18446744073709551616, but must be from 0 to 18,446,744
 IndexError: line index out of range
 EncodingError: no code in t1 for U+20AC at index 2
 EncodingError: no code in ot1 for U+D800 at index 1
+EncodingError: no code in ot1 for U+00EF at index 2
+EncodingError: no code in t1 for U+1F600 at index 0
 FontRefused: 1 truncated, 24 bytes needed
 """),
     # Mutants: `Line` keeps a pointer instead of the array; `Lines.items` is made from an address.
@@ -149,6 +153,38 @@ for version in 1, 2:
     font.records(text, version=version)
 print(len(font.set(text)), len(font.widths(text)), len(font.pairs()) > 9, *Library.called)
 """, "297 297 True tfmset_records tfmset_records tfmset_set tfmset_widths tfmset_pairs\n"),
+    # Mutant: the library is loaded as `PyDLL`, which keeps the lock of the interpreter.
+    ("Other threads run during a call", """
+import threading, time
+ticks, ended = [0], []
+def tick():
+    while not ended:
+        time.sleep(0.001)
+        ticks[0] += 1
+class Library:
+    def __getattr__(self, name):
+        def call(*arguments):
+            before, code = ticks[0], getattr(library, name)(*arguments)
+            print(name, ticks[0] - before > 9)
+            return code
+        return call
+library, tfmset._library = tfmset._library, Library()
+thread = threading.Thread(target=tick)
+thread.start()
+print(len(font.widths(b"office waves of ox\\n" * 500000)))
+ended.append(True)
+thread.join()
+""", "tfmset_widths True\n500000\n"),
+    # Mutant: `_raise` raises FontRefused whatever the second call returns.
+    ("An allocation that fails when the error of a font is read", """
+class Library:
+    tfmset_font, tfmset_check = lambda *_: 1, lambda *_: 2
+tfmset._library = Library()
+try:
+    tfmset.Font(data)
+except MemoryError as error:
+    print(error)
+""", "an allocation of libtfmset failed\n"),
 )
 
 

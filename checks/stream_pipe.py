@@ -204,7 +204,7 @@ class Pipes(Case):
             time.sleep(0.02)
         return seen()
 
-    # Mutants of `deliver` in tfm_tool: the plan has one worker, or 16. Of `options` in run_texts: one lane a source.
+    # Mutants of `deliver` in tfm_requests: the plan has one worker, or 16. Of `options` in run_texts: one lane a source.
     @rows((f"{command} --workers {workers}, {count} files: {threads} threads", command, workers, count, threads)
           for command in ("set", "each", "stream")
           for workers, count, threads in ((1, 3, 5), (2, 3, 6), (3, 3, 7), (16, 3, 20), (1, 1, 3), (16, 1, 18),
@@ -217,7 +217,7 @@ class Pipes(Case):
             pipe.close()
         self.same("threads and exit status", (threads, 0), (seen, child.wait(SECONDS)))
 
-    # Mutants of `deliver` in tfm_tool: the plan has 16 slots, or blocks of one line, or of eight; blocks of `set` have
+    # Mutants of `deliver` in tfm_requests: the plan has 16 slots, or blocks of one line, or of eight; blocks of `set` have
     # the lines of a read, or those of `stream` don't. Of `LaneCount` in set_run: the lanes of all sources are more than 64.
     @rows((f"{command} --workers {workers} --capacity {slots} --block {block}, {count} files: {reads} reads",
            command, workers, slots, block, reads, count) for command, workers, slots, block, reads, count in (

@@ -30,11 +30,18 @@ FONTS = {"one program for all": make([(1, 0, 1, 0)] * 256, **LONG_PROGRAM),
          "same widths": make([(1, 0, 0, 0)] * 256, (0, 1 << 20), params=(0, 1 << 18), first=0)}
 # Lines whose texts, one for the end of each, differ only in the code.
 ENDS = b"".join(bytes((code, 10)) for code in range(100, 256))
+# A vector with ä at the code of a, and ε at that of q, and texts with these letters.
+NAMES = {**{code: chr(code) for code in range(98, 123)}, 97: "adieresis", 113: "uni03B5"}
+VECTOR = "/letters [ " + " ".join("/" + NAMES.get(code, ".notdef") for code in range(256)) + " ] def\n"
+UMLAUTS = PIECE.replace(b"a", "ä".encode())
 TEXTS = {**FONTS, "20 MB": PIECE * 20, "2 MB": PIECE * 2, "short": b"office\n" * 300000, "aa": b"aa\n" * 10000,
          "ten reads": b"office\r\n" * 5120, "missing": PIECE.replace(b"affable", b"Affable") * 2,
          "uncoded": PIECE.replace(b"affable", "\u20acffable".encode()) * 2,
          "long": (WORDS[:65000] + b"\n") * 60, "usual": (WORDS[:64] + b"\n") * 60000,
          "100 KB": PIECE[:100000], "200 KB": PIECE[:200000], "aa of 20": b"aa\n" * 20,
+         "vector": VECTOR.encode(), "100 KB with ä": UMLAUTS[:100000], "200 KB with ä": UMLAUTS[:200000],
+         "100 KB with ε": UMLAUTS[:100000].replace(b"e", "ε".encode()),
+         "200 KB with ε": UMLAUTS[:200000].replace(b"e", "ε".encode()),
          "none": b"", "ends": ENDS, "after": ENDS + b"\xff\n" * 400000, "before": b"\xff\n" * 400000 + ENDS}
 STREAM, SET, CHECK = [PROGRAM, "stream", DEMO], [PROGRAM, "set", DEMO], [PROGRAM, "check"]
 LIMITED = [PROGRAM, "stream", "--limit", "100"]
@@ -99,12 +106,15 @@ class Times(Case):
 
 
 # A command; what its instructions are counted for; how many more of these the second argument brings than the first; the
-# most instructions for one. The program takes about 65, 65, 296 and 75. Lines with a skipped character, which aren't set
-# with the table of texts, take 163, so that a program that set all lines in this way would fail.
+# most instructions for one. The program takes about 65, 65, 296, 76, 113 and 75. Lines with a skipped character, which
+# aren't set with the table of texts, take 163, so that a program that set all lines in this way would fail. If each
+# character of a text is searched for among the 256 codes of a vector, a byte takes about 820.
 ONE = ["--workers", "1", "--block", "8"]
 INSTRUCTIONS = [
     *((name, [PROGRAM, name, *ONE, DEMO, "@"], "byte", ("100 KB", "200 KB"), 100000, 100) for name in ("stream", "set")),
     ("stream in JSON", [PROGRAM, "stream", *ONE, "--record", "json", DEMO, "@"], "byte", ("100 KB", "200 KB"), 100000, 450),
+    *((f"stream with a vector, {letter}", [PROGRAM, "stream", *ONE, "--encoding", "vector", DEMO, "@"], "byte",
+       (f"100 KB with {letter}", f"200 KB with {letter}"), 100000, most) for letter, most in (("ä", 110), ("ε", 200))),
     ("a program that never ends", [PROGRAM, "stream", *ONE, "--limit", "@", path_of("endless_3"), "aa of 20"], "step",
      ("1000", "2000"), 20000, 150),
 ]
@@ -170,10 +180,10 @@ class Requests(Case):
                 got = refuse.execute(named(words), what, number, stdout=out, timeout=SECONDS)
                 self.same((words[1:], what, number), fails, len(got.told))
 
-    # Mutants of `CrlfReader`: a read requests 1,024 bytes. Of `kept_bytes` in tfm_tool: a read requests 16 bytes.
+    # Mutants of `CrlfReader`: a read requests 1,024 bytes. Of `kept_bytes` (request_files), `WatchedReader` (tfm_tool): 16.
     @rows((" ".join(words), words) for words in (
-        *([command, *options] for command in ("set", "stream", "each") for options in ([], ["--crlf"], ["--block", "8"])),
-        ["list"], ["check"]))
+        *([command, *options] for command in ("set", "stream", "each")
+          for options in ([], ["--crlf"], ["--block", "8"], ["--verbose"])), ["list"], ["check"], ["check", "--verbose"]))
     def test_reads(self, words):
         """A read requests 4,096 bytes, and no file is read again after its end."""
         fonts, texts = 2, 0
