@@ -109,6 +109,18 @@ class Sizes(Case):
         seen = run("stream", self.file("font", font), given=b"ab")
         self.same((name, count), (0, wanted + "1 end complete 1\n", ""), seen)
 
+    # Mutant of tfm_requests: `finish` fails if 33 lines were refused.
+    @rows((args, args) for args in ("stream font", "set font lines", "each font 9 lines"))
+    def test_refused_lines(self, args):
+        """Each number of refused lines up to 300 is set to its end."""
+        self.file("font", sample("plain"))
+        for count in range(300):
+            text = b"d\n" * count
+            self.file("lines", text)
+            wanted = "".join(f"1:{number} refused missing 0 100\n" for number in range(1, count + 1))
+            seen = run(*args.split(), given=text, room=self.room)
+            self.same(count, (int(count > 0), f"{wanted}1 end complete {count}\n", ""), seen)
+
 
 def font_errors():
     """Fonts with an error at each code, entry and instruction, with the error that is printed."""
