@@ -12,7 +12,7 @@ mod checks;
 mod early_ends;
 mod encoded_texts;
 mod failing_streams;
-mod font_output;
+mod font_texts_written;
 mod gates;
 mod interrupted_writes;
 mod prompt_records;
