@@ -143,7 +143,8 @@ class Encodings(LinesCase):
     @rows((name, name) for name in FILES)
     def test_several_codes(self, name):
         """The codes of a character with several codes are those of its letters."""
-        self.need("kpsewhich", "cmr10")
+        # The file t1enc.def is LaTeX's.
+        self.need("kpsewhich", "cmr10", *(["latex"] if name == "t1" else []))
         table, others = self.table(name), {"ẞ": "SS", "¡": "!`", "¿": "?`", "\u00ad": ""}
         several = {letter: codes for letter, codes in table.items() if len(codes) != 1}
         for letter, codes in several.items():
