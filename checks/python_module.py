@@ -44,10 +44,13 @@ print()
 """, "786432 717619 717619 789381 745871 655360 2368143 size is ''; size is '0pt'; size is '12'; size is '+12'; size is '12PT'; "
      "size is '-1pt'; size is '2048pt'; size is '1em'; size is '1e1pt'; size is '12\\xa0pt'; "
      "size is '12pt\\x00'; \n"),
-    # Mutants: `_refusal` returns the offset of the code; `_Source` counts characters without codes.
+    # Mutants: `_refusal` returns the offset of the code, or the index of the first code for any reason; `_Source` counts
+    # characters without codes.
     ("The place in a refusal of a str is the index of a character", """
 print(font.set("fox\\nﬁg Q", encoding="t1")[1], font.widths("\\ufeffo\\xadﬁ¡Q", encoding="ot1"))
-""", "Refusal(reason='missing', place=3, code=81) [Refusal(reason='missing', place=4, code=33)]\n"),
+print(font.set("\\xadoffice", 1, encoding="t1")[0])
+""", "Refusal(reason='missing', place=3, code=81) [Refusal(reason='missing', place=4, code=33)]\n"
+     "Refusal(reason='steps', place=0, code=0)\n"),
     # Mutants: `_utf8`, `_size` or `_named` calls the method `encode`, `_size` the method `replace`, or `_Source` the
     # method `split`, of a subclass. The library then reads another text, or beyond the memory.
     ("A subclass of str counts as the characters that it has", """
@@ -67,12 +70,14 @@ lines = font.set(b"ox\\nox")
 lines[0].items[0].width = 7
 print(lines[0].items[0].width, lines[1].items[0].width, lines.items[0].width)
 """, "334233 334233 334233\n"),
-    # Mutants: a slice ignores its step; the length of `Lines` in its text is the number of items.
+    # Mutants: a slice ignores its step; the length of `Lines` in its text is the number of items; the size of a font is
+    # rounded in its text.
     ("Slices of lines, and the texts of objects", """
 lines = font.set(b"o\\nox\\nQ\\n\\nox")
 print([getattr(line, "width", None) for line in lines[::-2]], [line.width for line in lines[-2:9]], lines[3:1])
-print(font, lines, *lines, lines[1].items[1], font.pair(111, 120), font.metrics(111).width, sep="\\n")
-""", "[665189, None, 334233] [0, 665189] []\n<Font of {bytes} bytes at 10pt>\n<Lines: 5>\n<Line of width 334233, 1 items>\n"
+print(font, tfmset.Font(data, "10.95pt"), lines, *lines, lines[1].items[1], font.pair(111, 120), font.metrics(111).width, sep="\\n")
+""", "[665189, None, 334233] [0, 665189] []\n<Font of {bytes} bytes at 10pt>\n"
+     "<Font of {bytes} bytes at 10.95pt>\n<Lines: 5>\n<Line of width 334233, 1 items>\n"
      "<Line of width 665189, 3 items>\nRefusal(reason='missing', place=0, code=81)\n<Line of width 0, 0 items>\n"
      "<Line of width 665189, 3 items>\nItem(kind=1, code=0, width=-16384)\nKern(width=-16384)\n334233\n"),
     # Mutants: the ends of a range are swapped; a name of an argument is that of another one; the number of a character
