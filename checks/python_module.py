@@ -158,6 +158,13 @@ for version in 1, 2:
     font.records(text, version=version)
 print(len(font.set(text)), len(font.widths(text)), len(font.pairs()) > 9, *Library.called)
 """, "297 297 True tfmset_records tfmset_records tfmset_set tfmset_widths tfmset_pairs\n"),
+    # Mutants: the default limit of a method is another one; missing characters are skipped by default.
+    ("The defaults of the arguments", """
+import inspect
+print(*(inspect.signature(method) for method in (tfmset.Font.set, tfmset.Font.widths, tfmset.Font.records)), sep="\\n")
+""", "(self, text, limit=1048576, missing='refuse', *, encoding=None)\n"
+     "(self, text, limit=1048576, missing='refuse', *, encoding=None)\n"
+     "(self, text, limit=1048576, missing='refuse', *, version=1, source=1, first_line=1, encoding=None)\n"),
     # Mutant: the library is loaded as `PyDLL`, which keeps the lock of the interpreter.
     ("Other threads run during a call", """
 import threading, time
