@@ -232,4 +232,4 @@ class Version(LibraryCase):
         for number, name in ((2000, "0.2.0"), (1_001_000, "1.1.0"), (0, "0.0.0")):
             wanted = f"ImportError: PATH has version {name}, but tfmset.py has 0.1.0"
             self.same(name, (1, wanted), self.imported(number))
-        self.same("0.1.7", (0, "(0, 1, 7)\n"), self.imported(1007))
+        self.same("0.1.907", (0, "(0, 1, 907)\n"), self.imported(1907))
