@@ -3,7 +3,8 @@
 CLAUSES is what scripts/clauses writes, and has every `ensures`, `requires`, `ghost output` and `ghost
 from_gives` of src, counted line by line: as a row, or among those of private functions. DEFINITIONS names
 files and definitions that exist, and functions whose clauses use them; no definition that a public clause
-names is missing, and no public clause depends on a file of its last table.
+names is missing, and no public clause depends on a file of its last table. The contracts that pages quote
+are those of the sources.
 """
 import collections
 import functools
@@ -17,10 +18,12 @@ from lib.base import ROOT, Case, execute, read, rows, script, table, write
 WEIGHT = 4
 SCRIPT = script("scripts/clauses")
 DEFINITIONS = "docs/DEFINITIONS.md"
+QUOTING = ("README.md", "docs/CALLING.md", "docs/PROVED.md")
 
 USE = re.compile(r"use Rattle\.(\w+)\.specs\.(\w+)\.\{([^}]*)\}")
 LINK = re.compile(r"\[(\w+)\]\(\.\./crates/(\w+)/specs/(\w+)\.antt\)")
 QUOTED = re.compile(r"`([^`]+)`")
+QUOTED_CONTRACT = re.compile(r"^```text\n((?:pub fn|ensures|requires) .*?)^```$", re.M | re.S)
 CLAUSE_LINE = re.compile(
     r"^\s*(?:.*\s)?(?:(?:ensures|requires)(?: \w+)? \{|ghost (?:output|from_gives|deref_gives) =)", re.M)
 
@@ -171,8 +174,20 @@ def definition_errors(root):
                     for crate, file, name in sorted(spec.reached(public)) if (crate, file) in internal]
 
 
+def quotation_errors(root):
+    """The contracts that pages quote and no source has, whatever their spaces and line ends."""
+    wrong = []
+    codes = "\n".join(" ".join(source.text.split())
+                      for crate in SCRIPT.read_crates(root) for source in crate.sources.values())
+    for page in QUOTING:
+        quoted = [" ".join(text.split()) for text in QUOTED_CONTRACT.findall(read(os.path.join(root, page)))]
+        wrong += [f"{page}: no source has {text}" for text in quoted if text not in codes]
+        wrong += [] if quoted else [f"{page}: no contract is quoted"]
+    return wrong
+
+
 class Pages(Case):
-    """CLAUSES and DEFINITIONS"""
+    """CLAUSES and DEFINITIONS, and the contracts that pages quote"""
 
     def test_clauses_is_what_the_script_writes(self):
         self.none(page_errors(ROOT))
@@ -183,13 +198,16 @@ class Pages(Case):
     def test_definitions_agree_with_the_sources(self):
         self.none(definition_errors(ROOT))
 
+    def test_quoted_contracts_are_those_of_the_sources(self):
+        self.none(quotation_errors(ROOT))
+
 
 class Seeded(Case):
     """Seeded errors are found"""
 
     def setUp(self):
         super().setUp()
-        for name in ("crates.txt", "docs/CLAUSES.md", DEFINITIONS):
+        for name in ("crates.txt", "docs/CLAUSES.md", DEFINITIONS, *QUOTING):
             self.file(name, read(name))
         shutil.copytree(ROOT + "/crates", self.room + "/crates", ignore=shutil.ignore_patterns("out"))
 
@@ -200,5 +218,6 @@ class Seeded(Case):
         text = read(path) if "old" in row else ""
         self.assertIn(row.get("old", ""), text)
         write(path, text.replace(row.get("old", ""), row["new"], 1))
-        found = {"clauses": page_errors, "definitions": definition_errors}[name](self.room)
+        errors = {"clauses": page_errors, "definitions": definition_errors, "quotations": quotation_errors}
+        found = errors[name](self.room)
         self.assertTrue(any(row["printed"] in line for line in found), found)
