@@ -31,7 +31,7 @@ CLAUSE_LINE = re.compile(
 def page_errors(root):
     """What scripts/clauses --check prints of a repository, if it fails."""
     status, _, err = execute(sys.executable, "-B", ROOT + "/scripts/clauses", "--check", root)
-    return [err.strip() or f"exit status {status}"] if status or err else []
+    return [err.strip() if status == 1 and err else f"exit status {status}"] if status or err else []
 
 
 def count_errors(root):

@@ -1,6 +1,7 @@
 """The Debian package that scripts/deb makes: its contents, and installing, running and removing it."""
 import os
 import re
+import shutil
 
 from lib.base import DEMO, PROGRAM, Case, copy_for_scripts, environment, execute, files, output, read, shared
 
@@ -39,19 +40,37 @@ class Package(Case):
         copy = shared("deb-copy", copy_for_scripts)
         self.same("status", 2, execute(copy + "/scripts/deb", self.room, env=environment(), cwd=copy)[0])
 
-    # Mutants of scripts/deb: the temporary directory isn't removed; another default directory.
+    # Mutant of scripts/deb: without `set -e`.
+    def test_after_a_failed_build(self):
+        """No package is made if the build of the program fails."""
+        copy = os.path.join(self.room, "copy")
+        copy_for_scripts(copy, 70)
+        seen = execute(copy + "/scripts/deb", self.room, env=environment(MAINTAINER=MAINTAINER), cwd=copy)
+        self.same("result", (70, "", ["copy"]), (*seen[:2], os.listdir(self.room)))
+
+    # Mutant of scripts/deb: a missing dpkg-deb isn't reported.
+    def test_without_dpkg(self):
+        copy, tools = shared("deb-copy", copy_for_scripts), self.other_room()
+        for name in ("bash", "dirname", "readlink", "realpath"):
+            os.symlink(shutil.which(name), f"{tools}/{name}")
+        seen = execute(copy + "/scripts/deb", env=environment(MAINTAINER=MAINTAINER, PATH=tools), cwd=self.room)
+        self.same("result", (2, "", "deb: dpkg-deb is missing: install the package dpkg\n"), seen)
+
+    # Mutants of scripts/deb: the temporary directory isn't removed; another default directory; the directory of a link is
+    # taken for that of the script.
     def test_without_a_directory(self):
         """The package is written to the current directory, and no other file is left."""
         copy, temporary = shared("deb-copy", copy_for_scripts), self.other_room()
-        env = environment(MAINTAINER=MAINTAINER, TMPDIR=temporary)
-        package = output(copy + "/scripts/deb", env=env, cwd=self.room).strip()
+        env, link = environment(MAINTAINER=MAINTAINER, TMPDIR=temporary), os.path.join(self.other_room(), "link")
+        os.symlink(copy + "/scripts/deb", link)
+        package = output(link, env=env, cwd=self.room).strip()
         self.same("package", ([os.path.basename(package)], self.room), (os.listdir(self.room), os.path.dirname(package)))
         self.same("temporary files", [], os.listdir(temporary))
 
     def test_name_version_section_and_maintainer(self):
         version = output(PROGRAM, "--version").split()[1]
-        self.same("fields", f"tfmset {version} tex {MAINTAINER}",
-                  output("dpkg-deb", "--showformat=${Package} ${Version} ${Section} ${Maintainer}", "-W", self.package))
+        form = "--showformat=${Package} ${Version} ${Section} ${Priority} ${Maintainer}"
+        self.same("fields", f"tfmset {version} tex optional {MAINTAINER}", output("dpkg-deb", form, "-W", self.package))
 
     # Mutant of scripts/deb: the oldest version in place of the newest.
     def test_needed_version_of_the_c_library(self):

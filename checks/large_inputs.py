@@ -1,9 +1,9 @@
-"""Inputs of each size, and messages with each number.
+"""Inputs of many sizes, and messages with many numbers.
 
 A contract permits a function to report failed allocation for any input, and a formatter to fail. A body that
 does so only for some inputs, by a request for an absurd amount of memory, is proved. Therefore lines, paths,
-tables and texts have each size up to the limits of the formats here, and fonts have errors at each code,
-entry and instruction.
+tables and texts have many sizes up to the limits of the formats here, and fonts have errors at each code, at
+the first entries and instructions, and at some of the later ones.
 """
 import contextlib
 import ctypes
@@ -65,7 +65,7 @@ class LongLine(Case):
 
 
 class Sizes(Case):
-    """Lines, paths and tables of each size"""
+    """Lines, paths and tables of many sizes"""
 
     @rows((f"{args}, {kind[0]}", args.split(), *kind) for kind in ITEMS for args in (
         "set font lines", "stream --block 1 font lines", "stream font", "each font 16777216 lines"))
@@ -81,6 +81,19 @@ class Sizes(Case):
         self.same("status", (1, "", len(wanted)), (status, err, out.count("\n")))
         self.none([f"{one[:60]}: {two[:60]}" for one, two in zip(wanted, out.splitlines()) if one != two])
 
+    # Mutant of encodings: a request for the codes of many bytes.
+    @rows((args, args) for args in ("set font lines", "stream font"))
+    def test_lines_in_utf8(self, args):
+        """Lines of ä, which the font lacks."""
+        text, (command, *others) = b"\n".join("ä".encode() * size for size in SIZES), args.split()
+        self.file("font", sample("plain"))
+        self.file("lines", text)
+        status, out, err = run(command, "--encoding", "t1", "--missing", "skip", *others, given=text, room=self.room)
+        wanted = [f"1:{number} " + ("set 0" + " m228" * size if 2 * size <= MOST_LINE else f"refused too-long {2 * size}")
+                  for number, size in enumerate(SIZES, 1)] + [f"1 end complete {len(SIZES)}"]
+        self.same("status", (1, ""), (status, err))
+        self.same("lines", True, wanted == out.splitlines())
+
     @rows((f"{length} bytes", length) for length in (200, 255, 256, 500, 1023, 2048, 4095))
     def test_path(self, length):
         """A long path is opened and printed. Mutant: a request for a path above 200 bytes."""
@@ -92,7 +105,7 @@ class Sizes(Case):
         self.same("list", (0, ""), run("list", path)[::2])
 
     def test_tables(self):
-        """Fonts with kerns and instructions of each number. Mutant: a request for more than 5,000 kerns."""
+        """Fonts with many numbers of kerns and instructions. Mutant: a request for more than 5,000 kerns."""
         parts = {"infos": [(1, 0, 1, 0), (1, 0, 0, 0)], "widths": [0, 1 << 20]}
         for count in [size for size in SIZES if 0 < size < MOST_WORDS - 20] + [MOST_WORDS - 19]:
             last = (128, 98, *(32768 + count - 1).to_bytes(2, "big"))
@@ -123,7 +136,7 @@ class Sizes(Case):
 
 
 def font_errors():
-    """Fonts with an error at each code, entry and instruction, with the error that is printed."""
+    """Fonts with an error at each code, and at many entries and instructions, with the error that is printed."""
     info, parts = (1, 0x11, 4, 0), {name + "s": [0, 1] for name in ENTRIES}
     parts |= {"first": 0, "kerns": [1], "program": [(128, 98, 128, 0)]}
     bad = {f"10 character {{}}, table {table}": word for table, word in zip(
@@ -167,6 +180,12 @@ class Messages(Case):
             for args in (["list", "-"], ["set", "-", name], ["stream", name]):
                 self.same(args, (3, "", f"tfmset: font refused: {error}\n"), run(*args, given=data))
 
+    # Mutant of `main`: only the first 4,096 arguments are handed on.
+    def test_many_arguments(self):
+        """Each of 20,000 arguments is read."""
+        status, out, err = run("check", *["x"] * 20000, room=self.room)
+        self.same("check", (4, 20000, "tfmset: some font was not read\n"), (status, out.count("x: not read\n"), err))
+
     def test_numbers_of_files(self):
         """Each number of a font, file or limit is printed. Mutant: the text of file 33 fails."""
         font, cut = self.file("font", sample("plain")), self.file("cut", sample("plain")[:-1])
@@ -209,6 +228,10 @@ class Verbose(Case):
         name = "./" * (length // 2) + "."
         cause = f"tfmset: {name}: Is a directory (os error 21)\n"
         self.same("check", (4, f"{name}: not read\n", cause + "tfmset: some font was not read\n"), run("check", "-v", name))
+        # Mutant of `WatchedFiles` in tfm_tool: the name of a file that can't be opened is cut.
+        none = name[:-2] + "no"
+        cause = f"tfmset: {none}: No such file or directory (os error 2)\n"
+        self.same("check", (4, f"{none}: not read\n", cause + "tfmset: some font was not read\n"), run("check", "-v", none))
 
     # Mutant of tfm_tool: no more than 65,535 lines are counted.
     def test_many_lines(self):

@@ -8,7 +8,7 @@ import shutil
 import sys
 import venv
 
-from lib.base import DEMO, PROGRAM, ROOT, environment, execute, output, read, rows, shared, write
+from lib.base import DEMO, PROGRAM, ROOT, bash, environment, execute, files, output, read, rows, shared, write
 from lib.clib import (DONE, NO_ROOM, PARAMETERS, RANGE, REFUSED, U32, WARNINGS, About, Fault, LibraryCase,
                       Metrics, Neighbours, Pair, call, loaded, values)
 from lib.tfm import BOUNDARY, LISTED, Font, Listing, path_of, sample, samples
@@ -126,7 +126,8 @@ class Functions(LibraryCase):
         self.assertIn(f"\nVersion: {'.'.join(numbers)}\n", read(self.lib + "/pkgconfig/tfmset.pc"))
         links = [os.readlink(f"{self.lib}/libtfmset.so{end}") for end in ("", ".0")]
         self.same("links", ["libtfmset.so.0", "libtfmset.so." + ".".join(numbers)], links)
-        for name, mode in ((links[1], "755"), ("libtfmset.a", "644"), ("pkgconfig/tfmset.pc", "644")):
+        for name, mode in ((links[1], "755"), ("libtfmset.a", "644"), ("pkgconfig/tfmset.pc", "644"),
+                           ("../include/tfmset.h", "644")):
             self.same(f"mode of {name}", mode, f"{os.stat(self.lib + '/' + name).st_mode & 0o777:o}")
         policies = re.findall(r"^#define TFMSET_(?:REFUSE|SKIP) (\d)u$", header, re.M)
         self.same("policies, which library_lines passes as numbers", ["0", "1"], policies)
@@ -157,7 +158,10 @@ class Linking(LibraryCase):
     def test_header(self, tool, language, standard):
         """The header is compiled with all warnings."""
         self.need(tool)
-        output(tool, "-x", language, standard, *WARNINGS, "-fsyntax-only", self.prefix + "/include/tfmset.h")
+        # Mutant: the guard asks for another macro, so that a second #include defines each struct again.
+        twice = self.file("twice.h", '#include "tfmset.h"\n' * 2)
+        for name in (self.prefix + "/include/tfmset.h", twice):
+            output(tool, "-x", language, standard, *WARNINGS, "-fsyntax-only", f"-I{self.prefix}/include", name)
 
     @rows((f"{tool} {standard}", tool, language, standard) for tool, language, standard in (
         ("cc", "c", "-std=c99"), ("cc", "c", "-std=c11"), ("c++", "c++", "-std=c++98"), ("c++", "c++", "-std=c++11")))
@@ -172,9 +176,13 @@ class Linking(LibraryCase):
             self.assertEqual(1, header.count(old), old)
             self.same(new, 1, execute(*compiler, self.file("changed.h", header.replace(old, new)))[0])
         self.same("unchanged", 0, execute(*compiler, self.file("same.h", header))[0])
-        for struct in re.findall(r"^struct \w+ \{", header, re.M):
-            changed = header.replace(struct, struct + " uint64_t more;")
-            self.same(struct, 1, execute(*compiler, self.file("changed.h", changed))[0])
+        # Mutant of the header: the offset of the last field of a struct isn't asserted.
+        for struct, body in re.findall(r"^(struct \w+ \{)\n(.*?)^\};", header, re.M | re.S):
+            *_, one, last = re.findall(r"(\w+)[,;]", re.sub(r"/\*.*?\*/", "", body, flags=re.S))
+            swapped = re.sub(rf"\b({one}|{last})(?=[,;])", lambda found: last if found[1] == one else one, body)
+            for changed in (header.replace(struct, struct + " uint64_t more;"), header.replace(body, swapped)):
+                self.assertNotEqual(header, changed)
+                self.same(struct, 1, execute(*compiler, self.file("changed.h", changed))[0])
         narrow = "#include <stdint.h>\n#undef SIZE_MAX\n#define SIZE_MAX 4294967295u\n" + header
         self.assertIn("64-bit size_t", execute(*compiler, self.file("narrow.h", narrow))[2])
 
@@ -244,7 +252,7 @@ class Installing(LibraryCase):
         super().setUp()
         self.need("rt")
 
-    def install(self, prefix, **more):
+    def install(self, prefix, script="scripts/library", **more):
         """Runs scripts/library without building the library again, and returns what it prints."""
         def make(path):
             # `rt lib` was done for the first prefix. In a run with --library it may have to be done here.
@@ -254,7 +262,7 @@ class Installing(LibraryCase):
             rt = write(path + "/rt", f'#!/bin/sh\n[ "$1" = lib ] || exec "{shutil.which("rt")}" "$@"\n')
             os.chmod(rt, 0o755)
         path = shared("rt", make) + os.pathsep + os.environ["PATH"]
-        return output(os.path.join(ROOT, "scripts", "library"), prefix, env=environment(PATH=path, **more))
+        return output(os.path.join(ROOT, script), prefix, env=environment(PATH=path, **more))
 
     def loads(self, python, prefix, directory, **more):
         """An interpreter loads the module and the library of a prefix."""
@@ -262,14 +270,70 @@ class Installing(LibraryCase):
         seen = execute(python, *self.call, env=environment(**more), cwd=self.room)
         self.same(prefix, (0, wanted, ""), seen)
 
+    # Mutants of scripts/library: the directory of a link is taken for that of the script; a second installation fails; the
+    # temporary directory stays; the files aren't named.
     def test_with_destdir(self):
-        self.install("/opt/tfmset", DESTDIR=self.room)
-        top = self.room + "/opt/tfmset"
+        top, temporary, link = self.room + "/opt/tfmset", self.other_room(), os.path.join(self.other_room(), "link")
+        os.symlink(os.path.join(ROOT, "scripts", "library"), link)
+        for _ in range(2):
+            printed = self.install("/opt/tfmset", link, DESTDIR=self.room, TMPDIR=temporary)
+        self.same("temporary files", [], os.listdir(temporary))
+        self.same("said", [f"{top}/{name}" for name in files(top) if not os.path.islink(f"{top}/{name}")],
+                  sorted(re.findall("^installed (.*)$", printed, re.M)))
         found = glob.glob(top + "/lib/python*/*-packages/tfmset.py")
-        self.same("modules", 1, len(found))
+        self.same("modules", ["644"], [f"{os.stat(name).st_mode & 0o777:o}" for name in found])
         self.same("files", [True] * 4, [os.path.exists(f"{top}/{name}") for name in (
             "include/tfmset.h", "lib/libtfmset.a", "lib/libtfmset.so.0", "lib/pkgconfig/tfmset.pc")])
         self.assertIn("prefix=/opt/tfmset\n", read(top + "/lib/pkgconfig/tfmset.pc"))
+
+    # Mutants of scripts/library: without `-z defs`, without `-z relro`. The linker of Debian has the second by default.
+    def test_options_of_the_linker(self):
+        """The shared library is linked with the options that scripts/library states."""
+        log = os.path.join(self.room, "log")
+        compiler = self.file("cc", f'#!/bin/sh\necho "$*" >> "{log}"\nexec cc "$@"\n')
+        os.chmod(compiler, 0o755)
+        self.install("/opt/tfmset", DESTDIR=self.room, CC=compiler)
+        joined, linked = read(log).splitlines()
+        self.same("calls of the compiler", ["-r", "-shared"], [joined.split()[0], linked.split()[0]])
+        for option in ("defs", "now", "relro"):
+            self.assertIn(f" -Wl,-z,{option} ", linked)
+
+    # Mutant of scripts/library: without `set -e`.
+    @rows((step, step) for step in ("-r", "-shared"))
+    def test_after_a_failed_step(self, step):
+        """Nothing is installed if a call of the compiler fails."""
+        compiler = self.file("cc", f'#!/bin/sh\n[ "$1" != {step} ] || exit 1\nexec cc "$@"\n')
+        os.chmod(compiler, 0o755)
+        self.assertRaises(AssertionError, self.install, self.room + "/none", CC=compiler)
+        self.assertFalse(os.path.exists(self.room + "/none"))
+
+    # Mutants of scripts/library: a number of the version has at most two digits, or isn't separated.
+    def test_version_of_another_header(self):
+        command = re.search(r"^version=\$\((awk .*?)\)$", read("scripts/library"), re.M | re.S)[1]
+        self.file("include/tfmset.h", "#define TFMSET_VERSION 12034567u\n")
+        self.same("version", (0, "12.34.567", ""), bash(command, self.room, env={**os.environ, "root": self.room}))
+
+    # Mutant of scripts/library: only `site-packages` is found. Debian's Python searches `dist-packages` below /usr/local.
+    def test_in_dist_packages(self):
+        prefix = os.path.join(self.room, "local")
+        where = prefix + "/lib/python3.9/dist-packages"
+        self.file("site/sitecustomize.py", f"import site\nsite.getsitepackages = lambda *_: [{where!r}]\n")
+        printed = self.install(prefix, PYTHON=sys.executable, PYTHONPATH=self.room + "/site")
+        self.same("the last line", f"the module tfmset is for {sys.executable}", printed.splitlines()[-1])
+        self.assertTrue(os.path.exists(where + "/tfmset.py"))
+
+    # Mutant of scripts/library: a failed build doesn't end it, and the library of an earlier build is installed.
+    def test_after_a_failed_build(self):
+        """Nothing is installed if the proof or the build of the library fails."""
+        tool = self.file("bin/rt", "#!/bin/sh\necho no proof\nexit 1\n")
+        os.chmod(tool, 0o755)
+        for name in ("include/tfmset.h", "scripts/library"):
+            self.file(name, read(name))
+        os.chmod(self.room + "/scripts/library", 0o755)
+        env = environment(PATH=os.path.dirname(tool) + os.pathsep + os.environ["PATH"])
+        ran = execute(self.room + "/scripts/library", self.room + "/none", env=env)
+        self.same("result", (1, "", "no proof\n"), ran)
+        self.assertFalse(os.path.exists(self.room + "/none"))
 
     def test_in_a_virtual_environment(self):
         # Its own interpreter is chosen, although it isn't on the PATH.

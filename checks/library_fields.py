@@ -181,6 +181,13 @@ class Fields(LinesCase):
         called = set(re.findall(r"CALLED\((\w+), \(", read("checks/lib/library_lines.c")))
         self.same("functions whose allocations are counted", functions, called)
 
+    # Mutant of the header: two numbers in the comments of `struct tfmset_fault` are swapped.
+    def test_numbers_in_comments(self):
+        text = re.sub(r"^ *\*", "", read("include/tfmset.h"), flags=re.M).replace(" (an indirect start)", "")
+        for names in (NAMES, TABLES, NAMED[14]):
+            wanted = ": " + ", ".join(f"{number} {name}" for number, name in enumerate(names))
+            self.assertIn(wanted, " ".join(text.split()))
+
     def fonts(self):
         """Paths, readers and sizes: of the font above, of samples, and of fonts of TeX if there are any."""
         found = [("every_field", every_field(), size) for size in (900_000, 655_360)]

@@ -21,7 +21,7 @@ from lib.base import DEMO, EXAMPLES, PROGRAM, ROOT, environment, execute, output
 from lib.clib import BINDINGS, DONE, RANGE, REFUSED, SIZE, U32, U64, WARNINGS, LibraryCase
 from lib.docs import font_errors, text_of, worked_examples
 from lib.tex import fonts
-from lib.tfm import LISTED, make, path_of, sample
+from lib.tfm import LISTED, NAMES, make, path_of, sample
 
 WEIGHT = 5
 CASES = table("library_lines")
@@ -248,6 +248,18 @@ class Module(LinesCase):
         for message, data in font_errors():
             with self.assertRaises(self.tfmset.FontRefused) as raised:
                 self.tfmset.Font(data)
+            self.same(message, message, str(raised.exception))
+
+    # Mutants: two names of `_COUNTS` or of `_TABLES` are swapped. ERRORS.md has examples of one count and of four tables.
+    def test_names_in_font_errors(self):
+        """Each count, and each table that can be empty, has its name."""
+        data = sample("no_characters")
+        cases = {f"2 count {name} out of range": data[:2 * i] + b"\x80" + data[2 * i + 1:] for i, name in enumerate(NAMES)}
+        cases |= {f"5 table {name} is empty": data[:8 + 2 * i] + b"\0\0" + data[10 + 2 * i:]
+                  for i, name in enumerate(("width", "height", "depth", "italic"))}
+        for message, font in cases.items():
+            with self.assertRaises(self.tfmset.FontRefused) as raised:
+                self.tfmset.Font(font)
             self.same(message, message, str(raised.exception))
 
     def test_exceptions(self):

@@ -15,7 +15,8 @@ patterns and comparisons make no value.
 A contract permits `fmt` to fail, and any request for memory to be too large. Therefore a function that
 returns a `fmt::Result` may only write, hand on the error of a write, and make values. The size of a request
 is a number up to 131,072, such a constant of the same file, a length, or a sum of these. Each other request
-and each line with a larger number needs a row.
+and each line with a larger number needs a row, and so does each line that assigns the variable of such a
+request. A call of a function whose parameter is such a variable counts as a request.
 """
 import re
 import tomllib
@@ -39,8 +40,9 @@ FORMATTER = re.compile(r"^( *)(?:pub[^\n]*)?fn [^;{]*-> (?:\w+::)*(?:fmt::Result
                        r"(.*?)^\1\}", re.M | re.S)
 # `number_of` returns the number of a font error, and can't fail.
 FORMATTERS = ("write!", "writeln!", "f.write_str", "match", "if", "number_of")
-REQUEST = re.compile(r"\b(?:with_capacity|with_protocol|(?:try_)?reserve(?:_exact)?|resize(?:_with)?|"
-                     r"from_elem|repeat|(?<=[.:])collect|vec!)(?:::<[^()]*>)?[(\[]"
+REQUEST = re.compile(r"(?<!fn )\b(?:with_capacity|with_protocol|(?:try_)?reserve(?:_exact)?|resize(?:_with)?|"
+                     r"from_elem|repeat|(?<=[.:])collect|vec!|"
+                     + "|".join(map(re.escape, RULES["sized"])) + r")(?:::<[^()]*>)?[(\[]"
                      r"((?:[^()]|\((?:[^()]|\(\))*\))*)")
 MOST = 131072  # bytes or elements of a request
 # A bound of a range and a constant of 32 bits are no sizes.
@@ -188,13 +190,19 @@ def failing_formats(text):
 def large_requests(text):
     """The requests of a file whose size isn't seen to be small, and its lines with large numbers."""
     constants = dict(re.findall(r"\bconst (\w+): \w+ = (\d[\d_]*);", text))
-    for line in code_of(text).split("\n"):
+    lines = code_of(text).split("\n")
+    for line in lines:
         request = REQUEST.search(line)
-        parts = request[1].split(", ")[-1].split(" + ") if request else []
+        # The first argument of `resize` is the size, and the last one of the other functions.
+        parts = request[1].split(", ")[0 if "resize" in request[0] else -1].split(" + ") if request else []
         sizes = [constants.get(part, re.sub(r"\w+\.len\(\)(?: / \d+)?$", "0", part)) for part in parts]
         numbers = [one or "MAX" for one in LARGE.findall(line)] + sizes
         if any(not re.match(r"\d", one) or int(one.replace("_", ""), 0) > MOST for one in numbers):
             yield " ".join(line.split())
+            for name in {*filter(str.isidentifier, sizes)} - {"alloc"}:
+                assigned = re.compile(rf"\blet [^=]*\b{name}\b|\bfor [^=]*\b{name}\b[^=]* in\b|"
+                                      rf"(?<![\w.]){name} [^=\w]*=(?!=)")
+                yield from (" ".join(other.split()) for other in lines if assigned.search(other))
 
 
 class Origins(Case):
@@ -258,6 +266,56 @@ class Formats(Case):
     def test_wrong_request(self, body):
         """A request of an absurd size is found."""
         self.assertTrue(list(large_requests(f"const ROOM: usize = 1000;\nfn planted() {{\n    {body}\n}}\n")))
+
+    # Mutant of `kerns` in tfm_tables: the number of entries of one font is multiplied before they are requested.
+    @rows((line, line) for line in RULES["assigned"])
+    def test_assigned(self, line):
+        """A line that assigns the variable of a request is found."""
+        body = f"    {line}\n    let rows = Vec::with_capacity(alloc, count)?;\n"
+        self.assertIn(line, list(large_requests("fn planted(count: usize) {\n" + body + "}\n")))
+
+
+class Codes(Case):
+    """The return codes of the library"""
+
+    # Mutants of `set_into` in tfmset_c: `return 2;` or `return DONE + 2;` for a text of 4,321 lines.
+    def test_codes_are_named(self):
+        """A function that returns a code names it, so that the lint finds each line that reports failed allocation."""
+        texts = {name: text for name, text in sources() if name.startswith("tfmset_c/")}
+        named, count = dict(re.findall(r"const (\w+): u32 = (\d+);", "\n".join(texts.values()))), 0
+        codes = "|".join(name for name, number in named.items() if int(number) < 9)
+        self.same("codes", 7, codes.count("|") + 1)
+        number = re.compile(rf"\breturn [^;\n]*\d|=> [^{{\n]*\b\d+,$|^ *\d+$|\{{ \d+ \}}|"
+                            rf"\b(?:{codes})\b *[-+*/|&^<]|[-+*/|&^<] *\b(?:{codes})\b", re.M)
+        for name, text in texts.items():
+            for function in re.findall(r"fn (\w+)\((?:[^()]|\([^()]*\))*\) -> u32\n(?: +requires .*\n)* +ensures answers", text):
+                body = re.search(rf"^[^\n]*\bfn {function}\(.*?^\}}", code_of(text), re.M | re.S)[0]
+                count += 1
+                self.none([f"{name}: {function}: {found}" for found in number.findall(body)])
+        self.none([], count, 15)
+
+
+class Types(Case):
+    """What no clause says of public types"""
+
+    # Mutants: `Hash` isn't derived, or `PartialOrd` and `Ord` of a size or a limit.
+    def test_derives(self):
+        """Types that derive `PartialEq` derive the usual traits; numbers with a range are ordered, too."""
+        found = {(name.split("/")[0], kind): set(derived.split(", ")) for name, text in sources() for derived, kind in
+                 re.findall(r"^#\[derive\(([^)]*)\)\]\n(?:#\[.*\]\n)*pub (?:struct|enum) (\w+)", text, re.M)}
+        usual, without = {"Clone", "Copy", "Debug", "PartialEq", "Eq", "Hash"}, RULES["without"]
+        alike = {one: derived for one, derived in found.items() if "PartialEq" in derived and one[0] != "tfmset_c"}
+        self.none([f"{one} lacks {usual - derived}" for one, derived in alike.items()
+                   if usual - derived != set(without.get("::".join(one), []))], len(alike), 44)
+        self.same("ordered", ["Block", "Capacity", "FixWord", "Limit", "Size", "Workers"],
+                  sorted(kind for (_, kind), derived in found.items() if {"PartialOrd", "Ord"} <= derived))
+
+    # Mutant of encodings: `ALL` has LY1 twice.
+    def test_all_encodings(self):
+        """`ALL` has each encoding with a name of its own, in order."""
+        text = read("crates/encodings/src/encoding.rt")
+        listed = re.search(r"ALL: \[Encoding; \d\] = \[(.*?)\];", text, re.S)[1]
+        self.same("ALL", re.findall(r"^    (\w+),$", text, re.M), re.findall(r"Encoding::(\w+)", listed))
 
 
 class Mutants(Case):

@@ -166,6 +166,7 @@ class ManPage(Case):
             self.same("a macro that doesn't exist", True, bool(execute(*command, wrong, env=env)[2]))
 
     def test_examples(self):
+        self.need("kpsewhich", "cmr10")
         blocks = re.findall(r"^\.EX\n(.*?)^\.EE", section_of_page("EXAMPLES"), re.M | re.S)
         os.symlink(PROGRAM, os.path.join(self.room, "tfmset"))
         env = environment(PATH=self.room + ":" + os.environ["PATH"])
@@ -319,10 +320,11 @@ class Build(Case):
     # Mutants: a program that exists is never built again; after a failed build the old program is run; the time of the
     # program is that of the end of the build; concurrent calls don't wait for each other, and the program keeps the lock; the
     # numbers of functions are swapped; a build goes on when the script is stopped; on a terminal, no line feed follows the
-    # last report.
+    # last report; rt gets the standard input of the program.
     crates = "# The crates.\nother: base\nbase:\nmiddle: base std\ntfmset: middle\n"
     rt = """#!/bin/sh
 echo "${PWD##*/} $*" >> ../../calls
+cat > /dev/null
 if [ -e ../../fail ]; then echo "no proof of ${PWD##*/}"; exit 1; fi
 if [ -e ../../edit ]; then rm ../../edit; sleep 0.1; touch src/main.rt; fi
 if [ -e ../../slow ] && [ "$*" = lib ]; then echo "so far: 3 of 7 functions"; echo $$ > ../../process; exec sleep "$(cat ../../slow)"; fi
@@ -442,6 +444,18 @@ chmod +x out/tfmset
         self.file("crates/middle/src/main.rt", "fn")
         self.file("fail", "")
         self.assertIn("\nno proof of base\n", self.call((70, ""), ["base lib"]))
+
+    # Mutant: the directory of a link is taken for that of the script.
+    def test_through_a_link(self):
+        link = os.path.join(self.other_room(), "link")
+        os.symlink(self.room + "/tfmset", link)
+        env = environment(PATH=self.room + "/bin:" + os.environ["PATH"])
+        self.same("result", (3, "given 1 a\n"), execute(link, "a", given=b"given", cwd="/", env=env)[:2])
+
+    # Mutant: the exit status is that of mkdir.
+    def test_without_a_directory_for_logs(self):
+        self.file("crates/tfmset/out", "")
+        self.call((70, ""), [])
 
     def test_without_rt(self):
         tools = self.other_room()

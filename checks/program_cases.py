@@ -95,6 +95,22 @@ class Verbose(Case):
                 len(re.findall(r"(?m)^\d+:\d+ set |\"width\":", out)), sum(counts[1:]), *counts[1:])
             self.same(command[:3], (wanted, 3000), (err, len(re.findall("(?m)^.*(?: set |refused|width)", out))))
 
+    def test_permission_denied(self):
+        """The cause is printed for a font, an encoding vector and a file that may not be read."""
+        start = []
+        if os.geteuid() == 0:
+            # Without these two capabilities root can't read every file.
+            self.need("setpriv")
+            start = ["setpriv", "--bounding-set=-dac_override,-dac_read_search"]
+        font, text = self.file("font", content("@plain")), self.file("text", b"ab\n")
+        vector = self.file("V.enc", content("vector-crlf 97=a 98=b 99=c"))
+        for closed, fault in ((font, "font"), (vector, "encoding"), (text, "file 1")):
+            os.chmod(closed, 0)
+            found = execute(*start, PROGRAM, "set", "-v", "--encoding", vector, font, text)
+            os.chmod(closed, 0o600)
+            messages = f"tfmset: {closed}: Permission denied (os error 13)\ntfmset: {fault} not read\n"
+            self.same(fault, (4, "", messages), found)
+
     # Mutant of `Tally` in tfm_tool: 47 bytes are kept. The first record that then isn't counted is that of a refused line
     # 10,000,000 of source 10 in JSON. A stream of so many lines takes too long with --verbose, so that the number is read.
     def test_bytes_that_are_kept_of_a_record(self):
@@ -312,6 +328,14 @@ class Numbers(Case):
 class Names(Case):
     """Names of fonts and files"""
 
+    # Mutant of `main`: an argument that isn't UTF-8 ends the program with exit status 0, and without a message.
+    @rows((repr(args), args) for args in (
+        [b"\xff"], [b"counts", b"a\xc3"], [b"stream", b"--size", b"\xed\xa0\x80", b"no"], [b"check", b"no", b"\xc0\x80"]))
+    def test_not_utf8(self, args):
+        """An argument that isn't UTF-8 makes the whole command invalid."""
+        message = "error: invalid UTF-8 was detected in one or more arguments\n"
+        self.same("result", (2, "", message), execute(PROGRAM, *args, cwd=self.room))
+
     # Mutants of `Disk::open`: the name without blanks at its ends; up to a line feed; up to 254 bytes.
     @rows((repr(name[:20]), name) for name in (" a", "a ", "\ta\n", " ", "-a", "--", "-", "a\nb", "é",
                                                "e\u0301", "A", "a\\", "~", "$a", "*", "é" * 127 + "x"))
@@ -338,6 +362,11 @@ class Names(Case):
             out = shown + ": not read\n" if args[0] == "check" else ""
             wanted = (4, out, f"tfmset: {what} not read\n")
             self.same((args, "isn't there"), wanted, run(args, b"", self.room))
+            # Mutants of watched.rt in tfm_tool: the name in a cause is trimmed, or cut; the hint is for each name that begins
+            # with a dash, or only for files with lines.
+            hint = "tfmset: -: this is the name of a file; /dev/stdin is standard input\n" * (name == "-")
+            causes = f"tfmset: {shown}: No such file or directory (os error 2)\n{hint}"
+            self.same((args, "-v"), (*wanted[:2], causes + wanted[2]), run([args[0], "-v", *args[1:]], b"", self.room))
 
 
 class FullDevices(Case):

@@ -51,6 +51,10 @@ print(font.set("fox\\nﬁg Q", encoding="t1")[1], font.widths("\\ufeffo\\xadﬁ�
 print(font.set("\\xadoffice", 1, encoding="t1")[0])
 """, "Refusal(reason='missing', place=3, code=81) [Refusal(reason='missing', place=4, code=33)]\n"
      "Refusal(reason='steps', place=0, code=0)\n"),
+    # Mutant: `_refusal` looks for the character of the place for any reason but steps, or returns another number.
+    ("The place of a str that is too long is the number of its codes", """
+print(font.set("ß" * 65537, encoding="t1")[0], font.widths("o\\n" + "ﬁ" * 32768, encoding="t1")[1])
+""", "Refusal(reason='too-long', place=65537, code=0) Refusal(reason='too-long', place=65536, code=0)\n"),
     # Mutants: `_utf8`, `_size` or `_named` calls the method `encode`, `_size` the method `replace`, or `_Source` the
     # method `split`, of a subclass. The library then reads another text, or beyond the memory.
     ("A subclass of str counts as the characters that it has", """
@@ -146,18 +150,18 @@ types = [one for one in gc.get_objects() if type(one) is type(ctypes.Array)]
 count = sum(getattr(one, "_type_", None) is tfmset.Item for one in types)
 print(lengths == [*range(3000)], 1024 <= count < 1100)
 """, "True True\nTrue True\n"),
-    # Mutants: the first array of `set`, `records` or `pairs` is empty, so that the text is set twice.
+    # Mutants: the first array of `set`, `records` or `pairs` is empty, so that the text is set twice; or it is much too long.
     ("Each method calls the library once", """
 class Library:
     called = []
     def __getattr__(self, name):
-        return lambda *arguments: self.called.append(name) or getattr(library, name)(*arguments)
+        return lambda *arguments: self.called.append((name, arguments[-2] // 2000)) or getattr(library, name)(*arguments)
 library, tfmset._library = tfmset._library, Library()
 text = b"office ox\\nwaves of x\\n\\n" * 99
 for version in 1, 2:
     font.records(text, version=version)
 print(len(font.set(text)), len(font.widths(text)), len(font.pairs()) > 9, *Library.called)
-""", "297 297 True tfmset_records tfmset_records tfmset_set tfmset_widths tfmset_pairs\n"),
+""", "297 297 True ('tfmset_records', 22) ('tfmset_records', 22) ('tfmset_set', 1) ('tfmset_widths', 0) ('tfmset_pairs', 2)\n"),
     # Mutants: the default limit of a method is another one; missing characters are skipped by default.
     ("The defaults of the arguments", """
 import inspect
@@ -187,6 +191,27 @@ print(len(font.widths(b"office waves of ox\\n" * 500000)))
 ended.append(True)
 thread.join()
 """, "tfmset_widths True\n500000\n"),
+    # Mutants: `metrics`, `pair`, `pairs`, `set`, `widths` or `records` ignores the code of its function.
+    ("An allocation that fails in each method", """
+class Library:
+    def __getattr__(self, name):
+        return lambda *_: 2
+tfmset._library = Library()
+for call in (lambda: font.metrics(97), lambda: font.pair(97, 98), font.pairs, lambda: font.set(b"ox"),
+             lambda: font.widths(b"ox"), lambda: font.records(b"ox"), lambda: font.records("ox", encoding="t1")):
+    try:
+        print("accepted", call())
+    except MemoryError as error:
+        print(error)
+""", "an allocation of libtfmset failed\n" * 7),
+    # Mutants: `from_file` returns a `Font` of a subclass; an index is used without its `__index__`.
+    ("A subclass of Font, and an index that isn't an int", """
+class Own(tfmset.Font):
+    pass
+class Index:
+    __index__ = lambda _: 1
+print(type(Own.from_file(%r)).__name__, font.set(b"o\\nox")[Index()].width)
+""" % DEMO, "Own 665189\n"),
     # Mutant: `_raise` raises FontRefused whatever the second call returns.
     ("An allocation that fails when the error of a font is read", """
 class Library:

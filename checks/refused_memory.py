@@ -266,6 +266,28 @@ class Failures(Case):
             got = run(command, "write", number, False, errno.EINTR)
             self.same(f"write {number} is interrupted", wanted[:3], got[:3])
 
+    # Mutant of `WatchedFiles` in tfm_tool: an opening for which memory was lacking has no cause.
+    @rows((f"{what}, {errno.errorcode[error]}", what, error) for what in ("open", "read")
+          for error in (errno.ENOMEM, errno.EIO, errno.ELOOP, errno.ENFILE, errno.ENXIO))
+    def test_cause(self, what, error):
+        """With --verbose, each error of an opening or a read has the message of the system."""
+        got = run(Command("counts -v font.tfm", 4, "c"), what, 1, False, error)
+        memory = (what, error) == ("open", errno.ENOMEM)
+        cause = f"tfmset: font.tfm: {os.strerror(error)} (os error {error})\n"
+        self.same("result", (5 if memory else 4, "", cause + MESSAGES["memory" if memory else "font"]), got[:3])
+
+    # Mutants of `Notes` in tfm_tool: a part of the line is noted if memory is lacking, or the line without the name.
+    def test_causes(self):
+        """If memory for a cause is lacking, its line is left out."""
+        command, number, untouched = Command("check -v none folder", 4, "c"), 0, 0
+        known = {*run(command).err.splitlines(True), MESSAGES["memory"]}
+        self.same("lines", 4, len(known))
+        while untouched < ENOUGH and number < MOST:
+            number += 1
+            got = run(command, "memory", number)
+            untouched += not got.told
+            self.none([f"number {number}: {line!r}" for line in got.err.splitlines(True) if line not in known])
+
     # Mutant of `set_sources`: a failed write is reported as a file that isn't read to its end.
     @rows((command.name, command) for command in COMMANDS if command.sources and command.status < 4)
     def test_full_device(self, command):

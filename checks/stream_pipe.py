@@ -9,6 +9,7 @@ import contextlib
 import ctypes
 import fcntl
 import os
+import re
 import select
 import statistics
 import struct
@@ -18,6 +19,7 @@ import threading
 import time
 
 from lib.base import DEMO, PROGRAM, Case, read, rows
+from lib.tfm import path_of
 
 WEIGHT = 4
 SECONDS = 20  # for one record or one end
@@ -148,6 +150,15 @@ class Pipes(Case):
         print(f"{options}: {[round(1000 * one, 2) for one in least]} ms from a line to its record")
         self.same("below the bounds", [True] * 3, [one < most for one, most in zip(least, MOST_LATENCY)])
 
+    # Mutant of `check` in tfm_requests: the lines are written at the end.
+    def test_check_prints_each_line(self):
+        """The line of a font is printed before the next font is read."""
+        child = self.start(DEMO, "-", command="check")
+        self.same("first", f"{DEMO}: accepted\n".encode(), read_line(child.stdout))
+        child.stdin.close()
+        self.same("second", b"-: refused: 1 truncated, 24 bytes needed\n", read_line(child.stdout))
+        self.same("exit status", 1, child.wait(SECONDS))
+
     def fifos(self, count):
         """Named pipes that are open for reading and writing, so that to open them never waits."""
         names = [os.path.join(self.room, f"silent{number}") for number in range(count)]
@@ -175,6 +186,32 @@ class Pipes(Case):
         pipe.close()
         self.same("end", (b"%d end complete 1\n" % place, 0), (read_line(child.stdout), child.wait(SECONDS)))
 
+    # Mutants of set_run: a worker stays with a lane as long as it has lines (`moves_per_visit`), or for more than 512 moves; the
+    # collecting thread stays with a source as long as it has results (`visit` in lane_taker.rt).
+    @rows((" ".join([*options, font]), font, options, text, pause) for font, options, text, pause in (
+        # The workers are the slowest threads, since each line takes many steps.
+        ("endless_3", ["--workers", "1", "--limit", "1000", "--block", "8"], "aa", 0),
+        ("endless_3", ["--workers", "2", "--limit", "1000", "--block", "8"], "aa", 0),
+        ("endless_3", ["--workers", "1", "--limit", "100000", "--capacity", "65536", "--block", "1"], "aa", 0),
+        # The collecting thread is the slowest one, since the output is read slowly.
+        *(("demo", ["--workers", str(workers)], "the office five", 0.003) for workers in (1, 4))))
+    def test_busy_source(self, font, options, text, pause):
+        """A source that always has lines doesn't keep the line of another one from being set."""
+        names, pipes = self.fifos(2)
+        child = self.start(*options, DEMO if font == "demo" else path_of(font), *names, stdin=None)
+        # pylint: disable-next=consider-using-with
+        busy = subprocess.Popen(["yes", text], stdout=pipes[0])
+        self.addCleanup(busy.wait)
+        self.addCleanup(busy.kill)
+        seen, until = read_line(child.stdout), time.monotonic() + SECONDS
+        time.sleep(60 * pause)
+        pipes[1].write(text.encode() + b"\n")
+        while b"\n2:1 " not in seen and time.monotonic() < until:
+            time.sleep(pause)
+            if select.select([child.stdout], [], [], SECONDS)[0]:
+                seen = seen[-100:] + os.read(child.stdout.fileno(), 1 << 16)
+        self.assertTrue(b"\n2:1 " in seen, seen[-200:])
+
     @rows((f"{count} sources", count) for count in (1, 16))
     def test_silence_takes_no_processor_time(self, count):
         """Silent sources take hardly any processor time. Mutant: the threads poll and never sleep."""
@@ -183,6 +220,23 @@ class Pipes(Case):
         with open(f"/proc/{child.pid}/stat", encoding="ascii") as stat:
             ticks = sum(map(int, stat.read().rsplit(")", 1)[1].split()[11:13]))
         self.assertLess(ticks / os.sysconf("SC_CLK_TCK"), MOST_IDLE)
+
+    def sleeps(self, child):
+        """How often each thread of a process has slept."""
+        tasks = f"/proc/{child.pid}/task"
+        return {thread: int(re.search(r"^voluntary_ctxt_switches:\s*(\d+)$", read(f"{tasks}/{thread}/status"), re.M)[1])
+                for thread in os.listdir(tasks)}
+
+    # Mutants of `Backoff` in set_run: a sleep lasts 50 seconds, or at most 8 milliseconds.
+    def test_a_sleep_ends_by_itself(self):
+        """In silence a thread that waits for another one wakes some 20 times a second, in case a wake-up is lost."""
+        child = self.start("--workers", "3", DEMO, *self.fifos(1)[0], stdin=None)
+        time.sleep(1)
+        before = self.sleeps(child)
+        time.sleep(2)
+        counts = sorted(count - before[thread] for thread, count in self.sleeps(child).items())
+        # One thread reads. Three workers and the collecting thread sleep for 50 milliseconds each time.
+        self.same(f"sleeps: {counts}", [False] + [True] * 4, [10 <= count <= 80 for count in counts])
 
     def start_with_fifos(self, command, count, *options):
         """A command whose files are so many named pipes: the process, and the pipes open for writing."""
@@ -337,6 +391,26 @@ class Pipes(Case):
         print(f"long lines in full rings: {peak} KB")
         self.assertLess(peak, MOST_LONG_MEMORY)
 
+    # Mutants: no block is large (line_blocks); a source doesn't hold a large block back (`offer_now` in set_run).
+    @rows((f"{command} --capacity {slots}: {reads} reads", command, slots, reads)
+          for command in ("set", "stream") for slots, reads in ((4, 5), (8, 7)))
+    def test_long_lines_ahead(self, command, slots, reads):
+        """While all other threads are stopped, blocks above 8 KB fill a quarter of the slots, and one more is read."""
+        child, (pipe,) = self.start_with_fifos(command, 1, "--workers", "1", "--capacity", str(slots))
+        text = (b"five " * 1660 + b"\n") * 7
+        with self.others_stopped(child, 2, 1):
+            self.assertEqual(len(text), pipe.write(text))
+
+            def done():
+                return (len(text) - struct.unpack("i", fcntl.ioctl(pipe, termios.FIONREAD, bytes(4)))[0]) // 4096
+
+            self.same("reads", reads, self.wait_for(reads, done))
+            time.sleep(0.1)
+            self.same("reads, later", reads, done())
+        pipe.close()
+        lines = child.communicate(timeout=SECONDS)[0].splitlines()
+        self.same("lines", (8, b"1 end complete 7", 0), (len(lines), lines[-1], child.returncode))
+
     # Mutant of `options` in run_texts: a source has one lane.
     def test_all_workers_set_the_lines_of_one_source(self):
         """Four of the six threads set lines. Another one reads, and the last one writes."""
@@ -351,6 +425,15 @@ class Pipes(Case):
             self.lack("/proc/PID/task/TID/schedstat")
         self.assertEqual(count, 6)
         self.assertGreaterEqual(busy, 4)
+
+    # Mutant of `go_round` in set_run: a worker reads the stop flag once for all its lanes, not before the turns of each.
+    def test_a_closed_pipe_stops_a_worker_of_64_lanes(self):
+        names = [self.file("slow", b"aa\n" * 20000)] * 64
+        child = self.start("--workers", "1", "--limit", "4000", path_of("endless_3"), *names, stdin=None,
+                           stderr=subprocess.PIPE)
+        self.assertTrue(read_line(child.stdout))
+        child.stdout.close()
+        self.same("status", (5, b"tfmset: output failed\n"), (child.wait(SECONDS), child.stderr.read()))
 
     def test_a_closed_pipe_ends_the_stream_with_status_5(self):
         child = self.start(DEMO, stderr=subprocess.PIPE)

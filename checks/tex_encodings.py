@@ -39,6 +39,7 @@ AGAIN = re.compile(r"\.dup$")
 # Characters at codes of a font that lines can't have: 10 is a line feed, and 32 a space. LY1 has the
 # non-joiner at 10.
 LEFT_OUT = {"ot1": "Ω", "t1": "˙", "ly1": "\u200c"}
+DECLARED = re.compile(r"^\s*\\DeclareUnicodeCharacter\{(\w+)\}", re.M)
 BOX = re.compile(r"> \\box0=\n(.*?)\n\n! OK", re.S)
 CHARACTER = r"\.\.?\\{}/cmr/m/n/10 (.*?)(?: \(ligature (.*)\))?"
 
@@ -49,8 +50,7 @@ def declared():
     found = {chr(code) for code in range(33, 127)}
     for path in glob.glob(top + "/*.dfu"):
         text = read(path, "rb").decode("latin-1")
-        numbers = re.findall(r"^\s*\\DeclareUnicodeCharacter\{(\w+)\}", text, re.M)
-        found |= {chr(int(number, 16)) for number in numbers}
+        found |= {chr(int(number, 16)) for number in DECLARED.findall(text)}
     return sorted(found)
 
 
@@ -139,6 +139,17 @@ class Encodings(LinesCase):
             if len(letter) == 1 and letter not in table and letter not in LEFT_OUT[name]:
                 self.wrong.append(f"{letter!r} at {code} has no codes")
         self.none([], count, 120)
+
+    def test_declared_for_ly1(self):
+        """Each character that LaTeX declares for LY1 has codes, unless it is built of a letter and an accent."""
+        self.need("latex", "kpsewhich", "cmr10")
+        table, glyphs = self.table("ly1"), self.glyphs("ly1")
+        text = read(output("kpsewhich", "ly1enc.dfu").strip(), "rb").decode("latin-1")
+        letters = [chr(int(number, 16)) for number in DECLARED.findall(text)]
+        for letter in letters:
+            is_built = len(unicodedata.normalize("NFD", letter)) > 1 and letter not in glyphs
+            self.same(f"{letter!r} has codes", not is_built, letter in table)
+        self.none([], len(letters), 120)
 
     @rows((name, name) for name in FILES)
     def test_several_codes(self, name):

@@ -148,6 +148,8 @@ class Vectors(Case):
         ("a name in parentheses", vector_text([*PLAIN[:99], "(g)", *PLAIN[100:]])),
         ("a brace", vector_text([*PLAIN[:99], "/g{}", *PLAIN[100:]])),
         ("a bracket more", vector_text([*PLAIN[:99], "[", *PLAIN[100:]])),
+        # Mutants of encoding_vectors: one of these bytes is a regular character.
+        *((f"{byte} behind a name", vector_text([*PLAIN[:99], "/g" + byte, *PLAIN[100:]])) for byte in "()<>[]{}"),
         ("CR", vector_text(PLAIN[1:], between="\r")),
         ("CR LF", vector_text(PLAIN[1:], between="\r\n")),
         ("LF CR", vector_text(PLAIN[1:], between="\n\r")),
@@ -168,6 +170,8 @@ class Vectors(Case):
         ("comments", vector_text(between=" % [ /x ] def\n")),
         ("white space", vector_text(between="\0\t\f\r")),
         ("more after def", vector_text(end="]def ( /x")),
+        # Mutant of encoding_vectors: a vertical tab is white space.
+        ("a vertical tab in a name", vector_text(names_at(A=200)).replace(b"/A\n", b"/A\x0b\n")),
         ("names of all kinds", vector_text(names_at(A=200, B=20, uni00A0=7, u1F600=8, u01F600=9, uniD800=11, uni20ac=12,
                                                     u20AC=13, ff=14, sfthyphen=15, space=16, C=10, D=32, u110000=17,
                                                     uni0041=255, E=0, F=1))),
@@ -183,6 +187,14 @@ class Vectors(Case):
         """A vector is read as by the reader in Python."""
         self.same("a list", list, type(read_vector(text, {})))
         self.none([], self.compare(self.file("x.enc", text)), 1)
+
+    # Mutant of `stated_encoding` in tfm_tool: the file is read twice.
+    def test_standard_input(self):
+        """A vector is read once, so that it can come from standard input."""
+        font = self.file("font", sample("no_characters"))
+        for command, out in (("stream", "1 end complete 0\n"), ("pairs", "")):
+            seen = execute(PROGRAM, command, "--encoding", "/dev/stdin", font, given=vector_text())
+            self.same(command, (0, out, ""), seen)
 
     @rows((file, file, font) for file, font in (("ec.enc", "ecrm1000"), ("lm-ec.enc", "ec-lmr10")))
     def test_page(self, file, font):

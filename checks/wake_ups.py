@@ -33,8 +33,8 @@ class WakeUps(Case):
         super().setUp()
         self.need("rt")
 
-    def tried(self, seconds, change=()):
-        """The results of the two tests in which a text is changed, and whether one was stopped."""
+    def tried(self, seconds, *changes):
+        """The results of the two tests after changes of texts of signals.rt, and whether one was stopped."""
         crates = f"{self.room}/crates"
         tests = f"{crates}/run_tests/src/tests"
         shutil.copytree(f"{ROOT}/crates", crates, ignore=shutil.ignore_patterns("out", "must-fail"))
@@ -47,7 +47,7 @@ class WakeUps(Case):
         for shortest in ("1", "50"):
             changed(f"{crates}/set_run/src/backoff.rt", f"_SLEEP: u64 = {shortest};",
                     "_SLEEP: u64 = 60_000;")
-        if change:
+        for change in changes:
             changed(f"{crates}/set_run/src/signals.rt", *change)
         said = "".join(execute("rt", "try", "--test", "--seconds", str(seconds), cwd=f"{crates}/run_tests",
                                timeout=900)[1:])
@@ -57,6 +57,14 @@ class WakeUps(Case):
 
     def test_each_thread_is_woken(self):
         self.same("tests", ["ok", "ok"], self.tried(SECONDS)[0])
+
+    # Mutant of `stop` in set_run: the flag is set after the threads were woken.
+    def test_the_flag_comes_before_the_wake_ups(self):
+        """However long a stop takes, each thread that it wakes finds the flag."""
+        slow = "\n        for _ in 0..1_000_000u32 {\n            hint::spin_loop();\n        }"
+        changes = [("use std::array;", "use std::array;\nuse std::hint;")]
+        changes += [(f"ring_all(&self.{kind});", f"ring_all(&self.{kind});{slow}") for kind in ("sources", "workers")]
+        self.same("tests", ["ok", "ok"], self.tried(SECONDS, *changes)[0])
 
     @rows(table("wake_ups")["kinds"])
     def test_without(self, *change):

@@ -23,26 +23,48 @@ WEIGHT = 6
 SECONDS = 50  # for one execution
 TIMES = 3  # executions, of which the fastest counts
 MB = 1 << 20
+MOST_SPACE = 84 * MB  # of lib/stack.c, whose arrays take 62 MB
 WORDS = b"the office five after all of it affable flow in " * 1400
 LONG_PROGRAM = {"program": [(0, 0, 128, 0)] * 30000 + [(128, 0, 128, 0)], "kerns": [9], "widths": [0, 1 << 20], "first": 0}
-FONTS = {"one program for all": make([(1, 0, 1, 0)] * 256, **LONG_PROGRAM),
+FONTS = {"one program for all": make([(1, 0, 1, code % 2) for code in range(256)], **LONG_PROGRAM),
          "one program for one": make([(1, 0, 1, 0)] + [(1, 0, 0, 0)] * 255, **LONG_PROGRAM),
-         "same widths": make([(1, 0, 0, 0)] * 256, (0, 1 << 20), params=(0, 1 << 18), first=0)}
+         "same widths": make([(1, 0, 0, 0)] * 256, (0, 1 << 20), params=(0, 1 << 18), first=0),
+         # Each code has a kern before each of 126 codes, so that 15,876 texts differ.
+         "many pairs": make([(1, 0, 1, 0)] * 256, (0, 1 << 20),
+                            [(128 * (code == 225), code, 128, code - 100) for code in range(100, 226)],
+                            [16 * number for number in range(1, 127)], (0, 1 << 18), first=0),
+         **{f"{count} kerns": make([(1, 0, 0, 0)], (0, 1 << 20), kerns=[9] * count) for count in (10000, 20000)}}
 # Lines whose texts, one for the end of each, differ only in the code.
 ENDS = b"".join(bytes((code, 10)) for code in range(100, 256))
 # A vector with ä at the code of a, and ε at that of q, and texts with these letters.
 NAMES = {**{code: chr(code) for code in range(98, 123)}, 97: "adieresis", 113: "uni03B5"}
 VECTOR = "/letters [ " + " ".join("/" + NAMES.get(code, ".notdef") for code in range(256)) + " ] def\n"
 UMLAUTS = PIECE.replace(b"a", "ä".encode())
-TEXTS = {**FONTS, "20 MB": PIECE * 20, "2 MB": PIECE * 2, "short": b"office\n" * 300000, "aa": b"aa\n" * 10000,
+# Letters in the table of single codes of a vector, and others of as many bytes, which are looked up one by one.
+LETTERS = {**{f"{letter} at {code}": ("/V [ " + " ".join(f"/uni{ord(letter):04X}" if each == code else "/.notdef"
+                                                         for each in range(256)) + " ] def\n").encode()
+              for letter in "äЖ–⁓" for code in (1, 255)},
+           **{f"lines of {letter}": (letter * 25 + "\n").encode() * 4000 for letter in "äЖ–⁓"}}
+
+
+def neighbours(codes):
+    """Lines with each of these codes before each other one."""
+    return b"".join(b"".join(bytes((left, right)) for right in codes) + b"\n" for left in codes)
+
+
+TEXTS = {**FONTS, **LETTERS, "20 MB": PIECE * 20, "2 MB": PIECE * 2, "short": b"office\n" * 300000, "aa": b"aa\n" * 10000,
          "ten reads": b"office\r\n" * 5120, "missing": PIECE.replace(b"affable", b"Affable") * 2,
          "uncoded": PIECE.replace(b"affable", "\u20acffable".encode()) * 2,
          "long": (WORDS[:65000] + b"\n") * 60, "usual": (WORDS[:64] + b"\n") * 60000,
-         "100 KB": PIECE[:100000], "200 KB": PIECE[:200000], "aa of 20": b"aa\n" * 20,
+         "30 KB": PIECE[:30000], "60 KB": PIECE[:60000], "100 KB": PIECE[:100000], "200 KB": PIECE[:200000], "aa of 20": b"aa\n" * 20,
          "vector": VECTOR.encode(), "100 KB with ä": UMLAUTS[:100000], "200 KB with ä": UMLAUTS[:200000],
          "100 KB with ε": UMLAUTS[:100000].replace(b"e", "ε".encode()),
          "200 KB with ε": UMLAUTS[:200000].replace(b"e", "ε".encode()),
-         "none": b"", "ends": ENDS, "after": ENDS + b"\xff\n" * 400000, "before": b"\xff\n" * 400000 + ENDS}
+         "100 KB with !": PIECE[:100000].replace(b"\n", b"!\n"), "200 KB with !": PIECE[:200000].replace(b"\n", b"!\n"),
+         "long hyphens": ("\u00ad" * 32000 + "\n").encode() * 60, "usual hyphens": ("\u00ad" * 32 + "\n").encode() * 60000,
+         "neighbours": neighbours(range(100, 256)), "low neighbours": neighbours([*range(10), *range(11, 32), *range(33, 156)]),
+         "codes in pairs": neighbours(range(100, 226)), "one long line": b"a" * 20000 + b"\n" + b"a\n" * 100, "none": b"", "ends": ENDS, "after": ENDS + b"\xff\n" * 400000,
+         "before": b"\xff\n" * 400000 + ENDS}
 STREAM, SET, CHECK = [PROGRAM, "stream", DEMO], [PROGRAM, "set", DEMO], [PROGRAM, "check"]
 LIMITED = [PROGRAM, "stream", "--limit", "100"]
 RATIOS = [
@@ -56,6 +78,10 @@ RATIOS = [
     ("one program for all characters", [PROGRAM, "each", *["one program for all", "9", "none"] * 20], 4,
      [PROGRAM, "each", *["one program for one", "9", "none"] * 20]),
     *((f"the plain program, {name}", [*STREAM, name], 20, ["plain", name]) for name in ("20 MB", "short")),
+    ("many pairs", [PROGRAM, "stream", "--workers", "1", "many pairs", "codes in pairs"], 15,
+     [PROGRAM, "stream", "--workers", "1", "same widths", "codes in pairs"]),
+    ("lines of 32,000 soft hyphens", [PROGRAM, "stream", "--encoding", "t1", DEMO, "long hyphens"], 3,
+     [PROGRAM, "stream", "--encoding", "t1", DEMO, "usual hyphens"]),
     ("short lines after others with many texts", [PROGRAM, "stream", "--workers", "1", "same widths", "after"], 5,
      [PROGRAM, "stream", "--workers", "1", "same widths", "before"]),
 ]
@@ -97,7 +123,8 @@ class Times(Case):
 
         Mutants: all earlier records are visited for each record; the rest of a line is read for each word;
         steps beyond the limit are taken; the texts of a font are made for each record; the chain of a program is
-        followed for each character; the cell for the end of a line is made for each line.
+        followed for each character; the cell for the end of a line is made for each line; an equal text is searched for among
+        all; the rest of a line in UTF-8 is cleared for each character without a single code.
         """
         self.need(*["cc"] * ("plain" in other))
         took, little = seconds(command), seconds(other)
@@ -114,31 +141,50 @@ INSTRUCTIONS = [
     *((name, [PROGRAM, name, *ONE, DEMO, "@"], "byte", ("100 KB", "200 KB"), 100000, 100) for name in ("stream", "set")),
     ("stream in JSON", [PROGRAM, "stream", *ONE, "--record", "json", DEMO, "@"], "byte", ("100 KB", "200 KB"), 100000, 450),
     *((f"stream with a vector, {letter}", [PROGRAM, "stream", *ONE, "--encoding", "vector", DEMO, "@"], "byte",
-       (f"100 KB with {letter}", f"200 KB with {letter}"), 100000, most) for letter, most in (("ä", 110), ("ε", 200))),
+       (f"100 KB with {letter}", f"200 KB with {letter}"), 100000, most) for letter, most in (("ä", 84), ("ε", 140))),
+    ("stream with skipped characters", [PROGRAM, "stream", *ONE, "--missing", "skip", DEMO, "@"], "byte",
+     ("100 KB with !", "200 KB with !"), 100000, 195),
+    ("list", [PROGRAM, "list", "@"], "kern", ("10000 kerns", "20000 kerns"), 10000, 360),
     ("a program that never ends", [PROGRAM, "stream", *ONE, "--limit", "@", path_of("endless_3"), "aa of 20"], "step",
-     ("1000", "2000"), 20000, 150),
+     ("1000", "2000"), 20000, 110),
 ]
+
+
+def instructions(command):
+    """The number of instructions that a command takes, of all its threads. With one worker and blocks of eight lines it
+    depends little on their schedule."""
+    valgrind = ["valgrind", "--tool=callgrind", "--callgrind-out-file=/dev/null"]
+    ran = subprocess.run([*valgrind, *named(command)], stdout=subprocess.DEVNULL, stderr=subprocess.PIPE,
+                         timeout=5 * SECONDS, encoding="utf-8", check=False)
+    if ran.returncode not in (0, 1):
+        raise AssertionError(f"{command[:2]}: exit status {ran.returncode}: {ran.stderr[-1000:]}")
+    return int(re.search(r"Collected : (\d+)$", ran.stderr, re.M)[1])
 
 
 class Instructions(Case):
     """Instructions of the processor, if valgrind is installed"""
 
-    def count(self, command):
-        """The number of instructions that a command takes, of all its threads. With one worker and blocks of eight lines
-        it depends little on their schedule."""
-        valgrind = ["valgrind", "--tool=callgrind", "--callgrind-out-file=/dev/null"]
-        ran = subprocess.run([*valgrind, *named(command)], stdout=subprocess.DEVNULL, stderr=subprocess.PIPE,
-                             timeout=5 * SECONDS, encoding="utf-8", check=False)
-        self.assertIn(ran.returncode, (0, 1), ran.stderr[-1000:])
-        return int(re.search(r"Collected : (\d+)$", ran.stderr, re.M)[1])
-
     @rows(INSTRUCTIONS)
     def test(self, command, what, arguments, more, most):
         """One byte or step more takes few instructions."""
         self.need("valgrind")
-        few, many = (self.count([argument if word == "@" else word for word in command]) for argument in arguments)
+        few, many = (instructions([argument if word == "@" else word for word in command]) for argument in arguments)
         print(f"{(many - few) / more:.1f} instructions per {what}; less than {most} are right")
         self.assertLess(many - few, most * more)
+
+
+    def taken(self, letter, code):
+        """The instructions for 100,000 times a letter that a vector has at a code."""
+        return instructions([PROGRAM, "stream", *ONE, "--encoding", f"{letter} at {code}", "same widths", f"lines of {letter}"])
+
+    # Mutants of encodings: `hints` has no code, or only those below 128; `code_at` has no code of two bytes;
+    # `punctuation_code` has none.
+    def test_letters_of_a_vector(self):
+        """The last code is found as fast as the first ones, and the table of single codes faster than other letters."""
+        self.need("valgrind")
+        self.assertLess(self.taken("Ж", 255), 1.2 * self.taken("Ж", 1))
+        for single, other in ("äЖ", "–⁓"):
+            self.assertLess(self.taken(single, 255), 0.7 * self.taken(other, 255))
 
 
 class LibraryTimes(LibraryCase):
@@ -152,14 +198,15 @@ class LibraryTimes(LibraryCase):
         command = named([sys.executable, "-B", "-c", code, DEMO, given])
         return min(float(self.output(*command)) for _ in range(TIMES))
 
-    @rows((name, name) for name in ("widths", "records"))
-    def test_call(self, name):
-        """A call takes less than 12 times the time of the plain program. Mutant: a table for each line."""
+    @rows((call, call) for call in ("widths(text)", "records(text)", "records(text.decode(), encoding='t1')"))
+    def test_call(self, call):
+        """A call takes less than 12 times the time of the plain program. Mutants: a table, or the texts of records, for each
+        line."""
         for given in ("2 MB", "short", "long"):
-            took, little = self.time(f"{name}(text)", given), seconds(["plain", given])
-            print(f"{name}, {given}: {took:.3f} s, {took / little:.1f} times {little:.3f} s")
+            took, little = self.time(call, given), seconds(["plain", given])
+            print(f"{call}, {given}: {took:.3f} s, {took / little:.1f} times {little:.3f} s")
             self.assertLess(took, 12 * little)
-        self.assertLess(self.time(f"{name}(text)", "20 MB"), 30 * self.time(f"{name}(text)", "2 MB"))
+        self.assertLess(self.time(call, "20 MB"), 30 * self.time(call, "2 MB"))
 
     def test_refusals(self):
         """The places of refused lines of a str. Mutant: the text is cut into its lines for each refusal."""
@@ -167,6 +214,71 @@ class LibraryTimes(LibraryCase):
         many, few = (self.time(call.format(count), "aa") for count in (20000, 2000))
         print(f"{many:.3f} s, {many / few:.1f} times {few:.3f} s")
         self.assertLess(many, 30 * few)
+
+
+# The most instructions of functions of the library: for a byte of a text of 100 KB, for which they take about 105,
+# 28, 38, 279 and 126; of `widths` for a byte of a shorter text, about 88; and for a call with the font DEMO and 20 lines of two
+# bytes. Reading this font takes about 25,000, and 88,000 with the table of its pairs.
+BYTES = (("set", 150), ("widths", 40), ("records", 55), ("encoded_records", 400), ("encode", 180))
+SHORT = 130
+CALLS = (("check", 38000), ("font", 38000), ("metrics", 38000), ("pair", 130000), ("pairs", 155000), ("set", 140000),
+         ("widths", 140000), ("records", 155000), ("encoded_records", 190000))
+
+
+class LibraryInstructions(LibraryCase):
+    """Instructions of the library, if valgrind is installed"""
+
+    def setUp(self):
+        super().setUp()
+        self.need("cc", "valgrind")
+        self.program = self.built("checks/lib/stack.c", "cc", "-std=gnu99", "-pthread", link=[self.lib + "/libtfmset.a"])
+
+    def more(self, most, *calls):
+        """The second one of two calls takes less than `most` instructions more than the first one."""
+        few, many = (instructions([self.program, DEMO, *call]) for call in calls)
+        print(f"{many - few} instructions; less than {most} are right")
+        self.assertLess(many - few, most)
+
+    # Mutants of tfmset_c: each line is set twice; the text is encoded twice; a line is cut again for each function.
+    @rows((name, name, most) for name, most in BYTES)
+    def test_text(self, name, most):
+        """One byte more of the text takes few instructions."""
+        self.more(most * 100000, ("100 KB", name), ("200 KB", name))
+
+    # Mutant of `put_width` in tfmset_c: each line is set twice.
+    def test_short_text(self):
+        """One byte more of a text for which no table is made takes few instructions."""
+        self.more(SHORT * 30000, ("30 KB", "widths"), ("60 KB", "widths"))
+
+    # Mutants of tfmset_c: a font is read twice; the pairs are found twice.
+    @rows((name, name, most) for name, most in CALLS)
+    def test_font(self, name, most):
+        """A call for a font and a short text takes few instructions."""
+        self.more(most, ("aa of 20", "version"), ("aa of 20", name))
+
+    # Mutant of `write_records` in tfmset_c: a list as long as the array of the caller is requested.
+    def test_address_space(self):
+        """Each function succeeds in little more address space than its arrays take."""
+        command = named([self.program, DEMO, "100 KB"])
+        ran = subprocess.run(command, preexec_fn=limited(resource.RLIMIT_AS, MOST_SPACE), check=True, encoding="utf-8",
+                             env={**os.environ, "MALLOC_ARENA_MAX": "1"}, stdout=subprocess.PIPE)
+        self.same("codes", {"0"}, {line.split()[1] for line in ran.stdout.splitlines()})
+
+
+class Latency(Case):
+    """The time until a command ends that has little to do"""
+
+    # Mutant of `main`: it sleeps for 20 ms.
+    @rows((words[1], words) for words in ([PROGRAM, "--version"], [PROGRAM, "counts", DEMO], [*SET, "none"]))
+    def test(self, words):
+        """The fastest of some executions takes less than 15 ms."""
+        times = []
+        for _ in range(15):
+            begin = time.monotonic()
+            subprocess.run(named(words), stdout=subprocess.DEVNULL, check=True)
+            times.append(time.monotonic() - begin)
+        print(f"{1000 * min(times):.1f} ms")
+        self.assertLess(min(times), 0.015)
 
 
 class Requests(Case):
@@ -183,10 +295,12 @@ class Requests(Case):
     # Mutants of `CrlfReader`: a read requests 1,024 bytes. Of `kept_bytes` (request_files), `WatchedReader` (tfm_tool): 16.
     @rows((" ".join(words), words) for words in (
         *([command, *options] for command in ("set", "stream", "each")
-          for options in ([], ["--crlf"], ["--block", "8"], ["--verbose"])), ["list"], ["check"], ["check", "--verbose"]))
+          for options in ([], ["--crlf"], ["--block", "8"], ["--verbose"], ["--encoding", "vector"])),
+        ["list"], ["list", "--all"], ["check"], ["check", "--verbose"], ["counts"], ["pairs"],
+        ["pairs", "--encoding", "vector"]))
     def test_reads(self, words):
-        """A read requests 4,096 bytes, and no file is read again after its end."""
-        fonts, texts = 2, 0
+        """A read requests 4,096 bytes, and no file is read again after its end, or twice."""
+        fonts, texts = 2 + 2 * ("vector" in words), 0
         command = [PROGRAM, *words, DEMO]
         if words[0] in ("set", "stream", "each"):
             command += [*["9"] * (words[0] == "each"), "ten reads"]
@@ -207,14 +321,36 @@ class Requests(Case):
             self.same("output without the table", True, plain.out == without.out and len(plain.out) > MB)
 
     # Mutants of line_blocks: lines are set without the table of texts that was made. Of pair_texts: record texts are never made,
-    # or for each line. The records are the same, and so is, in order, the time of a stream. The texts of 129 to 256 cells
-    # take 16,384 bytes, and record texts 8,224.
+    # or for each line; equal texts are kept for each pair of neighbours; lines are set in the general way for some codes, or
+    # after 4,096 texts; after one long block, more room is requested for all later blocks or texts (line_blocks). The records are the same, and so is, in order, the
+    # time of a stream. The texts of 129 to 256 cells take 16,384 bytes, those of more than 1,024 at least 131,072, and
+    # record texts 8,224.
     @rows((" ".join(words), words, size, count) for words, size, count in (
-        (["same widths", "ends"], 16384, 1), ([DEMO, "2 MB"], 8224, 0), (["--missing", "skip", DEMO, "missing"], 8224, 1),
+        (["same widths", "ends"], 16384, 1), (["--block", "1", "same widths", "neighbours"], 131072, 0),
+        # The text of the first block has 220,019 bytes; the next text has room for a quarter more, and no later one. A block of
+        # one line brings no room, and one of 20,001 bytes in two lines brings it to the next block only.
+        *((["--block", block, path_of("plain"), "one long line"], size, count)
+          for block, size, count in (("1", 275023, 1), ("1", 20001, 0), ("2", 20002, 1))),
+        *(([font, text], 8224, 0) for font, text in (
+            ("same widths", "neighbours"), ("same widths", "low neighbours"), ("many pairs", "codes in pairs"))),
+        ([DEMO, "2 MB"], 8224, 0), (["--missing", "skip", DEMO, "missing"], 8224, 1),
         (["--encoding", "t1", "--missing", "skip", DEMO, "missing"], 8224, 1)))
     def test_texts(self, words, size, count):
         """The texts of cells and of single items are made once in a lane, if they are needed."""
         self.count([PROGRAM, "stream", "--workers", "1", *words], f"bytes{size}", count)
+
+    # Mutants of font_texts: `list` or `check` reads a `Font`, whose table of pairs it doesn't need.
+    @rows((" ".join(words), words, tables) for words, tables in (
+        (["counts"], 0), (["list"], 0), (["list", "--all"], 0), (["check"], 0), (["pairs"], 1)))
+    def test_tables_of_pairs(self, words, tables):
+        """Only a command that needs the table of pairs of a font makes it."""
+        self.count([PROGRAM, *words, DEMO], "table", tables)
+
+    # Mutants of tfm_tables: 131,072 characters, or rows of pairs, are requested for a font.
+    @rows((words[0], words) for words in (["check"], ["list"], ["pairs"], ["counts"]))
+    def test_no_huge_request(self, words):
+        """No request for a small font has 256 KB."""
+        self.count([PROGRAM, *words, DEMO], "huge", 0)
 
     # Mutants of `append_generally` in pair_texts and of set_line: the list of a line isn't used for the next one. Of
     # line_blocks: the codes of a line in UTF-8 aren't; the text of a block has no room beforehand.
@@ -263,10 +399,11 @@ class Amounts(Case):
         self.assertLess(len(sizes), sum(sizes) / 32768 + 20)
 
     @rows((f"{words[1]}, {most} MB", words, most) for words, most in (
-        ([*STREAM, "2 MB"], 200), ([*SET, "2 MB"], 250), ([*SET, "20 MB"], 900), (CHECK + [DEMO] * 2000, 64),
-        ([PROGRAM, "list", "--all", DEMO], 64), ([PROGRAM, "counts", DEMO], 64)))
+        ([*STREAM, "2 MB"], 200), ([*SET, "2 MB"], 250), ([*SET, "20 MB"], 900), (CHECK + [DEMO] * 6000, 64),
+        (CHECK + [path_of("largest")] * 1000, 64), ([PROGRAM, "list", "--all", DEMO], 64), ([PROGRAM, "counts", DEMO], 64)))
     def test_address_space(self, words, most):
-        """A command succeeds in so much address space. Mutant: 200 MB are requested for each font."""
+        """A command succeeds in so much address space. Mutants: 200 MB are requested for each font; the bytes of each font
+        are kept."""
         how = {"stdout": subprocess.DEVNULL, "stderr": subprocess.PIPE, "timeout": SECONDS, "check": False}
         ran = subprocess.run(named(words), preexec_fn=limited(resource.RLIMIT_AS, most * MB), **how)
         self.same(words[1], (0, b""), (ran.returncode, ran.stderr))

@@ -3,7 +3,7 @@ unsetopt beep
 PROMPT= RPROMPT=
 zstyle ':completion:*' completer _complete
 autoload -Uz compinit && compinit -u -D
-autoload -Uz +X _tfmset && compdef _tfmset tfmset
+autoload -Uz +X _tfmset
 compadd() {
   if [[ ${@[1,(i)(-|--)]} == *-(O|A|D)\ * ]]; then builtin compadd "$@"; return; fi
   local -a hits

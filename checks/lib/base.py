@@ -19,7 +19,7 @@ SHARED = os.environ.get("CHECKS_SHARED", "")
 PATIENCE = 60  # seconds for one execution
 MOST_SHOWN = 8  # errors that one test prints
 # The tools without which a run with --install fails. The other ones are optional.
-REQUIRED = {"cc", "tex", "tftopl", "kpsewhich"}
+REQUIRED = {"cc", "tex", "tftopl", "kpsewhich", "latex", "cmr10"}
 
 
 def read(name, mode="r"):
@@ -171,6 +171,8 @@ class Case(unittest.TestCase):
 def has(tool):
     if tool == "cmr10":
         return bool(shutil.which("kpsewhich")) and execute("kpsewhich", "cmr10.tfm")[0] == 0
+    if tool == "de_DE":
+        return os.path.exists("/usr/share/i18n/locales/de_DE")
     return shutil.which(tool) is not None
 
 

@@ -348,8 +348,9 @@ static void check_tables_of_fonts(void)
          "tables of pair");
 }
 
-/* Checks that a call for a long text makes one table of texts, and that one for a short text makes none. Each call reads the
- * font, whose table of pairs is counted, too. The functions that need only the metrics of the font make no table. */
+/* Checks that a call for a long text makes one table of texts, if the function uses one, and that one for a short text makes
+ * none. Each call reads the font once, whose table of pairs is counted, too. The functions that need only the metrics of the
+ * font make no table. */
 static void check_tables(const struct set *whole, const struct output *records)
 {
     int wanted = text.length > 100000;
@@ -364,6 +365,18 @@ static void check_tables(const struct set *whole, const struct output *records)
     tables = 0;
     output = records_with(2, records[1].length);
     must(tables == 1 + wanted, "tables of records");
+    unmap(&output.bytes);
+    tables = 0;
+    set = set_with(whole->counts.lines, whole->counts.items);
+    must(tables == 1, "tables of set");
+    unmap_set(&set);
+    tables = 0;
+    output = encoded_records_with(2, records[1].length);
+    must(tables == 1, "tables of encoded_records");
+    unmap(&output.bytes);
+    tables = 0;
+    output = records_with(TFMSET_JSON, 0);
+    must(tables == 1, "tables of records in JSON");
     unmap(&output.bytes);
     check_tables_of_fonts();
 }

@@ -51,10 +51,12 @@ static int refused(const char *kind, const char *name) {
     errno = error;
     return 1;
 }
-/* Requests of the program are `memory`, from a page on `large`, too; those of the C library for it are `library`. */
+/* Requests of the program are `memory`, from a page on `large`, and from 256 KB on `huge`; those of the C library for it are
+ * `library`. */
 static int gone(void *from, size_t n) {
     int own = (char *) from >= low && (char *) from < high;
     if (!own) return refused("library", "memory");
+    if (n >= 262144 && refused("huge", "memory")) return 1;
     return refused("memory", "memory") || (n >= 4096 && refused("large", "memory"));
 }
 #define CALLER __builtin_return_address(0)

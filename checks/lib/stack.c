@@ -1,6 +1,6 @@
 /* Prints for each function of the library how many bytes of stack a thread used that called it once.
  *
- * usage: stack FONT TEXT   both are files
+ * usage: stack FONT TEXT [FUNCTION]   two files; if a function is named, without tfmset_, it is only called
  *
  * The stack is filled with a pattern before the call, and the bytes that have changed are counted: those of the call, and
  * those that the thread itself needs, about 4,600. Each line is `NAME CODE BYTES`, with the return code. */
@@ -11,7 +11,7 @@
 #include <sys/mman.h>
 #include <tfmset.h>
 
-enum { ROOM = 1 << 20, LINES = 64, PATTERN = 0xA5, STACK = 1 << 20 };
+enum { ROOM = 1 << 20, LINES = 1 << 16, PATTERN = 0xA5, STACK = 1 << 20 };
 
 #define FONT font, font_length, 0
 #define SETTINGS 1048576, TFMSET_SKIP
@@ -78,7 +78,11 @@ static void measure(const char *name, void *(*call)(void *))
     munmap(stack, STACK);
 }
 
-#define MEASURE(name) measure(#name, call_##name)
+#define MEASURE(name) \
+    if (count < 4) \
+        measure(#name, call_##name); \
+    else if (strcmp(arguments[3], #name) == 0) \
+        call_##name(NULL)
 
 int main(int count, char **arguments)
 {
