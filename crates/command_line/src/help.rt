@@ -183,11 +183,12 @@ programs that never end. A step is one ligature, one kern, or one move to the
 next element. Record format 2 adds the number of steps to the records of lines
 that were set; json prints the same data as one JSON object per line.
 
---workers is the largest number of threads that set lines. The lines of a FILE
-are dealt to all of them in turn; if there are more than four FILEs, each may
-have fewer. The output doesn't depend on this number. --block is the largest
-number of lines that threads pass on together: 8 takes the least processor
-time, and delays nothing, since the output is printed at the end.
+--workers is the largest number of threads that set lines. More of them set a
+FILE in less time, as long as processors are free. Its lines are dealt to all
+of them in turn; if there are more than four FILEs, each may have fewer. The
+output doesn't depend on this number. --block is the largest number of lines
+that threads pass on together: 8 takes the least processor time, and delays
+nothing, since the output is printed at the end.
 
 With --verbose, the causes of errors are printed on standard error, with the
 names of files, and then how many lines were set, how many were refused for
@@ -231,9 +232,9 @@ scaled points, which are 1pt, a warning is printed on standard error.
 this option, they pass on the lines of each read together, which takes the
 least processor time. A record doesn't wait for input that hasn't arrived,
 however large the block is. --workers is the largest number of threads that set
-lines; the lines of one FILE are dealt to all of them in turn. If the reader of
-a pipe closes it, `stream` ends at its next write, with exit status 5, and with
---verbose it prints `Broken pipe` as the cause.
+lines: more of them set a FILE in less time, as long as processors are free. If
+the reader of a pipe closes it, `stream` ends at its next write, with exit
+status 5, and with --verbose it prints `Broken pipe` as the cause.
 
 With --verbose, the causes of errors are printed on standard error, with the
 names of files, and then how many lines were set, how many were refused for

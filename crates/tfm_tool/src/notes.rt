@@ -43,13 +43,12 @@ impl Notes {
         self.returns_counted
     }
 
-    /// Returns a copy of a name for later notes. It is empty if there will be none, or if an allocation fails.
-    pub fn name(&self, name: &str) -> Vec<u8> {
-        let mut copy = Vec::new(self.alloc);
-        if self.verbose {
-            let _ = copy.extend_from_slice(name.as_bytes());
+    /// Returns a copy of a name for later notes, or `None` if there will be none, or if an allocation fails.
+    pub fn name(&self, name: &str) -> Option<Vec<u8>> {
+        if !self.verbose {
+            return None;
         }
-        copy
+        Vec::from_slice(self.alloc, name.as_bytes()).ok()
     }
 
     /// Notes an error of the file of this name. An interrupted read is noted, too, since it isn't made again. If

@@ -5,6 +5,9 @@ use std::{io, str};
 /// The end of the text before the tip, and its beginning.
 const TIP: &str = "\n\n  tip: to pass '";
 
+/// The text between the tip and the name of the subcommand.
+const USAGE: &str = "\nUsage: tfmset ";
+
 /// A writer of the text of an error of `clap`, which arrives in one piece.
 #[derive(Drop)]
 struct UsageText<'a, E> {
@@ -40,8 +43,8 @@ struct UnknownOption<'t> {
     option: &'t str,
     /// The name of the subcommand.
     subcommand: &'t str,
-    /// The text after the tip of `clap`.
-    after: &'t str,
+    /// The text after the tip of `clap` and `USAGE`.
+    usage: &'t str,
 }
 
 /// Writes the text of an error. The tip of `clap` for an unknown option is `to pass '-x' as a value, use '-- -x'`,
@@ -52,21 +55,20 @@ fn say_text<E: Write>(text: &str, err: &mut E) -> io::Result<()> {
     };
     err.write_all(unknown.before.as_bytes())?;
     say_tip(&unknown, err)?;
-    err.write_all(unknown.after.as_bytes())
+    write!(err, "{USAGE}{}", unknown.usage)
 }
 
 /// Returns the parts of the text for an unknown option, or `None` for any other text.
 fn unknown_option(text: &str) -> Option<UnknownOption<'_>> {
     let (before, tip) = text.split_once(TIP)?;
     let (option, further) = tip.split_once("' as a value")?;
-    let (_, after) = further.split_once("\n")?;
-    let (_, usage) = after.split_once("Usage: tfmset ")?;
+    let (_, usage) = further.split_once(USAGE)?;
     let (subcommand, _) = usage.split_once(" ")?;
     Some(UnknownOption {
         before,
         option,
         subcommand,
-        after,
+        usage,
     })
 }
 
@@ -89,7 +91,7 @@ fn say_tip<E: Write>(unknown: &UnknownOption<'_>, err: &mut E) -> io::Result<()>
     err.write_all(b"  tip: write './' before the name of a file that begins with '-'\n")
 }
 
-/// Returns whether an option that begins with a dash is the beginning of a negative number.
+/// Returns whether an option that begins with a dash is the beginning of a negative number, such as `-5` or `-.5pt`.
 fn is_negative(option: &str) -> bool {
-    matches!(option.as_bytes().get(1), Some(b'0'..=b'9'))
+    matches!(option.as_bytes().get(1), Some(b'0'..=b'9' | b'.' | b','))
 }

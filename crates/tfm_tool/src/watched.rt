@@ -73,7 +73,8 @@ pub(crate) struct WatchedReader<'r, 'n, R, T> {
     rt: &'r R,
     notes: &'n Notes,
     reader: T,
-    name: Vec<u8>,
+    /// The name. Without one, errors aren't noted.
+    name: Option<Vec<u8>>,
     /// Whether carriage returns are counted.
     counts: bool,
     /// The last byte that was read.
@@ -124,7 +125,9 @@ impl<R: Wait, T: Read> Read for WatchedReader<'_, '_, R, T> {
                 Ok(count)
             }
             Err(error) => {
-                self.notes.note(self.rt, self.name.as_slice(), &error);
+                if let Some(name) = &self.name {
+                    self.notes.note(self.rt, name.as_slice(), &error);
+                }
                 Err(error)
             }
         }
