@@ -281,7 +281,8 @@ class Installing(LibraryCase):
         self.same("said", [f"{top}/{name}" for name in files(top) if not os.path.islink(f"{top}/{name}")],
                   sorted(re.findall("^installed (.*)$", printed, re.M)))
         found = glob.glob(top + "/lib/python*/*-packages/tfmset.py")
-        self.same("modules", ["644"], [f"{os.stat(name).st_mode & 0o777:o}" for name in found])
+        self.same("modules, and the header", ["644"] * 2, [
+            f"{os.stat(name).st_mode & 0o777:o}" for name in (*found, top + "/include/tfmset.h")])
         self.same("files", [True] * 4, [os.path.exists(f"{top}/{name}") for name in (
             "include/tfmset.h", "lib/libtfmset.a", "lib/libtfmset.so.0", "lib/pkgconfig/tfmset.pc")])
         self.assertIn("prefix=/opt/tfmset\n", read(top + "/lib/pkgconfig/tfmset.pc"))
@@ -320,7 +321,7 @@ class Installing(LibraryCase):
         self.file("site/sitecustomize.py", f"import site\nsite.getsitepackages = lambda *_: [{where!r}]\n")
         printed = self.install(prefix, PYTHON=sys.executable, PYTHONPATH=self.room + "/site")
         self.same("the last line", f"the module tfmset is for {sys.executable}", printed.splitlines()[-1])
-        self.assertTrue(os.path.exists(where + "/tfmset.py"))
+        self.same("mode", "644", f"{os.stat(where + '/tfmset.py').st_mode & 0o777:o}")
 
     # Mutant of scripts/library: a failed build doesn't end it, and the library of an earlier build is installed.
     def test_after_a_failed_build(self):
