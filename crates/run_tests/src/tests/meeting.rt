@@ -217,6 +217,10 @@ impl LineSource for Guest<'_> {
     /// The first line is held until the other source was asked for its own.
     fn next_line(&mut self) -> Result<Option<Line>, SourceFault> {
         let meeting = self.meeting;
+        // Mutant of `feed` in set_run: the thread of a source enters the gate after its last line.
+        if meeting.side(self.number).sources.load(Ordering::SeqCst) == 0 {
+            meeting.fail();
+        }
         let before = meeting
             .side(self.number)
             .asked
