@@ -63,7 +63,8 @@ TEXTS = {**FONTS, **LETTERS, "20 MB": PIECE * 20, "2 MB": PIECE * 2, "short": b"
          "100 KB with !": PIECE[:100000].replace(b"\n", b"!\n"), "200 KB with !": PIECE[:200000].replace(b"\n", b"!\n"),
          "long hyphens": ("\u00ad" * 32000 + "\n").encode() * 60, "usual hyphens": ("\u00ad" * 32 + "\n").encode() * 60000,
          "neighbours": neighbours(range(100, 256)), "low neighbours": neighbours([*range(10), *range(11, 32), *range(33, 156)]),
-         "codes in pairs": neighbours(range(100, 226)), "one long line": b"a" * 20000 + b"\n" + b"a\n" * 100, "none": b"", "ends": ENDS, "after": ENDS + b"\xff\n" * 400000,
+         "codes in pairs": neighbours(range(100, 226)), "one long line": b"a" * 20000 + b"\n" + b"a\n" * 100,
+         "none": b"", "ends": ENDS, "after": ENDS + b"\xff\n" * 400000,
          "before": b"\xff\n" * 400000 + ENDS}
 STREAM, SET, CHECK = [PROGRAM, "stream", DEMO], [PROGRAM, "set", DEMO], [PROGRAM, "check"]
 LIMITED = [PROGRAM, "stream", "--limit", "100"]

@@ -183,9 +183,9 @@ programs that never end. A step is one ligature, one kern, or one move to the
 next element. Record format 2 adds the number of steps to the records of lines
 that were set; json prints the same data as one JSON object per line.
 
---workers is the largest number of threads that set lines. More of them set a
-FILE in less time, as long as processors are free. Its lines are dealt to all
-of them in turn; if there are more than four FILEs, each may have fewer. The
+--workers is the largest number of threads that set lines. More of them can set
+a FILE in less time, if processors are free. Its lines are dealt to all of them
+in turn; if there are more than four FILEs, each may have fewer. The
 output doesn't depend on this number. --block is the largest number of lines
 that threads pass on together: 8 takes the least processor time, and delays
 nothing, since the output is printed at the end.
@@ -232,7 +232,7 @@ scaled points, which are 1pt, a warning is printed on standard error.
 this option, they pass on the lines of each read together, which takes the
 least processor time. A record doesn't wait for input that hasn't arrived,
 however large the block is. --workers is the largest number of threads that set
-lines: more of them set a FILE in less time, as long as processors are free. If
+lines: more of them can set a FILE in less time, if processors are free. If
 the reader of a pipe closes it, `stream` ends at its next write, with exit
 status 5, and with --verbose it prints `Broken pipe` as the cause.
 
