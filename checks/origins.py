@@ -19,7 +19,9 @@ and each line with a larger number needs a row, and so does each line that assig
 request. A call of a function whose parameter is such a variable counts as a request.
 """
 import re
+import string
 import tomllib
+from collections import Counter
 
 from lib.base import ROOT, Case, files, read, rows, table
 
@@ -27,12 +29,25 @@ RULES = table("origins")
 KINDS = {value: kind for kind, values in RULES["values"].items() for value in values}
 FORMS = "|".join(re.escape(value) if "::" in value or value[0] == "." else r"(?:\w+::)*" + value
                  for value in KINDS)
-VALUE = re.compile(rf"(?<![\w.])(?:{FORMS})\b(?!::)|\.give_up\(")
+VALUE = re.compile(rf"(?<![\w.])(?:{FORMS})\b(?!::)|\.give_up\(|::give_up\b")
 # What has no value: comments, contracts, comparisons, declarations.
-NO_VALUE = re.compile(r"//.*|^.*[≡⊎×].*|^\s*(?:ensures|requires|ghost)\b.*|[=!]= ?(?:Some\()?[\w:]+|-> .*|"
-                      r"^\s*(?:pub )?(?:struct|enum|fn|const fn|impl) .*|^(?:pub )?const \w+: u32 = \d+;|"
-                      r"^\s*\w+: Result<.*|^\s*\w+,$")
-IMPORT = re.compile(r"^(?:pub )?use [^;]*;", re.M)
+NO_VALUE = re.compile(r"//.*|^.*[≡⊎×].*|^\s*(?:ensures|requires|ghost)\b.*|[=!]= ?(?:Some\()?[\w:]+|-> [^{]*|"
+                      r"\b(?:struct|enum|fn|impl) [^{]*|^(?:pub )?const \w+: u32 = \d+;|"
+                      r"^\s*\w+: Result<.*")
+STRING = re.compile(r'b?"(?:[^"\\\n]|\\.)*"|b?\'(?:\\.|[^\\\'\n])\'')
+IMPORT = re.compile(r"^ *(?:pub(?:\([^)]*\))? )?use [^;]*;", re.M)
+# The types of these values, in whose `impl` blocks `Self` is such a type.
+TYPES = "|".join(sorted({value.split("::")[0] for value in KINDS if value[0] in string.ascii_uppercase}
+                        - {"MEMORY", "Error"}))
+IMPL = re.compile(rf"^impl\b(?:[^\n]* for)? ({TYPES})\b.*?^\}}", re.M | re.S)
+# What would hide such a value, or the size of a request, from this lint.
+DERIVES = r"derive\([^)]*\bDefault\b[^)]*\)\]\s*(?:#.*\s*)*(?:pub(?:\([^)]*\))? )?"
+HIDDEN = re.compile(rf"\b(?:macro_rules|include|concat_idents)!.*|#\[default\]|\b(?:Layout::|stack_size|Builder::).*|"
+                    rf"repr\((?!C\)|u8\)|u32\)|transparent\)).*|"
+                    rf"^ *(?:pub(?:\([^)]*\))? )?type .*= (?:\w+::)*(?:{TYPES})\b.*|"
+                    r"^ +type (?!(?:In|Out|Item|File|Slots|Target)\b).*|"
+                    rf"{DERIVES}(?:enum|struct (?:{TYPES})\b).*",
+                    re.M)
 # A function that returns a Result, and the type of its error.
 FUNCTION = re.compile(r"\bfn (\w+)(?:<[^>]*>)?\((?:[^()]|\([^()]*\))*\)\s*->\s*Result<(?:[^{;]*?), "
                       r"(\w+|\([^()]*\))>\s*(?:\n|where|\{)")
@@ -40,14 +55,26 @@ FORMATTER = re.compile(r"^( *)(?:pub[^\n]*)?fn [^;{]*-> (?:\w+::)*(?:fmt::Result
                        r"(.*?)^\1\}", re.M | re.S)
 # `number_of` returns the number of a font error, and can't fail.
 FORMATTERS = ("write!", "writeln!", "f.write_str", "match", "if", "number_of")
-REQUEST = re.compile(r"(?<!fn )\b(?:with_capacity|with_protocol|(?:try_)?reserve(?:_exact)?|resize(?:_with)?|"
-                     r"from_elem|repeat|(?<=[.:])collect|vec!|"
-                     + "|".join(map(re.escape, RULES["sized"])) + r")(?:::<[^()]*>)?[(\[]"
-                     r"((?:[^()]|\((?:[^()]|\(\))*\))*)")
-MOST = 131072  # bytes or elements of a request
+REQUESTS = "|".join([r"with_capacity|with_protocol|(?:try_)?reserve(?:_exact)?|(?:try_)?resize(?:_with)?|from_elem|"
+                     r"from_clones|extend_with_clones|(?:try_)?grow|repeat(?:_n)?|allocate|"
+                     r"(?<=[.:])(?:collect|extend|from_iter)|vec!", *map(re.escape, RULES["sized"])])
+REQUEST = re.compile(rf"(?<!fn )\b({REQUESTS})(?:::<[^()]*>)?[(\[]((?:[^()]|\((?:[^()]|\(\))*\))*)")
+# A function that requests memory, but isn't called with arguments on this line.
+REQUESTING = re.compile(rf"(?<!fn )(?<=[.:])\b(?:{REQUESTS})\b(?!(?:::<[^()]*>)?[(\[])")
+MOST = 131072  # the largest number elsewhere than in a request
+FEW = 2048  # elements of a request, and bytes of an array or of a type
+SMALL = 256  # bytes of an element of a list
+HUGE = 1 << 60
+BYTES = {"u8": 1, "i8": 1, "bool": 1, "u16": 2, "i16": 2, "u32": 4, "i32": 4, "char": 4, "f32": 4, "u64": 8, "i64": 8,
+         "f64": 8, "usize": 8, "isize": 8, "u128": 16, "i128": 16, "str": 16, "Option": 8, "Result": 8}
+# What these have is in memory of its own, or in none.
+HELD = {**dict.fromkeys(["Arc", "Box", "Rc", "String", "Vec", "VecDeque", "Weak"], 32), "Snapshot": 0, "PhantomData": 0}
+TYPE = re.compile(r"^(.*\b(?:struct|enum)|(?:pub(?:\([^)]*\))? )?type) (\w+)(<[^={(;\n]*>)?(?=[ (;])"
+                  r"(?:\s*where[^{;]*)?", re.M)
 # A bound of a range and a constant of 32 bits are no sizes.
 LARGE = re.compile(r"\bMAX\b|\b\d[\d_]*(?:u\d+|usize)? ?<<|"
                    r"(?<!\.\.)(?<!\.\.=)(?<!32 = )\b(0x[\da-fA-F_]+|\d[\d_]*)(?:[ui]\d+|usize)?\b(?!\.\.)")
+CALLS = re.compile("|".join(RULES["calls"]))
 PURE = {"AllocError", "OutOfMemory", "(Line, OutOfMemory)"}
 
 
@@ -70,23 +97,153 @@ class Functions:
 
     def kind(self, text, file):
         """The only kind of failure of the last call in a piece of code, or None."""
-        shorter = None
+        text, shorter = re.sub(r" \{\s*$", "", text), None
         while shorter != text:
             shorter, text = text, re.sub(r"\((?:[^()]|\(\))+\)", "()", text)
-        text = re.sub(r"\b(?:Ok|Err|Some)\(\)", "", text)
+        if re.search(r"\b(?:if|else|match|loop|Err)\b|[{}=^;]|&&|\|\|", text):
+            return None
+        text = re.sub(r"\b(?:Ok|Some)\(\)", "", text)
         calls = re.findall(r"((?:\w+::)?\w+|\.\w+)(?:::<[^()]*?>)?!?\(\)", text)
         calls = [call for call in calls if call not in (".is_err", ".map_err")]
         if not calls:
             return None
+        name = re.split(r"::|\.", calls[-1])[-1]
         for kind, known in RULES["library"].items():
             if calls[-1] in known:
-                return kind
-        name = re.split(r"::|\.", calls[-1])[-1]
+                # A method of this crate with the same name may fail in another way.
+                own = {error for other, method, error in self.errors
+                       if method == name and other.startswith(file.split("/")[0] + "/")}
+                return kind if own <= PURE else None
         for near in (file, file.split("/")[0] + "/", ""):
             found = {error for other, known, error in self.errors if known == name and other.startswith(near)}
             if found:
                 return "memory" if found <= PURE else None
         return None
+
+
+def parts(text, separator=","):
+    """The parts of a text between separators that aren't in brackets."""
+    found, level, text = [""], 0, text.replace("->", "")
+    for one in text:
+        level += (one in "([{<") - (one in ")]}>")
+        found += [""] if one == separator and not level else []
+        found[-1] += "" if one == separator and not level else one
+    return [part.strip() for part in found if part.strip()]
+
+
+def bracketed(text, at):
+    """The text between the bracket at an index and the bracket that closes it."""
+    first, level = text[at], 0
+    last = dict(zip("([{<", ")]}>"))[first]
+    for end in range(at, len(text)):
+        level += (text[end] == first) - (text[end] == last and text[end - 1:end + 1] != "->")
+        if not level:
+            return text[at + 1:end]
+    return text[at + 1:]
+
+
+def fields(text):
+    """The types of fields, each with or without a name."""
+    return [re.sub(r"^(?:pub(?:\([^)]*\))? )?(?:\w+: )?", "", re.sub(r"#\[[^\]]*\]\s*", "", field)).strip()
+            for field in parts(text)]
+
+
+class Sizes:
+    """Sizes of types in bytes, without padding, and with 32 bytes for each type that the files don't define."""
+
+    def __init__(self, codes):
+        self.constants = [(file, *found) for file, code in codes.items() for found in
+                          re.findall(r"\b(?:const|static) (\w+): ((?:[^=;,>{]|; ?\w+\])*)(?:= ([^;]*);)?", code)]
+        self.types, self.busy = [], []
+        for file, code in codes.items():
+            for found in TYPE.finditer(code):
+                names = [part.split(":")[0] for part in parts((found[3] or "<>")[1:-1])]
+                self.types.append((file, found[2], [name for name in names if name[0] != "'"],
+                                   self.fields_of(found[1], code, found.end())))
+
+    @staticmethod
+    def fields_of(word, code, at):
+        """The types in a definition whose name ends at an index."""
+        rest = code[at:].lstrip()
+        if rest[0] == "=":
+            return [rest[1:rest.index(";", rest.index("]") if re.match(r"=[^;]*\[[^;\]]*;", rest) else 0)].strip()]
+        if rest[0] not in "({":
+            return []
+        inside = bracketed(rest, 0)
+        if word.endswith("struct"):
+            return fields(inside)
+        variants = [re.search(r"[({]", part) for part in parts(inside)]
+        return ["u64"] + [one for found in variants if found for one in fields(bracketed(found.string, found.start()))]
+
+    @staticmethod
+    def near(rows, name, file):
+        """The rows of a name in this file, else in its crate, else in any."""
+        for place in (file, file.split("/")[0] + "/", ""):
+            found = [row for row in rows if row[1] == name and row[0].startswith(place)]
+            if found:
+                return found
+        return []
+
+    def number(self, text, file):
+        """The value of a sum of products of numbers and constants."""
+        if not re.fullmatch(r"[\w +*]+", text or "?"):
+            return HUGE
+        total = 0
+        for term in text.split("+"):
+            product = 1
+            for factor in map(str.strip, term.split("*")):
+                digits = re.fullmatch(r"(\d[\d_]*)(?:[ui](?:8|16|32|64|size))?", factor)
+                values = [self.number(row[3].strip(), file) for row in self.near(self.constants, factor, file)]
+                product *= int(digits[1].replace("_", "")) if digits else max(values, default=HUGE)
+            total += product
+        return min(total, HUGE)
+
+    def size(self, kind, file, known=()):
+        """The size of a type, or of the type of a constant. `known` has those of type parameters."""
+        kind, known = kind.strip().removeprefix("mut "), dict(known)
+        if re.match(r"[&*]|(?:fn|dyn|impl)\b", kind):
+            return 16
+        if re.fullmatch(r'-?\d\w*|""|None|true|false', kind):
+            return 4
+        if kind.startswith("by {"):  # of a fact
+            return 0
+        if kind[:1] in ("[", "("):
+            inside = parts(kind[1:-1], ";")
+            sizes = sum(self.size(part, file, known) for part in parts(inside[0] if inside else ""))
+            return min(HUGE, sizes * self.number(inside[1], file)) if kind[0] == "[" and inside[1:] else sizes
+        found = re.fullmatch(r"(?:\w+::)*(\w+)(?:<(.*)>)?(?: as \w+)?", kind, re.S)
+        if not found or (kind, len(self.busy)) in self.busy or len(self.busy) > 30:
+            return HUGE
+        name = found[1]
+        if name in known or name in HELD:
+            return known.get(name, HELD.get(name))
+        arguments = [part for part in parts(found[2] or "") if part[0] != "'"]
+        counts = [self.number(part, file) for part in arguments if part[0].isdigit()]
+        sizes = [self.size(part, file, known) for part in arguments if not part[0].isdigit()]
+        self.busy.append(name)
+        defined = [sum(self.size(field, row[0], zip(row[2], sizes)) for field in row[3])
+                   for row in self.near(self.types, name, file) if self.busy.count(name) < 3]
+        constant = [self.size(row[2], row[0]) for row in self.near(self.constants, name, file) if not defined]
+        self.busy.pop()
+        for count in counts:
+            sizes = [size * count for size in sizes]
+        return min(HUGE, max(defined + constant) if defined + constant else BYTES.get(name, 32) + sum(sizes))
+
+    def large(self, file, code):
+        """The lines of a file with a large array, with a list of large elements or of arrays, or a large type."""
+        for found in re.finditer(r"(?<!#)\[|\bVec(?:Deque)?(?:::)?<|\b(?:struct|enum|type) (\w+)\b", code):
+            if found[1]:
+                large = any(sum(self.size(field, file) for field in row[3]) > FEW for row in self.types
+                            if row[:2] == (file, found[1]))
+            elif found[0] == "[":
+                inside = bracketed(code, found.start())
+                large = len(parts(inside, ";")) == 2 and self.size(f"[{inside}]", file) > FEW
+            else:
+                element = bracketed(code, found.end() - 1)
+                large = element[0] == "[" or self.size(element, file) > SMALL
+            if large:
+                begin = code.rfind("\n", 0, found.start()) + 1
+                yield " ".join(code[begin:code.find("\n", found.start())].split())
 
 
 def indentation(line):
@@ -121,15 +278,20 @@ def is_handed_on(lines, i, value, file, functions):
     """Whether a value is in one of the accepted forms."""
     own, *heads = heads_of(lines, i)
     kind = kind_of(value)
-    if heads and re.match(r"impl.* From<", heads[-1]):
-        return True
+    if heads and re.match(r"impl From<AllocError> for \w+ \{$", heads[-1]):
+        return kind == "memory"
     if ".map_err(" in own:
-        return functions.kind(own.split(".map_err(")[0].split("=")[-1], file) == kind
+        call, made = re.split(r"\.map_err\(", own, maxsplit=1)
+        # The closure makes the value, and the error is passed on.
+        return (bool(re.fullmatch(r"\s*\|_?\w*\|\s*[\w:(]+[)\s,]*\??[;)\s,]*", made))
+                and functions.kind(re.split(r"(?<![=!<>])=(?!=)", call)[-1], file) == kind)
     if "=>" not in own and heads and heads[0].endswith("=> {"):
         own, *heads = heads
     pattern, arrow, _ = own.partition("=>")
     if arrow and VALUE.search(pattern):
-        return all(kind_of(one) == kind for one in VALUE.findall(pattern))
+        # Each of several patterns has an error of this kind.
+        return all(re.search(VALUE, one) and {kind_of(found) for found in VALUE.findall(one)} == {kind}
+                   for one in pattern.split(" if ")[0].split("|"))
     head = heads[0] if heads else ""
     if arrow and re.match(r"\s*Err\([a-z_]\w*\)\s*$", pattern):
         return functions.kind(head.split("match ")[-1], file) == kind
@@ -140,10 +302,15 @@ def is_handed_on(lines, i, value, file, functions):
 def origins(text, file, functions):
     """The lines of a file with such a value, each with the head of its block and whether it is accepted."""
     text = IMPORT.sub(lambda found: "\n" * found[0].count("\n"), text)
-    plain = [NO_VALUE.sub("", line) if "impl" not in line else line for line in text.split("\n")]
+    text = IMPL.sub(lambda found: re.sub(r"\bSelf\b", found[1], found[0]), text)
+    plain = [NO_VALUE.sub(lambda found: found[0][:2] if found[0][0] in "=!" else "", line)
+             if not line.startswith("impl") else line for line in STRING.sub('""', text).split("\n")]
     for i, line in enumerate(plain):
         body = line.partition("=>")[2] if "=>" in line else line
-        for value in VALUE.findall(body) if not line.startswith("impl") else ():
+        if line.startswith("impl") or (re.match(r"\s*\w+,$", line)
+                                       and re.search(r"\benum ", head_of(text.split("\n"), i))):
+            continue
+        for value in VALUE.findall(body):
             if "matches!(" not in " ".join(heads_of(plain, i)[:2]):
                 right = is_handed_on(plain, i, value, file, functions)
                 yield head_of(text.split("\n"), i), " ".join(line.split()), right
@@ -157,6 +324,13 @@ def empty_results(text, names):
         inside = begins[1] in names if begins else inside
         if inside and re.search(r"\bNone\b|\?[;,)]|\.ok\(\)", NO_VALUE.sub("", line)):
             yield head_of(lines, i), " ".join(line.split())
+
+
+def failing_options(text):
+    """The functions of which a comment says that their `None` reports a failed call."""
+    functions = re.findall(r"((?:^ *///.*\n)+)(?:^ *#\[.*\n)*^ *(?:pub(?:\([a-z]+\))? )?fn (\w+)", text, re.M)
+    return [name for comment, name in functions
+            if re.search(r"`None`[^.]*(?:allocation fails|no thread|writer fails)", re.sub(r"\n *///", "", comment))]
 
 
 def hiding_imports(text):
@@ -190,19 +364,34 @@ def failing_formats(text):
 def large_requests(text):
     """The requests of a file whose size isn't seen to be small, and its lines with large numbers."""
     constants = dict(re.findall(r"\bconst (\w+): \w+ = (\d[\d_]*);", text))
-    lines = code_of(text).split("\n")
-    for line in lines:
-        request = REQUEST.search(line)
-        # The first argument of `resize` is the size, and the last one of the other functions.
-        parts = request[1].split(", ")[0 if "resize" in request[0] else -1].split(" + ") if request else []
-        sizes = [constants.get(part, re.sub(r"\w+\.len\(\)(?: / \d+)?$", "0", part)) for part in parts]
-        numbers = [one or "MAX" for one in LARGE.findall(line)] + sizes
-        if any(not re.match(r"\d", one) or int(one.replace("_", ""), 0) > MOST for one in numbers):
-            yield " ".join(line.split())
-            for name in {*filter(str.isidentifier, sizes)} - {"alloc"}:
+    # A name with two definitions isn't resolved, and no request is small in a file with a list of arrays.
+    constants = {name: value for name, value in constants.items() if len(re.findall(rf"\bconst {name}\b", text)) == 1}
+    code = code_of(text)
+    lines, is_wide, found = code.split("\n"), bool(re.search(r"\bVec(?:::)?<\[", code)), set()
+    for i, line in enumerate(lines):
+        sizes = []
+        for name, inside in REQUEST.findall(line):
+            # The first argument of `resize` is the size, and the last one of the other functions.
+            arguments = parts(inside) or ["?"]
+            sizes += arguments[0 if "resize" in name else -1].split(" + ")
+        known = [constants.get(size, re.sub(r"^\w+\.len\(\)(?: / \d+)?$", "0", size)) for size in sizes]
+        small = [re.fullmatch(r"\d[\d_]*", size) and int(size.replace("_", "")) <= FEW for size in known]
+        large = [one for one in LARGE.findall(line) if not one or int(one.replace("_", ""), 0) > MOST]
+        if large or not all(small) or sizes and is_wide or REQUESTING.search(line):
+            found.add(i)
+            for name in {*filter(str.isidentifier, known)} - {"alloc"}:
                 assigned = re.compile(rf"\blet [^=]*\b{name}\b|\bfor [^=]*\b{name}\b[^=]* in\b|"
-                                      rf"(?<![\w.]){name} [^=\w]*=(?!=)")
-                yield from (" ".join(other.split()) for other in lines if assigned.search(other))
+                                      rf"(?<![\w.]){name} [^=\w]*=(?!=)|^[^=]*(?<![\w.]){name}\b[^=(]*=>|"
+                                      rf"\|[^|]*(?<![\w.]){name}\b[^|]*\|")
+                found.update(j for j, other in enumerate(lines) if assigned.search(other))
+    return [" ".join(lines[i].split()) for i in sorted(found)]
+
+
+def calls_that_may_fail(text):
+    """The lines that call what fails for certain arguments, that make a reader or a writer, or that are hidden."""
+    code = code_of(text)
+    found = [line for line in code.split("\n") if CALLS.search(line)] + [one[0] for one in HIDDEN.finditer(code)]
+    return [" ".join(line.split()) for line in found]
 
 
 class Origins(Case):
@@ -223,6 +412,8 @@ class Origins(Case):
             self.wrong += [f"{name}: an import hides such a value: {found}" for found in hiding_imports(text)]
         self.wrong += [f"a row of the table without its line: {row}" for row in rows_left]
         self.none([], count, 20)
+        self.none([f"{name}: {function}: its `None` reports a failed call" for name, text in texts.items()
+                   for function in set(failing_options(text)) - set(RULES["nothing"].get(name, ()))])
 
     @rows((body, body) for body in RULES["wrong"])
     def test_wrong(self, body):
@@ -230,6 +421,23 @@ class Origins(Case):
         text = "fn planted() {\n" + "".join(f"    {line}\n" for line in body.split("\n")) + "}"
         functions = Functions({"here/planted.rt": RULES["first"]})
         self.assertIn(False, [right for *_, right in origins(text, "here/planted.rt", functions)])
+
+    # Mutant of `FontFault`: an `impl From<Padded>`, whose values need no failed call.
+    @rows((text, text) for text in RULES["wrong_impls"])
+    def test_wrong_impl(self, text):
+        """An `impl` in which no call failed is found."""
+        self.assertIn(False, [right for *_, right in origins(text, "here/planted.rt", Functions({}))])
+
+    @rows((text, text) for text in RULES["wrong_imports"])
+    def test_wrong_import(self, text):
+        """An import that hides a value is found."""
+        self.assertTrue(hiding_imports(text))
+
+    def test_documented(self):
+        """A function whose `None` reports failed allocation is found by its comment."""
+        comment = "/// Sets a line.\n/// Returns `None` if an\n/// allocation fails.\n"
+        text = comment + "#[inline]\npub fn planted() -> Option<u8> {\n}\n"
+        self.same("functions", ["planted"], failing_options(text))
 
     @rows((body, body) for body in RULES["wrong_heads"])
     def test_wrong_head(self, body):
@@ -251,9 +459,25 @@ class Formats(Case):
                   sum(len(FORMATTER.findall(code_of(text))) for _, text in sources()), 10)
 
     def test_requests(self):
-        left = {tuple(row[:2]) for row in RULES["requests"]}
-        found = {(name, line) for name, text in sources() for line in large_requests(text)}
-        self.none([f"{name}: a size that may be absurd: {line}" for name, line in found - left])
+        self.rows_have_lines("requests", "a size that may be absurd", ((name, line) for name, text in sources()
+                                                                       for line in large_requests(text)))
+
+    # Mutants of `decode` in tfm_tables: 131,072 elements of 2^46 bytes are requested for some sizes or numbers of kerns.
+    def test_sizes(self):
+        codes = {name: code_of(text) for name, text in sources()}
+        sizes = Sizes(codes)
+        self.rows_have_lines("sizes", "a large array, type or element", ((name, line) for name, code in codes.items()
+                                                                         for line in sizes.large(name, code)))
+
+    # Mutant of `append_all` in line_blocks: a line that would be number 2^64 - 1 is pushed to a block of its own.
+    def test_calls(self):
+        self.rows_have_lines("called", "a call that may fail", ((name, line) for name, text in sources()
+                                                                for line in calls_that_may_fail(text)))
+
+    def rows_have_lines(self, table, what, lines):
+        """Each line has a row in the table, and each row a line."""
+        found, left = Counter(lines), Counter(tuple(row[:2]) for row in RULES[table])
+        self.none([f"{name}: {what}: {line}" for name, line in found - left])
         self.none([f"a row of the table without its line: {name}: {line}" for name, line in left - found])
 
     @rows((body, body) for body in RULES["wrong_formats"])
@@ -266,6 +490,23 @@ class Formats(Case):
     def test_wrong_request(self, body):
         """A request of an absurd size is found."""
         self.assertTrue(list(large_requests(f"const ROOM: usize = 1000;\nfn planted() {{\n    {body}\n}}\n")))
+
+    @rows((text, text) for text in RULES["wrong_sizes"])
+    def test_wrong_size(self, text):
+        """A large array, a list of large elements, or a large type is found."""
+        code = code_of(text)
+        self.assertTrue(list(Sizes({"here/planted.rt": code}).large("here/planted.rt", code)))
+
+    @rows((text, text) for text in RULES["small_sizes"])
+    def test_small_size(self, text):
+        """A small array, list or type isn't found."""
+        code = code_of(text)
+        self.same("found", [], list(Sizes({"here/planted.rt": code}).large("here/planted.rt", code)))
+
+    @rows((line, line) for line in RULES["wrong_calls"])
+    def test_wrong_call(self, line):
+        """A call that fails for its arguments is found, and what the lint can't read."""
+        self.assertTrue(calls_that_may_fail(line))
 
     # Mutant of `kerns` in tfm_tables: the number of entries of one font is multiplied before they are requested.
     @rows((line, line) for line in RULES["assigned"])
