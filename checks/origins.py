@@ -34,7 +34,6 @@ VALUE = re.compile(rf"(?<![\w.])(?:{FORMS})\b(?!::)|\.give_up\(|::give_up\b")
 NO_VALUE = re.compile(r"//.*|^.*[≡⊎×].*|^\s*(?:ensures|requires|ghost)\b.*|[=!]= ?(?:Some\()?[\w:]+|-> [^{]*|"
                       r"\b(?:struct|enum|fn|impl) [^{]*|^(?:pub )?const \w+: u32 = \d+;|"
                       r"^\s*\w+: Result<.*")
-STRING = re.compile(r'b?"(?:[^"\\\n]|\\.)*"|b?\'(?:\\.|[^\\\'\n])\'')
 IMPORT = re.compile(r"^ *(?:pub(?:\([^)]*\))? )?use [^;]*;", re.M)
 # The types of these values, in whose `impl` blocks `Self` is such a type.
 TYPES = "|".join(sorted({value.split("::")[0] for value in KINDS if value[0] in string.ascii_uppercase}
@@ -49,7 +48,7 @@ HIDDEN = re.compile(rf"\b(?:macro_rules|include|concat_idents)!.*|#\[default\]|\
                     rf"{DERIVES}(?:enum|struct (?:{TYPES})\b).*",
                     re.M)
 # A function that returns a Result, and the type of its error.
-FUNCTION = re.compile(r"\bfn (\w+)(?:<[^>]*>)?\((?:[^()]|\([^()]*\))*\)\s*->\s*Result<(?:[^{;]*?), "
+FUNCTION = re.compile(r"(pub )?fn (\w+)(?:<[^>]*>)?\(\s*(&?(?:mut )?self\b)?(?:[^()]|\([^()]*\))*\)\s*->\s*Result<(?:[^{;]*?), "
                       r"(\w+|\([^()]*\))>\s*(?:\n|where|\{)")
 FORMATTER = re.compile(r"^( *)(?:pub[^\n]*)?fn [^;{]*-> (?:\w+::)*(?:fmt::Result|Result<[^{]*fmt::Error>)"
                        r"(.*?)^\1\}", re.M | re.S)
@@ -93,7 +92,9 @@ class Functions:
     """The errors of the functions of all files, to find what a call can fail with."""
 
     def __init__(self, texts):
-        self.errors = [(file, *found) for file, text in texts.items() for found in FUNCTION.findall(text)]
+        found = [(file, *found) for file, text in texts.items() for found in FUNCTION.findall(text)]
+        self.errors = [(file, name, error) for file, _, name, _, error in found]
+        self.found = found
 
     def kind(self, text, file):
         """The only kind of failure of the last call in a piece of code, or None."""
@@ -110,10 +111,11 @@ class Functions:
         name = re.split(r"::|\.", calls[-1])[-1]
         for kind, known in RULES["library"].items():
             if calls[-1] in known:
-                # A method of this crate with the same name may fail in another way.
-                own = {error for other, method, error in self.errors
-                       if method == name and other.startswith(file.split("/")[0] + "/")}
-                return kind if own <= PURE else None
+                # Another function with the same name may fail in another way.
+                crate = file.split("/")[0] + "/"
+                alike = {error for other, public, function, own, error in self.found if function == name
+                         and (public or other.startswith(crate)) and bool(own) == (calls[-1][0] == ".")}
+                return kind if alike <= PURE else None
         for near in (file, file.split("/")[0] + "/", ""):
             found = {error for other, known, error in self.errors if known == name and other.startswith(near)}
             if found:
@@ -240,7 +242,7 @@ class Sizes:
                 large = len(parts(inside, ";")) == 2 and self.size(f"[{inside}]", file) > FEW
             else:
                 element = bracketed(code, found.end() - 1)
-                large = element[0] == "[" or self.size(element, file) > SMALL
+                large = element[0] == "[" or not 0 < self.size(element, file) <= SMALL
             if large:
                 begin = code.rfind("\n", 0, found.start()) + 1
                 yield " ".join(code[begin:code.find("\n", found.start())].split())
@@ -302,18 +304,19 @@ def is_handed_on(lines, i, value, file, functions):
 def origins(text, file, functions):
     """The lines of a file with such a value, each with the head of its block and whether it is accepted."""
     text = IMPORT.sub(lambda found: "\n" * found[0].count("\n"), text)
+    original, text = text.split("\n"), without_strings(text)
+    for found in reversed([*re.finditer(r"\bmatches!\(", text)]):
+        inside = bracketed(text, found.end() - 1)
+        text = text[:found.end()] + "\n" * inside.count("\n") + text[found.end() + len(inside):]
     text = IMPL.sub(lambda found: re.sub(r"\bSelf\b", found[1], found[0]), text)
     plain = [NO_VALUE.sub(lambda found: found[0][:2] if found[0][0] in "=!" else "", line)
-             if not line.startswith("impl") else line for line in STRING.sub('""', text).split("\n")]
+             if not line.startswith("impl") else line for line in text.split("\n")]
     for i, line in enumerate(plain):
-        body = line.partition("=>")[2] if "=>" in line else line
-        if line.startswith("impl") or (re.match(r"\s*\w+,$", line)
-                                       and re.search(r"\benum ", head_of(text.split("\n"), i))):
+        if re.match(r"\s*\w+,$", line) and re.search(r"\benum ", head_of(original, i)):
             continue
-        for value in VALUE.findall(body):
-            if "matches!(" not in " ".join(heads_of(plain, i)[:2]):
-                right = is_handed_on(plain, i, value, file, functions)
-                yield head_of(text.split("\n"), i), " ".join(line.split()), right
+        body = line.partition("{")[2] if line.startswith("impl") else line
+        for value in VALUE.findall(body.partition("=>")[2] if "=>" in body else body):
+            yield head_of(original, i), " ".join(line.split()), is_handed_on(plain, i, value, file, functions)
 
 
 def empty_results(text, names):
@@ -343,17 +346,21 @@ def hiding_imports(text):
             or any(old in heads and new != "_" for old, new in re.findall(r"(\w+) as (\w+)", found))]
 
 
+def without_strings(text):
+    """A file without comments and the contents of strings."""
+    return re.sub(r"""//.*|b?"(?:[^"\\]|\\[\s\S])*"|b?'(?:\\.|[^\\'])'""",
+                  lambda found: "" if found[0][0] == "/" else '""' + "\n" * found[0].count("\n"), text)
+
+
 def code_of(text):
     """A file without the contents of strings, comments and contracts."""
-    text = re.sub(r"""//.*|b?"(?:[^"\\]|\\[\s\S])*"|b?'(?:\\.|[^\\'])'""",
-                  lambda found: "" if found[0][0] == "/" else '""', text)
-    return re.sub(r"(?m)^ *(?:ensures|requires|ghost)\b(?:[^{\n]*\{(?:[^{}]|\{[^{}]*\})*\})?", "", text)
+    return re.sub(r"(?m)^ *(?:ensures|requires|ghost)\b(?:[^{\n]*\{(?:[^{}]|\{[^{}]*\})*\})?", "", without_strings(text))
 
 
 def failing_formats(text):
     """What the functions that return a `fmt::Result` do except write, hand on errors, and make values."""
     code = code_of(text)
-    found = re.findall(r"\bfmt::Error\b|use .*fmt::.*\bError\b", code)
+    found = re.findall(r"\bfmt::Error\b|use .*fmt::.*\b(?:Error|Result)\b|type .*fmt::Result", code)
     for _, body in FORMATTER.findall(code):
         calls = re.findall(r"([\w.:]*\w!?)(?:::<[^()]*>)?\(", body)
         found += set(calls) - set(FORMATTERS) - set(re.findall(r"\b(?:\w+::)*[A-Z]\w*", body))
@@ -391,6 +398,8 @@ def calls_that_may_fail(text):
     """The lines that call what fails for certain arguments, that make a reader or a writer, or that are hidden."""
     code = code_of(text)
     found = [line for line in code.split("\n") if CALLS.search(line)] + [one[0] for one in HIDDEN.finditer(code)]
+    # Quotation marks in these would hide code.
+    found += re.findall(r'.*(?<!")\bb?r#*".*|.*/\*.*', text)
     return [" ".join(line.split()) for line in found]
 
 
@@ -523,13 +532,16 @@ class Codes(Case):
     def test_codes_are_named(self):
         """A function that returns a code names it, so that the lint finds each line that reports failed allocation."""
         texts = {name: text for name, text in sources() if name.startswith("tfmset_c/")}
-        named, count = dict(re.findall(r"const (\w+): u32 = (\d+);", "\n".join(texts.values()))), 0
-        codes = "|".join(name for name, number in named.items() if int(number) < 9)
+        every, count = "\n".join(texts.values()), 0
+        named = dict(re.findall(r"const (\w+): u32 = (\d[\d_]*);", every))
+        self.same("constants", len(re.findall(r"\b(?:const|static) \w+: u32\b", every)), len(named))
+        codes = "|".join(name for name, number in named.items() if int(number.replace("_", "")) < 9)
         self.same("codes", 7, codes.count("|") + 1)
-        number = re.compile(rf"\breturn [^;\n]*\d|=> [^{{\n]*\b\d+,$|^ *\d+$|\{{ \d+ \}}|"
+        number = re.compile(rf"\breturn [^;\n]*\d|=> [^{{\n]*\b\d+,$|^ *\d+$|\{{ \d+ \}}|\blet [\w ]+(?:: \w+)? = \d|"
                             rf"\b(?:{codes})\b *[-+*/|&^<]|[-+*/|&^<] *\b(?:{codes})\b", re.M)
         for name, text in texts.items():
-            for function in re.findall(r"fn (\w+)\((?:[^()]|\([^()]*\))*\) -> u32\n(?: +requires .*\n)* +ensures answers", text):
+            functions = re.findall(r"fn (\w+)\((?:[^()]|\([^()]*\))*\) -> u32\n", text)
+            for function in set(functions) - set(RULES["numbers"]):
                 body = re.search(rf"^[^\n]*\bfn {function}\(.*?^\}}", code_of(text), re.M | re.S)[0]
                 count += 1
                 self.none([f"{name}: {function}: {found}" for found in number.findall(body)])
