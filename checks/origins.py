@@ -3,20 +3,24 @@
 Each value that reports a failed call is in a line that hands on the error of a call. The values report
 failed allocation, a thread that couldn't be started, a failed read, opening or write, an abandoned lane, and
 any other error of a reader or a writer.
-Accepted are: a `From`; a `map_err` of a call, the arm `Err(_)` of a match on it, the `else` of a `let Ok(..)`
-of it and an `if` on its `is_err`, if the call can fail in this way only; and the arm of a value of the same
-kind. Each other line needs a row in checks/cases/origins.toml: the file, the head of the block that the line
-is in, the line, and the reason. A row without a line is an error, too. Errors that `?` passes on aren't
-written out. Of a function whose `None` reports a failed call, each line that may return it needs a row.
+Accepted are: a `From<AllocError>`; a `map_err` of a call, the arm `Err(_)` of a match on it, the `else` of a
+`let Ok(..)` of it and an `if` on its `is_err`, if the call can fail in this way only; and an arm each of whose
+patterns has a value of the same kind. Each other line needs a row in checks/cases/origins.toml: the file, the head
+of the block that the line is in, the line, and the reason. A row without a line is an error, too. Errors that `?`
+passes on aren't written out; but calls that fail for certain arguments, such as an opening with another name, need
+rows. Of a function whose `None` reports a failed call, each line that may return it needs a row.
 
-The lint reads formatted lines and knows no types. Tests and the crates of tests are left out; contracts,
-patterns and comparisons make no value.
+The lint reads formatted lines. Tests and the crates of tests are left out; contracts, patterns and comparisons make
+no value. What would hide a value or a size from it (a renamed type, a macro, a raw string) needs a row.
 
 A contract permits `fmt` to fail, and any request for memory to be too large. Therefore a function that
 returns a `fmt::Result` may only write, hand on the error of a write, and make values. The size of a request
-is a number up to 131,072, such a constant of the same file, a length, or a sum of these. Each other request
-and each line with a larger number needs a row, and so does each line that assigns the variable of such a
-request. A call of a function whose parameter is such a variable counts as a request.
+is a number up to 2,048, such a constant of the same file, a length, or a sum of these. Each other request
+and each line with a larger number than 131,072 needs a row, and so does each line that assigns the variable of such
+a request. A call of a function whose parameter is such a variable counts as a request.
+An array or a type has at most 2,048 bytes, and an element of a list at most 256 bytes and isn't an array; other
+lines need a row. The sizes are computed from the types that the files define. Not found are loops that add to a list
+until memory is lacking, and lists whose types aren't written out: an element then has 8 KB at most.
 """
 import re
 import string
@@ -233,13 +237,15 @@ class Sizes:
 
     def large(self, file, code):
         """The lines of a file with a large array, with a list of large elements or of arrays, or a large type."""
-        for found in re.finditer(r"(?<!#)\[|\bVec(?:Deque)?(?:::)?<|\b(?:struct|enum|type) (\w+)\b", code):
+        for found in re.finditer(r"(?<!#)\[|\b(?:Small)?Vec(?:Deque)?(?:::)?<|\b(?:struct|enum|type) (\w+)\b", code):
             if found[1]:
                 large = any(sum(self.size(field, file) for field in row[3]) > FEW for row in self.types
                             if row[:2] == (file, found[1]))
             elif found[0] == "[":
                 inside = bracketed(code, found.start())
                 large = len(parts(inside, ";")) == 2 and self.size(f"[{inside}]", file) > FEW
+            elif found[0][0] == "S":
+                large = self.size(f"SmallVec<{bracketed(code, found.end() - 1)}>", file) > FEW
             else:
                 element = bracketed(code, found.end() - 1)
                 large = element[0] == "[" or not 0 < self.size(element, file) <= SMALL
@@ -354,7 +360,8 @@ def without_strings(text):
 
 def code_of(text):
     """A file without the contents of strings, comments and contracts."""
-    return re.sub(r"(?m)^ *(?:ensures|requires|ghost)\b(?:[^{\n]*\{(?:[^{}]|\{[^{}]*\})*\})?", "", without_strings(text))
+    contract = r"(?m)^ *(?:ensures|requires|ghost)\b(?:[^{\n]*\{(?:[^{}]|\{[^{}]*\})*\})?"
+    return re.sub(contract, "", without_strings(text))
 
 
 def failing_formats(text):
@@ -380,7 +387,7 @@ def large_requests(text):
         for name, inside in REQUEST.findall(line):
             # The first argument of `resize` is the size, and the last one of the other functions.
             arguments = parts(inside) or ["?"]
-            sizes += arguments[0 if "resize" in name else -1].split(" + ")
+            sizes += arguments[0 if "resize" in name else -1].split(" + ") if "repeat" not in name else ["?"]
         known = [constants.get(size, re.sub(r"^\w+\.len\(\)(?: / \d+)?$", "0", size)) for size in sizes]
         small = [re.fullmatch(r"\d[\d_]*", size) and int(size.replace("_", "")) <= FEW for size in known]
         large = [one for one in LARGE.findall(line) if not one or int(one.replace("_", ""), 0) > MOST]
