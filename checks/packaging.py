@@ -179,7 +179,7 @@ class ManPage(Case):
 
 def questions():
     """Beginnings of commands, each with exactly the words that complete it, or with words and files among them."""
-    names = TABLE.names()
+    names, directories = TABLE.names(), ("directory", "two words")
     asked = [("tfmset ", names), ("tfmset help ", names), ("tfmset -", PAGES.words_of(TABLE, None))]
     for command in TABLE.commands[:-1]:
         name = command["name"]
@@ -187,10 +187,20 @@ def questions():
         for option in command["options"]:
             if "value" in TABLE.options[option]:
                 values = PAGES.values_of(TABLE.options[option])
-                values = (*values, "v.enc") if "files" in TABLE.options[option] else values
+                values = (*values, "v.enc", "w x.enc", *directories) if "files" in TABLE.options[option] else values
                 asked += [(f"tfmset {name} --{option}{end}", values) for end in (" ", "=")]
-        asked.append((f"tfmset {name} ", "a.tfm"))
+        asked += [(begin, ("a.tfm", "b c.tfm", *directories)) for begin in (f"tfmset {name} ", f"tfmset {name} -- ")]
     return asked + CASES["questions"]
+
+
+def typed():
+    """Beginnings of commands that one word completes: the beginning of this word, and the word."""
+    fonts = [f"tfmset {command} " for command in "counts list pairs check set stream each".split()]
+    fonts += ["tfmset list --all ", "tfmset check a.tfm ", "tfmset each a.tfm 4 text "]
+    files = ["tfmset set a.tfm ", "tfmset stream --crlf a.tfm ", "tfmset each a.tfm 4 "]
+    vectors = [f"tfmset {name} --encoding{end}" for name in TABLE.accepting("encoding") for end in " ="]
+    return [(begin, word, completed) for begins, kind in ((fonts, "fonts"), (files, "files"), (vectors, "vectors"))
+            for begin in begins for word, completed in CASES["typed"]["all"] + CASES["typed"][kind]]
 
 
 class Completions(Case):
@@ -198,7 +208,7 @@ class Completions(Case):
 
     def setUp(self):
         super().setUp()
-        for name in ("a.tfm", "v.enc", "text", "directory/file"):
+        for name in CASES["typed"]["here"]:
             self.file("here/" + name, "")
         self.here = self.room + "/here"
         self.env = environment(HOME=self.room, LC_ALL="C.UTF-8", TERM="dumb")
@@ -208,7 +218,8 @@ class Completions(Case):
         answers = {}
         for part in text.split("? ")[1:]:
             line, _, rest = part.partition("\n")
-            answers[line] = list(dict.fromkeys(word for word in rest.splitlines() if word != "."))
+            words = (word.rstrip("/").replace("\\ ", " ") for word in rest.splitlines() if word != ".")
+            answers[line] = list(dict.fromkeys(words))
         for line, wanted in questions():
             seen = answers.get(line, ["no answer"])
             if isinstance(wanted, list):
@@ -218,44 +229,72 @@ class Completions(Case):
                     self.wrong.append(f"{line!r}: no word {word}")
         self.none([f"{line!r}: {word}" for line, word in left_out if word in answers[line]])
 
+    def ask(self, shell, options, lines):
+        """What a shell that isn't in a terminal completes."""
+        self.need(shell)
+        ask, completions = f"{ROOT}/checks/lib/ask.{shell}", f"{ROOT}/completions/tfmset.{shell}"
+        lines = self.file("lines", "".join(line + "\n" for line in lines))
+        _, out, err = execute(shell, *options, ask, completions, lines, cwd=self.here, env=self.env)
+        self.same("messages", "", err)
+        return out
+
     # Mutants: in bash or zsh, a font is any file, or a vector is.
     @rows((shell, shell, *options) for shell, *options in (("bash",), ("fish", "--no-config")))
     def test_answers(self, shell, *options):
         """The shell completes what the command table has."""
-        self.need(shell)
-        lines = self.file("lines", "".join(line + "\n" for line, _ in questions()))
-        ask, completions = f"{ROOT}/checks/lib/ask.{shell}", f"{ROOT}/completions/tfmset.{shell}"
-        _, out, err = execute(shell, *options, ask, completions, lines, cwd=self.here, env=self.env)
-        self.same("messages", "", err)
+        out = self.ask(shell, options, (line for line, _ in questions()))
         self.compare(out, CASES["left_out"] if shell == "bash" else ())
 
     def test_answers_of_zsh(self):
         """zsh completes only in a terminal."""
-        self.need("zsh")
+        self.compare(self.typed("zsh", "ask.zsh", "-f", (line + "\x14" for line, _ in questions())), CASES["left_out"])
+
+    # Mutants of the completions for bash: no directory completes a font or a vector; after a font or a vector, names of
+    # files aren't quoted, and a space follows a directory; a name with a blank is two words; if no font or no vector begins
+    # so, no other file completes it.
+    @rows((shell, shell, *ask) for shell, *ask in (("bash", "ask_typed.bash", "--norc"), ("zsh", "ask.zsh", "-f")))
+    def test_typed(self, shell, ask, option):
+        """The Tab key completes names of directories and files, quotes them, and adds a slash or a space."""
+        said = self.typed(shell, ask, option, (begin + word + "\t\x0e" for begin, word, _ in typed()))
+        seen = [line[2:] for line in said.splitlines() if line.startswith("> ")]
+        wanted = [begin + completed.replace(" ", "\\ ") + ("" if completed.endswith("/") else " ")
+                  for begin, _, completed in typed()]
+        self.none([f"{one!r} instead of {other!r}" for one, other in zip(seen, wanted) if one != other],
+                  len(seen), len(wanted))
+
+    def test_typed_in_fish(self):
+        """fish completes the same names, with a slash after that of a directory."""
+        said = self.ask("fish", ["--no-config"], (begin + word for begin, word, _ in typed()))
+        seen = [tuple(part.splitlines()) for part in said.split("? ")[1:]]
+        self.same("answers", [(begin + word, completed) for begin, word, completed in typed()], seen)
+
+    def typed(self, shell, ask, option, texts):
+        """What an interactive shell writes to $ANSWERS, when it has read a file of checks/lib and each text is typed."""
+        self.need(shell)
         said = self.file("answers", "")
-        variables = f"fpath=({shlex.quote(ROOT + '/completions')} $fpath)\nANSWERS={shlex.quote(said)}\n"
-        ask = self.file("ask", variables + read("checks/lib/ask.zsh"))
+        variables = f"COMPLETIONS={shlex.quote(ROOT + '/completions')}\nANSWERS={shlex.quote(said)}\n"
+        ask = self.file("ask", variables + read("checks/lib/" + ask))
         child, terminal = pty.fork()
         if child == 0:
             os.chdir(self.here)
-            os.execvpe("zsh", ["zsh", "-f", "-i"], self.env)
+            os.execvpe(shell, [shell, option, "-i"], self.env)
         try:
             os.write(terminal, b"source %s\n" % shlex.quote(ask).encode())
             self.wait_for(terminal, said, 1)
-            for count, (line, _) in enumerate(questions()):
-                os.write(terminal, b"\x15" + line.encode() + b"\x14")
+            for count, text in enumerate(texts):
+                os.write(terminal, b"\x15" + text.encode())
                 self.wait_for(terminal, said, count + 2)
         finally:
             os.kill(child, signal.SIGKILL)
             os.waitpid(child, 0)
             os.close(terminal)
-        self.compare(read(said), CASES["left_out"])
+        return read(said)
 
     def wait_for(self, terminal, said, count):
         """Waits until the shell has given so many answers."""
         until = time.monotonic() + SECONDS
         while len(re.findall(r"^\.$", read(said), re.M)) < count:
-            self.assertLess(time.monotonic(), until, "zsh gave no answer")
+            self.assertLess(time.monotonic(), until, "the shell gave no answer")
             if select.select([terminal], [], [], 0.01)[0]:
                 os.read(terminal, 4096)
 

@@ -1,4 +1,6 @@
-# Writes what zsh completes to the file $ANSWERS. Control-T asks for the completions of the line.
+# Writes what zsh completes to the file $ANSWERS. $COMPLETIONS is the directory of the completions. Control-T asks for
+# the completions of the line, and Control-N for the line itself.
+fpath=($COMPLETIONS $fpath)
 unsetopt beep
 PROMPT= RPROMPT=
 zstyle ':completion:*' completer _complete
@@ -17,7 +19,10 @@ capture() {
   compstate[insert]= compstate[list]=
   print -r -- "." >> $ANSWERS
 }
+note() { print -rl -- "> $BUFFER" . >> $ANSWERS }
+zle -N note
 zle -C capture list-choices capture
 bindkey '^T' capture
+bindkey '^N' note
 bindkey '^U' kill-whole-line
 print -r -- . >> $ANSWERS
