@@ -310,7 +310,7 @@ class Install(Case):
 
     def install(self, *words, status=0, **variables):
         """Runs scripts/install in a copy in which ./tfmset installs the program, or ends with a status."""
-        copy = os.path.join(self.room, "copy")
+        copy = os.path.join(self.room, "a copy")
         copy_for_scripts(copy, status)
         env = environment(**variables)
         return execute(copy + "/scripts/install", *words, cwd=self.room, env=env, umask=0o022)
@@ -325,10 +325,10 @@ class Install(Case):
         top, installed = (destination + prefix).rstrip("/"), CASES["installed"]
         self.same("said", sorted(f"installed {top}/{name}" for name in installed), sorted(out.splitlines()))
         self.same("files", sorted(installed), files(top))
-        self.same("other files", len(installed), len(files(self.room, ("copy",))))
+        self.same("other files", len(installed), len(files(self.room, ("a copy",))))
         for name, (source, mode) in installed.items():
             self.same(f"{name} is its source", True,
-                      read(f"{top}/{name}", "rb") == read(f"{self.room}/copy/{source}", "rb"))
+                      read(f"{top}/{name}", "rb") == read(f"{self.room}/a copy/{source}", "rb"))
             self.same(f"mode of {name}", mode, f"{os.stat(f'{top}/{name}').st_mode & 0o777:o}")
         wanted = read("examples/README.md").partition("```text\n")[2].partition("```")[0]
         seen = execute(top + "/bin/tfmset", "set", "examples/demo.tfm", "examples/lines.txt", cwd=ROOT)
@@ -337,11 +337,21 @@ class Install(Case):
     # Mutant of scripts/install: the directory of the link is taken for that of the script.
     def test_through_a_link(self):
         """A symbolic link to the script installs the files of its repository."""
-        copy = os.path.join(self.room, "copy")
+        copy = os.path.join(self.room, "a copy")
         copy_for_scripts(copy)
         os.symlink(copy + "/scripts/install", self.room + "/link")
         seen = execute(self.room + "/link", self.room + "/top", cwd=self.room, env=environment())
         self.same("result", (0, sorted(CASES["installed"])), (seen[0], files(self.room + "/top")))
+
+    # Mutant of scripts/install: a file that can't be written doesn't end it.
+    @rows((name, os.path.dirname(name)) for name in CASES["installed"])
+    def test_a_file_in_the_way(self, directory):
+        """If a directory can't be made, the exit status is 1, and only the files that were installed are named."""
+        self.file("top/" + directory, "")
+        status, out, err = self.install(self.room + "/top")
+        self.same("status, and message", (1, True), (status, directory in err))
+        names = [name for name in files(self.room + "/top") if name != directory]
+        self.same("said", [f"installed {self.room}/top/{name}" for name in names], sorted(out.splitlines()))
 
     @rows((f"{words} with exit status {status}", failed, words, status)
           for failed, words, status in CASES["installs_nothing"])
@@ -350,7 +360,7 @@ class Install(Case):
         words = [word.replace("EMPTY", self.room) for word in words]
         seen = self.install(*words, status=failed)
         self.same("result", (status, "", status == 2), (*seen[:2], seen[2].startswith("usage: ")))
-        self.same("files", [], files(self.room, ("copy",)))
+        self.same("files", [], files(self.room, ("a copy",)))
 
 
 class Build(Case):
@@ -359,12 +369,13 @@ class Build(Case):
     # Mutants: a program that exists is never built again; after a failed build the old program is run; the time of the
     # program is that of the end of the build; concurrent calls don't wait for each other, and the program keeps the lock; the
     # numbers of functions are swapped; a build goes on when the script is stopped; on a terminal, no line feed follows the
-    # last report; rt gets the standard input of the program.
+    # last report; rt gets the standard input of the program; only the last line of the log is printed, or all of them;
+    # the script polls a hundred times per second, or every ten seconds; it fails without flock; a name isn't quoted.
     crates = "# The crates.\nother: base\nbase:\nmiddle: base std\ntfmset: middle\n"
     rt = """#!/bin/sh
 echo "${PWD##*/} $*" >> ../../calls
 cat > /dev/null
-if [ -e ../../fail ]; then echo "no proof of ${PWD##*/}"; exit 1; fi
+if [ -e ../../fail ]; then seq 30; echo "no proof of ${PWD##*/}"; exit 1; fi
 if [ -e ../../edit ]; then rm ../../edit; sleep 0.1; touch src/main.rt; fi
 if [ -e ../../slow ] && [ "$*" = lib ]; then echo "so far: 3 of 7 functions"; echo $$ > ../../process; exec sleep "$(cat ../../slow)"; fi
 [ "${PWD##*/}" = tfmset ] || exit 0
@@ -373,6 +384,12 @@ printf '#!/bin/sh\\necho "$(cat) $# $*"\\n[ ! -e /proc/self/fd/9 ] || echo locke
 chmod +x out/tfmset
 """
     built = ["base lib", "middle lib", "tfmset run -- --version"]
+
+    @functools.cached_property
+    def room(self):
+        path = self.other_room() + "/with a space"
+        os.mkdir(path)
+        return path
 
     def setUp(self):
         super().setUp()
@@ -394,7 +411,9 @@ chmod +x out/tfmset
         return err
 
     def test_builds_once(self):
+        begin = time.monotonic()
         self.assertRegex(self.call((3, "given 2 a b c\n"), self.built), "proving and building[^\0]*built")
+        self.assertLess(time.monotonic() - begin, 9)
         self.same("messages", "", self.call((3, "given 2 a b c\n"), []))
 
     @rows((name, name) for name in (
@@ -437,6 +456,9 @@ chmod +x out/tfmset
         self.file("crates/tfmset/out/build/base.built", "")
         self.file("calls", "")
         self.file("slow", "1.5")
+        counted = f'#!/bin/sh\necho >> "{self.room}/polls"\nexec {shutil.which("tac")} "$@"\n'
+        os.chmod(self.file("bin/tac", counted), 0o755)
+        begin = time.monotonic()
         first, _ = self.start()
         second, waiting = self.start()
         results = [one.communicate(timeout=SECONDS) for one in (first, second)]
@@ -446,6 +468,8 @@ chmod +x out/tfmset
         self.same("messages of the second call", "", results[1][1])
         lines = [line.removeprefix("tfmset: ") for line in results[0][1].splitlines()[:-1]]
         self.same("progress", [f"proving {name}, 3 of 7 functions" for name in ("base", "middle")], lines)
+        # Each poll reads crates.txt with two calls of tac.
+        self.assertLess(len(read(self.room + "/polls")), 4 * (time.monotonic() - begin) + 10)
 
     @rows((name, number) for name, number in (("SIGTERM", signal.SIGTERM), ("SIGINT", signal.SIGINT)))
     def test_a_call_that_is_stopped(self, number):
@@ -482,7 +506,9 @@ chmod +x out/tfmset
         self.call((3, "given 2 a b c\n"), self.built)
         self.file("crates/middle/src/main.rt", "fn")
         self.file("fail", "")
-        self.assertIn("\nno proof of base\n", self.call((70, ""), ["base lib"]))
+        log = "".join(f"{number}\n" for number in range(12, 31)) + "no proof of base\n"
+        said = self.call((70, ""), ["base lib"])
+        self.same("the last 20 lines", ("base:", log), said.rpartition("/build/")[2].partition("\n")[::2])
 
     # Mutant: the directory of a link is taken for that of the script.
     def test_through_a_link(self):
@@ -496,8 +522,10 @@ chmod +x out/tfmset
         self.file("crates/tfmset/out", "")
         self.call((70, ""), [])
 
-    def test_without_rt(self):
+    def test_without_rt_or_flock(self):
+        """Without rt the exit status is 127. Without flock, which isn't on every system, the program is built."""
         tools = self.other_room()
-        for name in ("bash", "dirname", "readlink", "find", "flock", "cat", "env", "date", "rm", "mkdir"):
+        for name in "bash sh dirname readlink find cat env date rm mkdir tac awk sleep touch chmod".split():
             os.symlink(shutil.which(name), f"{tools}/{name}")
         self.assertIn("needs rt", self.call((127, ""), [], tools))
+        self.assertNotIn("flock", self.call((3, "given 2 a b c\n"), self.built, f"{self.room}/bin:{tools}"))
