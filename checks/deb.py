@@ -4,7 +4,8 @@ import os
 import re
 import shutil
 
-from lib.base import DEMO, PROGRAM, Case, copy_for_scripts, environment, execute, files, output, read, shared, table, write
+from lib.base import (DEMO, PROGRAM, Case, copy_for_scripts, environment, execute, files, output, read, shared, table,
+                      write)
 
 MAINTAINER = "Jo Doe <jo@example.org>"
 FILES = ["usr/bin/tfmset", "usr/share/bash-completion/completions/tfmset", "usr/share/doc/tfmset/copyright",
@@ -74,8 +75,8 @@ class Package(Case):
         version, machine = output(PROGRAM, "--version").split()[1], read(PROGRAM, "rb")[18]
         self.same("name", f"tfmset_{version}_{MACHINES[machine]}.deb", os.path.basename(package))
 
-    # Mutants of scripts/deb: the name of the file is left to dpkg-deb, which then makes a file in place of the directory;
-    # the path is printed although dpkg-deb failed.
+    # Mutants of scripts/deb: the name of the file is left to dpkg-deb, which then makes a file in place of the
+    # directory; the path is printed although dpkg-deb failed.
     def test_without_the_directory(self):
         """Nothing is written or printed if the directory doesn't exist."""
         copy = shared("deb copy", copy_for_scripts)
@@ -111,7 +112,8 @@ class Package(Case):
     # Mutant of scripts/deb: gzip stores the time and the name of the man page, so that no two packages are equal.
     def test_man_page_without_a_time(self):
         """The head of the man page has neither a time nor a name, and states the best compression (RFC 1952)."""
-        self.same("head", "1f8b0800000000000203", read(f"{self.top}/files/usr/share/man/man1/tfmset.1.gz", "rb")[:10].hex())
+        page = read(self.top + "/files/usr/share/man/man1/tfmset.1.gz", "rb")
+        self.same("head", "1f8b0800000000000203", page[:10].hex())
 
     # Mutant of scripts/deb: a size in bytes.
     def test_installed_size(self):
@@ -121,8 +123,8 @@ class Package(Case):
         least = sum(os.path.getsize(f"{self.top}/files/{name}") for name in FILES) / 1024
         self.assertTrue(least <= size < least + 8 * entries, (least, size))
 
-    # Mutants of scripts/deb: the mode of the top directory is that of a temporary directory; the files belong to the user
-    # who made the package; modes depend on the umask.
+    # Mutants of scripts/deb: the mode of the top directory is that of a temporary directory; the files belong to the
+    # user who made the package; modes depend on the umask.
     def test_modes_and_owners(self):
         entries = [line.split() for line in output("dpkg-deb", "-c", self.package).splitlines()]
         wanted = {name: "-rwxr-xr-x" if "/bin/" in name else "-rw-r--r--" for name in FILES}

@@ -252,17 +252,24 @@ class Installing(LibraryCase):
         super().setUp()
         self.need("rt")
 
-    def install(self, prefix, script="scripts/library", **more):
-        """Runs scripts/library without building the library again, and returns what it prints."""
+    def run_script(self, prefix, script="scripts/library", before=(), **more):
+        """Runs scripts/library without building the library again, and with other directories before those of PATH."""
         def make(path):
             # `rt lib` was done for the first prefix. In a run with --library it may have to be done here.
             crate = os.path.join(ROOT, "crates", "tfmset_c")
             if not os.path.exists(os.path.join(crate, "out", "libtfmset_c.a")):
                 output("rt", "lib", cwd=crate, timeout=1200)
-            rt = write(path + "/rt", f'#!/bin/sh\n[ "$1" = lib ] || exec "{shutil.which("rt")}" "$@"\n')
+            rt = f'[ "$1" = lib ] || PATH="{os.environ["PATH"]}" exec "{shutil.which("rt")}" "$@"\n'
+            rt = write(path + "/rt", "#!/bin/sh\n" + rt)
             os.chmod(rt, 0o755)
-        path = shared("rt", make) + os.pathsep + os.environ["PATH"]
-        return output(os.path.join(ROOT, script), prefix, env=environment(PATH=path, **more))
+        path = os.pathsep.join([*before, shared("rt", make), os.environ["PATH"]])
+        return execute(os.path.join(ROOT, script), prefix, env=environment(PATH=path, **more))
+
+    def install(self, *arguments, **more):
+        """What scripts/library prints. It mustn't fail."""
+        status, out, err = self.run_script(*arguments, **more)
+        self.assertEqual(0, status, err)
+        return out
 
     def loads(self, python, prefix, directory, **more):
         """An interpreter loads the module and the library of a prefix."""
@@ -270,13 +277,14 @@ class Installing(LibraryCase):
         seen = execute(python, *self.call, env=environment(**more), cwd=self.room)
         self.same(prefix, (0, wanted, ""), seen)
 
-    # Mutants of scripts/library: the directory of a link is taken for that of the script; a second installation fails; the
-    # temporary directory stays; the files aren't named.
+    # Mutants of scripts/library: the directory of a link is taken for that of the script; a second installation fails;
+    # the temporary directory stays; the files aren't named; a slash at the end of PREFIX is kept; another version in
+    # the pkg-config file or in the name of the shared library; the name that programs look for has no number.
     def test_with_destdir(self):
         top, temporary, link = self.room + "/opt/tfmset", self.other_room(), os.path.join(self.other_room(), "link")
         os.symlink(os.path.join(ROOT, "scripts", "library"), link)
         for _ in range(2):
-            printed = self.install("/opt/tfmset", link, DESTDIR=self.room, TMPDIR=temporary)
+            printed = self.install("/opt/tfmset/", link, DESTDIR=self.room, TMPDIR=temporary)
         self.same("temporary files", [], os.listdir(temporary))
         self.same("said", [f"{top}/{name}" for name in files(top) if not os.path.islink(f"{top}/{name}")],
                   sorted(re.findall("^installed (.*)$", printed, re.M)))
@@ -285,7 +293,16 @@ class Installing(LibraryCase):
             f"{os.stat(name).st_mode & 0o777:o}" for name in (*found, top + "/include/tfmset.h")])
         self.same("files", [True] * 4, [os.path.exists(f"{top}/{name}") for name in (
             "include/tfmset.h", "lib/libtfmset.a", "lib/libtfmset.so.0", "lib/pkgconfig/tfmset.pc")])
-        self.assertIn("prefix=/opt/tfmset\n", read(top + "/lib/pkgconfig/tfmset.pc"))
+        version = output(PROGRAM, "--version").split()[1]
+        lines = read(top + "/lib/pkgconfig/tfmset.pc").splitlines()
+        self.same("tfmset.pc", [
+            "prefix=/opt/tfmset", "includedir=${prefix}/include", "libdir=${prefix}/lib", "Name: tfmset",
+            f"Version: {version}", "Cflags: -I${includedir}", "Libs: -L${libdir} -ltfmset"],
+            [line for line in lines if line and "Description: " not in line])
+        links = [os.readlink(f"{top}/lib/libtfmset.so{end}") for end in ("", ".0")]
+        self.same("links", ["libtfmset.so.0", f"libtfmset.so.{version}"], links)
+        if shutil.which("readelf"):
+            self.assertRegex(output("readelf", "-d", f"{top}/lib/{links[1]}"), r"SONAME.*\[libtfmset\.so\.0\]")
 
     # Mutants of scripts/library: without `-z defs`, without `-z relro`. The linker of Debian has the second by default.
     def test_options_of_the_linker(self):
@@ -314,26 +331,91 @@ class Installing(LibraryCase):
         self.file("include/tfmset.h", "#define TFMSET_VERSION 12034567u\n")
         self.same("version", (0, "12.34.567", ""), bash(command, self.room, env={**os.environ, "root": self.room}))
 
-    # Mutant of scripts/library: only `site-packages` is found. Debian's Python searches `dist-packages` below /usr/local.
-    def test_in_dist_packages(self):
-        prefix = os.path.join(self.room, "local")
-        where = prefix + "/lib/python3.9/dist-packages"
-        self.file("site/sitecustomize.py", f"import site\nsite.getsitepackages = lambda *_: [{where!r}]\n")
-        printed = self.install(prefix, PYTHON=sys.executable, PYTHONPATH=self.room + "/site")
-        self.same("the last line", f"the module tfmset is for {sys.executable}", printed.splitlines()[-1])
+    # Mutant of scripts/library: a file that can't be written doesn't end it.
+    @rows((name, name) for name in ("include", "lib", "lib/pkgconfig", number))
+    def test_a_file_in_the_way(self, name):
+        """If a directory can't be made, the script fails, and names only the files that were installed."""
+        top = self.room + "/top"
+        self.file("top/" + name, "")
+        ran = self.run_script(top, PYTHON=sys.executable)
+        self.same("status, and message", (1, True), (ran[0], name in ran[2]))
+        wanted = [f"{top}/{found}" for found in files(top) if found != name and not os.path.islink(f"{top}/{found}")]
+        self.same("said", wanted, sorted(re.findall("^installed (.*)$", ran[1], re.M)))
+
+    def python(self, name, searched, version=sys.version_info[:2]):
+        """An interpreter that searches a directory, and whose version is another one. Without a directory it fails."""
+        start = f"import site, sys\nsite.getsitepackages = lambda *_: [{searched!r}]\n"
+        self.file(f"{name}/sitecustomize.py", start + f"sys.version_info = (*{version!r}, 0, 'final', 0)\n")
+        works = f'PYTHONPATH="{self.room}/{name}" exec "{sys.executable}" "$@"\n'
+        path = self.file(f"{name}/python3", "#!/bin/sh\n" + (works if searched else "exit 1\n"))
+        os.chmod(path, 0o755)
+        return path
+
+    # Mutants of scripts/library: only `site-packages` or only `lib` is found (Debian's Python searches `dist-packages`
+    # below /usr/local, and Fedora's `lib64`); links in PREFIX, or in what Python searches, aren't followed; a directory
+    # far below PREFIX is found.
+    @rows((f"{prefix} and {searched}", prefix, searched, found) for prefix, searched, found in (
+        ("local", "local/lib/python3.9/dist-packages", "lib/python3.9/dist-packages"),
+        ("local", "local/lib/python3/site-packages", "lib/python3/site-packages"),
+        ("local", "local/lib64/python3.12/site-packages", "lib64/python3.12/site-packages"),
+        ("link", "local/lib/python3.9/site-packages", "lib/python3.9/site-packages"),
+        ("local", "link/lib/python3.9/site-packages", "lib/python3.9/site-packages"),
+        (".", "local/lib/python3.9/site-packages", None), ("local", "local/lib/python3.9/site-packages/more", None)))
+    def test_what_python_searches(self, prefix, searched, found):
+        """The module is installed where the interpreter searches PREFIX, or else a variable has to be set."""
+        os.symlink("local", self.room + "/link")
+        os.mkdir(self.room + "/local")
+        prefix = os.path.join(self.room, prefix)
+        python = self.python("one", os.path.join(self.room, searched))
+        last = self.install(prefix, PYTHON=python).splitlines()[-1]
+        where = f"{prefix}/{found or self.number}"
+        other = "" if found else f", with PYTHONPATH={where}"
+        self.same("the last line", f"the module tfmset is for {python}{other}", last)
         self.same("mode", "644", f"{os.stat(where + '/tfmset.py').st_mode & 0o777:o}")
 
-    # Mutant of scripts/library: a failed build doesn't end it, and the library of an earlier build is installed.
-    def test_after_a_failed_build(self):
-        """Nothing is installed if the proof or the build of the library fails."""
-        tool = self.file("bin/rt", "#!/bin/sh\necho no proof\nexit 1\n")
+    # Mutants of scripts/library: Python 3.8 to 3.10 are too old, or 3.7 isn't.
+    @rows((f"Python {version[0]}.{version[1]}", version, works) for version, works in (
+        ((3, 7), False), ((3, 8), True), ((3, 10), True), ((3, 13), True)))
+    def test_version_of_python(self, version, works):
+        """A Python of version 3.8 or later is used, and an older one is passed over."""
+        prefix = self.room + "/local"
+        last = self.install(prefix, PYTHON=self.python("one", "/none", version)).splitlines()[-1]
+        where = "%s/lib/python%d.%d/site-packages" % (prefix, *version)
+        self.same("the last line", works, last.endswith(f"with PYTHONPATH={where}"))
+        self.same("the module", works, os.path.exists(where + "/tfmset.py"))
+
+    # Mutants of scripts/library: only the first python3 is considered; the last one in place of the first; the first one
+    # is used, whatever it searches; the one in PREFIX isn't considered, or isn't the first; after one that fails no other
+    # one is considered.
+    @rows((f"{' '.join(kinds)}, {found}", kinds, found) for *kinds, found in (
+        ("", "no", "here", "2"), ("", "here", "here", "1"), ("", "fails", "no", "here", "3"), ("", "no", "no", "1"),
+        ("", "fails", "no", "2"), ("here", "no", "here", "0"), ("no", "no", "here", "2"), ("fails", "no", "no", "1")))
+    def test_first_python(self, kinds, found):
+        """The first python3 of PREFIX/bin and the PATH that searches PREFIX is used, or else the first that works."""
+        prefix, names = self.room + "/0", ["0/bin", "1", "2", "3"]
+        searched = {"no": "/none", "here": prefix + "/lib/python3.9/site-packages", "fails": ""}
+        for name, kind in zip(names, kinds):
+            if kind:
+                self.python(name, searched[kind])
+        last = self.install(prefix, before=[f"{self.room}/{name}" for name in names[1:len(kinds)]]).splitlines()[-1]
+        other = "" if kinds[int(found)] == "here" else f", with PYTHONPATH={prefix}/{self.number}"
+        self.same("the last line", f"the module tfmset is for {self.room}/{names[int(found)]}/python3{other}", last)
+
+    # Mutants of scripts/library: a failed build doesn't end it, and the library of an earlier build is installed; only
+    # the last line of the log is printed; the linker reports that `rt doc` failed.
+    @rows((f"rt {step}", step, shown) for step, shown in (("lib", 20), ("doc", 31)))
+    def test_after_a_failed_build(self, step, shown):
+        """Nothing is installed if the proof or the build of the library fails, or the toolchain isn't found."""
+        lines = [*map(str, range(1, 31)), "no proof"]
+        fails = f"[ $1 = {step} ] || exit 0\nseq 30 >&2\necho no proof >&2\nexit 1\n"
+        tool = self.file("bin/rt", "#!/bin/sh\n" + fails)
         os.chmod(tool, 0o755)
         for name in ("include/tfmset.h", "scripts/library"):
             self.file(name, read(name))
         os.chmod(self.room + "/scripts/library", 0o755)
         env = environment(PATH=os.path.dirname(tool) + os.pathsep + os.environ["PATH"])
         ran = execute(self.room + "/scripts/library", self.room + "/none", env=env)
-        self.same("result", (1, "", "no proof\n"), ran)
+        self.same("result, and the last lines", (1, "", lines[-shown:]), (*ran[:2], ran[2].splitlines()))
         self.assertFalse(os.path.exists(self.room + "/none"))
 
     def test_in_a_virtual_environment(self):

@@ -249,9 +249,9 @@ class Completions(Case):
         """zsh completes only in a terminal."""
         self.compare(self.typed("zsh", "ask.zsh", "-f", (line + "\x14" for line, _ in questions())), CASES["left_out"])
 
-    # Mutants of the completions for bash: no directory completes a font or a vector; after a font or a vector, names of
-    # files aren't quoted, and a space follows a directory; a name with a blank is two words; if no font or no vector begins
-    # so, no other file completes it.
+    # Mutants of the completions for bash: no directory completes a font or a vector; names of fonts or vectors aren't
+    # quoted, and a space follows that of a directory; a name with a space is two words; if no font or no vector begins
+    # with the word, no other file completes it.
     @rows((shell, shell, *ask) for shell, *ask in (("bash", "ask_typed.bash", "--norc"), ("zsh", "ask.zsh", "-f")))
     def test_typed(self, shell, ask, option):
         """The Tab key completes names of directories and files, quotes them, and adds a slash or a space."""
@@ -269,7 +269,7 @@ class Completions(Case):
         self.same("answers", [(begin + word, completed) for begin, word, completed in typed()], seen)
 
     def typed(self, shell, ask, option, texts):
-        """What an interactive shell writes to $ANSWERS, when it has read a file of checks/lib and each text is typed."""
+        """What an interactive shell writes to $ANSWERS, after a file of checks/lib is read and while texts are typed."""
         self.need(shell)
         said = self.file("answers", "")
         variables = f"COMPLETIONS={shlex.quote(ROOT + '/completions')}\nANSWERS={shlex.quote(said)}\n"
