@@ -125,6 +125,25 @@ def loose_bounds(schema, lines):
     return loose, len(bounds)
 
 
+def narrower(schema):
+    """Makes a schema narrower in one way after the other: a bound one closer, or one value, member or alternative less."""
+    def nodes(node):
+        if isinstance(node, dict):
+            yield node
+        for value in node.values() if isinstance(node, dict) else node if isinstance(node, list) else ():
+            yield from nodes(value)
+
+    for node in list(nodes(schema)):
+        found = [(node, name, node[name] + by) for name, by in (("minimum", 1), ("maximum", -1)) if name in node]
+        found += [(node, name, [one for one in node[name] if one is not gone])
+                  for name in ("enum", "oneOf") if name in node for gone in node[name]]
+        found += [(node["properties"], name, False) for name in node.get("properties", ())]
+        for holder, name, value in found:
+            kept, holder[name] = holder[name], value
+            yield f"{name} {value} in place of {kept}"
+            holder[name] = kept
+
+
 @functools.lru_cache(maxsize=None)
 def other_validator():
     """The validator of Python's jsonschema, or None if that isn't installed."""
@@ -238,6 +257,18 @@ class Lines(Case):
         """Without any minimum, maximum or end of a list, or with other members, a line that is refused is accepted."""
         loose, count = loose_bounds(SCHEMA, CASES["refused_by_schema"])
         self.none(loose, count, 40)
+
+    # Mutants of docs/records.schema.json: no source ends with `bound`; 63 sources; a member is missing.
+    def test_nothing_is_refused_that_can_be_printed(self):
+        """Lines with each end and reason of TEXTS, and with the least and largest numbers, conform to the schema."""
+        ends = re.findall(r"^\| `([a-z-]+)` \| .* \| [0-9]", read("docs/TEXTS.md"), re.M)
+        lines = CASES["accepted"] + [f'{{"source":1,"end":"{word}","lines":0}}' for word in ends]
+        self.none([line for line in lines if not is_valid(json.loads(line), SCHEMA)], len(ends), 5)
+        reasons = set(re.findall(r'^ +(?:reason   =|\|) "([a-z-]+) " [A-Z]', read("docs/TEXTS.md"), re.M))
+        self.same("reasons", reasons, {json.loads(line)["refused"] for line in lines if "refused" in line})
+        self.none([line for line in lines if other_validator() and not other_validator()(json.loads(line))])
+        loose = [change for change in narrower(SCHEMA) if all(is_valid(json.loads(line), SCHEMA) for line in lines)]
+        self.none(loose, len(list(narrower(SCHEMA))), 60)
 
     def test_with_jsonschema(self):
         valid = other_validator()
