@@ -7,6 +7,7 @@ replaces ./tfmset, so that nothing is built. ./tfmset is run in a repository of 
 place of rt.
 """
 import functools
+import json
 import os
 import pty
 import re
@@ -17,7 +18,7 @@ import signal
 import subprocess
 import time
 
-from lib.base import (EXAMPLES, PROGRAM, ROOT, Case, bash, copy_for_scripts, environment, execute, files,
+from lib.base import (DEMO, EXAMPLES, PROGRAM, ROOT, Case, bash, copy_for_scripts, environment, execute, files,
                       output, read, rows, script, table)
 
 SECONDS = 20  # for the answer of a shell
@@ -88,6 +89,28 @@ class Help(Case):
         seen = re.findall(r"\[default: (\S+)\]", about)
         self.same(f"--{option['name']}: default", [default] if default else [], seen)
 
+    # Mutants of scripts/commands.toml: a hint or a label that states something else, as in the completions made from it.
+    def test_hints(self):
+        """What shells show is in the help of the subcommand or option, or in a table. A label begins the hint."""
+        about = {}
+        for command in NAMES:
+            text = help_of(title(command))
+            if command:
+                about.setdefault(title(command), []).append(re.sub(r"^([A-Z]\w+?)s\b", r"\1", text.partition("\n")[0]))
+            for line in section(text, "Options"):
+                name, line = re.search(r"--([\w-]+)(?: <\w+>)?  +(.*)", line).groups()
+                about.setdefault(name, []).append(line)
+        others, count = set(), 0
+        for entry in (*TABLE.commands, *TABLE.options.values()):
+            for part in re.split("[,;] ", entry["hint"]):
+                found = any(re.search(rf"\b{re.escape(part)}\b", line, re.I) for line in about[entry["name"]])
+                others |= set() if part and found else {f"{entry['name']}: {part}"}
+                count += 1
+            if "label" in entry and not re.match(rf"((maximum|output|record) )?{entry['label']}\b", entry["hint"]):
+                others.add(f"{entry['name']}: {entry['label']}")
+        self.same("texts that aren't in the help", sorted(CASES["other_hints"]), sorted(others))
+        self.none([], count, 20)
+
     # Mutants of README.md: a default, the end of a range, a value, or a command that accepts an option.
     def test_options_of_the_readme(self):
         """The table of options in the README has the commands, values, ranges and defaults of the command table."""
@@ -121,11 +144,18 @@ def plain(line):
     if macro:
         words = shlex.split(line[macro.end():].replace("\\", "\\\\").replace("'", "\\'"))
         line = ("" if macro.group(1) in ("BI", "BR", "IB", "IR", "RB", "RI") else " ").join(words)
-    return re.sub(r"\\f[BIRP]", "", line).replace("\\-", "-").replace("\\(aq", "'").replace("\\(rs", "\\")
+    line = re.sub(r"\\f[BIRP]", "", line).replace("\\-", "-").replace("\\(aq", "'").replace("\\(rs", "\\")
+    return line.replace("\\(dq", '"')
 
 
 def section_of_page(name):
     return re.search(rf"^\.SH {name}\n(.*?)(?=^\.SH |\Z)", read("man/tfmset.1"), re.M | re.S).group(1)
+
+
+def prose(name):
+    """The text of a page without line ends; that of the man page without its macros."""
+    lines = read(name).splitlines()
+    return re.sub(r" +", " ", " ".join(map(plain, lines) if name.startswith("man/") else lines))
 
 
 def entries(name):
@@ -153,6 +183,51 @@ class ManPage(Case):
                   if message != "font K not read"] + [("tfmset: font refused: NUMBER...", "3")]
         found = [(head, re.match(r"Exit status (\d)\.", line)[1]) for head, line in entries("DIAGNOSTICS")]
         self.same("errors", sorted(wanted), sorted(found))
+
+    # Mutant of the man page: another order of the exit statuses.
+    def test_precedence_of_exit_statuses(self):
+        """The exit status is the first of those that apply, by the order that three pages state."""
+        for name in ("lines/file", "other/file"):
+            self.file(name, "")
+        self.file("text", "Q\n")
+        for command in ("set", "stream", "each", "check"):
+            first = "" if command == "check" else shlex.quote(DEMO)
+            words = {name: f"{first} 9 {name}" if command == "each" else name for name in ("text", "lines")}
+            call = f"{shlex.quote(PROGRAM)} {command} {first if command != 'each' else ''}"
+            refused, unread, both, failed = (bash(call + " " + more, self.room)[0] for more in (
+                words["text"], words["lines"], f"{words['text']} {words['lines']}",
+                f"{words['text']} {words['lines']} > /dev/full"))
+            self.same(command, (1, 4, 4, 5), (refused, unread, both, failed))
+        for page in ("man/tfmset.1", "docs/ERRORS.md", "docs/TEXTS.md"):
+            found = re.findall(r"(\d) takes precedence over (\d)(?:, and (\d) over (\d))?", prose(page))
+            self.same(page, {("5", "4", "4", "1")}, set(found) - {("4", "1", "", "")})
+
+    # Mutants of the man page: a number.
+    @rows((sentence, sentence, page, other) for sentence, page, other in CASES["numbers"])
+    def test_number(self, sentence, page, other):
+        """A number in a sentence is that of another page."""
+        seen, wanted = re.findall(sentence, prose("man/tfmset.1")), re.findall(other, prose(page))
+        self.none([], len(seen), 1)
+        self.same(sentence, {number.replace(",", "") for number in wanted}, set(seen))
+
+    # Mutants of the man page: an item, a reason, the word of an end line, or a member of JSON is missing or another one.
+    def test_output(self):
+        """Items, reasons and the words of end lines are those of TEXTS, and members of JSON those of the schema."""
+        text = read("docs/TEXTS.md")
+        grammar = re.findall(r'^    (?:item +=|reason +=| +\|) (" ?[\w-]+ ?" [A-Z].*?)(?:  .*)?$', text, re.M)
+        wanted = [re.sub('[" ]', "", line) for line in grammar] + re.findall(r"^\| `([a-z-]+)` \| .* \| [0-9]", text, re.M)
+        seen = [head.replace(" ", "").replace("=WIDTH", "=AMOUNT") for head, _ in entries("OUTPUT")]
+        self.same("entries", sorted(wanted), sorted(seen))
+        page, schema = prose("man/tfmset.1"), json.loads(read("docs/records.schema.json"))["$defs"]
+        known = {"source", "line", "refused"}
+        members = {name: " and ".join(one for one in node["properties"] if one not in known)
+                   for name, node in schema.items() if "refused" in node.get("properties", ())}
+        self.same("members", members, dict(re.findall(r"([\w-]+) \(with (?:the member )?([\w ]+)\)", page)))
+        self.assertIn(", ".join(list(schema["set"]["properties"])[2:-1]) + " and items, with one array", page)
+        items = [(kind, len(node["prefixItems"])) for node in schema["item"]["oneOf"]
+                 for kind in node["prefixItems"][0].get("enum", [node["prefixItems"][0].get("const")])]
+        found = re.findall(r'\["(\w)",([A-Z,]+)\]', page)
+        self.same("items", sorted(items), sorted((kind, 1 + len(words.split(","))) for kind, words in found))
 
     @rows((words, words) for words in ("groff -man -ww -Tutf8", "man --warnings -E UTF-8 -l"))
     def test_warnings(self, words):
