@@ -133,6 +133,7 @@ class Help(Case):
 
     def test_the_script_changes_nothing(self):
         copy_for_scripts(self.room)
+        self.same("with an argument", 2, execute(self.room + "/scripts/command_pages", "--check")[0])
         self.same("exit status", (0, "", ""), execute(self.room + "/scripts/command_pages"))
         for name in PAGES.FILES:
             self.same(f"{name} is generated", True, read(name) == read(f"{self.room}/{name}"))
@@ -183,6 +184,49 @@ class ManPage(Case):
                   if message != "font K not read"] + [("tfmset: font refused: NUMBER...", "3")]
         found = [(head, re.match(r"Exit status (\d)\.", line)[1]) for head, line in entries("DIAGNOSTICS")]
         self.same("errors", sorted(wanted), sorted(found))
+
+    # Mutants of scripts/command_pages, after which it was run: an option is accepted by other subcommands, or is missing
+    # in the synopsis; a default is that of other subcommands; the ends of a range are swapped; a unit is missing.
+    def test_options(self):
+        """The synopsis, and the short form, value, default and subcommands of each option, are those of the help."""
+        form = r" +(?:-(\w), )?(?:    )?--([\w-]+)(?: <(\w+)>)?  +(.*)"
+        helped = {title(command): [re.fullmatch(form, line).groups() for line in
+                                   section(help_of(title(command)), "Options")] for command in NAMES}
+        synopsis = dict(re.findall(r'^\.SY "tfmset (\w+)"\n(.*?)\.YS', section_of_page("SYNOPSIS"), re.M | re.S))
+        for command, text in synopsis.items():
+            macros = {one: [line for line in text.splitlines() if line.startswith(".OP") == one] for one in (True, False)}
+            wanted = [f"--{name} {value or ''}".strip() for _, name, value, _ in helped[command] if name != "help"]
+            self.same(f"{command}: options", wanted, [plain(line) for line in macros[True]])
+            usage = re.search(r"^Usage: tfmset \w+ (.*)$", help_of(command), re.M)[1]
+            usage = re.sub(r"[<>]", "", usage.replace("[OPTIONS] ", ""))
+            self.same(f"{command}: usage", usage, " ".join(plain(line) for line in macros[False]))
+        self.same("subcommands", sorted(TABLE.names()), sorted(synopsis))
+        for part in section_of_page("OPTIONS").split("\n.TP\n")[1:]:
+            head, *lines = map(plain, part.strip().splitlines())
+            short, name, value = re.fullmatch(r"(?:-(\w), )?--([\w-]+)(?: (\w+))?", head).groups()
+            found = {command: row for command, rows_of in helped.items() for row in rows_of if row[1] == name}
+            self.same(f"{head}: forms", {(short, name, value)}, {row[:3] for row in found.values()})
+            accepting = re.findall(r"\w+", lines[0].removeprefix("Accepted by "))
+            self.same(f"{head}: subcommands", sorted(found), sorted(word for word in accepting if word != "and"))
+            defaults = {}
+            for one in " ".join(lines).rpartition("The default is ")[2].rstrip(".").split(", and "):
+                default, _, those = one.partition(" for ")
+                defaults |= dict.fromkeys(re.findall(r"(?!and\b)\b\w+", those) or found, default)
+            wanted = {command: re.findall(r"\[default: (.*)\]", row[3]) for command, row in found.items()}
+            wanted = {command: default[0] for command, default in wanted.items() if default}
+            self.same(f"{head}: defaults", wanted, defaults if "The default is" in " ".join(lines) else {})
+            option, text = TABLE.options[name], " ".join(lines)
+            units = ", ".join(option.get("units", [""])[:-1]) + " or " + option["units"][-1] if "units" in option else ""
+            for part in ("{} to {}".format(*option["range"]) if "range" in option else "", units, *option.get("choices", ())):
+                self.assertIn(part, text, head)
+
+    # Mutants of the man page: the name of a page or of an example is another one.
+    def test_names_of_files(self):
+        """The pages and examples that the page names exist."""
+        page = prose("man/tfmset.1")
+        names = [f"docs/{name}" for name in re.findall(r"\b[A-Z]+\.md", page)] + re.findall(r"examples/[\w.]+\w", page)
+        self.none([name for name in names if not os.path.exists(os.path.join(ROOT, name))], len(names), 8)
+        self.same("files", ["examples/demo.tfm", "cmr10.tfm"], [head for head, _ in entries("FILES")])
 
     # Mutant of the man page: another order of the exit statuses.
     def test_precedence_of_exit_statuses(self):
@@ -288,14 +332,14 @@ class Completions(Case):
         self.here = self.room + "/here"
         self.env = environment(HOME=self.room, LC_ALL="C.UTF-8", TERM="dumb")
 
-    def compare(self, text, left_out=()):
+    def compare(self, text, left_out=(), more=()):
         """Compares the completions that follow each question in a text with those that are wanted."""
         answers = {}
         for part in text.split("? ")[1:]:
             line, _, rest = part.partition("\n")
             words = (word.rstrip("/").replace("\\ ", " ") for word in rest.splitlines() if word != ".")
             answers[line] = list(dict.fromkeys(words))
-        for line, wanted in questions():
+        for line, wanted in questions() + list(more):
             seen = answers.get(line, ["no answer"])
             if isinstance(wanted, list):
                 self.same(repr(line), sorted(wanted), sorted(seen))
@@ -320,9 +364,12 @@ class Completions(Case):
         out = self.ask(shell, options, (line for line, _ in questions()))
         self.compare(out, CASES["left_out"] if shell == "bash" else ())
 
+    # Mutants of scripts/command_pages, after which it was run: in zsh, words follow --help, or -v again after -v.
     def test_answers_of_zsh(self):
-        """zsh completes only in a terminal."""
-        self.compare(self.typed("zsh", "ask.zsh", "-f", (line + "\x14" for line, _ in questions())), CASES["left_out"])
+        """zsh completes only in a terminal. It leaves out options that can't follow others."""
+        more = CASES["questions_of_zsh"]
+        lines = [line + "\x14" for line, _ in questions() + more]
+        self.compare(self.typed("zsh", "ask.zsh", "-f", lines), CASES["left_out"], more)
 
     # Mutants of the completions for bash: no directory completes a font or a vector; names of fonts or vectors aren't
     # quoted, and a space follows that of a directory; a name with a space is two words; if no font or no vector begins
