@@ -1,8 +1,20 @@
-"""The Python module: its arguments, the version of the library, and the memory of the items."""
+"""The Python module: its arguments, the version of the library, the memory of the items, and links to the module."""
+import ast
+import os
+import shutil
 import sys
 
-from lib.base import DEMO, execute, read
-from lib.clib import LibraryCase
+from lib.base import DEMO, environment, execute, read, write
+from lib.clib import BINDINGS, LibraryCase
+from lib.tfm import path_of
+
+# What the module uses of other modules. Python 3.8 has all of it.
+IMPORTED = {"__future__": "annotations", "operator": "index", "functools": "lru_cache", "struct": "iter_unpack",
+            "typing": "List NamedTuple Optional Sequence Tuple Union overload", "os": "PathLike environ path",
+            "os.path": "abspath basename dirname exists join",
+            "ctypes": "Array CDLL Structure byref c_char_p c_int32 c_int64 c_size_t c_uint32 c_uint64 c_void_p "
+                      "create_string_buffer sizeof"}
+NEWER = {"removeprefix", "removesuffix", "bit_count", "is_relative_to", "with_stem", "add_note"}
 
 # Each row: a title, a program, and its output.
 PROGRAMS = (
@@ -30,10 +42,10 @@ for call in (lambda: tfmset.Font(data, True), lambda: font.metrics(True), lambda
         print(error)
 """, "size is True, but must be an integer\ncode is True, but must be an integer\n"
      "limit is True, but must be an integer\n"),
-    # Mutants: `_size` ignores the code of `tfmset_size`, keeps spaces, accepts a number
-    # without a unit, or computes a size in points itself.
+    # Mutants: `_size` ignores the code of `tfmset_size`, keeps spaces, accepts a number without a unit, or computes a size
+    # in points itself, rounded with `round` or with `int(x + 0.5)`. The last two sizes are the numbers of TeX.
     ("A size in a str has a unit", """
-for size in "12pt", "10.95pt", "10,95 pt", "12bp", "4mm", "655360sp", ".5in":
+for size in "12pt", "10.95pt", "10,95 pt", "12bp", "4mm", "655360sp", ".5in", "0.00000762939453125pt", "2047.00000762939453124pt":
     print(tfmset.Font(data, size).size, end=" ")
 for size in "", "0pt", "12", "+12", "12PT", "-1pt", "2048pt", "1em", "1e1pt", "12\\u00a0pt", "12pt\\0":
     try:
@@ -41,7 +53,7 @@ for size in "", "0pt", "12", "+12", "12PT", "-1pt", "2048pt", "1em", "1e1pt", "1
     except ValueError as error:
         print(str(error).split(",")[0], end="; ")
 print()
-""", "786432 717619 717619 789381 745871 655360 2368143 size is ''; size is '0pt'; size is '12'; size is '+12'; size is '12PT'; "
+""", "786432 717619 717619 789381 745871 655360 2368143 1 134152192 size is ''; size is '0pt'; size is '12'; size is '+12'; size is '12PT'; "
      "size is '-1pt'; size is '2048pt'; size is '1em'; size is '1e1pt'; size is '12\\xa0pt'; "
      "size is '12pt\\x00'; \n"),
     # Mutants: `_refusal` returns the offset of the code, or the index of the first code for any reason; `_Source` counts
@@ -51,6 +63,22 @@ print(font.set("fox\\nﬁg Q", encoding="t1")[1], font.widths("\\ufeffo\\xadﬁ�
 print(font.set("\\xadoffice", 1, encoding="t1")[0])
 """, "Refusal(reason='missing', place=3, code=81) [Refusal(reason='missing', place=4, code=33)]\n"
      "Refusal(reason='steps', place=0, code=0)\n"),
+    # Mutant: `_Source` divides the text with `splitlines`, which also cuts at CR, VT, FF, FS, GS, RS and NEL.
+    ("The lines of a str end at line feeds only, whatever characters they have", """
+for name in tfmset.ENCODINGS:
+    lines, wanted = [], []
+    for character in map(chr, (*range(0x2800), *range(0xFB00, 0xFB07))):
+        try:
+            codes = tfmset.encode(character, name)
+        except tfmset.EncodingError:
+            continue
+        missing = [code for code in codes if code != 32 and not font.metrics(code)]
+        if character != "\\n":
+            lines.append("o" + character + "Q")
+            wanted.append(tfmset.Refusal("missing", 1 if missing else 2, [*missing, 81][0]))
+    text = "\\n".join(lines)
+    print(name, min(len(lines), 140), list(font.set(text, encoding=name)) == font.widths(text, encoding=name) == wanted)
+""", "ot1 140 True\nt1 140 True\nly1 140 True\nlatin1 140 True\n"),
     # Mutant: `_refusal` looks for the character of the place for any reason but steps, or returns another number.
     ("The place of a str that is too long is the number of its codes", """
 print(font.set("ß" * 65537, encoding="t1")[0], font.widths("o\\n" + "ﬁ" * 32768, encoding="t1")[1])
@@ -68,12 +96,14 @@ print(font.records(Text("oß"), encoding="t1"))
 """, "786432 b'\\xff' b'1:1 refused missing 1 255\\n'\n"
      "b'o\\xff' [665189, Refusal(reason='missing', place=0, code=255)]\n"
      "b'1:1 refused missing 1 255\\n'\n"),
-    # Mutant: `Line.items` shares the memory of the result.
-    ("Writing to the items of a line changes no line", """
+    # Mutants: `Line.items` shares the memory of the result; `Lines.items` is a copy.
+    ("Writing to the items of a line changes no line, and writing to those of all lines changes the lines", """
 lines = font.set(b"ox\\nox")
-lines[0].items[0].width = 7
-print(lines[0].items[0].width, lines[1].items[0].width, lines.items[0].width)
-""", "334233 334233 334233\n"),
+line = lines[0]
+for items in line.items, lines.items:
+    items[0].width = 7
+    print(*(each[0].width for each in (line.items, lines[0].items, lines[1].items, lines.items)))
+""", "334233 334233 334233 334233\n7 7 334233 7\n"),
     # Mutants: a slice ignores its step; the length of `Lines` in its text is the number of items; the size of a font is
     # rounded in its text.
     ("Slices of lines, and the texts of objects", """
@@ -125,18 +155,111 @@ EncodingError: no code in ot1 for U+00EF at index 2
 EncodingError: no code in t1 for U+1F600 at index 0
 FontRefused: 1 truncated, 24 bytes needed
 """),
-    # Mutants: `Line` keeps a pointer instead of the array; `Lines.items` is made from an address.
+    # Mutants: `Line` keeps a pointer instead of the array; `Lines.items` is made from an address. Each object is tried alone,
+    # since any other one would keep the memory. Memory that is freed is overwritten (`test_programs`).
     ("Items stay after their lines are gone", """
 import gc
-lines = font.set(b"ox\\n" * 99999)
-line, every = lines[999], lines.items
-del lines
-gc.collect()
-items = line.items
-del line
-gc.collect()
-print(len(font.set(b"xo\\n" * 99999)), [item.width for item in items], [item.width for item in every[-3:]])
-""", "99999 [334233, -16384, 347340] [334233, -16384, 347340]\n"),
+def kept(part):
+    part = part(font.set(b"ox\\n" * 99999))
+    gc.collect()
+    return part, font.set(b"xo\\n" * 99999)
+line, _ = kept(lambda lines: lines[999])
+items, _ = kept(lambda lines: lines[999].items)
+every, _ = kept(lambda lines: lines.items)
+item, _ = kept(lambda lines: lines.items[-2])
+each, _ = kept(lambda lines: lines[999].items[1])
+parts, _ = kept(lambda lines: lines[-1:])
+print([item.width for item in line.items], [item.width for item in items], [item.width for item in every[-3:]],
+      item.width, each.width, [item.width for item in parts[0].items])
+""", "[334233, -16384, 347340] [334233, -16384, 347340] [334233, -16384, 347340] -16384 -16384 [334233, -16384, 347340]\n"),
+    # Mutants: `Line.items` copies the items of all lines; `Lines.items` is a copy. The limit allows for small objects.
+    ("What takes a part of the lines requests no memory for the others", """
+import tracemalloc
+lines = font.set(b"ox\\n" * 50000)
+for part in (lambda: lines[999], lambda: lines[999].items, lambda: lines[9:12], lambda: lines.items, lambda: len(lines)):
+    tracemalloc.start()
+    part()
+    print(tracemalloc.get_traced_memory()[1] < 9999, end=" ")
+    tracemalloc.stop()
+""", "True " * 5),
+    # Mutants: `Line.items` sums the items of the lines before it; `_Source.index` divides the text, or begins at its first
+    # character, for each line. Ten times the lines take at most 40 times the time; in quadratic time they take 100 times.
+    ("The time for all lines of a text is in proportion to their number", """
+import time
+def seconds(count):
+    lines = font.set("oxQ\\n" * count, encoding="t1"), font.set(b"ox\\n" * count)
+    begin = time.thread_time()
+    [line.place for line in lines[0]], [len(line.items) for line in lines[1]], lines[1][::-2]
+    font.widths("oxQ\\n" * count, encoding="t1")
+    return time.thread_time() - begin
+ratios = (seconds(20000) / seconds(2000) for _ in range(5))
+print(any(ratio < 40 for ratio in ratios))
+""", "True\n"),
+    # Mutants: `encode` keeps one array for each length; `set` keeps its items in the font; `metrics`, `pair`, `pairs` or
+    # `records` keeps its last argument for the next call. At each call of the library, another thread makes a call with
+    # other arguments, and the same thread makes a third one before the result is read.
+    ("Calls share no memory that they write to", """
+import threading
+other = tfmset.Font.from_file(%r)
+fonts, texts = (font, other), ("fox\\noff", "box\\nQff")
+def lines_of(lines):
+    return [list(map(repr, line.items)) if isinstance(line, tfmset.Line) else line for line in lines], lines.items[1].width
+def refused(number):
+    try:
+        tfmset.Font(data[:9 + 40 * number])
+    except tfmset.FontRefused as error:
+        return error.args
+calls = [lambda number: tfmset.encode(texts[number], "t1"), lambda number: tfmset.Font(data, ("12pt", "13pt")[number]),
+         lambda number: tfmset.Font(fonts[number].data), refused,
+         lambda number: font.metrics(97 + number), lambda number: font.pair(111, (120, 110)[number]),
+         lambda number: fonts[number].pairs(), lambda number: font.set(texts[number].encode()),
+         lambda number: font.set(texts[number], encoding="t1"), lambda number: font.widths(texts[number].encode()),
+         lambda number: font.widths(texts[number], encoding="t1"), lambda number: font.records(texts[number].encode()),
+         lambda number: font.records(texts[number], encoding="t1")]
+def shown(result):
+    found = lines_of(result) if isinstance(result, tfmset.Lines) else result
+    return str(vars(found)) if isinstance(found, tfmset.Font) else repr(found)
+class Library:
+    outer = None
+    def __getattr__(self, name):
+        def called(*arguments):
+            def between():
+                if self.outer and threading.current_thread() is threading.main_thread():
+                    thread = threading.Thread(target=self.outer, args=(1,))
+                    thread.start()
+                    thread.join()
+            between()
+            code = getattr(library, name)(*arguments)
+            between()
+            return code
+        return called
+library, alone = tfmset._library, [(shown(call(0)), shown(call(1))) for call in calls]
+print(sum(one != other for one, other in alone))
+tfmset._library = stand_in = Library()
+for number, (call, (one, other)) in enumerate(zip(calls, alone)):
+    stand_in.outer = call
+    result = call(0)
+    stand_in.outer = None
+    last = call(1)
+    if (shown(result), shown(last)) != (one, other):
+        print(number, shown(result), shown(last))
+""" % path_of("left_boundary"), "13\n"),
+    # Mutants: `Line` has a dictionary; `Refusal`, `Kern` or another tuple is a class of another kind; `Lines` is no Sequence.
+    ("The kinds of objects", """
+import collections.abc, pickle
+lines = font.set(b"ox\\nQ\\nQ")
+refusal, kern, ligature, metrics = lines[1], font.pair(111, 120), font.pair(102, 105), font.metrics(102)
+for part in lines[0], refusal, kern, ligature, metrics:
+    try:
+        part.wdith = 5
+        print("accepted", part)
+    except AttributeError:
+        print(type(part).__name__, hasattr(part, "__dict__"), end=" ")
+print(*map(tuple, (refusal, kern, ligature)), len(metrics), len({refusal, lines[2], kern}))
+print(isinstance(lines, collections.abc.Sequence), lines.index(refusal), lines.count(refusal), refusal in lines, len(list(reversed(lines))))
+print([pickle.loads(pickle.dumps(part)) == part for part in (refusal, kern, ligature, metrics)])
+""", "Line False Refusal False Kern False Ligature False Metrics False ('missing', 0, 81) (-16384,) (12, False, False, 0) 6 2\n"
+     "True 1 2 True 3\n[True, True, True, True]\n"),
     # Mutants: `_items` keeps no type, or each one.
     ("The types of arrays of up to 1,024 lengths are kept", """
 import ctypes, gc, weakref
@@ -158,10 +281,23 @@ class Library:
         return lambda *arguments: self.called.append((name, arguments[-2] // 2000)) or getattr(library, name)(*arguments)
 library, tfmset._library = tfmset._library, Library()
 text = b"office ox\\nwaves of x\\n\\n" * 99
-for version in 1, 2:
+for version in 1, 2, 3:
     font.records(text, version=version)
 print(len(font.set(text)), len(font.widths(text)), len(font.pairs()) > 9, *Library.called)
-""", "297 297 True ('tfmset_records', 22) ('tfmset_records', 22) ('tfmset_set', 1) ('tfmset_widths', 0) ('tfmset_pairs', 2)\n"),
+""", "297 297 True ('tfmset_records', 22) ('tfmset_records', 22) ('tfmset_records', 35) ('tfmset_set', 1) ('tfmset_widths', 0) ('tfmset_pairs', 2)\n"),
+    # Mutant: after `_NO_ROOM` the arrays are twice as long, instead of as long as is needed.
+    ("A second call has arrays of the lengths that are needed", """
+class Library:
+    def __getattr__(self, name):
+        def call(*arguments):
+            code, last = getattr(library, name)(*arguments), arguments[-1]._obj
+            print(name, code, code == 3 or arguments[-2] == getattr(last, "items", getattr(last, "value", None)), end=" ")
+            return code
+        return call
+font, library = tfmset.Font.from_file(%r), tfmset._library
+tfmset._library = Library()
+font.set(b"ab" * 500), font.records(b"ab" * 500)
+""" % path_of("ligature_3"), "tfmset_set 3 True tfmset_set 0 True tfmset_records 3 True tfmset_records 0 True "),
     # Mutants: the default limit of a method is another one; missing characters are skipped by default.
     ("The defaults of the arguments", """
 import inspect
@@ -232,7 +368,9 @@ class Module(LibraryCase):
         # A warning is printed as an error. Mutant: `from_file` leaves the file open.
         head = f"import tfmset\nfont = tfmset.Font.from_file({DEMO!r})\ndata = font.data\n"
         for title, program, wanted in PROGRAMS:
-            seen = execute(sys.executable, "-W", "error", "-c", head + program, env=self.env)
+            # With these allocators, memory that is freed is overwritten.
+            more = {"PYTHONMALLOC": "debug"} if title.startswith("Items stay") else {}
+            seen = execute(sys.executable, "-W", "error", "-c", head + program, env={**self.env, **more})
             self.same(title, (0, wanted.replace("{bytes}", str(len(read(DEMO, "rb")))), ""), seen)
 
 
@@ -258,3 +396,47 @@ class Version(LibraryCase):
             wanted = f"ImportError: PATH has version {name}, but tfmset.py has 0.1.0"
             self.same(name, (1, wanted), self.imported(number))
         self.same("0.1.907", (0, "(0, 1, 907)\n"), self.imported(1907))
+
+
+class Links(LibraryCase):
+    """Symbolic links to the module, and versions of Python"""
+
+    # Mutants: the directory of the module is that of the file to which a link leads; it isn't made absolute.
+    def test_links(self):
+        """The module is found through links, and finds the library of the prefix in which the link is."""
+        own, packages = self.room + "/own", "lib/python3.8/site-packages"
+        write(f"{own}/target/tfmset.py", read(BINDINGS + "/tfmset.py"))
+        places = {"a copy": "copied", "a link to the file": "linked", "a link to the directory": "directory",
+                  "a link to the prefix": "prefix"}
+        for name in ("copied", "linked"):
+            os.makedirs(f"{own}/{name}/{packages}")
+        shutil.copy(f"{own}/target/tfmset.py", f"{own}/copied/{packages}")
+        os.symlink(f"{own}/target/tfmset.py", f"{own}/linked/{packages}/tfmset.py")
+        os.makedirs(os.path.dirname(f"{own}/directory/{packages}"))
+        os.symlink(f"{own}/target", f"{own}/directory/{packages}")
+        os.symlink(f"{own}/copied", f"{own}/prefix")
+        program = "import os, sys; sys.path.insert(0, {!r}); import tfmset; os.chdir('/'); print(tfmset._library._name)"
+        for title, name in places.items():
+            library = f"{own}/{name}/lib/libtfmset.so.0"
+            if not os.path.exists(library):
+                shutil.copy(self.lib + "/libtfmset.so.0", library)
+            for path in (f"{own}/{name}/{packages}", f"own/{name}/{packages}"):
+                seen = execute(sys.executable, "-B", "-c", program.format(path), env=environment(), cwd=self.room)
+                self.same(f"{title}, {path}", (0, library + "\n", ""), seen)
+
+    # Mutants: the module has a `match`, removes a suffix with `str.removesuffix`, uses `functools.cache`, or has annotations
+    # that are evaluated, of which Python 3.8 can't evaluate `ctypes.Array[Item]`.
+    def test_python_of_version_3_8(self):
+        """The module uses no syntax, modules or names that Python 3.8 lacks."""
+        tree = ast.parse(read(BINDINGS + "/tfmset.py"), feature_version=(3, 8))
+        used = {node.module: {name.name for name in node.names} for node in ast.walk(tree)
+                if isinstance(node, ast.ImportFrom)}
+        imported = {name.name for node in ast.walk(tree) if isinstance(node, ast.Import) for name in node.names}
+        used.update({name: set() for name in (*imported, "os.path")})
+        for node in ast.walk(tree):
+            name = ast.unparse(node.value) if isinstance(node, ast.Attribute) else None
+            used.get(name, set()).add(getattr(node, "attr", None))
+        self.same("names", {name: sorted(names.split()) for name, names in IMPORTED.items()},
+                  {name: sorted(names) for name, names in used.items()})
+        found = {node.attr for node in ast.walk(tree) if isinstance(node, ast.Attribute)}
+        self.same("methods of later versions", set(), found & NEWER)

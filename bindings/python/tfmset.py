@@ -780,10 +780,12 @@ class Font:
         else:
             name, function = _named(encoding), _library.tfmset_encoded_records
             content, call = _utf8(text, encoding), (*call, name, len(name))
-        call += (content, len(content), _number("version", version, 1, 3),
-                 _number("source", source, 0, 2**64 - 1),
+        version = _number("version", version, 1, 3)
+        call += (content, len(content), version, _number("source", source, 0, 2**64 - 1),
                  _number("first_line", first_line, 0, 2**64 - 1 - len(content)))
-        length = 16 * len(content) + 32 * (content.count(b"\n") + 2)
+        # An estimate. A record in JSON is longer.
+        byte, line = (24, 64) if version == 3 else (16, 32)
+        length = byte * len(content) + line * (content.count(b"\n") + 2)
         while True:
             array = ctypes.create_string_buffer(length)
             code = function(*call, array, length, ctypes.byref(count))
