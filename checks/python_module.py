@@ -63,7 +63,8 @@ print(font.set("fox\\nﬁg Q", encoding="t1")[1], font.widths("\\ufeffo\\xadﬁ�
 print(font.set("\\xadoffice", 1, encoding="t1")[0])
 """, "Refusal(reason='missing', place=3, code=81) [Refusal(reason='missing', place=4, code=33)]\n"
      "Refusal(reason='steps', place=0, code=0)\n"),
-    # Mutant: `_Source` divides the text with `splitlines`, which also cuts at CR, VT, FF, FS, GS, RS and NEL.
+    # Mutants: `_Source` divides the text with `splitlines`, which also cuts at CR, VT, FF, FS, GS, RS and NEL; it leaves out
+    # the CR of CR LF.
     ("The lines of a str end at line feeds only, whatever characters they have", """
 for name in tfmset.ENCODINGS:
     lines, wanted = [], []
@@ -74,11 +75,14 @@ for name in tfmset.ENCODINGS:
             continue
         missing = [code for code in codes if code != 32 and not font.metrics(code)]
         if character != "\\n":
-            lines.append("o" + character + "Q")
+            lines += "o" + character + "Q", character
             wanted.append(tfmset.Refusal("missing", 1 if missing else 2, [*missing, 81][0]))
+            wanted.append(tfmset.Refusal("missing", 0, missing[0]) if missing else "set")
     text = "\\n".join(lines)
-    print(name, min(len(lines), 140), list(font.set(text, encoding=name)) == font.widths(text, encoding=name) == wanted)
-""", "ot1 140 True\nt1 140 True\nly1 140 True\nlatin1 140 True\n"),
+    for found in font.set(text, encoding=name), font.widths(text, encoding=name):
+        refused = [line if isinstance(line, tfmset.Refusal) else "set" for line in found]
+        print(name, min(len(lines), 280), refused == wanted)
+""", "".join(f"{name} 280 True\n" * 2 for name in ("ot1", "t1", "ly1", "latin1"))),
     # Mutant: `_refusal` looks for the character of the place for any reason but steps, or returns another number.
     ("The place of a str that is too long is the number of its codes", """
 print(font.set("ß" * 65537, encoding="t1")[0], font.widths("o\\n" + "ﬁ" * 32768, encoding="t1")[1])
@@ -192,7 +196,7 @@ def seconds(count):
     [line.place for line in lines[0]], [len(line.items) for line in lines[1]], lines[1][::-2]
     font.widths("oxQ\\n" * count, encoding="t1")
     return time.thread_time() - begin
-ratios = (seconds(20000) / seconds(2000) for _ in range(5))
+ratios = (seconds(10000) / seconds(1000) for _ in range(5))
 print(any(ratio < 40 for ratio in ratios))
 """, "True\n"),
     # Mutants: `encode` keeps one array for each length; `set` keeps its items in the font; `metrics`, `pair`, `pairs` or
@@ -201,9 +205,10 @@ print(any(ratio < 40 for ratio in ratios))
     ("Calls share no memory that they write to", """
 import threading
 other = tfmset.Font.from_file(%r)
-fonts, texts = (font, other), ("fox\\noff", "box\\nQff")
+fonts, texts = (font, other), ("fox\\noff", "bo\\nQ\\nff")
 def lines_of(lines):
-    return [list(map(repr, line.items)) if isinstance(line, tfmset.Line) else line for line in lines], lines.items[1].width
+    shown = [list(map(repr, line.items)) if isinstance(line, tfmset.Line) else line for line in lines]
+    return shown, len(lines), len(lines.items), lines.items[1].width
 def refused(number):
     try:
         tfmset.Font(data[:9 + 40 * number])
@@ -285,19 +290,37 @@ for version in 1, 2, 3:
     font.records(text, version=version)
 print(len(font.set(text)), len(font.widths(text)), len(font.pairs()) > 9, *Library.called)
 """, "297 297 True ('tfmset_records', 22) ('tfmset_records', 22) ('tfmset_records', 35) ('tfmset_set', 1) ('tfmset_widths', 0) ('tfmset_pairs', 2)\n"),
-    # Mutant: after `_NO_ROOM` the arrays are twice as long, instead of as long as is needed.
-    ("A second call has arrays of the lengths that are needed", """
+    # Mutants: after `_NO_ROOM` the arrays are twice as long, instead of as long as is needed; an array is shorter than the
+    # length that is passed with it; the estimate for `set` has no room for the kerns of a short text.
+    ("Arrays have the lengths that are passed, and those of a second call the lengths that are needed", """
+import ctypes
 class Library:
     def __getattr__(self, name):
         def call(*arguments):
             code, last = getattr(library, name)(*arguments), arguments[-1]._obj
-            print(name, code, code == 3 or arguments[-2] == getattr(last, "items", getattr(last, "value", None)), end=" ")
+            for array, length in zip(arguments, arguments[1:]):
+                if isinstance(array, bytes) and len(array) != length or (
+                        isinstance(array, ctypes.Array) and len(array) < length):
+                    print(array, "isn't of length", length)
+            needed = getattr(last, "items", getattr(last, "value", None))
+            print(name[7:], code, name in self.exact and arguments[-2] == needed, end=" ")
+            self.exact.add(name)
             return code
         return call
-font, library = tfmset.Font.from_file(%r), tfmset._library
-tfmset._library = Library()
-font.set(b"ab" * 500), font.records(b"ab" * 500)
-""" % path_of("ligature_3"), "tfmset_set 3 True tfmset_set 0 True tfmset_records 3 True tfmset_records 0 True "),
+library = tfmset._library
+for path in %r, %r:
+    tfmset._library, Library.exact = Library(), set()
+    font = tfmset.Font.from_file(path, "12pt")
+    for text in b"ab" * 500, b"ox":
+        font.set(text), font.records(text), font.widths(text), font.records(text.decode(), encoding="t1")
+    font.pairs(), font.metrics(97), font.pair(97, 97), tfmset.encode("ab", "t1")
+    print()
+""" % (path_of("ligature_3"), DEMO),
+     "size 0 False font 0 False set 3 False set 0 True records 3 False records 0 True widths 0 False encoded_records 3 False "
+     "encoded_records 0 True set 0 False records 0 False widths 0 False encoded_records 0 False pairs 0 False metrics 0 False "
+     "pair 0 False encode 0 False \n"
+     "size 0 False font 0 False set 0 False records 0 False widths 0 False encoded_records 0 False set 0 False records 0 False "
+     "widths 0 False encoded_records 0 False pairs 0 False metrics 0 False pair 0 False encode 0 False \n"),
     # Mutants: the default limit of a method is another one; missing characters are skipped by default.
     ("The defaults of the arguments", """
 import inspect
