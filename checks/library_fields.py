@@ -2,18 +2,21 @@
 
 The fields of the header must be where the Python module has them, and the attributes of the module must have
 the values that lib/tfm.py reads from the font, or those of docs/ERRORS.md and of the program's records. The
-constants must be the numbers that the library takes and returns. Any other name fails.
+constants must be the numbers that the library takes and returns. Any other name fails. So does any other
+sentence with a number, a constant or a promise about memory in the comments of the header: those of the table
+CLAIMS are compared with what the library does, with its contracts, or with docs/CALLING.md.
 """
+import collections
 import ctypes
 import itertools
 import json
 import re
 
-from lib.base import DEMO, PROGRAM, ROOT, execute, files, has, output, read
+from lib.base import DEMO, PROGRAM, ROOT, execute, files, has, output, read, rows
 from lib.clib import encode
 from lib.docs import font_errors
 from lib.tfm import BOUNDARY, NAMES, Font, changed, make, sample, scaled
-from library import between
+from library import between, listing
 from library_lines import LinesCase
 
 WEIGHT = 5
@@ -150,7 +153,8 @@ class Fields(LinesCase):
         """The largest numbers of a source and a line are those of the record, in C and in Python."""
         source, first = (1 << 64) - 1, (1 << 64) - 2
         record = f"{source}:{first} set 334233 c111=334233\n".encode()
-        self.same("in Python", record, self.tfmset.Font(read(DEMO, "rb")).records(b"o", source=source, first_line=first))
+        font = self.tfmset.Font(read(DEMO, "rb"))
+        self.same("in Python", record, font.records(b"o", source=source, first_line=first))
         out = self.built("checks/lib/largest.c", "cc", "-std=c99")
         self.same("in C", record.decode(), self.output(out, given=DEMO))
 
@@ -180,13 +184,6 @@ class Fields(LinesCase):
         functions = set(re.findall(r"^uint32_t tfmset_(\w+)\(const", self.header, re.M))
         called = set(re.findall(r"CALLED\((\w+), \(", read("checks/lib/library_lines.c")))
         self.same("functions whose allocations are counted", functions, called)
-
-    # Mutant of the header: two numbers in the comments of `struct tfmset_fault` are swapped.
-    def test_numbers_in_comments(self):
-        text = re.sub(r"^ *\*", "", read("include/tfmset.h"), flags=re.M).replace(" (an indirect start)", "")
-        for names in (NAMES, TABLES, NAMED[14]):
-            wanted = ": " + ", ".join(f"{number} {name}" for number, name in enumerate(names))
-            self.assertIn(wanted, " ".join(text.split()))
 
     def fonts(self):
         """Paths, readers and sizes: of the font above, of samples, and of fonts of TeX if there are any."""
@@ -252,3 +249,473 @@ class Fields(LinesCase):
                        "__version__": output(PROGRAM, "--version").split()[1]})
         self.same("constants", wanted, {name: value for name, value in found.items() if not callable(value)})
         self.same("names", set(found), {*wanted, *self.classes, "encode", "version"} - {"NoneType"})
+
+
+CODES = ("DONE", "FONT_REFUSED", "OUT_OF_MEMORY", "NO_ROOM", "OUT_OF_RANGE", "NOT_UTF8", "UNCODED")
+# The arguments of a call, except arrays and the last one, and what changes the code that it returns.
+ARGUMENTS = {"data": read(DEMO, "rb"), "size": 0, "limit": 99, "policy": 0, "encoding": b"t1", "text": b"ox",
+             "version": 1, "source": 1, "first": 1, "code": 97, "left": 111, "right": 120, "room": 128}
+OTHERS = ({}, {"data": b"no font"}, {"room": 0}, {"size": 1 << 27}, {"encoding": b"T1"}, {"text": b"\xff"},
+          {"text": "€".encode()}, {"text": b"12pt"})
+FORMS = {"size": "text", "encode": "encoding text room", **dict.fromkeys(("check", "font"), "data size"),
+         "metrics": "data size code", "pair": "data size left right", "pairs": "data size room",
+         "set": "data size limit policy text room room", "widths": "data size limit policy text room",
+         "records": "data size limit policy text version source first room",
+         "encoded_records": "data size limit policy encoding text version source first room"}
+LAST = {"size": ctypes.c_uint32, "encode": "_Encoded", "check": "_Fault", "font": "_About", "metrics": "_Metrics",
+        "pair": "_Pair", **dict.fromkeys(("set", "widths"), "_Counts")}
+# The words of a font error as the program prints it, and the rule of this error in the header.
+RULES = {"truncated, 24": "the file is too short for the twelve counts", "out of range": "a count is out of range",
+         "character range": "the character range is invalid", "header too": "the header is too short",
+         "is empty": "a table that needs an entry is empty", "recipes": "there are more than 256 extensible recipes",
+         "equation": "the length of the file isn't the sum of the lengths of its parts",
+         "truncated, 48": "the file has fewer bytes than its first count, the length in words, requires",
+         "design size": "the design size is negative, or is below one point",
+         ", table": "an index of a character is beyond the end of its table",
+         "program start": "the address of a character's instructions is beyond the last one",
+         "first entry": "entry 0 of a table isn't zero", ", entry": "an entry of a table is too large",
+         "instruction": "an instruction refers to something that doesn't exist"}
+PLACES = {r"bytes needed": "the number of bytes that are needed", r"character \d": "a character code",
+          r"entry \d": "the index of an entry in its table, from 0; in table 9 (param) from 1",
+          r"instruction \d": "the address of an instruction, from 0"}
+PROMISES = r"\d|TFMSET_[A-Z]|\bnull\b|unchanged|unspecified|undefined|\benough\b|overlap|aligned|Otherwise|\bfree"
+ROOM = 8192  # bytes of each array; all of them, and of the last argument, have this value before a call
+BEFORE = b"\x55"
+Call = collections.namedtuple("Call", "code written last arrays")
+MOST = 134_217_727
+
+
+def page(text):
+    """Whether docs/CALLING.md has a sentence."""
+    return lambda _: text in " ".join(read("docs/CALLING.md").split())
+
+
+def size_of(text):
+    """The size in a text that tfmset_size reads, or None."""
+    return lambda case: case.size(text)
+
+
+# Sentences of the header, in its order, and what has to be true. Numbers in braces are those that the library returns.
+# `None`: compared by the test that is named after it. A promise about memory is also one of CALLING.
+CLAIMS = (
+    ("a function returns TFMSET_FONT_REFUSED for bytes that aren't an accepted font.",
+     lambda c: all(c.call(name, data=b"no font").code == 1 for name in FORMS if "data" in FORMS[name])),
+    ("nothing has to be freed.",
+     page("Nothing has to be freed, opened or closed.")),
+    ("from 1 to 134,217,727 scaled points, or 0 for the design size of the font.",
+     lambda c: c.codes_of("font", size=(0, 1, MOST, MOST + 1)) == [0, 0, 0, 4] and c.about(0) ==
+      c.about(c.about(0).design_size)),
+    ("All dimensions are in scaled points, of which 65,536 are one point.",
+     lambda c: c.size(b"1pt") == 65536),
+    ("it is a ratio in units of 2^-20, and isn't scaled.",
+     lambda c: c.about(MOST).slant == c.about(0).slant == c.font.fixes("param")[0]),
+    ("no pointer may be null, not even with length 0.",
+     page("No pointer is null, not even one to an array of length 0.")),
+    ("The memory that a function writes to (whatever its pointers without `const` point to) may not overlap any "
+     "other memory that it is given. The memory that it only reads may overlap,",
+     page("Memory that a call writes to overlaps no other memory that is "
+      "passed to the call. The font and the text are only read, and may overlap.")),
+    ("Each pointer must be aligned as its type requires.",
+     page("Each pointer is aligned for its type.")),
+    ("A larger number, such as SIZE_MAX for an array that is known to be long enough, is undefined behaviour.",
+     page("A call that breaks one has undefined behaviour.")),
+    ("functions allocate memory with malloc and realloc, and free all of it before they return. tfmset_version, "
+     "tfmset_size and tfmset_encode allocate none.",
+     lambda c: [name for name, text in c.exported() if "alloc: Global" not in text] == ["encode", "size",
+      "version"]),
+    ("a thread needs 64 KB of stack for a call, and no call checks it.",
+     page("A stack of 64 KB is enough")),
+    ("one of the seven TFMSET_ codes below.",
+     lambda c: list(c.constants)[:8] == [*CODES, "VERSION"] and len(CODES) == 7),
+    ("/* The function did what it was called for. */ #define TFMSET_DONE",
+     lambda c: c.call("set").code == c.constants["DONE"]),
+    ("/* The font is refused; tfmset_check returns its first error. */ #define TFMSET_FONT_REFUSED",
+     lambda c: c.call("check", data=b"no font").last.number == 1),
+    ("/* An allocation failed. Arrays may have been written to, and their contents are unspecified. */ #define "
+     "TFMSET_OUT_OF_MEMORY",
+     page("| 2 `TFMSET_OUT_OF_MEMORY` | An allocation failed.")),
+    ("/* An array is too short. The last argument contains the lengths that are needed, and the contents of the "
+     "arrays are unspecified, except with tfmset_pairs, which leaves its array unchanged. */ #define TFMSET_NO_ROOM",
+     lambda c: c.counts("set", room=0) == (1, 3) and not c.wrote("pairs", room=1) and c.wrote("set",
+      text=b"o\no\no", room=2)),
+    ("/* A number is out of its range, a text isn't a size, or a name isn't that of an encoding. No font was read. "
+     "*/ #define TFMSET_OUT_OF_RANGE",
+     lambda c: c.codes_of("font", data=(b"no font", ARGUMENTS["data"]), size=MOST + 1) == [4, 4] and
+      c.call("size", text=b"x").code == c.call("encode", encoding=b"x").code == 4),
+    ("/* tfmset_encode: the text isn't UTF-8. */ #define TFMSET_NOT_UTF8",
+     lambda c: c.call("encode", text=b"\xff").code == 5),
+    ("/* tfmset_encode: a character of the text has no codes in the encoding. */ #define TFMSET_UNCODED",
+     lambda c: c.call("encode", text="€".encode()).code == 6),
+    ("for version X.Y.Z it is 1,000,000 * X + 1,000 * Y + Z. TFMSET_VERSION is the version of this header. */ "
+     "#define TFMSET_VERSION",
+     lambda c: c.tfmset._library.tfmset_version() == c.constants["VERSION"] == c.version()),
+    ("The text is a number with a unit, such as \"12pt\", \"10.95pt\" or \"4mm\", or a whole number of scaled "
+     "points, such as \"655360\".",
+     lambda c: c.sizes("12pt 10.95pt 4mm 655360 1.5") == [786432, 717619, 745871, 655360, None]),
+    ("the fraction follows a point or a comma; the units are pt, in, pc, cm, mm, bp, dd, cc and sp, in lower case; "
+     "and the fraction of a number of sp is ignored. Signs and spaces aren't allowed, except for a plus sign before "
+     "a whole number without a unit.",
+     lambda c: c.sizes("1.5pt 1,5pt 1.9sp +12 1PT 1em 1ex +1pt -1pt -12 1_pt _1pt +1.5") == [98304, 98304, 1, 12]
+      + [None] * 9 and None not in c.sizes("1pt 1in 1pc 1cm 1mm 1bp 1dd 1cc 1sp")),
+    ("Returns TFMSET_DONE, or TFMSET_OUT_OF_RANGE if the text isn't a size from 1 to 134,217,727 scaled points. */ "
+     "uint32_t tfmset_size",
+     lambda c: c.sizes("0 1 134217727 134217728") == [None, 1, MOST, None]),
+    ("/* TFMSET_DONE, TFMSET_NO_ROOM: the number of codes. Otherwise 0. */ size_t count; /* TFMSET_NOT_UTF8: the "
+     "offset of the byte in the text at which no character begins, from 0. TFMSET_UNCODED: the offset of the first "
+     "byte of the first character that has no codes. Otherwise 0. */ size_t offset; /* TFMSET_UNCODED: the number of "
+     "this character in Unicode. Otherwise 0. */ uint32_t character;",
+     lambda c: [c.encoded(text.encode("latin-1"), room) for text, room in (("\xc3\x9fa", 9), ("\xc3\x9fa", 0),
+      ("\xc3\x9f\xff", 9))] == [(2, 0, 0), (2, 0, 0), (0, 2, 0)] and c.encoded("ß€".encode()) == (0, 2, 0x20AC)),
+    ("which are the text for tfmset_set, tfmset_widths and tfmset_records.",
+     page("which are the `text` of the functions that set lines.")),
+    ("\"ot1\" (that of cmr10), \"t1\" (ecrm1000), \"ly1\", \"latin1\", or \"bytes\", with which the text may be any "
+     "bytes, and is copied.",
+     lambda c: c.codes_of("encode", encoding=(b"ot1", b"t1", b"ly1", b"latin1", b"bytes", b"8r")) == [0] * 5 + [4]
+      and c.encoding(b"\xffo\n", b"bytes") == b"\xffo\n"),
+    ("Most characters have one code, some have two or three, and the soft hyphen has none. A character that LaTeX "
+     "puts together from an accent and a letter has no codes. Line feeds are kept. A byte order mark at the front of "
+     "the text is left out.",
+     lambda c: [c.encoding(text.encode(), b"ot1") for text in ("¡", "\xad", "a\nb", "\ufeffa", "á")] == [b"!`",
+      b"", b"a\nb", b"a", None]),
+    ("`codes` has `codes_length` bytes, and is always long enough if it is as long as the text.",
+     page("An array as long as the text is always long enough.")),
+    ("TFMSET_DONE: the first `encoded->count` bytes of `codes` are the codes. The other bytes are unchanged. "
+     "TFMSET_NO_ROOM: `codes` is too short, and its contents are unspecified. `encoded->count` is the length that is "
+     "needed. TFMSET_OUT_OF_RANGE: no encoding has this name. `codes` and `encoded` are unchanged. TFMSET_NOT_UTF8: "
+     "the text isn't UTF-8. `codes` is unchanged. TFMSET_UNCODED: the text is UTF-8, but a character has no codes. "
+     "`codes` is unchanged. */",
+     lambda c: c.call("encode").arrays[0] == b"ox" + BEFORE * (ROOM - 2) and not any(c.wrote("encode", **more)
+      for more in ({"encoding": b"x"}, {"text": b"\xff"}, {"text": "o€".encode()})) and c.call("encode",
+      text="€".encode() + b"\xff").code == 5),
+    ("The meaning depends on `number`: {places} For the other numbers it is 0. */ size_t place;",
+     None),  # test_attributes
+    ("The rule that the font breaks: {rules} */ uint32_t number;", None),
+    ("The meaning depends on `number`: {named} For the other numbers it is 0. */ uint32_t named;",
+     None),
+    ("Returns TFMSET_DONE if it is accepted, and TFMSET_FONT_REFUSED, with its first error in `fault`, if it isn't. "
+     "Whether a font is accepted doesn't depend on the size. Other codes: TFMSET_OUT_OF_RANGE if `size` is out of "
+     "range, TFMSET_OUT_OF_MEMORY. */ uint32_t tfmset_check",
+     lambda c: c.codes_of("check", size=(0, 1, MOST, MOST + 1)) == [0, 0, 0, 4]),
+    ("A parameter that the font doesn't have is 0. */",
+     lambda c: c.about(0, "no_characters").quad == 0),
+    ("or {none} if the font has none. */ uint32_t right_boundary; /* 1 if the left boundary has a starting address "
+     "in the lig/kern program, otherwise 0. */ uint32_t left_boundary; /* Parameter 1, in units of 2^-20, not "
+     "scaled. */ int32_t slant; /* Parameters 2 to 7. `space` is the width of a space in a line. */",
+     lambda c: [c.about(0, name).left_boundary for name in ("left_boundary", "no_characters")] == [1, 0]),
+    ("Codes other than TFMSET_DONE: TFMSET_FONT_REFUSED, TFMSET_OUT_OF_RANGE if `size` is out of range, "
+     "TFMSET_OUT_OF_MEMORY. */ uint32_t tfmset_font",
+     lambda c: c.call("font", size=MOST + 1).code == 4),
+    ("/* 1 if the font has the character. Otherwise 0, and all other fields are 0. */ uint32_t exists;",
+     lambda c: c.call("metrics").last.exists == 1 and not any(bytes(c.call("metrics", code=65).last))),
+    ("/* {no_tag}: no tag. {lig}: the character has instructions in the lig/kern program. {list}: it has a next "
+     "larger character. {ext}: it has an extensible recipe. */ uint32_t tag; /* The meaning depends on `tag`. {lig}: "
+     "the address of an instruction in the lig/kern program, as the file has it; if that instruction is an indirect "
+     "start (docs/LIGATURES.md in the sources), it isn't followed. {list}: the code of the next larger character. "
+     "{ext}: the number of the recipe, from 0. Otherwise 0. */ uint32_t remainder;",
+     None),  # test_attributes
+    ("`code` is from 0 to 255. Code 32 may be a character here, although byte 32 of a text is always a space. Codes "
+     "other than TFMSET_DONE: TFMSET_FONT_REFUSED, TFMSET_OUT_OF_RANGE if `size` or `code` is out of range, "
+     "TFMSET_OUT_OF_MEMORY. */ uint32_t tfmset_metrics",
+     lambda c: c.codes_of("metrics", code=(0, 255, 256)) == [0, 0, 4] and c.call("metrics", size=MOST + 1).code ==
+      4 and c.call("metrics", data=c.with_32, code=32).last.exists == 1 and c.items(text=b" ",
+      data=c.with_32)[0][0] == c.constants["SPACE"]),
+    ("/* {nothing}: none. {kern}: a kern. {ligature}: a ligature operation. */ uint32_t action; /* Action {kern}: "
+     "the kern. Otherwise 0. */ int32_t kern; /* Action {ligature}: `code` is the character that is inserted, "
+     "`keep_left` and `keep_right` are 1 if the left and the right neighbour stay, and `pass` is the number of "
+     "elements, 0 to 2, that are passed over after the operation: docs/LIGATURES.md in the sources has a table. "
+     "Otherwise all are 0. */ uint32_t code, keep_left, keep_right, pass;",
+     None),  # test_attributes
+    ("`left` and `right` are codes from 0 to 255, or TFMSET_BOUNDARY: as `left` the left boundary, as `right` the "
+     "right boundary. Codes other than TFMSET_DONE: TFMSET_FONT_REFUSED, TFMSET_OUT_OF_RANGE if `size`, `left` or "
+     "`right` is out of range, TFMSET_OUT_OF_MEMORY. */",
+     lambda c: [c.call("pair", **{name: n}).code for name in ("left", "right") for n in (255, 256, 257)] == [0, 0,
+      4] * 2 and c.call("pair", size=MOST + 1).code == 4),
+    ("Codes from 0 to 255, or TFMSET_BOUNDARY: in `left` the left boundary, in `right` the right boundary. */ "
+     "uint32_t left, right; /* The action, which is {kern} or {ligature}. */",
+     None),
+    ("66,049 elements are always enough. After TFMSET_DONE `count` is the number of pairs, and the other elements of "
+     "the array are unchanged. After TFMSET_NO_ROOM `count` is the length that is needed. After every return value "
+     "except TFMSET_DONE the array is unchanged. Other return values: TFMSET_FONT_REFUSED, TFMSET_OUT_OF_RANGE if "
+     "`size` is out of range, TFMSET_OUT_OF_MEMORY. */",
+     lambda c: 66_049 == 257 * 257 and not any(c.wrote("pairs", **more) for more in ({"room": 1}, {"data":
+      b"no font"}, {"size": MOST + 1}))),
+    ("A missing character is a byte of a line that is neither a space (32) nor a character of the font. "
+     "TFMSET_REFUSE refuses the line. TFMSET_SKIP skips the byte, which is then an item of kind TFMSET_SKIPPED. */ "
+     "#define TFMSET_REFUSE",
+     lambda c: c.line(b" A").refusal == c.constants["MISSING"] and [item[0] for item in c.items(text=b" A",
+      policy=c.constants["SKIP"])] == [c.constants["SPACE"], c.constants["SKIPPED"]]),
+    ("The argument `limit` is from 1 to this number. A line that takes more steps is refused. */ #define "
+     "TFMSET_MOST_STEPS",
+     lambda c: c.codes_of("set", limit=(0, 1, c.constants["MOST_STEPS"], c.constants["MOST_STEPS"] + 1)) == [4, 0,
+      0, 4] and [c.line(b"ox", limit=limit).refusal > 0 for limit in (2, 3)] == [True, False]),
+    ("/* One of the four kinds. */ uint32_t kind; /* The code of a character or of a skipped one. Otherwise 0. */ "
+     "uint32_t code; /* The width of the item. A skipped character has width 0. */ int32_t width;",
+     None),  # test_attributes
+    ("/* The line is set. */ #define TFMSET_SET",
+     lambda c: c.line(b"o").refusal == c.constants["SET"]),
+    ("/* The line is refused: it has a missing character, and the policy is TFMSET_REFUSE. */ #define TFMSET_MISSING",
+     lambda c: [c.line(b"A", policy=policy).refusal for policy in (0, 1)] == [c.constants["MISSING"],
+      c.constants["SET"]]),
+    ("/* The line is refused: it has more than 65,535 bytes. Takes precedence over TFMSET_MISSING. */ #define "
+     "TFMSET_TOO_LONG",
+     lambda c: [c.line(b"A" * n).refusal for n in (65_535, 65_536)] == [c.constants["MISSING"],
+      c.constants["TOO_LONG"]]),
+    ("/* The line is refused: it takes more steps than the limit. */ #define TFMSET_TOO_MANY_STEPS",
+     lambda c: c.line(b"ox", limit=1).refusal == c.constants["TOO_MANY_STEPS"]),
+    ("0 if the line is refused. */ int64_t width; /* The line's items are `count` elements of the array `items`, the "
+     "first of them at index `first`. `count` is 0 if the line is refused. */ size_t first, count; /* "
+     "TFMSET_MISSING: the offset of the missing character in the line, from 0. TFMSET_TOO_LONG: the number of bytes "
+     "in the line. Otherwise 0. */ size_t place; /* TFMSET_SET: the number of steps that the line took. "
+     "TFMSET_TOO_MANY_STEPS: the limit. Otherwise 0. */ uint32_t steps; /* One of the four numbers above. */ "
+     "uint32_t refusal; /* TFMSET_MISSING: the code of the missing character. Otherwise 0. */ uint32_t code;",
+     lambda c: [c.fields(text, **more) for text, more in ((b"ox", {}), (b"oA", {}), (b"o" * 65_537, {}), (b"ox",
+      {"limit": 2}))] == [(665189, 3, 0, 3, 0), (0, 0, 1, 0, 65), (0, 0, 65_537, 0, 0), (0, 0, 0, 2, 0)]),
+    ("Counts above 2^64 - 1 are reported as 2^64 - 1. */",
+     page("Counts above 2^64 - 1 are reported as 2^64 - 1.")),
+    ("A line ends before a line feed (10); the bytes after the last line feed are one more line, if there are any. "
+     "`limit` is the step limit of each line, from 1 to TFMSET_MOST_STEPS, and `policy` is TFMSET_REFUSE or "
+     "TFMSET_SKIP.",
+     lambda c: [c.counts("set", text=text)[0] for text in (b"", b"\n", b"o", b"o\n", b"\n\no")] == [0, 1, 1, 1, 3]
+      and c.codes_of("set", policy=(0, 1, 2)) == [0, 0, 4]),
+    ("TFMSET_DONE: the first `counts->lines` elements of `lines` and the first `counts->items` elements of `items` "
+     "are the results, in order. The other elements are unchanged. A refused line doesn't make the call fail: check "
+     "the field `refusal` of each line. TFMSET_NO_ROOM: an array is too short. `counts` contains the lengths that "
+     "are needed; the contents of both arrays are unspecified. Arrays of these lengths are long enough for a call "
+     "with otherwise the same arguments. TFMSET_FONT_REFUSED: the font is refused. The arrays and `counts` are "
+     "unchanged. TFMSET_OUT_OF_RANGE: `size`, `limit` or `policy` is out of range. The arrays and `counts` are "
+     "unchanged. TFMSET_OUT_OF_MEMORY: an allocation failed. `counts` is unchanged; the contents of both arrays are "
+     "unspecified. */",
+     lambda c: [len(array.rstrip(BEFORE)) for array in c.call("set").arrays] == [48, 36] and c.call("set",
+      text=b"A").code == 0 and not any(c.wrote("set", **more) or c.call("set", **more).written for more in
+      ({"data": b"no font"}, {"size": MOST + 1}, {"limit": 0}, {"policy": 2}))),
+    ("The fields `first` and `count` of each line and both counts are those of tfmset_set, but only `lines` has to "
+     "be long enough: the number of line feeds in the text plus 1 is always enough. The return values are those of "
+     "tfmset_set. */",
+     lambda c: all(c.call("widths", text=text, room=text.count(b"\n") + 1).code == 0 and c.counts("widths",
+      text=text) == c.counts("set", text=text) for text in (b"", b"\n", b"o", b"\no")) and c.call("widths",
+      text=b"o\no", room=1).code == 3),
+    ("Neither the line `records 2`, with which the output of the program begins in record format 2, nor end lines "
+     "are written. `version` is the record format: 1, 2, or TFMSET_JSON.",
+     lambda c: c.codes_of("records", version=(0, 1, 2, c.constants["JSON"], 4)) == [4, 0, 0, 0, 4] and
+      c.records(version=2) == b"1:1 set 665189 steps 3 c111=334233 k-16384 c120=347340\n"),
+    ("After TFMSET_DONE `length` is the number of bytes that were written, and the other bytes of the array are "
+     "unchanged. After TFMSET_NO_ROOM `length` is the number of bytes that are needed. TFMSET_OUT_OF_RANGE is also "
+     "returned if `version` is out of range, or if the sum of `first` and `text_length` is 2^64 or more. Otherwise "
+     "the return values are those of tfmset_set. */",
+     lambda c: c.call("records").last.value == len(c.records()) == c.call("records", room=1).last.value and
+      c.codes_of("records", first=((1 << 64) - 3, (1 << 64) - 2)) == [0, 4]),
+    ("- A line is too long if it has more than 65,535 bytes in UTF-8.",
+     lambda c: [c.encoded_reason(text) for text in ("ß" * 32_767 + "a", "ß" * 32_768)] == ["missing", "too-long"]),
+    ("- `refused encoding OFFSET`: the line isn't UTF-8, and no character begins at the offset.",
+     lambda c: c.records("encoded_records", text=b"\xc3\x9f\xff") == b"1:1 refused encoding 2\n"),
+    ("the character at the offset has no codes, and the policy is TFMSET_REFUSE.",
+     lambda c: c.records("encoded_records", text="ß€".encode()) == b"1:1 refused uncoded 2 U+20AC\n"),
+    ("A line has the first refusal that applies: too long, not UTF-8, a character without codes, a missing "
+     "character, too many steps. A byte order mark at the front of the text is left out. TFMSET_OUT_OF_RANGE is also "
+     "returned if no encoding has this name. Otherwise the return values are those of tfmset_records. */",
+     lambda c: c.order() == ["too-long", "encoding", "uncoded", "missing", "steps"] and
+      c.records("encoded_records", text="\ufeffox".encode()) == c.records() and c.call("encoded_records",
+      encoding=b"x").code == 4))
+
+
+class Comments(LinesCase):
+    """The comments of the header"""
+
+    def setUp(self):
+        super().setUp()
+        header = read(self.prefix + "/include/tfmset.h")
+        found = re.findall(r"^#define TFMSET_(\w+) (\d+)u$", header, re.M)
+        self.constants = {name: int(number) for name, number in found}
+        self.text = " ".join(re.sub(r"^ +\*(?!/)", "", header, flags=re.M).split())
+        self.font, self.with_32 = Font(ARGUMENTS["data"]), make([(1, 0, 0, 0)], (0, 65536), params=(0, 9), first=32)
+
+    def call(self, name, **changes):
+        """The return code, whether the last argument was written to, and it and the arrays after the call."""
+        arguments, memory = [], []
+        for word in FORMS[name].split():
+            value = {**ARGUMENTS, **changes}[word]
+            memory += [ctypes.create_string_buffer(BEFORE * ROOM, ROOM)] if word == "room" else []
+            first = [memory[-1]] if word == "room" else [value] if isinstance(value, bytes) else []
+            arguments += [*first, len(value) if isinstance(value, bytes) else value]
+        kind = LAST.get(name, ctypes.c_size_t)
+        kind = getattr(self.tfmset, kind) if isinstance(kind, str) else kind
+        before = BEFORE * ctypes.sizeof(kind)
+        last = kind.from_buffer_copy(before)
+        code = getattr(self.tfmset._library, "tfmset_" + name)(*arguments, ctypes.byref(last))
+        return Call(code, bytes(last) != before, last, [array.raw for array in memory])
+
+    def codes_of(self, name, **changes):
+        """The codes of calls, one for each value of the arguments that are tuples."""
+        many = {word: value if isinstance(value, tuple) else itertools.repeat(value) for word, value in changes.items()}
+        return [self.call(name, **dict(zip(many, values))).code for values in zip(*many.values())]
+
+    def wrote(self, name, **changes):
+        return any(array != BEFORE * ROOM for array in self.call(name, **changes).arrays)
+
+    def about(self, size, font="demo"):
+        found = self.call("font", size=size, data=sample(font)).last
+        names = [name for name, _ in found._fields_]
+        return collections.namedtuple("About", names)(*(getattr(found, name) for name in names))
+
+    def size(self, text):
+        called = self.call("size", text=text)
+        return called.last.value if called.code == 0 else None
+
+    def sizes(self, texts):
+        return [self.size(text.replace("_", " ").encode()) for text in texts.split()]
+
+    def encoded(self, text, room=9):
+        last = self.call("encode", text=text, room=room).last
+        return last.count, last.offset, last.character
+
+    def encoding(self, text, name):
+        called = self.call("encode", text=text, encoding=name)
+        return called.arrays[0][:called.last.count] if called.code == 0 else None
+
+    def counts(self, name, **changes):
+        last = self.call(name, **changes).last
+        return last.lines, last.items
+
+    def line(self, text, **changes):
+        return self.tfmset._Line.from_buffer_copy(self.call("set", text=text, **changes).arrays[0])
+
+    def fields(self, text, **changes):
+        line = self.line(text, **changes)
+        return line.width, line.count, line.place, line.steps, line.code
+
+    def items(self, **changes):
+        called = self.call("set", **changes)
+        found = (self.tfmset.Item * called.last.items).from_buffer_copy(called.arrays[1])
+        return [(item.kind, item.code, item.width) for item in found]
+
+    def records(self, name="records", **changes):
+        called = self.call(name, **changes)
+        return called.arrays[0][:called.last.value]
+
+    def encoded_reason(self, text, **changes):
+        text = text if isinstance(text, bytes) else text.encode()
+        return self.records("encoded_records", text=text, **changes).split()[2].decode()
+
+    def order(self):
+        """The reasons of refusals, where a line with each one also has all that follow."""
+        parts = [b"ox", b"A", "€".encode(), b"\xff", b"o" * 65536]
+        return [self.encoded_reason(b"".join(parts[:count]), limit=1) for count in range(5, 0, -1)]
+
+    def version(self):
+        x, y, z = map(int, output(PROGRAM, "--version").split()[1].split("."))
+        return 1_000_000 * x + 1_000 * y + z
+
+    def exported(self):
+        """The names and the parameters of the exported functions."""
+        sources = "".join(read("crates/tfmset_c/src/" + name) for name in files(ROOT + "/crates/tfmset_c/src"))
+        return re.findall(r'extern "C" fn tfmset_(\w+)\((.*?)\) -> u32\n', sources, re.S)
+
+    def contracts(self):
+        """The codes that each function returns, by the clause `answers` of its contract."""
+        sources = "".join(read("crates/tfmset_c/src/" + name) for name in files(ROOT + "/crates/tfmset_c/src"))
+        words, found = {"≤": "<=", "≢": "!=", "≡": "==", "×": "and", "⊎": "or"}, {}
+        form = r'extern "C" fn tfmset_(\w+)\([^{]*?\) -> u32\s+ensures answers \{ (.*?) \}\n'
+        for name, clause in re.findall(form, sources):
+            clause, codes = "".join(words.get(character, character) for character in clause), range(len(CODES))
+            found[name] = {code for code in codes if eval(clause, {"result": code})}  # pylint: disable=eval-used
+        return found
+
+    def returned(self, name):
+        """For each code, whether a call that returns it writes to the last argument, and to an array."""
+        found = {}
+        for more in OTHERS:
+            called = self.call(name, **more)
+            written, arrays = found.get(called.code, (False, False))
+            found[called.code] = written or called.written, arrays or self.wrote(name, **more)
+        return found
+
+    # Mutants of the header: tfmset_check writes after another code; a function returns one code more, or one less.
+    def test_codes_and_what_is_written(self):
+        """The codes of each function in the header, and after which ones it writes, as it does, and as CALLING says."""
+        contracts, stated = self.contracts(), {}
+        self.same("functions", set(FORMS), set(contracts))
+        head = re.search(r"after any other code it is unchanged: (.*?) C\+\+:", self.text)[1]
+        form = r"((?:tfmset_\w+,? )+)after (each code except )?((?:TFMSET_\w+(?: and )?)+)"
+        for names, each, codes in re.findall(form, head):
+            codes = {CODES.index(code) for code in re.findall(r"TFMSET_(\w+)", codes)}
+            stated |= {name: contracts[name] - codes if each else codes for name in re.findall(r"tfmset_(\w+)", names)}
+        table = re.search(r"^\| Code \| (`tfmset_check`.*?)\n\|[-|]*\n(.*?)\n\n", read("docs/CALLING.md"), re.M | re.S)
+        columns = [re.findall(r"`(?:tfmset)?_(\w+)`", cell) for cell in table[1].split("|")[:5]]
+        lines = [line.strip("| ").split(" | ") for line in table[2].split("\n")]
+        for name in FORMS:
+            seen = self.returned(name)
+            # library_lines.c lets allocations fail, and compares the last argument.
+            self.same(f"{name}: codes", contracts[name] - {2}, set(seen))
+            self.same(f"{name}: the last argument", {code for code in seen if seen[code][0]}, stated.get(name))
+            comment = re.search(rf"/\*((?:(?!\*/).)*)\*/ (?:#define \w+ \d+u )?uint32_t tfmset_{name}\(", self.text)[1]
+            codes = {CODES.index(code) for code in re.findall(r"TFMSET_(\w+)", comment) if code in CODES}
+            more = [contracts[other] for other in re.findall(r"return values are those of tfmset_(\w+)", comment)]
+            self.same(f"{name}: its comment", contracts[name], codes.union(*more))
+            for code, (written, arrays) in seen.items():
+                (cell,) = (row[1 + next(i for i, names in enumerate(columns) if name in names)] for row in lines
+                           if str(code) in row[0].split(", "))
+                self.same(f"{name}, {code}: {cell}", (written, arrays), (
+                    bool(re.search(r"struct|the size|count|\*length", cell)),
+                    bool(re.search(r"arrays?\b|the pairs|the codes", cell)) and (arrays or code == 0)))
+
+    def numbers(self):
+        """What the braces of CLAIMS mean: numbers that the library returns, and lists of them."""
+        font, every = self.font, every_field()
+        found = {name: self.call("pair", left=ord(left), right=ord(right)).last.action
+                 for name, left, right in (("nothing", "o", "o"), ("kern", "o", "x"), ("ligature", "f", "i"))}
+        acts = [font.act(*map(ord, pair)) for pair in ("oo", "ox", "fi")]
+        self.same("actions", [None, True, False], [act and act[0] >= 128 for act in acts])
+        for code, row in listing(every).chars.items():
+            found[row[11].replace("none", "no_tag")] = self.call("metrics", data=every, code=code).last.tag
+        found["none"] = self.call("font", data=sample("no_characters")).last.right_boundary
+        rules, places, named = {}, collections.defaultdict(set), collections.defaultdict(set)
+        for message, content in font_errors():
+            fault = self.call("check", data=content).last
+            rules[fault.number] = next(rule for words, rule in RULES.items() if words in message)
+            place = next((place for words, place in PLACES.items() if re.search(words, message)), None)
+            places[place].add(fault.number)
+            self.same(f"{message}: place", True, fault.place == 0 or place is not None)
+            kinds = {"2 count": "count", "14 ": "part", "table": "table"}
+            named[next((kind for words, kind in kinds.items() if words in message), None)].add(fault.number)
+        lists = {"count": "a count: ", "table": "a table: ", "part": "a part of the instruction: "}
+        names = {"count": NAMES, "table": TABLES, "part": NAMED[14]}
+        parts = {kind: text + ", ".join(f"{number} {name}" for number, name in enumerate(names[kind]))
+                 for kind, text in lists.items()}
+        parts["part"] = parts["part"].replace("restart", "restart (an indirect start)")
+        texts = {text: text for text in PLACES.values()}
+        for key, groups, texts in (("places", places, texts), ("named", named, parts)):
+            found[key] = " ".join(f"{', '.join(map(str, sorted(groups[one])))} {text}" for one, text in texts.items())
+        return {**found, "rules": " ".join(f"{number} {rule}" for number, rule in sorted(rules.items()))}
+
+    # Mutants of the header: two numbers of `action`, `tag` or `named` are swapped; a pointer may be null; one line less is
+    # enough; a number or a constant in any other comment is another one.
+    def test_claims(self):
+        """Each sentence of the header with a number, a constant or a promise about memory is true."""
+        numbers, text = self.numbers(), self.text
+        for claim, check in CLAIMS:
+            claim = claim.format(**numbers) if re.search(r"\{\w+\}", claim) else claim
+            if text.count(claim) != 1:
+                self.wrong.append(f"the header has {text.count(claim)} times: {claim}")
+            elif check and not check(self):
+                self.wrong.append(f"isn't true: {claim}")
+            text = text.replace(claim, "".join(re.findall(r"/\*|\*/", claim)))
+        text = re.sub(r"The last argument is written to as follows; .*? C\+\+:", "", text)
+        text = re.sub(r"Functions: .*? Font:", "", text)  # library_examples compares these.
+        text = re.sub(r"UTF-8|Apache-2.0", "", text)
+        others = [sentence for comment in re.findall(r"/\*(.*?)\*/", text)
+                  for sentence in re.split(r"(?<=[.:;]) ", comment) if re.search(PROMISES, sentence)]
+        self.same("sentences that aren't compared", [], others)
+
+    # Mutant of the header: the private macros aren't undefined at its end.
+    @rows((f"{tool} {standard}", tool, language, standard) for tool, language, standard in (
+        ("cc", "c", "-std=c99"), ("cc", "c", "-std=c11"), ("c++", "c++", "-std=c++98"), ("c++", "c++", "-std=c++11")))
+    def test_macros(self, tool, language, standard):
+        """A program that includes the header gets its constants, and the macros of two standard headers."""
+        self.need(tool)
+        include, own = "#include <stddef.h>\n#include <stdint.h>\n", "#include <tfmset.h>\n"
+        command = tool, "-x", language, standard, "-dM", "-E", "-I" + self.prefix + "/include", "-"
+        before, after = (set(output(*command, given=text.encode()).splitlines()) for text in (include, include + own))
+        wanted = {f"#define TFMSET_{name} {number}u" for name, number in self.constants.items()}
+        self.same("macros", wanted | {"#define TFMSET_H"}, {line.strip() for line in after - before})
+        alone = set(output(*command, given=own.encode()).splitlines())
+        self.same("headers that it includes", after, alone)
