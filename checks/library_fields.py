@@ -278,7 +278,7 @@ RULES = {"truncated, 24": "the file is too short for the twelve counts", "out of
 PLACES = {r"bytes needed": "the number of bytes that are needed", r"character \d": "a character code",
           r"entry \d": "the index of an entry in its table, from 0; in table 9 (param) from 1",
           r"instruction \d": "the address of an instruction, from 0"}
-PROMISES = r"\d|TFMSET_[A-Z]|\bnull\b|unchanged|unspecified|undefined|\benough\b|overlap|aligned|Otherwise|\bfree"
+PROMISES = r"\d|TFMSET_[A-Z]|\bnull\b|unchanged|unspecified|undefined|\benough\b|overlap|aligned|Otherwise|\bfree|\bwrites? to|\bkeeps"
 ROOM = 8192  # bytes of each array; all of them, and of the last argument, have this value before a call
 BEFORE = b"\x55"
 Call = collections.namedtuple("Call", "code written last arrays")
@@ -300,8 +300,8 @@ def size_of(text):
 CLAIMS = (
     ("a function returns TFMSET_FONT_REFUSED for bytes that aren't an accepted font.",
      lambda c: all(c.call(name, data=b"no font").code == 1 for name in FORMS if "data" in FORMS[name])),
-    ("nothing has to be freed.",
-     page("Nothing has to be freed, opened or closed.")),
+    ("The library keeps nothing between two calls: there is no handle, and nothing has to be freed.",
+     page("Nothing has to be freed, opened or closed. The library keeps no memory and no state between two calls.")),
     ("from 1 to 134,217,727 scaled points, or 0 for the design size of the font.",
      lambda c: c.codes_of("font", size=(0, 1, MOST, MOST + 1)) == [0, 0, 0, 4] and c.about(0) ==
       c.about(c.about(0).design_size)),
@@ -317,6 +317,8 @@ CLAIMS = (
       "passed to the call. The font and the text are only read, and may overlap.")),
     ("Each pointer must be aligned as its type requires.",
      page("Each pointer is aligned for its type.")),
+    ("A function writes to no other memory of the caller.",
+     lambda c: c.call("font").code == c.call("set").code == 0),  # library_lines.c surrounds the arrays with pages
     ("A larger number, such as SIZE_MAX for an array that is known to be long enough, is undefined behaviour.",
      page("A call that breaks one has undefined behaviour.")),
     ("functions allocate memory with malloc and realloc, and free all of it before they return. tfmset_version, "
@@ -687,8 +689,8 @@ class Comments(LinesCase):
             found[key] = " ".join(f"{', '.join(map(str, sorted(groups[one])))} {text}" for one, text in texts.items())
         return {**found, "rules": " ".join(f"{number} {rule}" for number, rule in sorted(rules.items()))}
 
-    # Mutants of the header: two numbers of `action`, `tag` or `named` are swapped; a pointer may be null; one line less is
-    # enough; a number or a constant in any other comment is another one.
+    # Mutants of the header: two numbers of `action`, `tag` or `named` are swapped; a pointer may be null; one line less
+    # suffices; a number or a constant in any other comment is another one.
     def test_claims(self):
         """Each sentence of the header with a number, a constant or a promise about memory is true."""
         numbers, text = self.numbers(), self.text
