@@ -400,6 +400,19 @@ CLAIMS = (
      lambda c: c.codes_of("check", size=(0, 1, MOST, MOST + 1)) == [0, 0, 0, 4]),
     ("A parameter that the font doesn't have is 0. */",
      lambda c: c.about(0, "no_characters").quad == 0),
+    ("/* The design size, and the size that the font is read at. */ uint32_t design_size, size;",
+     lambda c: (c.about(MOST).size, c.about(MOST).design_size) == (MOST, 655_360)),
+    ("Reads a size from a text of text_length bytes, which needs no zero byte at its end.",
+     lambda c: c.sizes("12pt") == [786_432]),
+    ("/* The code of the right boundary character,",
+     lambda c: c.about(0).right_boundary == c.font.right),
+    ("The pairs are in the order of `left`, where the left boundary comes first, and then of `right`, where the right "
+     "boundary comes last.",
+     lambda c: all(c.neighbours(name) == sorted(c.neighbours(name)) for name in ("demo", "left_boundary"))),
+    ("`source` is the number of the source in each record. `first` is the number of the first line.",
+     lambda c: re.findall(rb"^\d+:\d+", c.records(source=5, first=7, text=b"o\no"), re.M) == [b"5:7", b"5:8"]),
+    ("at least four hexadecimal digits, in capitals.",
+     lambda c: c.records("encoded_records", text="€".encode()).endswith(b" U+20AC\n")),
     ("or {none} if the font has none. */ uint32_t right_boundary; /* 1 if the left boundary has a starting address "
      "in the lig/kern program, otherwise 0. */ uint32_t left_boundary; /* Parameter 1, in units of 2^-20, not "
      "scaled. */ int32_t slant; /* Parameters 2 to 7. `space` is the width of a space in a line. */",
@@ -510,8 +523,10 @@ CLAIMS = (
      lambda c: [c.encoded_reason(text) for text in ("ß" * 32_767 + "a", "ß" * 32_768)] == ["missing", "too-long"]),
     ("- `refused encoding OFFSET`: the line isn't UTF-8, and no character begins at the offset.",
      lambda c: c.records("encoded_records", text=b"\xc3\x9f\xff") == b"1:1 refused encoding 2\n"),
-    ("the character at the offset has no codes, and the policy is TFMSET_REFUSE.",
-     lambda c: c.records("encoded_records", text="ß€".encode()) == b"1:1 refused uncoded 2 U+20AC\n"),
+    ("the character at the offset has no codes, and the policy is TFMSET_REFUSE. In JSON the members are "
+     "\"refused\":\"uncoded\", \"offset\" and \"character\".",
+     lambda c: b'"refused":"uncoded","offset":2,"character":8364' in
+      c.records("encoded_records", text="ß€".encode(), version=3) and c.records("encoded_records", text="ß€".encode()) == b"1:1 refused uncoded 2 U+20AC\n"),
     ("A line has the first refusal that applies: too long, not UTF-8, a character without codes, a missing "
      "character, too many steps. A byte order mark at the front of the text is left out. TFMSET_OUT_OF_RANGE is also "
      "returned if no encoding has this name. Otherwise the return values are those of tfmset_records. */",
@@ -573,6 +588,12 @@ class Comments(LinesCase):
     def encoding(self, text, name):
         called = self.call("encode", text=text, encoding=name)
         return called.arrays[0][:called.last.count] if called.code == 0 else None
+
+    def neighbours(self, name):
+        """The pairs of a font, with -1 for the left boundary."""
+        called = self.call("pairs", data=sample(name))
+        found = (self.tfmset._Neighbours * called.last.value).from_buffer_copy(called.arrays[0])
+        return [(-1 if each.left == BOUNDARY else each.left, each.right) for each in found]
 
     def counts(self, name, **changes):
         last = self.call(name, **changes).last
