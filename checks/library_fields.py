@@ -278,7 +278,8 @@ RULES = {"truncated, 24": "the file is too short for the twelve counts", "out of
 PLACES = {r"bytes needed": "the number of bytes that are needed", r"character \d": "a character code",
           r"entry \d": "the index of an entry in its table, from 0; in table 9 (param) from 1",
           r"instruction \d": "the address of an instruction, from 0"}
-PROMISES = r"\d|TFMSET_[A-Z]|\bnull\b|unchanged|unspecified|undefined|\benough\b|overlap|aligned|Otherwise|\bfree|\bwrites? to|\bkeeps"
+PROMISES = (r"\d|TFMSET_[A-Z]|\bnull\b|unchanged|unspecified|undefined|\benough\b|overlap|aligned|Otherwise|\bfree"
+            r"|\bwrites? to|\bkeeps")
 ROOM = 8192  # bytes of each array; all of them, and of the last argument, have this value before a call
 BEFORE = b"\x55"
 Call = collections.namedtuple("Call", "code written last arrays")
@@ -526,7 +527,8 @@ CLAIMS = (
     ("the character at the offset has no codes, and the policy is TFMSET_REFUSE. In JSON the members are "
      "\"refused\":\"uncoded\", \"offset\" and \"character\".",
      lambda c: b'"refused":"uncoded","offset":2,"character":8364' in
-      c.records("encoded_records", text="ß€".encode(), version=3) and c.records("encoded_records", text="ß€".encode()) == b"1:1 refused uncoded 2 U+20AC\n"),
+      c.records("encoded_records", text="ß€".encode(), version=3) and
+      c.records("encoded_records", text="ß€".encode()) == b"1:1 refused uncoded 2 U+20AC\n"),
     ("A line has the first refusal that applies: too long, not UTF-8, a character without codes, a missing "
      "character, too many steps. A byte order mark at the front of the text is left out. TFMSET_OUT_OF_RANGE is also "
      "returned if no encoding has this name. Otherwise the return values are those of tfmset_records. */",
