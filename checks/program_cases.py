@@ -5,13 +5,14 @@ docs/ERRORS.md. An encoding vector is `vector CODE=GLYPH ..`, or `vector-crlf CO
 with CR LF. Bytes that aren't UTF-8 are `hex DIGITS`; other contents are written as they are.
 `checks/run --update` writes the files of checks/help.
 """
+import errno
 import itertools
 import os
 import re
 import unicodedata
 
 from lib.base import PROGRAM, ROOT, Case, bash, execute, read, rows, table, write
-from lib.tfm import sample
+from lib.tfm import make, sample
 
 GROUPS = ("counts list pairs check unread_fonts unread_files set stream before_a_stream each crlf encoding "
           "vectors verbose").split()
@@ -94,6 +95,29 @@ class Verbose(Case):
             wanted = "tfmset: {} lines set, {} refused: {} too-long, {} missing, {} steps\n".format(
                 len(re.findall(r"(?m)^\d+:\d+ set |\"width\":", out)), sum(counts[1:]), *counts[1:])
             self.same(command[:3], (wanted, 3000), (err, len(re.findall("(?m)^.*(?: set |refused|width)", out))))
+
+    # Mutant of `crlf_of` in verbose.rt: with --missing skip, carriage returns aren't reported.
+    @rows((command, command) for command in ("set", "each", "stream", "stream <"))
+    def test_carriage_returns(self, command):
+        """Lines that end with a carriage return are counted whatever the other options are, except with --crlf."""
+        command, stdin, _ = (*command.split(), "", "")[:3]
+        font, text = self.file("font", content("@plain")), b"ab\r\nabc\n\r\na\rb\nad\r\r\n" * 3
+        words = [font, *["9"] * (command == "each"), *[self.file("text", text)] * (not stdin)]
+        vector = self.file("v.enc", content("vector 97=a 98=b"))
+        options = [["--missing", "skip"], ["--missing", "refuse"], ["--size", "5pt"], ["--workers", "5"],
+                   ["--block", "2"], ["--capacity", "1"], ["--crlf"],
+                   *(["--record", form] for form in ("1", "2", "json")),
+                   *(["--encoding", name] for name in ("bytes", "ot1", "t1", "ly1", "latin1", vector)),
+                   *([["--limit", "2"]] * (command != "each"))]
+        chosen = [[], *([one] for one in options), *([one, two] for one, two in itertools.combinations(options, 2)
+                                                    if one[0] != two[0])]
+        returns = "tfmset: 9 lines end with a carriage return: see --crlf\n"
+        for several in chosen:
+            status, out, err = run([command, "-v", *itertools.chain(*several), *words], text)
+            done, refused = (len(re.findall(form, out)) for form in (r"(?m)^\d+:\d+ set |\"width\":", r"\brefused\b"))
+            self.same((several, "lines"), (15, int(refused > 0)), (done + refused, status))
+            wanted = f"{returns * (['--crlf'] not in several)}tfmset: {done} lines set, {refused} refused"
+            self.same((several, "errors"), (wanted, wanted.count("\n") + 1), (err[:len(wanted)], err.count("\n")))
 
     def test_permission_denied(self):
         """The cause is printed for a font, an encoding vector and a file that may not be read."""
@@ -186,7 +210,8 @@ class CarriageReturns(Case):
         self.same("stream", found, run(["stream", *options, font], text)[1])
         return found
 
-    # Mutants of line_endings: a carriage return at the end of a read is lost, given twice, or given too early.
+    # The prover rejects a `CrlfReader` that loses a carriage return, or returns it twice or too early (clause `bytes` of
+    # `read`). This test shows that the program reads its files and pipes, which no contract knows, with such a reader.
     @rows((f"{size} bytes a line", size) for size in (1, 2, 62, 63, 64, 126, 1022, 1023, 1024, 2047, 4094, 4095))
     def test_ends_of_reads(self, size):
         """Lines of a size give the same records with CR LF as with LF, wherever a read of 4,096 bytes ends."""
@@ -225,8 +250,8 @@ class Encoded(Case):
         wanted = ["1:1 refused too-long 65537", "1 end complete 1"]
         self.same("with a mark", wanted, self.seen(mark + sharp * most))
 
-    # Mutants: a line is taken for the first one of its source if it is the first of its block; the offset of
-    # a block is added to that of a line.
+    # The prover rejects a `RecordMaker` that takes another line for the first one of its source, or states another offset
+    # (clauses `appended`). This test shows the same of files and pipes, whose lines no contract knows, with each block.
     @rows((f"--block {block} --workers {workers}", block, workers) for block in (None, "1", "8") for workers in "13")
     def test_many_lines(self, block, workers):
         """A mark at the front of any line but the first one is an uncoded character, in any block."""
@@ -289,7 +314,8 @@ class ManyFiles(Case):
         in_order = "".join(sorted(lines, key=lambda line: int(line.replace(":", " ").split()[0])))
         self.same("stream", by_set, (by_stream[0], in_order, by_stream[2]))
 
-    # Mutant of tfm_tool: the error of an encoding vector comes before that of the number of files.
+    # The prover rejects an error of an encoding vector before that of the number of files (clause `refused` of
+    # `encode_request`). This test shows the message and the exit status of the program.
     @rows((" ".join(["65 files", *options]), options) for options in ([], ["--encoding", "no.enc"]))
     def test_too_many(self, options):
         """65 files are too many, also if an encoding vector isn't read."""
@@ -301,7 +327,9 @@ class ManyFiles(Case):
 class Numbers(Case):
     """The number of a font or a file in a message"""
 
-    # Mutants of request_files: each number is 1; or at most 9; or too small by one if it is above 9.
+    # Mutants of `all_terms` in request_files, for a font that isn't read: each number is 1; or at most 9; or too small by
+    # one if it is above 9. For files, and for fonts that are refused, the prover rejects these (clauses `number` of
+    # `open_each` and `cause` of `all_terms`); the test shows that the messages of real files have the same numbers.
     @rows((f"number {number}", number) for number in (1, 2, 9, 64))
     def test_number(self, number):
         """One of 64 fonts or files isn't there, or is refused."""
@@ -346,7 +374,7 @@ class Names(Case):
         for other in similar - {name, ""}:
             self.file(other, content("@plain"))
         font, text = self.file("usual.tfm", content("@ligature_0")), self.file("usual.txt", "ab\n")
-        shown = "".join(chr(c) if 31 < c < 127 and c != 92 else f"\\x{c:02x}" for c in name.encode())
+        told = shown(name)
         lines = "1:1 set 491520 c99=491520\n1 end complete 1\n"
         calls = [(text, [command, "--", font, name], lines, "file 1") for command in ("set", "stream")]
         calls += [(font, ["each", "--", name, "9", text], lines, "font 1"),
@@ -354,25 +382,120 @@ class Names(Case):
         if name != "-":
             calls += [(font, [command, "--", name, text], lines, "font") for command in ("set", "stream")]
             calls += [(font, ["list", "--", name], run(["list", font])[1], "font"),
-                      (font, ["check", "--", name], shown + ": accepted\n", "some font was")]
+                      (font, ["check", "--", name], told + ": accepted\n", "some font was")]
         for source, args, out, what in calls:
             path = self.file(name, read(source, "rb"))
             self.same(args, (0, out, ""), run(args, b"", self.room))
             os.remove(path)
-            out = shown + ": not read\n" if args[0] == "check" else ""
+            out = told + ": not read\n" if args[0] == "check" else ""
             wanted = (4, out, f"tfmset: {what} not read\n")
             self.same((args, "isn't there"), wanted, run(args, b"", self.room))
             # Mutants of watched.rt in tfm_tool: the name in a cause is trimmed, or cut; the hint is for each name that begins
             # with a dash, or only for files with lines.
             hint = "tfmset: -: this is the name of a file; /dev/stdin is standard input\n" * (name == "-")
-            causes = f"tfmset: {shown}: No such file or directory (os error 2)\n{hint}"
+            causes = f"tfmset: {told}: No such file or directory (os error 2)\n{hint}"
             self.same((args, "-v"), (*wanted[:2], causes + wanted[2]), run([args[0], "-v", *args[1:]], b"", self.room))
+
+
+def shown(name):
+    """A name as messages show it."""
+    return "".join(chr(c) if 31 < c < 127 and c != 92 else f"\\x{c:02x}" for c in name.encode())
+
+
+# The names x, y and xy; with each ASCII character and some others in front of them, after and within them; and names of
+# each length.
+CHARACTERS = [chr(code) for code in range(1, 128) if code != 47] + [*"\x80éÿŁ€\u2028\ufeff\ufffd𝄞"]
+NAMES = [*dict.fromkeys(["x", "y", "xy", *(form.replace("C", character) for character in CHARACTERS
+                                           for form in ("Cx", "xC", "xCy", "xCCy"))]),
+         *("n" * length for length in range(3, 256)), *("é" * length + "n" for length in range(100, 128))]
+LONG = ["n" * length for length in (256, 257, 258, 300, 511, 512, 1000, 4000, 4095, 4096, 5000, 65536, 131000)]
+
+
+class ManyNames(Case):
+    """Names with each character, and of each length
+
+    Mutants of `Disk::open` and `font_file` in request_files: a name is cut at a number sign, or its font isn't read
+    if it has a colon. Mutant of `opened`: a component of more than 255 bytes is reported as `out of memory`.
+    """
+
+    def setUp(self):
+        super().setUp()
+        self.file("f.ont", content("@plain"))
+        self.file("t.ext", b"a")
+
+    def files(self, contents):
+        """Writes a file of each name, from its number."""
+        for number, name in enumerate(NAMES):
+            self.file("./" + name, contents(number))
+
+    @rows((command, command) for command in ("set", "each", "stream"))
+    def test_lines(self, command):
+        """The lines of each file are those of its name: a file has as many letters as its number."""
+        self.files(lambda number: b"a" * number)
+        for at in range(0, len(NAMES), 64):
+            names = NAMES[at:at + 64]
+            words = [word for name in names for word in (["f.ont", "9999", name] if command == "each" else [name])]
+            status, out, err = run([command, "--", *["f.ont"] * (command != "each"), *words], b"", self.room)
+            widths = {int(line.split(":")[0]): int(line.split()[2]) for line in out.splitlines() if " set " in line}
+            wanted = {place: 327680 * (at + place - 1) for place in range(1, len(names) + 1) if at + place > 1}
+            self.same(at, (0, "", wanted), (status, err, widths))
+
+    def test_fonts_of_each(self):
+        """The font of each file is the one of its name: a font has the width of its number."""
+        self.files(lambda number: make([(1, 0, 0, 0)], [0, number + 1 << 4]))
+        for at in range(0, len(NAMES), 64):
+            names = NAMES[at:at + 64]
+            words = [word for name in names for word in (name, "9", "t.ext")]
+            wanted = "".join(f"{place}:1 set {10 * number} c97={10 * number}\n{place} end complete 1\n"
+                             for place, number in enumerate(range(at + 1, at + len(names) + 1), 1))
+            self.same(at, (0, wanted, ""), run(["each", "--", *words], b"", self.room))
+
+    def test_fonts(self):
+        """Each font is the one of its name: a font is too short by the number of words of its number."""
+        self.files(lambda number: make(header=bytes(4 * number))[:-1])
+        errors = [f"refused: 8 truncated, {48 + 4 * number} bytes needed\n" for number in range(len(NAMES))]
+        wanted = "".join(f"{shown(name)}: {error}" for name, error in zip(NAMES, errors))
+        self.same("check", (1, wanted, ""), run(["check", "--", *NAMES], b"", self.room))
+        for turn, (name, error) in enumerate(zip(NAMES, errors)):
+            args = (["counts", "--", name], ["list", "--", name], ["pairs", "--", name], ["set", "--", name, "t.ext"],
+                    ["stream", "--", name])[turn % 5]
+            self.same(args, (3, "", f"tfmset: font {error}"), run(args, b"", self.room))
+
+    def test_vectors(self):
+        """Each vector is the one of its name: a file that isn't one has as many line feeds as its number."""
+        self.files(lambda number: b"\n" * number)
+        for number, name in enumerate(NAMES):
+            args = [("pairs", "set", "each", "stream")[number % 4], "--encoding", "./" + name, "f.ont"]
+            args += {"set": ["t.ext"], "each": ["9", "t.ext"]}.get(args[0], [])
+            self.same(args, (3, "", f"tfmset: encoding refused: line {number + 1}\n"), run(args, b"", self.room))
+
+    def test_absent(self):
+        """The cause is printed for each name that isn't there, and for each that is too long."""
+        causes, out = "", ""
+        for name in NAMES + LONG:
+            error = errno.ENAMETOOLONG if name in LONG else errno.ENOENT
+            causes += f"tfmset: {shown(name)}: {os.strerror(error)} (os error {error})\n"
+            out += f"{shown(name)}: not read\n"
+        wanted = (4, out + "f.ont: accepted\n", causes + "tfmset: some font was not read\n")
+        self.same("check", wanted, run(["check", "-v", "--", *NAMES, *LONG, "f.ont"], b"", self.room))
+
+    @rows((f"{len(name)} bytes", name) for name in LONG)
+    def test_too_long(self, name):
+        """Each command reports a name that is too long as a file that isn't read."""
+        for args, what in ((["counts", name], "font"), (["list", name], "font"), (["pairs", name], "font"),
+                           (["set", name, "t.ext"], "font"), (["stream", name], "font"),
+                           (["each", name, "9", "t.ext"], "font 1"), (["set", "f.ont", "t.ext", name], "file 2"),
+                           (["stream", "f.ont", name], "file 1"), (["each", "f.ont", "9", name], "file 1"),
+                           (["set", "--encoding", name + ".", "f.ont", "t.ext"], "encoding"),
+                           (["pairs", "--encoding", "./" + name, "f.ont"], "encoding")):
+            self.same(args[0], (4, "", f"tfmset: {what} not read\n"), run(args, b"", self.room))
 
 
 class FullDevices(Case):
     """Output that can't be written"""
 
-    # Mutant of `set_sources`: a failed write is reported as a file that isn't read to its end.
+    # The prover rejects a failed write that is reported as a file that isn't read to its end (clause `text` of
+    # `set_sources`). This test shows the exit status for a device of the system, whose writes no contract knows.
     @rows((f"{words} {to}", words, to) for to in ("> /dev/full", ">&-") for words in (
         "set T Q", "set T .", "stream T F .", "each T 9 . T 9 F", "check R", "check no T", "list T"))
     def test_output(self, words, to):
@@ -430,6 +553,44 @@ class Help(Case):
         for args in table("program/usage_errors")["arguments"]:
             status, out, err = run(args, content("@no_characters"))
             self.same(args, (2, "", True), (status, out, bool(err)))
+
+
+# Some arguments of the table of usage errors, and the word of each that may have any length.
+WORDS = (("set --size x - a", "x"), ("stream --missing other -", "other"), ("stream --record 3 -", "3"),
+         ("pairs --format xml -", "xml"), ("pairs --encoding utf8 -", "utf8"), ("set --encoding utf8 - a", "utf8"),
+         ("set --size 0pt - a", "0pt"), ("help none", "none"), ("measure", "measure"), ("list --foo -", "foo"))
+
+
+class Invalid(Case):
+    """Invalid arguments of each length, and with each character"""
+
+    # Mutant of `wrong_encoding` in command_line: a value of more than 8 bytes is told as a missing one.
+    @rows((args, args, word) for args, word in WORDS)
+    def test_length(self, args, word):
+        """The message of a longer word is the one in the table, with this word."""
+        known = read("checks/help/usage_errors.txt").partition(f"$ tfmset {args}\n")[2].partition("exit status 2\n")[0]
+        self.none([] if word in known else [f"no message with {word}"])
+        for length in [*range(1, 80), *range(80, 4000, 97), 65536]:
+            other = ("qz" * length)[:length] if length % 2 else "é" * (length // 2)
+            given = [re.sub(f"^(-*){word}$", rf"\1{other}", one) for one in args.split()]
+            wanted = re.sub(f"'(-*){word}'", rf"'\1{other}'", known)
+            self.same((args, length), (2, "", wanted), run(given))
+
+    # Mutant of `is_negative` in usage_text.rt: a number that begins with -2 isn't a negative number.
+    @rows((command, command) for command in COMMANDS)
+    def test_each_dash(self, command):
+        """The tips for a dash and each character: a digit, a period or a comma begins a negative number."""
+        usage = re.search("^Usage: .*$", read(f"checks/help/{command}.txt"), re.M)[0]
+        tips = (f"  tip: 'tfmset {command} --help' lists the options of this command\n"
+                "  tip: write './' before the name of a file that begins with '-'\n")
+        negative = "  tip: no option takes a negative number; a size is a number with a unit, such as 12pt\n"
+        for character in [chr(code) for code in range(32, 127) if chr(code) not in "-hv"] + [*"é€𝄞"]:
+            tip = negative if character in "0123456789.," else tips
+            wanted = (f"error: unexpected argument '-{character}' found\n\n{tip}\n{usage}\n\n"
+                      "For more information, try '--help'.\n")
+            for args in (["-" + character, "a"], ["a", f"-{character}{character}"],
+                         *([["--size", f"-{character}5pt", "a"]] * (command != "counts"))):
+                self.same((command, args), (2, "", wanted), run([command, *args]))
 
 
 class Expectations(Case):

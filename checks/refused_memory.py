@@ -256,6 +256,17 @@ class Failures(Case):
                 got = run(command, "telling", 1, True, errno.EIO)
                 self.same("standard error", None, fault_of(command, got, "telling", True, errno.EIO))
 
+    # Mutant of `Disk::open` in request_files: each file is opened twice, so that the writer of a named pipe is lost.
+    @rows((command.name, command) for command in COMMANDS if command.fonts)
+    def test_openings(self, command):
+        """Each file is opened once: the encoding vector, then the fonts, and then the files with lines."""
+        files = [name for name in command.fonts + command.sources if name in command.words]
+        for verbose in ([], ["-v"]):
+            watched = Command(command.name.removeprefix("tfmset ").partition(" < ")[0], command.status, command.given)
+            watched.words[1:1] = verbose
+            opened = [run(watched, "open", number, False, errno.EIO).told for number in range(1, len(files) + 2)]
+            self.same(verbose, [*([name] for name in files), []], opened)
+
     # Mutant of `WatchedWriter` in tfm_tool: the error of an interrupted write is noted.
     @rows((words, words) for words in ("list -v font.tfm", "set -v font.tfm b", "stream -v font.tfm b"))
     def test_interrupted(self, words):
@@ -288,7 +299,8 @@ class Failures(Case):
             untouched += not got.told
             self.none([f"number {number}: {line!r}" for line in got.err.splitlines(True) if line not in known])
 
-    # Mutant of `set_sources`: a failed write is reported as a file that isn't read to its end.
+    # The prover rejects a failed write that is reported as a file that isn't read to its end (clause `text` of
+    # `set_sources`). This test shows the exit status of the program if an allocation fails, too.
     @rows((command.name, command) for command in COMMANDS if command.sources and command.status < 4)
     def test_full_device(self, command):
         """An allocation fails, and no output can be written: the exit status is 5, with one message."""
