@@ -274,18 +274,23 @@ class Fonts(Case):
             self.same((command, size), (0, out, err), run(*words, "--size", f"{size}{unit}", room=self.room))
 
     @rows((" ".join(options), form, options) for form, *options in (
-        ("{} {} kern {}", "--format", "text"), ("{},{},kern,{}", "--format", "csv"),
-        ('{{"left":{},"right":{},"action":"kern","value":{}}}', "--format", "json")))
+        ("{0} {1} kern {2}", "--format", "text"), ("{0},{1},kern,{2}", "--format", "csv"),
+        ('{{"left":{0},"right":{1},"action":"kern","value":{2}}}', "--format", "json"),
+        ("{0} {1} kern {2} {3} {4}", "--encoding", "latin1")))
     def test_pairs(self, form, options):
         """Numbers of pairs, up to that of each two codes."""
         fix = (1 << 20) // 10
-        kern = str(scaled(fix, TEN_POINTS))
+        kern = scaled(fix, TEN_POINTS)
+        # Characters as docs/TEXTS.md describes them: not a control character, a space or a soft hyphen itself.
+        letters = [f"U+{code:04X}" if code < 33 or 126 < code < 161 or code == 173 else chr(code)
+                   for code in range(256)]
         for count in steps(256, 1):
             program = [(0, code, 128, 0) for code in range(count - 1)] + [(128, count - 1, 128, 0)]
             infos = [(1, 0, 1, 0)] * count + [(1, 0, 0, 0)] * (256 - count)
             font = self.file("font", make(infos, [0, 1 << 20], program, [fix], first=0))
             lines = ["left,right,action,value"] * ("csv" in options)
-            lines += [form.format(left, right, kern) for left in range(count) for right in range(count)]
+            lines += [form.format(left, right, kern, letters[left], letters[right])
+                      for left in range(count) for right in range(count)]
             status, out, err = run("pairs", *options, font)
             self.same(count, (0, "", True), (status, err, out == "".join(line + "\n" for line in lines)))
 
