@@ -15,7 +15,6 @@ import time
 
 from lib import refuse
 from lib.base import DEMO, PROGRAM, ROOT, Case, output, rows, shared, write
-from lib.clib import LibraryCase
 from lib.tfm import make, path_of
 from stream_pipe import PIECE
 
@@ -23,7 +22,6 @@ WEIGHT = 6
 SECONDS = 50  # for one execution
 TIMES = 3  # executions, of which the fastest counts
 MB = 1 << 20
-MOST_SPACE = 84 * MB  # of lib/stack.c, whose arrays take 62 MB
 WORDS = b"the office five after all of it affable flow in " * 1400
 LONG_PROGRAM = {"program": [(0, 0, 128, 0)] * 30000 + [(128, 0, 128, 0)], "kerns": [9], "widths": [0, 1 << 20], "first": 0}
 FONTS = {"one program for all": make([(1, 0, 1, code % 2) for code in range(256)], **LONG_PROGRAM),
@@ -186,84 +184,6 @@ class Instructions(Case):
         self.assertLess(self.taken("Ж", 255), 1.2 * self.taken("Ж", 1))
         for single, other in ("äЖ", "–⁓"):
             self.assertLess(self.taken(single, 255), 0.7 * self.taken(other, 255))
-
-
-class LibraryTimes(LibraryCase):
-    """Processor time of the library"""
-
-    def time(self, name, given):
-        """The processor time of a call of a font, with a text, the least of several."""
-        code = ("import sys, time, tfmset; font, text = (open(path, 'rb').read() for path in sys.argv[1:]);"
-                f"begin = time.process_time(); tfmset.Font(font).{name};"
-                "print(time.process_time() - begin)")
-        command = named([sys.executable, "-B", "-c", code, DEMO, given])
-        return min(float(self.output(*command)) for _ in range(TIMES))
-
-    @rows((call, call) for call in ("widths(text)", "records(text)", "records(text.decode(), encoding='t1')"))
-    def test_call(self, call):
-        """A call takes less than 12 times the time of the plain program. Mutants: a table, or the texts of records, for each
-        line."""
-        for given in ("2 MB", "short", "long"):
-            took, little = self.time(call, given), seconds(["plain", given])
-            print(f"{call}, {given}: {took:.3f} s, {took / little:.1f} times {little:.3f} s")
-            self.assertLess(took, 12 * little)
-        self.assertLess(self.time(call, "20 MB"), 30 * self.time(call, "2 MB"))
-
-    def test_refusals(self):
-        """The places of refused lines of a str. Mutant: the text is cut into its lines for each refusal."""
-        call = "widths(('ä\\n' * {0}), encoding='t1')"
-        many, few = (self.time(call.format(count), "aa") for count in (20000, 2000))
-        print(f"{many:.3f} s, {many / few:.1f} times {few:.3f} s")
-        self.assertLess(many, 30 * few)
-
-
-# The most instructions of functions of the library: for a byte of a text of 100 KB, for which they take about 105,
-# 28, 38, 279 and 126; of `widths` for a byte of a shorter text, about 88; and for a call with the font DEMO and 20 lines of two
-# bytes. Reading this font takes about 25,000, and 88,000 with the table of its pairs.
-BYTES = (("set", 150), ("widths", 40), ("records", 55), ("encoded_records", 400), ("encode", 180))
-SHORT = 130
-CALLS = (("check", 38000), ("font", 38000), ("metrics", 38000), ("pair", 130000), ("pairs", 155000), ("set", 140000),
-         ("widths", 140000), ("records", 155000), ("encoded_records", 190000))
-
-
-class LibraryInstructions(LibraryCase):
-    """Instructions of the library, if valgrind is installed"""
-
-    def setUp(self):
-        super().setUp()
-        self.need("cc", "valgrind")
-        self.program = self.built("checks/lib/stack.c", "cc", "-std=gnu99", "-pthread", link=[self.lib + "/libtfmset.a"])
-
-    def more(self, most, *calls):
-        """The second one of two calls takes less than `most` instructions more than the first one."""
-        few, many = (instructions([self.program, DEMO, *call]) for call in calls)
-        print(f"{many - few} instructions; less than {most} are right")
-        self.assertLess(many - few, most)
-
-    # Mutants of tfmset_c: each line is set twice; the text is encoded twice; a line is cut again for each function.
-    @rows((name, name, most) for name, most in BYTES)
-    def test_text(self, name, most):
-        """One byte more of the text takes few instructions."""
-        self.more(most * 100000, ("100 KB", name), ("200 KB", name))
-
-    # Mutant of `put_width` in tfmset_c: each line is set twice.
-    def test_short_text(self):
-        """One byte more of a text for which no table is made takes few instructions."""
-        self.more(SHORT * 30000, ("30 KB", "widths"), ("60 KB", "widths"))
-
-    # Mutants of tfmset_c: a font is read twice; the pairs are found twice.
-    @rows((name, name, most) for name, most in CALLS)
-    def test_font(self, name, most):
-        """A call for a font and a short text takes few instructions."""
-        self.more(most, ("aa of 20", "version"), ("aa of 20", name))
-
-    # Mutant of `write_records` in tfmset_c: a list as long as the array of the caller is requested.
-    def test_address_space(self):
-        """Each function succeeds in little more address space than its arrays take."""
-        command = named([self.program, DEMO, "100 KB"])
-        ran = subprocess.run(command, preexec_fn=limited(resource.RLIMIT_AS, MOST_SPACE), check=True, encoding="utf-8",
-                             env={**os.environ, "MALLOC_ARENA_MAX": "1"}, stdout=subprocess.PIPE)
-        self.same("codes", {"0"}, {line.split()[1] for line in ran.stdout.splitlines()})
 
 
 class Latency(Case):
