@@ -1,9 +1,10 @@
-/* Prints for each function of the library how many bytes of stack a thread used that called it once.
+/* Prints for each function of the library how many bytes of stack a thread used that called it: at two sizes, and with each
+ * encoding and record format.
  *
- * usage: stack FONT TEXT [FUNCTION]   two files; if a function is named, without tfmset_, it is only called
+ * usage: stack FONT TEXT   two files
  *
- * The stack is filled with a pattern before the call, and the bytes that have changed are counted: those of the call, and
- * those that the thread itself needs, about 4,600. Each line is `NAME CODE BYTES`, with the return code. */
+ * The stack is filled with a pattern before the calls, and the bytes that have changed are counted: those of the calls, and
+ * those that the thread itself needs, about 4,600. Each line is `NAME CODE BYTES`, with the largest return code. */
 #include <pthread.h>
 #include <stdio.h>
 #include <stdlib.h>
@@ -13,11 +14,12 @@
 
 enum { ROOM = 1 << 20, LINES = 1 << 16, PATTERN = 0xA5, STACK = 1 << 20 };
 
-#define FONT font, font_length, 0
+#define FONT font, font_length, at.size
 #define SETTINGS 1048576, TFMSET_SKIP
-#define NAME (const uint8_t *)"t1", 2
+#define NAME (const uint8_t *)encodings[at.encoding], strlen(encodings[at.encoding])
 
 static uint8_t font[131068], text[ROOM], bytes[32 * ROOM];
+static const char *const encodings[] = {"t1", "bytes", "ot1", "ly1", "latin1"};
 static size_t font_length, text_length;
 static struct tfmset_line lines[LINES];
 static struct tfmset_item items[2 * ROOM];
@@ -33,10 +35,31 @@ static struct {
     uint32_t size, code;
 } out;
 
-#define CALL(name, arguments) static void *call_##name(void *given) { (void)given; out.code = arguments; return NULL; }
+/* What a call has: the index of its encoding, its record format, and its size in sp. */
+struct settings {
+    uint32_t encoding, version, size;
+};
+
+/* A function that makes a call with so many encodings and record formats, at two sizes. */
+#define CALLS(name, names, versions, arguments) \
+    static void *call_##name(void *given) \
+    { \
+        struct settings at; \
+        uint32_t most = 0; \
+        (void)given; \
+        for (at.encoding = 0; at.encoding < names; at.encoding++) \
+            for (at.version = 1; at.version <= versions; at.version++) \
+                for (at.size = 0; at.size <= 786432; at.size += 786432) { \
+                    uint32_t code = arguments; \
+                    most = code > most ? code : most; \
+                } \
+        out.code = most; \
+        return NULL; \
+    }
+#define CALL(name, arguments) CALLS(name, 1, 1, arguments)
 CALL(version, (tfmset_version() == TFMSET_VERSION ? TFMSET_DONE : TFMSET_OUT_OF_RANGE))
 CALL(size, tfmset_size((const uint8_t *)"10.95pt", 7, &out.size))
-CALL(encode, tfmset_encode(NAME, text, text_length, bytes, sizeof bytes, &out.encoded))
+CALLS(encode, 5, 1, tfmset_encode(NAME, text, text_length, bytes, sizeof bytes, &out.encoded))
 CALL(check, tfmset_check(FONT, &out.fault))
 CALL(font, tfmset_font(FONT, &out.about))
 CALL(metrics, tfmset_metrics(FONT, 97, &out.metrics))
@@ -44,9 +67,10 @@ CALL(pair, tfmset_pair(FONT, 97, 98, &out.pair))
 CALL(pairs, tfmset_pairs(FONT, pairs, 66049, &out.length))
 CALL(set, tfmset_set(FONT, SETTINGS, text, text_length, lines, LINES, items, 2 * ROOM, &out.counts))
 CALL(widths, tfmset_widths(FONT, SETTINGS, text, text_length, lines, LINES, &out.counts))
-CALL(records, tfmset_records(FONT, SETTINGS, text, text_length, 2, 1, 1, bytes, sizeof bytes, &out.length))
-CALL(encoded_records, tfmset_encoded_records(FONT, SETTINGS, NAME, text, text_length, TFMSET_JSON, 1, 1, bytes,
-                                             sizeof bytes, &out.length))
+CALLS(records, 1, 3, tfmset_records(FONT, SETTINGS, text, text_length, at.version, 1, 1, bytes, sizeof bytes,
+                                    &out.length))
+CALLS(encoded_records, 5, 3, tfmset_encoded_records(FONT, SETTINGS, NAME, text, text_length, at.version, 1, 1, bytes,
+                                                    sizeof bytes, &out.length))
 
 static size_t length_of(const char *name, uint8_t *content, size_t room)
 {
@@ -78,11 +102,7 @@ static void measure(const char *name, void *(*call)(void *))
     munmap(stack, STACK);
 }
 
-#define MEASURE(name) \
-    if (count < 4) \
-        measure(#name, call_##name); \
-    else if (strcmp(arguments[3], #name) == 0) \
-        call_##name(NULL)
+#define MEASURE(name) measure(#name, call_##name)
 
 int main(int count, char **arguments)
 {
