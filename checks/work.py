@@ -10,7 +10,6 @@ import re
 import resource
 import socket
 import subprocess
-import sys
 import time
 
 from lib import refuse

@@ -2,10 +2,10 @@
  *
  * usage: library_work < CALLS   a line for each call: FUNCTION SIZE LIMIT POLICY ENCODING VERSION ROOM FONT TEXT
  *
- * FUNCTION is written without tfmset_, FONT and TEXT are files, ENCODING is a name, and the others are numbers. If ROOM is 0,
- * the arrays of the call have no element. Prints a line for each call: its return code, the number of its requests for
- * memory, the largest number of bytes that it had at one time, and the number of blocks that it didn't free. The program is
- * linked with --wrap for malloc, realloc and free. callgrind counts the instructions of each call of `measured`. */
+ * FUNCTION is written without tfmset_, FONT and TEXT are files, ENCODING is a name, and the others are numbers. If ROOM
+ * is 0, the arrays of the call have no element. Prints a line for each call: its return code, the number of its requests
+ * for memory, the largest number of bytes that it had at one time, and the number of blocks that it didn't free. The
+ * program is linked with --wrap for malloc, realloc and free. callgrind counts the instructions of `measured`. */
 #include <malloc.h>
 #include <stdio.h>
 #include <stdlib.h>

@@ -1,10 +1,10 @@
-/* Prints for each function of the library how many bytes of stack a thread used that called it: at two sizes, and with each
- * encoding and record format.
+/* Prints for each function of the library how many bytes of stack a thread used that called it: at two sizes, and
+ * with each encoding and record format.
  *
  * usage: stack FONT TEXT   two files
  *
- * The stack is filled with a pattern before the calls, and the bytes that have changed are counted: those of the calls, and
- * those that the thread itself needs, about 4,600. Each line is `NAME CODE BYTES`, with the largest return code. */
+ * The stack is filled with a pattern before the calls, and the bytes that have changed are counted: those of the calls,
+ * and those that the thread itself needs, about 4,600. Each line is `NAME CODE BYTES`, with the largest return code. */
 #include <pthread.h>
 #include <stdio.h>
 #include <stdlib.h>
