@@ -5,11 +5,16 @@ record, is proved. The bounds of time are ratios of processor times in one execu
 room for a busy machine. lib/plain.c only prints for each byte a text that was made before. Reads and requests
 are counted exactly: lib/refuse.c is preloaded, and makes the one with a number fail, if there are so many.
 """
+import contextlib
+import fcntl
+import itertools
 import os
 import re
 import resource
+import select
 import socket
 import subprocess
+import threading
 import time
 
 from lib import refuse
@@ -22,9 +27,40 @@ SECONDS = 50  # for one execution
 TIMES = 3  # executions, of which the fastest counts
 MB = 1 << 20
 WORDS = b"the office five after all of it affable flow in " * 1400
-LONG_PROGRAM = {"program": [(0, 0, 128, 0)] * 30000 + [(128, 0, 128, 0)], "kerns": [9], "widths": [0, 1 << 20], "first": 0}
+LONG_PROGRAM = {"program": [(0, 0, 128, 0)] * 30000 + [(128, 0, 128, 0)], "kerns": [9], "widths": [0, 1 << 20],
+                "first": 0}
+# Indirect starts, with a skip above 128, of programs at these addresses.
+PLACES = (100, 255, 256, 300, 1000, 5000, 15000, 25000)
+PLACED = {**LONG_PROGRAM,
+          "program": [(200, 0, place // 256, place % 256) for place in PLACES] + LONG_PROGRAM["program"]}
+
+
+def many_steps(count):
+    """A font like those in T1: five ligatures with the codes 27 to 31, and so many kerns after each of 95
+    characters, whose programs have indirect starts."""
+    ligatures = {102: [(0, 102, 0, 27), (0, 105, 0, 28), (0, 108, 0, 29)], 27: [(0, 105, 0, 30), (0, 108, 0, 31)]}
+    codes, chains, starts = [27, *range(33, 127)], [], []
+    for code in codes:
+        starts.append(len(codes) + len(chains))
+        chains += ligatures.get(code, [])
+        chains += [(128 * (kern == count - 1), 33 + (code + kern) % 222, 128, (code + kern) % 40)
+                   for kern in range(count)]
+    infos = [(1, 0, code in codes, codes.index(code) if code in codes else 0) for code in range(256)]
+    return make(infos, (0, 1 << 20), [(200, 0, start // 256, start % 256) for start in starts] + chains,
+                [16 * number for number in range(1, 41)], (0, 1 << 18), first=0)
+
+
 FONTS = {"one program for all": make([(1, 0, 1, code % 2) for code in range(256)], **LONG_PROGRAM),
          "one program for one": make([(1, 0, 1, 0)] + [(1, 0, 0, 0)] * 255, **LONG_PROGRAM),
+         # Each program begins for one character, or for 32 of them.
+         **{f"{each} for each place": make([(1, 0, code < 8 * each, code % 8) for code in range(256)], **PLACED)
+            for each in (1, 32)},
+         **{f"{100 + 95 * count} steps": many_steps(count) for count in (4, 30, 300)},
+         # A ligature with each other code after a: 98 becomes 99, and so on.
+         "ligatures": make([(1, 0, code == 97, 0) for code in range(256)], (0, 1 << 20),
+                           [(128 * (code == 254), code, 0, code + 1) for code in range(255)
+                            if code not in (9, 10, 31, 32)],
+                           (9,), (0, 1 << 18), first=0),
          "same widths": make([(1, 0, 0, 0)] * 256, (0, 1 << 20), params=(0, 1 << 18), first=0),
          # Each code has a kern before each of 126 codes, so that 15,876 texts differ.
          "many pairs": make([(1, 0, 1, 0)] * 256, (0, 1 << 20),
@@ -44,12 +80,52 @@ LETTERS = {**{f"{letter} at {code}": ("/V [ " + " ".join(f"/uni{ord(letter):04X}
            **{f"lines of {letter}": (letter * 25 + "\n").encode() * 4000 for letter in "äЖ–⁓"}}
 
 
+# Lines of the same words: all characters are in DEMO; one is missing; one has no codes in T1.
+GROUPS = {"usual": b"the office five after all of it affable flow in ",
+          "missing": b"the office five after all of it Affable flow in ",
+          "uncoded": "the office five \u0416fter all of it affable flow in ".encode()}
+# A letter that an encoding has, in place of a.
+SINGLE = {"ot1": "\u00df", "t1": "\u00e4", "ly1": "\u00e4", "latin1": "\u00e4"}
+
+
+def alphabets(starts, count=11):
+    """The characters of a vector: so many of each alphabet, of which no two have the same lowest ten bits."""
+    found = []
+    for start in starts:
+        free = (number for number in itertools.count(start) if all((number - ord(other)) % 1024 for other in found))
+        for number in itertools.islice(free, count):
+            found.append(chr(number))
+    return found
+
+
+# The first letters of alphabets, most of which have characters of three or four bytes in UTF-8.
+STARTS = (0x180, 0x250, 0x3B1, 0x420, 0x450, 0x561, 0x5D0, 0x627, 0x905, 0xE01, 0x10D0, 0x1EA0, 0x1F00, 0x2190, 0x3041,
+          0x4E00, 0xAC01, 0xFF21, 0x1D434, 0x1F600)
+LETTERS_OF_MANY = alphabets(STARTS)
+VECTOR_OF_MANY = " ".join(("/V [", *["/.notdef"] * 33, *(f"/u{ord(letter):04X}" for letter in LETTERS_OF_MANY),
+                           *["/.notdef"] * 3, "] def\n"))
+
+
 def neighbours(codes):
     """Lines with each of these codes before each other one."""
     return b"".join(b"".join(bytes((left, right)) for right in codes) + b"\n" for left in codes)
 
 
-TEXTS = {**FONTS, **LETTERS, "20 MB": PIECE * 20, "2 MB": PIECE * 2, "short": b"office\n" * 300000, "aa": b"aa\n" * 10000,
+TEXTS = {**FONTS, **LETTERS,
+         **{f"long lines, {name}": (group * 1300 + b"\n") * 16 for name, group in GROUPS.items()},
+         **{f"short lines, {name}": (group + b"\n") * 20800 for name, group in GROUPS.items()},
+         **{f"{letter} for a": PIECE[:100000].replace(b"a", letter.encode()) for letter in "a\u00df\u00e4"},
+         "many alphabets": VECTOR_OF_MANY.encode(),
+         **{f"letters from {start:X}": ("".join(LETTERS_OF_MANY[55 * at:55 * at + 55]) + "\n").encode() * 400
+            for at, start in enumerate(STARTS[::5])},
+         "lines of 55 Ж": ("Ж" * 55 + "\n").encode() * 400,
+         **{f"aa, {count} lines": b"aa\n" * count for count in (1, 4, 42000)},
+         **{f"{start}, 20 lines": (start + "\n").encode() * 20 for start in ("aad", "aa \u0416")},
+         "uncoded of 20": "a\u0416b\n".encode() * 20,
+         "1,100,000 lines": b"a\n" * 1100000, "lines of t1": "\u00e4\n".encode() * 1100000,
+         "all ligatures": b"".join(bytes((97, code, 98, 10)) for code in range(255) if code not in (9, 10, 31, 32)),
+         "missing at each": b"".join(b"a" * count + b"A\n" for count in (*range(300), 1000, 10000, 65534)),
+         "20 MB": PIECE * 20, "2 MB": PIECE * 2, "short": b"office\n" * 300000, "aa": b"aa\n" * 10000,
          "ten reads": b"office\r\n" * 5120, "missing": PIECE.replace(b"affable", b"Affable") * 2,
          "uncoded": PIECE.replace(b"affable", "\u20acffable".encode()) * 2,
          "long": (WORDS[:65000] + b"\n") * 60, "usual": (WORDS[:64] + b"\n") * 60000,
@@ -63,6 +139,8 @@ TEXTS = {**FONTS, **LETTERS, "20 MB": PIECE * 20, "2 MB": PIECE * 2, "short": b"
          "codes in pairs": neighbours(range(100, 226)), "one long line": b"a" * 20000 + b"\n" + b"a\n" * 100,
          "none": b"", "ends": ENDS, "after": ENDS + b"\xff\n" * 400000,
          "before": b"\xff\n" * 400000 + ENDS}
+OPTIONS = ["--size", "12pt", "--missing", "skip", "--limit", "900", "--crlf", "--encoding", "t1", "--workers", "3",
+           "--capacity", "9", "--block", "3", "--record", "2", "--verbose"]
 STREAM, SET, CHECK = [PROGRAM, "stream", DEMO], [PROGRAM, "set", DEMO], [PROGRAM, "check"]
 LIMITED = [PROGRAM, "stream", "--limit", "100"]
 RATIOS = [
@@ -76,6 +154,17 @@ RATIOS = [
     ("one program for all characters", [PROGRAM, "each", *["one program for all", "9", "none"] * 20], 4,
      [PROGRAM, "each", *["one program for one", "9", "none"] * 20]),
     *((f"the plain program, {name}", [*STREAM, name], 20, ["plain", name]) for name in ("20 MB", "short")),
+    *((f"lines of 62,400 bytes, {name}", [PROGRAM, "stream", *options, DEMO, f"long lines, {name}"], 4,
+       [PROGRAM, "stream", *options, DEMO, f"short lines, {name}"]) for name, options in (
+           ("usual", ["--record", "json"]), ("missing", ["--missing", "skip"]),
+           ("missing", ["--missing", "skip", "--record", "json"]), ("uncoded", ["--encoding", "t1", "--missing", "skip"]))),
+    # About 4,200,000 steps, and for the largest limit 16,777,216.
+    *((f"{name}, operation {op}", [PROGRAM, "stream", *options, path_of(f"endless_{op}"), text], most,
+       [*LIMITED, path_of(f"endless_{op}"), "aa, 42000 lines"]) for op, name, options, text, most in (
+           (3, "the default limit", [], "aa, 4 lines", 3), (7, "the default limit", [], "aa, 4 lines", 5),
+           (3, "the largest limit", ["--limit", "16777216"], "aa, 1 lines", 12))),
+    ("lines after the 1,000,000th", [PROGRAM, "stream", "--encoding", "t1", "same widths", "lines of t1"], 2.5,
+     [PROGRAM, "stream", "same widths", "1,100,000 lines"]),
     ("many pairs", [PROGRAM, "stream", "--workers", "1", "many pairs", "codes in pairs"], 15,
      [PROGRAM, "stream", "--workers", "1", "same widths", "codes in pairs"]),
     ("lines of 32,000 soft hyphens", [PROGRAM, "stream", "--encoding", "t1", DEMO, "long hyphens"], 3,
@@ -119,10 +208,12 @@ class Times(Case):
     def test(self, command, most, other):
         """A command takes less than `most` times the processor time of another one.
 
-        Mutants: all earlier records are visited for each record; the rest of a line is read for each word;
-        steps beyond the limit are taken; the texts of a font are made for each record; the chain of a program is
-        followed for each character; the cell for the end of a line is made for each line; an equal text is searched for among
-        all; the rest of a line in UTF-8 is cleared for each character without a single code.
+        Mutants: all earlier buffers are visited for each block of `set`; in the general way, the rest of a line is
+        read for each word; the elements after the first character without codes are copied for each further one, or
+        the items before a run for the run; steps beyond the limit are taken, or only beyond one of 102,400 or more;
+        the chain of a program is followed for each character; the cell for the end of a line is made for each line; an
+        equal text is searched for among all; the rest of a line in UTF-8 is cleared for each character without a single
+        code.
         """
         self.need(*["cc"] * ("plain" in other))
         took, little = seconds(command), seconds(other)
@@ -130,21 +221,35 @@ class Times(Case):
         self.assertLess(took, most * little)
 
 
-# A command; what its instructions are counted for; how many more of these the second argument brings than the first; the
-# most instructions for one. The program takes about 65, 65, 296, 76, 113 and 75. Lines with a skipped character, which
-# aren't set with the table of texts, take 163, so that a program that set all lines in this way would fail. If each
-# character of a text is searched for among the 256 codes of a vector, a byte takes about 820.
+# A command; what its instructions are counted for; the two arguments, and how many more of these the second one brings
+# than the first; the most instructions for one. The program takes about 65 for a byte with `stream` and `set`, 295 in
+# JSON, 75 and 115 with a vector, and 176 if a character of the line is skipped; 282 for a kern of `list`, 75 and 3 for an
+# instruction of a font with `check` and `counts`, and 76 to 78 for a step, each of which is made twice for a refused line
+# in UTF-8. The bound of `stream` and `set` is below the number of the general way (176), so that a program that set all
+# lines in this way would fail, and that of JSON is below the number for lines that are set twice (380). If each character
+# of a text is searched for among the 256 codes of a vector, a byte takes about 820.
 ONE = ["--workers", "1", "--block", "8"]
 INSTRUCTIONS = [
     *((name, [PROGRAM, name, *ONE, DEMO, "@"], "byte", ("100 KB", "200 KB"), 100000, 100) for name in ("stream", "set")),
-    ("stream in JSON", [PROGRAM, "stream", *ONE, "--record", "json", DEMO, "@"], "byte", ("100 KB", "200 KB"), 100000, 450),
+    *((f"stream in JSON, {name}", [PROGRAM, "stream", *ONE, "--record", "json", font, "@"], "byte",
+       ("100 KB", "200 KB"), 100000, 345) for name, font in (("demo", DEMO), ("28,600 instructions", "28600 steps"))),
     *((f"stream with a vector, {letter}", [PROGRAM, "stream", *ONE, "--encoding", "vector", DEMO, "@"], "byte",
        (f"100 KB with {letter}", f"200 KB with {letter}"), 100000, most) for letter, most in (("ä", 84), ("ε", 140))),
     ("stream with skipped characters", [PROGRAM, "stream", *ONE, "--missing", "skip", DEMO, "@"], "byte",
      ("100 KB with !", "200 KB with !"), 100000, 195),
     ("list", [PROGRAM, "list", "@"], "kern", ("10000 kerns", "20000 kerns"), 10000, 360),
-    ("a program that never ends", [PROGRAM, "stream", *ONE, "--limit", "@", path_of("endless_3"), "aa of 20"], "step",
-     ("1000", "2000"), 20000, 110),
+    *((command, [PROGRAM, command, "@"], "instruction of a font", ("2950 steps", "28600 steps"), 25650, most)
+      for command, most in (("check", 100), ("counts", 100))),
+    *((f"a program that never ends, operation {op}{title}",
+       [PROGRAM, "stream", *ONE, *options, "--limit", "5000", path_of(f"endless_{op}"), "@"], "step", ("none", text),
+       100000, most)
+      for op, title, options, text, most in (
+          (3, "", [], "aa of 20", 110), (7, "", [], "aa of 20", 110),
+          (3, ", in JSON", ["--record", "json"], "aa of 20", 110),
+          (3, ", a skipped character", ["--missing", "skip"], "aad, 20 lines", 110),
+          (3, ", text in UTF-8", ["--encoding", "t1"], "aa of 20", 220),
+          (3, ", a character without codes", ["--encoding", "t1", "--missing", "skip"], "aa \u0416, 20 lines", 110),
+          (7, ", a character without codes", ["--encoding", "t1", "--missing", "skip"], "aa \u0416, 20 lines", 110))),
 ]
 
 
@@ -170,6 +275,33 @@ class Instructions(Case):
         print(f"{(many - few) / more:.1f} instructions per {what}; less than {most} are right")
         self.assertLess(many - few, most * more)
 
+    def less(self, ratio, command, other):
+        """A command takes less than `ratio` times the instructions of another one."""
+        many, few = (instructions([PROGRAM, *words]) for words in (command, other))
+        print(f"{many / few:.2f} times {few} instructions; less than {ratio} times is right")
+        self.assertLess(many, ratio * few)
+
+    # Mutant of `append_codes` in line_blocks: lines with an encoding that is no vector are set in the general way.
+    @rows((encoding, encoding, letter) for encoding, letter in SINGLE.items())
+    def test_encodings(self, encoding, letter):
+        """A line in UTF-8 takes little more than the line of its codes."""
+        self.need("valgrind")
+        self.less(1.6, ["stream", *ONE, "--encoding", encoding, "same widths", f"{letter} for a"],
+                  ["stream", *ONE, "same widths", "a for a"])
+
+    # Mutant of `next_row` in tfm_tables: the row of an earlier start isn't copied if the start is at 256 or above.
+    def test_shared_programs(self):
+        """The program of many characters is followed once, wherever it begins."""
+        self.need("valgrind")
+        self.less(1.5, ["set", "32 for each place", "none"], ["set", "1 for each place", "none"])
+
+    # Mutant of encodings: `hints` has no code of a character between U+0420 and U+204F.
+    @rows((f"U+{start:04X} to U+{last:04X}", start) for start, last in zip(STARTS[::5], STARTS[4::5]))
+    def test_alphabets_of_a_vector(self, start):
+        """The letters of five alphabets are found in a vector about as fast as one letter that is at the first code."""
+        self.need("valgrind")
+        self.less(1.45, ["stream", *ONE, "--encoding", "many alphabets", "same widths", f"letters from {start:X}"],
+                  ["stream", *ONE, "--encoding", "Ж at 1", "same widths", "lines of 55 Ж"])
 
     def taken(self, letter, code):
         """The instructions for 100,000 times a letter that a vector has at a code."""
@@ -188,8 +320,12 @@ class Instructions(Case):
 class Latency(Case):
     """The time until a command ends that has little to do"""
 
-    # Mutant of `main`: it sleeps for 20 ms.
-    @rows((words[1], words) for words in ([PROGRAM, "--version"], [PROGRAM, "counts", DEMO], [*SET, "none"]))
+    # Mutants of `main`: it sleeps for 20 ms, or only if there are more than three arguments.
+    @rows((f"{words[1]}, {len(words) - 1} arguments", words) for words in (
+        [PROGRAM, "--version"], [PROGRAM, "counts", DEMO], [*SET, "none"], [*STREAM, "none", "none"],
+        [PROGRAM, "stream", *OPTIONS, DEMO, "none"], [PROGRAM, "each", *[DEMO, "9", "none"] * 2], CHECK + [DEMO] * 100,
+        [PROGRAM, "list", "--all", "--size", "12pt", DEMO],
+        [PROGRAM, "pairs", "--encoding", "t1", "--size", "12pt", DEMO]))
     def test(self, words):
         """The fastest of some executions takes less than 15 ms."""
         times = []
@@ -199,6 +335,52 @@ class Latency(Case):
             times.append(time.monotonic() - begin)
         print(f"{1000 * min(times):.1f} ms")
         self.assertLess(min(times), 0.015)
+
+
+class Lengths(Case):
+    """Lines of many lengths in a pipe"""
+
+    # Mutant of `fill` in line_blocks: after a line of 40,000 bytes a stream waits for the next one.
+    @rows((" ".join(options) or "the default", options) for options in (
+        [], ["--block", "8"], ["--encoding", "t1"], ["--crlf"], ["--record", "json"], ["--workers", "16"]))
+    def test_long_lines(self, options):
+        """The record of a line of any length is printed before the next line is sent."""
+        lengths = (0, 1, 1000, 4095, 4096, 10000, 20000, 30000, 40000, 50000, 60000, 65535, 65536, 200000)
+        pipes = {"stdin": subprocess.PIPE, "stdout": subprocess.PIPE}
+        with subprocess.Popen([PROGRAM, "stream", *options, DEMO], **pipes) as child:
+            for length in lengths:
+                child.stdin.write(b"a" * length + b"\n")
+                child.stdin.flush()
+                seen = more = b" "
+                while more and not seen.endswith(b"\n") and select.select([child.stdout], [], [], SECONDS / 5)[0]:
+                    more = os.read(child.stdout.fileno(), MB)
+                    seen += more
+                if not seen.endswith(b"\n"):
+                    child.kill()
+                    self.fail(f"no record of a line of {length} bytes in {SECONDS / 5} seconds")
+            child.stdin.close()
+            child.stdout.read()
+
+    # Mutant of `append_all` in line_blocks: a block of 54,321 bytes fails, as if memory lacked.
+    def test_each_length(self):
+        """A line of any length has a record. These lines are refused for their first byte."""
+        def feed():
+            with contextlib.suppress(BrokenPipeError), child.stdin:
+                for length in range(1, 65536):
+                    child.stdin.write(memoryview(zeros)[:length])
+                    child.stdin.write(b"\n")
+
+        zeros = bytes(65536)
+        with subprocess.Popen([*STREAM, "--block", "1"], stdin=subprocess.PIPE, stdout=subprocess.PIPE) as child:
+            fcntl.fcntl(child.stdin, fcntl.F_SETPIPE_SZ, MB)
+            feeder = threading.Thread(target=feed, daemon=True)
+            feeder.start()
+            seen = child.stdout.read().decode().splitlines()
+            feeder.join()
+        wanted = [*(f"1:{number} refused missing 0 0" for number in range(1, 65536)), "1 end complete 65535"]
+        self.same("exit status", 1, child.returncode)
+        self.none([f"{is_seen!r} instead of {is_wanted!r}" for is_wanted, is_seen in itertools.zip_longest(wanted, seen)
+                   if is_wanted != is_seen][:3])
 
 
 class Requests(Case):
@@ -213,25 +395,26 @@ class Requests(Case):
                 self.same((words[1:], what, number), fails, len(got.told))
 
     # Mutants of `CrlfReader`: a read requests 1,024 bytes. Of `kept_bytes` (request_files), `WatchedReader` (tfm_tool): 16.
-    @rows((" ".join(words), words) for words in (
-        *([command, *options] for command in ("set", "stream", "each")
+    # Of `job_sources` in tfm_requests: the fonts of three jobs or more are read twice.
+    @rows((f"{' '.join(words)}, {files} files", words, files) for words, files in (
+        *(([command, *options], 1) for command in ("set", "stream", "each")
           for options in ([], ["--crlf"], ["--block", "8"], ["--verbose"], ["--encoding", "vector"])),
-        ["list"], ["list", "--all"], ["check"], ["check", "--verbose"], ["counts"], ["pairs"],
-        ["pairs", "--encoding", "vector"]))
-    def test_reads(self, words):
+        *(([command], files) for command in ("set", "stream", "each") for files in (2, 3, 9)),
+        (["each", "--encoding", "vector"], 3),
+        *((words, 0) for words in (["list"], ["list", "--all"], ["check"], ["check", "--verbose"], ["counts"],
+                                   ["pairs"], ["pairs", "--encoding", "vector"]))))
+    def test_reads(self, words, files):
         """A read requests 4,096 bytes, and no file is read again after its end, or twice."""
-        fonts, texts = 2 + 2 * ("vector" in words), 0
-        command = [PROGRAM, *words, DEMO]
-        if words[0] in ("set", "stream", "each"):
-            command += [*["9"] * (words[0] == "each"), "ten reads"]
-            texts = 11
-        self.count(command, "read", fonts + texts)
+        each = words[0] == "each"
+        fonts = 2 * (files if each else 1) + 2 * ("vector" in words)
+        command = [PROGRAM, *words, *([DEMO, "9", "ten reads"] * files if each else [DEMO, *["ten reads"] * files])]
+        self.count(command, "read", fonts + 11 * files)
 
     # Mutants of pair_texts and line_blocks: a table isn't made, or is made for each block. If a table isn't made,
     # the records are the same.
     @rows((" ".join(words), words, tables) for words, tables in (
         (["stream"], 2), (["stream", "--workers", "3"], 3), (["stream", "--block", "8"], 2), (["set", "--workers", "1"], 1),
-        (["stream", "--record", "json"], 0)))
+        (["stream", "--record", "json"], 0), (["stream", "--record", "json", "--encoding", "t1"], 0)))
     def test_tables(self, words, tables):
         """Each lane makes one table of texts, if records aren't in JSON. The font has a table of the same size."""
         command = [PROGRAM, *words, DEMO, "2 MB"]
@@ -240,9 +423,28 @@ class Requests(Case):
             plain, without = (refuse.execute(named(command), "table", number, timeout=SECONDS) for number in (9, 2))
             self.same("output without the table", True, plain.out == without.out and len(plain.out) > MB)
 
+    # Mutants of line_blocks: only the first file has a table. Of `deliver` in tfm_requests: text in UTF-8 has one
+    # worker. Of pair_texts: fonts with more than 300 instructions have no table; lines aren't set with it if the limit
+    # is above the default one.
+    @rows((f"{' '.join(words)} {font}, {files} files", words, font, files, lanes) for words, font, files, lanes in (
+        *(([command, "--workers", str(workers)], DEMO, files, workers * files)
+          for command in ("set", "stream", "each") for workers, files in ((1, 2), (2, 3))),
+        (["stream", "--encoding", "t1"], DEMO, 2, 4),
+        *(([command, "--workers", "3", "--encoding", encoding], DEMO, 1, 3) for command in ("set", "stream")
+          for encoding in (*SINGLE, "vector")),
+        *((["stream", *options], font, 1, 2) for font in (DEMO, "480 steps", "2950 steps", "28600 steps")
+          for options in ([], ["--record", "2"], ["--limit", "16777216"], ["--size", "100pt"]))))
+    def test_tables_of_files(self, words, font, files, lanes):
+        """Each lane of each file makes one table of texts, and all lines are set with it."""
+        each = words[0] == "each"
+        texts = [font, "100", "100 KB"] * files if each else [font, *["100 KB"] * files]
+        self.count([PROGRAM, *words, *texts], "table", (files if each else 1) + lanes)
+        self.count([PROGRAM, *words, *texts], "bytes8224", 0)
+
     # Mutants of line_blocks: lines are set without the table of texts that was made. Of pair_texts: record texts are never made,
     # or for each line; equal texts are kept for each pair of neighbours; lines are set in the general way for some codes, or
-    # after 4,096 texts; after one long block, more room is requested for all later blocks or texts (line_blocks). The records are the same, and so is, in order, the
+    # after 4,096 texts; lines with a ligature of a code from 27 to 31 are, and those from the 500,000th on, and those whose
+    # first missing character is at offset 16 or later; after one long block, more room is requested for all later blocks or texts (line_blocks). The records are the same, and so is, in order, the
     # time of a stream. The texts of 129 to 256 cells take 16,384 bytes, those of more than 1,024 at least 131,072, and
     # record texts 8,224.
     @rows((" ".join(words), words, size, count) for words, size, count in (
@@ -252,38 +454,61 @@ class Requests(Case):
         *((["--block", block, path_of("plain"), "one long line"], size, count)
           for block, size, count in (("1", 275023, 1), ("1", 20001, 0), ("2", 20002, 1))),
         *(([font, text], 8224, 0) for font, text in (
-            ("same widths", "neighbours"), ("same widths", "low neighbours"), ("many pairs", "codes in pairs"))),
+            ("same widths", "neighbours"), ("same widths", "low neighbours"), ("many pairs", "codes in pairs"),
+            ("ligatures", "all ligatures"), ("same widths", "1,100,000 lines"), (DEMO, "missing at each"))),
         ([DEMO, "2 MB"], 8224, 0), (["--missing", "skip", DEMO, "missing"], 8224, 1),
         (["--encoding", "t1", "--missing", "skip", DEMO, "missing"], 8224, 1)))
     def test_texts(self, words, size, count):
         """The texts of cells and of single items are made once in a lane, if they are needed."""
         self.count([PROGRAM, "stream", "--workers", "1", *words], f"bytes{size}", count)
 
-    # Mutants of font_texts: `list` or `check` reads a `Font`, whose table of pairs it doesn't need.
-    @rows((" ".join(words), words, tables) for words, tables in (
-        (["counts"], 0), (["list"], 0), (["list", "--all"], 0), (["check"], 0), (["pairs"], 1)))
-    def test_tables_of_pairs(self, words, tables):
+    # Mutants of font_texts: `list` or `check` reads a `Font`, whose table of pairs it doesn't need; or `check` makes
+    # this table of a font of more than 800 bytes.
+    @rows((" ".join((*words, font)), words, font, tables) for words, tables in (
+        (["counts"], 0), (["list"], 0), (["list", "--all"], 0), (["check"], 0), (["pairs"], 1))
+          for font in (DEMO, "480 steps", "2950 steps", "28600 steps", path_of("largest")))
+    def test_tables_of_pairs(self, words, font, tables):
         """Only a command that needs the table of pairs of a font makes it."""
-        self.count([PROGRAM, *words, DEMO], "table", tables)
+        self.count([PROGRAM, *words, font], "table", tables)
 
-    # Mutants of tfm_tables: 131,072 characters, or rows of pairs, are requested for a font.
-    @rows((words[0], words) for words in (["check"], ["list"], ["pairs"], ["counts"]))
-    def test_no_huge_request(self, words):
-        """No request for a small font has 256 KB."""
-        self.count([PROGRAM, *words, DEMO], "huge", 0)
+    # Mutants of tfm_tables: 131,072 characters, or rows of pairs, are requested for a font, or only for one with more
+    # than 1,000 instructions. Of `to_vec` in encodings: room for 131,072 characters is requested for each line.
+    @rows((f"{' '.join(words)}, {os.path.basename(font)}", words, font, texts) for font in (DEMO, "2950 steps")
+          for words, texts in (
+              *(([command], []) for command in ("check", "list", "pairs", "counts")),
+              *(([command, *options], ["aa of 20", "uncoded of 20"]) for command in ("set", "stream") for options in (
+                  [], ["--record", "json"], ["--missing", "skip"], ["--encoding", "t1"], ["--encoding", "vector"],
+                  ["--encoding", "t1", "--missing", "skip"], ["--limit", "16777216"]))))
+    def test_no_huge_request(self, words, font, texts):
+        """No request for a font with few characters and a short text has 256 KB."""
+        self.count([PROGRAM, *words, font, *texts], "huge", 0)
 
     # Mutants of `append_generally` in pair_texts and of set_line: the list of a line isn't used for the next one. Of
     # line_blocks: the codes of a line in UTF-8 aren't; the text of a block has no room beforehand.
-    @rows((" ".join(words), words) for words in (
-        ["--record", "json", "missing"], ["--missing", "skip", "missing"], ["missing"], ["2 MB"],
-        ["--encoding", "t1", "missing"], ["--encoding", "t1", "uncoded"]))
-    def test_memory_is_used_again(self, words):
+    # Of `deliver` in tfm_requests: the blocks of several files have at most eight lines.
+    @rows((" ".join(words), words, files) for *words, files in (
+        ["--record", "json", "missing", 1], ["--missing", "skip", "missing", 1], ["missing", 1], ["2 MB", 1],
+        ["2 MB", 3], ["--record", "json", "2 MB", 2], ["--encoding", "t1", "missing", 1], ["--encoding", "t1", "uncoded", 1],
+        ["--encoding", "t1", "2 MB", 2]))
+    def test_memory_is_used_again(self, words, files):
         """There are hardly more requests for memory than lines. Reading a line takes one."""
+        *options, text = words
+        self.fewer(files * PIECE.count(b"\n") * 2 * 21 // 20, [*options, DEMO, *[text] * files])
+
+    def fewer(self, most, words):
+        """A stream makes fewer requests for memory than `most`."""
         self.need("cc")
-        most, (*options, text) = PIECE.count(b"\n") * 2 * 21 // 20, words
-        got = refuse.execute(named([PROGRAM, "stream", *options, DEMO, text]), "memory", most, stdout=subprocess.DEVNULL,
-                             timeout=SECONDS)
+        how = {"stdout": subprocess.DEVNULL, "timeout": SECONDS}
+        got = refuse.execute(named([PROGRAM, "stream", *words]), "memory", most, **how)
         self.same("requests that failed", [], got.told)
+
+    # Mutant of `make_run` in encoded_lines: the items before a run are copied for it.
+    @rows((text, options, text) for options, text in (
+        (["--record", "json"], "long lines, usual"), (["--missing", "skip"], "long lines, missing"),
+        (["--encoding", "t1", "--missing", "skip"], "long lines, uncoded")))
+    def test_memory_for_long_lines(self, options, text):
+        """A line of 10,000 runs takes a few requests for memory."""
+        self.fewer(16 * 150, [*options, DEMO, text])
 
 
 class Amounts(Case):
