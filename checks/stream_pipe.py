@@ -8,9 +8,11 @@ its record, and which one.
 import contextlib
 import ctypes
 import fcntl
+import itertools
 import os
 import re
 import select
+import socket
 import statistics
 import struct
 import subprocess
@@ -18,6 +20,7 @@ import termios
 import threading
 import time
 
+from lib import refuse
 from lib.base import DEMO, PROGRAM, Case, read, rows
 from lib.tfm import path_of
 
@@ -27,16 +30,23 @@ LINES = 50  # that are sent one by one
 TIMED = 200  # that are sent one by one, and timed
 PAUSE = 0.12  # seconds before each fifth of them; no sleep is longer than 0.05
 MOST_LATENCY = (0.005, 0.012, 0.03)  # seconds: the median, that after a pause, the 95th percentile
+LONG_WAIT, MOST_SLEEPS = 30, 400  # seconds, and how often a thread sleeps in the last three of them; about 130
 SILENCE, MOST_IDLE = 5, 0.2  # seconds, and the seconds of processor time in them; about 0.01
+MB = 1 << 20
 MEGABYTES = (20, 200)
 # A megabyte of lines of up to 80 bytes, the last of which don't fill a block of eight.
 WORDS = b"the office five after all of it affable flow in".split()
 PIECE = b"".join(b" ".join(WORDS[(line * 7 + i * 3) % 10] for i in range(line % 20))[:80] + b"\n"
                  for line in range(21259))
+DROPPED = 40000  # lines after one without a result
 MOST_GROWTH = 2 * 1024  # KB
 MOST_MEMORY = 24 * 1024  # KB
 LONG, LONG_LINES, MOST_LONG_MEMORY = b"five " * 6600 + b"\n", 600, 16 * 1024  # 33 KB, the number of lines, KB
 BUSY = 10_000_000  # nanoseconds of processor time of a thread that sets a fourth of ten megabytes; about 80,000,000
+COMMANDS = ("set", "each", "stream")
+CAPACITIES = sorted({number for power in range(17) for number in (2 ** power - 1, 2 ** power, 2 ** power + 1, 10 ** (power % 5))
+                     if 0 < number <= 65536} | {3000, 20000, 50000})
+ALL_PLACES = [(1, 2), (2, 2), (1, 3), (2, 3), (3, 3)]  # of a busy source, and the number of sources
 BLOCKS = [("--block 1", ["--block", "1"]), ("--block 8", ["--block", "8"]), ("the default", [])]
 
 
@@ -50,6 +60,11 @@ def read_line(pipe):
             break
         line += more
     return line
+
+
+def unread(pipe):
+    """The number of bytes that are in a pipe."""
+    return struct.unpack("i", fcntl.ioctl(pipe, termios.FIONREAD, bytes(4)))[0]
 
 
 LIBC = ctypes.CDLL(None)
@@ -186,31 +201,42 @@ class Pipes(Case):
         pipe.close()
         self.same("end", (b"%d end complete 1\n" % place, 0), (read_line(child.stdout), child.wait(SECONDS)))
 
-    # Mutants of set_run: a worker stays with a lane as long as it has lines (`moves_per_visit`), or for more than 512 moves; the
-    # collecting thread stays with a source as long as it has results (`visit` in lane_taker.rt).
-    @rows((" ".join([*options, font]), font, options, text, pause) for font, options, text, pause in (
-        # The workers are the slowest threads, since each line takes many steps.
-        ("endless_3", ["--workers", "1", "--limit", "1000", "--block", "8"], "aa", 0),
-        ("endless_3", ["--workers", "2", "--limit", "1000", "--block", "8"], "aa", 0),
-        ("endless_3", ["--workers", "1", "--limit", "100000", "--capacity", "65536", "--block", "1"], "aa", 0),
-        # The collecting thread is the slowest one, since the output is read slowly.
-        *(("demo", ["--workers", str(workers)], "the office five", 0.003) for workers in (1, 4))))
-    def test_busy_source(self, font, options, text, pause):
-        """A source that always has lines doesn't keep the line of another one from being set."""
-        names, pipes = self.fifos(2)
+    # Mutants of set_run: a worker stays with a lane, or only with the first one of its lanes, as long as it has lines
+    # (`moves_per_visit`), or for more than 512 moves; the collecting thread stays with a source, or with any but the first, as
+    # long as it has results (`visit` in lane_taker.rt), or for more than 512 (`lines_before_wake`).
+    @rows((f"number {busy} of {count}: {options} {font}", busy, count, font, options.split(), text, pause, most)
+          for font, options, text, pause, most, places in (
+              # The workers are the slowest threads, since each line takes many steps.
+              ("endless_3", "--workers 1 --limit 10000 --block 8", "aa", 0, MB, ALL_PLACES),
+              ("endless_3", "--workers 2 --limit 10000 --block 8", "aa", 0, MB, ALL_PLACES[:2]),
+              ("endless_3", "--workers 1 --limit 100000 --capacity 65536 --block 1", "aa", 0, MB, ALL_PLACES[:2]),
+              # The collecting thread is the slowest one, since the output is read slowly. It takes at most 32 texts of 27 KB of
+              # a source in a row, or 512 texts of a record.
+              ("demo", "--workers 1", "the office five", 0.003, 10 * MB, ALL_PLACES[:2]),
+              ("demo", "--workers 4", "the office five", 0.003, 10 * MB, ALL_PLACES),
+              ("demo", "--workers 1 --capacity 65536 --block 1", "the office five", 0.03, 2 * MB, ALL_PLACES[:2]))
+          for busy, count in places)
+    def test_busy_source(self, busy, count, font, options, text, pause, most):
+        """A source that always has lines doesn't keep the lines of the others from being set."""
+        names, pipes = self.fifos(count)
         child = self.start(*options, DEMO if font == "demo" else path_of(font), *names, stdin=None)
         # pylint: disable-next=consider-using-with
-        busy = subprocess.Popen(["yes", text], stdout=pipes[0])
-        self.addCleanup(busy.wait)
-        self.addCleanup(busy.kill)
-        seen, until = read_line(child.stdout), time.monotonic() + SECONDS
-        time.sleep(60 * pause)
-        pipes[1].write(text.encode() + b"\n")
-        while b"\n2:1 " not in seen and time.monotonic() < until:
+        sender = subprocess.Popen(["yes", text], stdout=pipes[busy - 1])
+        self.addCleanup(sender.wait)
+        self.addCleanup(sender.kill)
+        seen, until, size = read_line(child.stdout), time.monotonic() + SECONDS, 0
+        time.sleep(min(0.5, 60 * pause) or 0.1)
+        others = {number for number in range(1, count + 1) if number != busy}
+        for number in others:
+            pipes[number - 1].write(text.encode() + b"\n")
+        while others and time.monotonic() < until and size < most:
             time.sleep(pause)
             if select.select([child.stdout], [], [], SECONDS)[0]:
-                seen = seen[-100:] + os.read(child.stdout.fileno(), 1 << 16)
-        self.assertTrue(b"\n2:1 " in seen, seen[-200:])
+                more = os.read(child.stdout.fileno(), 1 << 16)
+                seen, size = seen[-100:] + more, size + len(more)
+                others = {number for number in others if b"\n%d:1 " % number not in seen}
+        child.kill()
+        self.assertEqual(set(), others, f"not in {size} bytes: {seen[-200:]!r}")
 
     @rows((f"{count} sources", count) for count in (1, 16))
     def test_silence_takes_no_processor_time(self, count):
@@ -220,6 +246,54 @@ class Pipes(Case):
         with open(f"/proc/{child.pid}/stat", encoding="ascii") as stat:
             ticks = sum(map(int, stat.read().rsplit(")", 1)[1].split()[11:13]))
         self.assertLess(ticks / os.sysconf("SC_CLK_TCK"), MOST_IDLE)
+
+    # Mutants of set_run: a worker gives up after 400 waits for lines, or a source after 200 for a free slot; a source that waits
+    # for one never sleeps for more than a millisecond.
+    def test_long_waits(self):
+        """After half a minute without a line, or without a reader of its output, a stream goes on as before."""
+        silent = [self.start("--workers", str(workers), DEMO) for workers in (1, 3, 16)]
+        held = [self.start("--workers", "2", DEMO, self.file("nine", b"five\n" * 9), "/dev/stdin", command=command)
+                for command in ("set", "stream")]
+        # Of two sources one is silent, and the other one has a line now and then.
+        names, (never, now_and_then) = self.fifos(2)
+        half = self.start("--workers", "1", DEMO, *names, stdin=None)
+        # A record doesn't fit into a pipe. Depending on the number of lines, the next line or the end waits for a free slot.
+        for lines in (*range(1, 9), 300):
+            self.file(f"{lines}", LONG * lines)
+        unread = [(lines, self.start("--workers", workers, *options, DEMO, f"{self.room}/{lines}", stdin=None))
+                  for workers, options, numbers in (("1", ["--capacity", "1", "--block", "1"], range(1, 9)), ("1", [], [300]),
+                                                    ("3", [], [300]), ("16", [], [300])) for lines in numbers]
+        until, sent, before = time.monotonic() + LONG_WAIT, 0, None
+        while time.monotonic() < until:
+            if not before and time.monotonic() > until - 3:
+                before = [self.sleeps(child) for _, child in unread]
+            sent += 1
+            now_and_then.write(b"five\n")
+            self.assertEqual(b"2:%d set" % sent, b" ".join(read_line(half.stdout).split()[:2]))
+            time.sleep(0.2)
+        for (lines, child), old in zip(unread, before):
+            counts = sorted(count - old[thread] for thread, count in self.sleeps(child).items())
+            self.same(f"few sleeps in 3 seconds: {counts}", True, counts[-1] < MOST_SLEEPS)
+        for lines, child in unread:
+            records = child.communicate(timeout=SECONDS)[0].splitlines()
+            starts = [b"1:%d set " % number for number in range(1, lines + 1)] + [b"1 end complete %d" % lines]
+            self.none([str(record[:40]) for record, start in zip(records, starts) if not record.startswith(start)])
+            self.same(f"lines and status, {child.args}", (lines + 1, 0), (len(records), child.returncode))
+        for child in silent:
+            for number in (1, 2, 3):
+                child.stdin.write(b"five\n")
+                self.same("record", [b"1:%d" % number, b"set"], read_line(child.stdout).split()[:2])
+            self.ends(child, 3)
+        for child in held:
+            lines = child.communicate(b"five\n" * 3, timeout=SECONDS)[0].splitlines()
+            ends = {b"1 end complete 9", b"2 end complete 3"}
+            self.same("lines and status", (14, ends, 0), (len(lines), ends.intersection(lines), child.returncode))
+        never.write(b"five\n")
+        self.same("record", [b"1:1", b"set"], read_line(half.stdout).split()[:2])
+        for pipe in (never, now_and_then):
+            pipe.close()
+        lines = half.communicate(timeout=SECONDS)[0].splitlines()
+        self.same("ends", ({b"1 end complete 1", b"2 end complete %d" % sent}, 0), (set(lines), half.returncode))
 
     def sleeps(self, child):
         """How often each thread of a process has slept."""
@@ -240,7 +314,8 @@ class Pipes(Case):
 
     def start_with_fifos(self, command, count, *options):
         """A command whose files are so many named pipes: the process, and the pipes open for writing."""
-        names = [os.path.join(self.room, str(number)) for number in range(count)]
+        room = self.other_room()
+        names = [os.path.join(room, str(number)) for number in range(count)]
         for name in names:
             os.mkfifo(name)
         triples = [word for name in names for word in (DEMO, "999", name)]
@@ -258,6 +333,43 @@ class Pipes(Case):
             time.sleep(0.02)
         return seen()
 
+    # Mutant of `next_raw_line` in set_run: a line that begins inside a read is taken from 1,000 reads.
+    @rows((f"{reads:,} reads", reads, *wanted) for reads, wanted in (
+        (1048576, ([b"1:1 set", b"1:2 refused too-long 1048579", b"1:3 set", b"1 end complete 3"], 1)),
+        (1048577, ([b"1:1 set", b"1 end bound 1"], 4))))
+    def test_reads_of_a_later_line(self, reads, lines, status):
+        """A line that begins inside a read is taken from as many reads as the first one."""
+        # Each message of this socket is a read.
+        ours, theirs = socket.socketpair(socket.AF_UNIX, socket.SOCK_SEQPACKET)
+
+        def feed():
+            with ours, contextlib.suppress(BrokenPipeError, ConnectionResetError):
+                for part in itertools.chain([b"five\nfive"], itertools.repeat(b"e", reads - 1), [b"\nfive\n"]):
+                    ours.send(part)
+
+        with theirs:
+            child = self.start(DEMO, stdin=theirs, stderr=subprocess.DEVNULL)
+        feeder = threading.Thread(target=feed, daemon=True)
+        feeder.start()
+        seen = [re.sub(rb" set .*", b" set", line) for line in child.stdout.read().splitlines()]
+        feeder.join()
+        self.same("lines and status", (lines, status), (seen, child.wait(SECONDS)))
+
+    # Mutant of `drop_rest` in set_run: it returns false, so that the workers aren't woken, and the collecting thread sleeps.
+    @rows((f"{command} --workers {workers}", command, workers) for command in ("set", "stream") for workers in (2, 4))
+    def test_rest_of_an_abandoned_source(self, command, workers):
+        """If memory for a record is lacking, the lines after it are dropped as fast as they are read."""
+        self.need("cc")
+        long = b"five " * 4000 + b"\n"
+        record = b"1:41 set 4784120000" + b" c12=367001 c118=340787 k-16384 c101=294911 s209715" * 4000
+        file = self.file("lines", b"five\n" * 40 + long + b"five\n" * DROPPED)
+        words = [PROGRAM, command, "--workers", str(workers), "--block", "1", DEMO, file]
+        got = refuse.execute(words, f"bytes{len(record)}", 1, timeout=SECONDS)
+        self.same("requests that failed", ["memory"], got.told)
+        lines = got.out.splitlines()
+        self.same("status, error, lines", (5, "tfmset: out of memory\n", 41, "1 end gave-up 40"),
+                  (got.status, got.err, len(lines), "".join(lines[-1:])))
+
     # Mutants of `deliver` in tfm_requests: the plan has one worker, or 16. Of `options` in run_texts: one lane a source.
     @rows((f"{command} --workers {workers}, {count} files: {threads} threads", command, workers, count, threads)
           for command in ("set", "each", "stream")
@@ -270,6 +382,20 @@ class Pipes(Case):
         for pipe in pipes:
             pipe.close()
         self.same("threads and exit status", (threads, 0), (seen, child.wait(SECONDS)))
+
+    # Mutant of `worker_count` in set_run: for one number of workers, another number is started.
+    @rows((f"--workers {workers}", workers) for workers in range(1, 17))
+    def test_threads_of_each_number(self, workers):
+        """With each number of files from 1 to 8, as many threads set lines as `--workers` states."""
+        found = [(count, *self.start_with_fifos(COMMANDS[(workers + count) % 3], count, "--workers", str(workers)))
+                 for count in range(1, 9)]
+        wanted = [1 + count + workers for count in range(1, 9)]
+        self.same("threads", wanted, self.wait_for(
+            wanted, lambda: [len(os.listdir(f"/proc/{child.pid}/task")) for _, child, _ in found]))
+        for _, child, pipes in found:
+            for pipe in pipes:
+                pipe.close()
+            self.same("exit status", 0, child.wait(SECONDS))
 
     # Mutants of `deliver` in tfm_requests: the plan has 16 slots, or blocks of one line, or of eight; blocks of `set` have
     # the lines of a read, or those of `stream` don't. Of `LaneCount` in set_run: the lanes of all sources are more than 64.
@@ -292,8 +418,7 @@ class Pipes(Case):
                 self.assertEqual(len(text), pipe.write(text))
 
             def done():
-                unread = [struct.unpack("i", fcntl.ioctl(pipe, termios.FIONREAD, bytes(4)))[0] for pipe in pipes]
-                return {(len(text) - one) // 4096 for one in unread}
+                return {(len(text) - unread(pipe)) // 4096 for pipe in pipes}
 
             self.same("reads", {reads}, self.wait_for({reads}, done))
             time.sleep(0.1)
@@ -304,9 +429,68 @@ class Pipes(Case):
         ends = {b"%d end complete 512" % number for number in range(1, count + 1)}
         self.same("lines", (513 * count, ends, 0), (len(lines), ends.intersection(lines), child.returncode))
 
+    def reads_ahead(self, stopped, cases):
+        """Several batches, each with pipes as its files, while threads of them are stopped: each source is read as far as
+        stated. A case has the number of workers, the command with its options, the reads, the texts of its sources, and
+        how many lines each of these has. The threads are all that don't read a source, or only the collecting thread."""
+        with contextlib.ExitStack() as stack:
+            found = []
+            for workers, words, reads, texts, lines in cases:
+                child, pipes = self.start_with_fifos(words[0], len(texts), "--workers", str(workers), *words[1:])
+                stack.enter_context(self.others_stopped(child, 1 + workers, len(texts), stopped))
+                for pipe, text in zip(pipes, texts):
+                    fcntl.fcntl(pipe, fcntl.F_SETPIPE_SZ, max(4096, len(text)))
+                    self.assertEqual(len(text), pipe.write(text))
+                found.append((words, child, pipes, reads, texts, lines))
+
+            def wrong():
+                seen = [(words, workers, reads, [(len(text) - unread(pipe)) // 4096 for pipe, text in zip(pipes, texts)])
+                        for (workers, *_), (words, _, pipes, reads, texts, _) in zip(cases, found)]
+                return [f"{words}, {workers} workers: {read} reads instead of {reads}"
+                        for words, workers, reads, read in seen if set(read) != {reads}]
+
+            self.none(self.wait_for([], wrong))
+            time.sleep(0.1)
+            self.none([f"later: {one}" for one in wrong()])
+        for _, _, pipes, *_ in found:
+            for pipe in pipes:
+                pipe.close()
+        for words, child, pipes, _, _, lines in found:
+            seen = child.communicate(timeout=SECONDS)[0].splitlines()
+            ends = {b"%d end complete %d" % (number, lines) for number in range(1, len(pipes) + 1)}
+            self.same(words, ((lines + 1) * len(pipes), ends, 0), (len(seen), ends.intersection(seen), child.returncode))
+
+    # Mutant of `LaneCount` in set_run: for one number of sources, each has one lane.
+    @rows((f"--workers {workers}", workers) for workers in range(1, 17))
+    def test_lanes_of_each_number(self, workers):
+        """With each number of files from 1 to 8, a source has a lane for each worker, but at most 64 are of all sources."""
+        # Eight lines are a read, and a block.
+        text = (b"five " * 101 + b"office\n") * 8 * 20
+        self.reads_ahead("others", [
+            (workers, [COMMANDS[(workers + count + 1) % 3], "--capacity", "1", "--block", "8"],
+             min(workers, 64 // count) + 1, [text] * count, 8 * 20) for count in range(1, 9)])
+
+    # Mutant of `batch` in run_texts: a capacity above 100 is taken as 16.
+    @rows((f"{' '.join(words)}, {workers} workers, without {stopped}", stopped, words, workers, block, most)
+          for stopped, words, workers, block, most in (
+              ("others", ["set"], 1, 1, 65536), ("others", ["each"], 1, 1, 65536), ("others", ["stream", "--block", "1"], 1, 1, 65536),
+              ("others", ["stream", "--block", "8"], 2, 8, 16384), ("the collecting thread", ["stream", "--block", "1"], 1, 1, 65536)))
+    def test_slots(self, stopped, words, workers, block, most):
+        """As many blocks are read ahead as fill the slots that `--capacity` states, and one more."""
+        cases = []
+        for slots in (number for number in CAPACITIES if number <= most):
+            # All blocks but the last one fill reads. The last one has one line, which is a read, and so is the one after it.
+            first = workers * slots if stopped == "others" else 2 * slots + 1
+            full, rest = divmod(first, 2048 // block)
+            text = b"a\n" * (2048 * full) + (b" " * 4095 + b"\n") * 2
+            if rest:
+                text = (b"a\n" * (rest * block - 1)).rjust(4095) + b"\n" + text
+            cases.append((workers, [*words, "--capacity", str(slots)], full + (rest > 0) + 1, [text], first * block + 2))
+        self.reads_ahead(stopped, cases)
+
     @contextlib.contextmanager
-    def others_stopped(self, child, count, sources):
-        """Stops the threads of a batch that don't read its sources, so many, when these wait for input."""
+    def others_stopped(self, child, count, sources, which="others"):
+        """Stops the threads of a batch that don't read its sources, so many, when these wait for input; or one of them."""
         tasks = f"/proc/{child.pid}/task"
 
         def others():
@@ -318,7 +502,7 @@ class Pipes(Case):
             self.assertEqual(count, self.wait_for(count, lambda: len(others())))
         except OSError:
             self.lack("/proc/PID/task/TID/syscall")
-        threads = others()
+        threads = others() if which == "others" else [child.pid]
         for thread in threads:
             if LIBC.ptrace(SEIZE, thread, None, None) or LIBC.ptrace(INTERRUPT, thread, None, None):
                 self.lack("ptrace")
@@ -402,7 +586,7 @@ class Pipes(Case):
             self.assertEqual(len(text), pipe.write(text))
 
             def done():
-                return (len(text) - struct.unpack("i", fcntl.ioctl(pipe, termios.FIONREAD, bytes(4)))[0]) // 4096
+                return (len(text) - unread(pipe)) // 4096
 
             self.same("reads", reads, self.wait_for(reads, done))
             time.sleep(0.1)
