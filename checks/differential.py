@@ -152,8 +152,8 @@ class Plans(Case):
         long = b"\n".join(b"a" * one.chance.choice((9, 999, 5000, 65535, 65536, 150000)) for _ in range(12))
         return fonts, [one.text(fonts[0], 700) + b"\n", b"", one.text(fonts[1], 90) + b"\n" + long + b"\n\nlast"]
 
-    # Mutants of dealt_lanes and line_blocks: a block is dealt to the next lane, or taken from it; a lane is dealt
-    # two blocks in a row; the last block is lost; the first line number of a block is too small by one.
+    # Contracts exclude that a block is lost, dealt to another lane, taken from another one, or numbered wrongly. Here the
+    # built program is compared.
     @rows((f"record format {form}", form) for form in ("1", "2", "json"))
     def test_many_lines(self, form):
         one = Round(self, f"plans {form}")

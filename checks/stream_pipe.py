@@ -119,7 +119,8 @@ class Pipes(Case):
             self.same("record", b"1:%d set" % number, record[:record.find(b"set") + 3])
         self.ends(child, lines)
 
-    # Mutant of `is_ready` in set_run: it is true if any byte of the next line has been read.
+    # Mutant of `fill` in line_blocks: a block gets the next line even if the source isn't ready. Proved is that a reader is
+    # ready only if it holds a whole line.
     @rows(BLOCKS)
     def test_part_of_the_next_line(self, options):
         """A record is printed although a part of the next line has arrived, too."""
