@@ -44,8 +44,8 @@ MOST_MEMORY = 24 * 1024  # KB
 LONG, LONG_LINES, MOST_LONG_MEMORY = b"five " * 6600 + b"\n", 600, 16 * 1024  # 33 KB, the number of lines, KB
 BUSY = 10_000_000  # nanoseconds of processor time of a thread that sets a fourth of ten megabytes; about 80,000,000
 COMMANDS = ("set", "each", "stream")
-CAPACITIES = sorted({number for power in range(17) for number in (2 ** power - 1, 2 ** power, 2 ** power + 1, 10 ** (power % 5))
-                     if 0 < number <= 65536} | {3000, 20000, 50000})
+CAPACITIES = sorted({number for power in range(17) for number in (2 ** power - 1, 2 ** power, 2 ** power + 1)
+                     if 0 < number <= 65536} | {10, 100, 1000, 3000, 10000, 20000, 50000})
 ALL_PLACES = [(1, 2), (2, 2), (1, 3), (2, 3), (3, 3)]  # of a busy source, and the number of sources
 BLOCKS = [("--block 1", ["--block", "1"]), ("--block 8", ["--block", "8"]), ("the default", [])]
 
@@ -119,8 +119,8 @@ class Pipes(Case):
             self.same("record", b"1:%d set" % number, record[:record.find(b"set") + 3])
         self.ends(child, lines)
 
-    # Mutant of `fill` in line_blocks: a block gets the next line even if the source isn't ready. Proved is that a reader is
-    # ready only if it holds a whole line.
+    # Mutant of `fill` in line_blocks: a block gets the next line even if the source isn't ready. Proved is that a
+    # reader is ready only if it holds a whole line.
     @rows(BLOCKS)
     def test_part_of_the_next_line(self, options):
         """A record is printed although a part of the next line has arrived, too."""
@@ -203,16 +203,16 @@ class Pipes(Case):
         self.same("end", (b"%d end complete 1\n" % place, 0), (read_line(child.stdout), child.wait(SECONDS)))
 
     # Mutants of set_run: a worker stays with a lane, or only with the first one of its lanes, as long as it has lines
-    # (`moves_per_visit`), or for more than 512 moves; the collecting thread stays with a source, or with any but the first, as
-    # long as it has results (`visit` in lane_taker.rt), or for more than 512 (`lines_before_wake`).
+    # (`moves_per_visit`), or for more than 512 moves; the collecting thread stays with a source, or with any but the
+    # first, as long as it has results (`visit` in lane_taker.rt), or for more than 512 (`lines_before_wake`).
     @rows((f"number {busy} of {count}: {options} {font}", busy, count, font, options.split(), text, pause, most)
           for font, options, text, pause, most, places in (
               # The workers are the slowest threads, since each line takes many steps.
-              ("endless_3", "--workers 1 --limit 10000 --block 8", "aa", 0, MB, ALL_PLACES),
-              ("endless_3", "--workers 2 --limit 10000 --block 8", "aa", 0, MB, ALL_PLACES[:2]),
+              ("endless_3", "--workers 1 --limit 1000000 --block 8", "aa", 0, MB, ALL_PLACES),
+              ("endless_3", "--workers 2 --limit 1000000 --block 8", "aa", 0, MB, ALL_PLACES[:2]),
               ("endless_3", "--workers 1 --limit 100000 --capacity 65536 --block 1", "aa", 0, MB, ALL_PLACES[:2]),
-              # The collecting thread is the slowest one, since the output is read slowly. It takes at most 32 texts of 27 KB of
-              # a source in a row, or 512 texts of a record.
+              # The collecting thread is the slowest one, since the output is read slowly. In a row it takes at most 32
+              # texts of 27 KB from a source, or 512 texts of a record.
               ("demo", "--workers 1", "the office five", 0.003, 10 * MB, ALL_PLACES[:2]),
               ("demo", "--workers 4", "the office five", 0.003, 10 * MB, ALL_PLACES),
               ("demo", "--workers 1 --capacity 65536 --block 1", "the office five", 0.03, 2 * MB, ALL_PLACES[:2]))
@@ -248,8 +248,8 @@ class Pipes(Case):
             ticks = sum(map(int, stat.read().rsplit(")", 1)[1].split()[11:13]))
         self.assertLess(ticks / os.sysconf("SC_CLK_TCK"), MOST_IDLE)
 
-    # Mutants of set_run: a worker gives up after 400 waits for lines, or a source after 200 for a free slot; a source that waits
-    # for one never sleeps for more than a millisecond.
+    # Mutants of set_run: a worker gives up after 400 waits for lines, or a source after 200 for a free slot; a source
+    # that waits for one never sleeps for more than a millisecond.
     def test_long_waits(self):
         """After half a minute without a line, or without a reader of its output, a stream goes on as before."""
         silent = [self.start("--workers", str(workers), DEMO) for workers in (1, 3, 16)]
@@ -258,12 +258,13 @@ class Pipes(Case):
         # Of two sources one is silent, and the other one has a line now and then.
         names, (never, now_and_then) = self.fifos(2)
         half = self.start("--workers", "1", DEMO, *names, stdin=None)
-        # A record doesn't fit into a pipe. Depending on the number of lines, the next line or the end waits for a free slot.
+        # A record doesn't fit into a pipe. The number of lines determines whether a line or the end waits for a free slot.
         for lines in (*range(1, 9), 300):
             self.file(f"{lines}", LONG * lines)
         unread = [(lines, self.start("--workers", workers, *options, DEMO, f"{self.room}/{lines}", stdin=None))
-                  for workers, options, numbers in (("1", ["--capacity", "1", "--block", "1"], range(1, 9)), ("1", [], [300]),
-                                                    ("3", [], [300]), ("16", [], [300])) for lines in numbers]
+                  for workers, options, numbers in (("1", ["--capacity", "1", "--block", "1"], range(1, 9)),
+                                                    *((workers, [], [300]) for workers in ("1", "3", "16")))
+                  for lines in numbers]
         until, sent, before = time.monotonic() + LONG_WAIT, 0, None
         while time.monotonic() < until:
             if not before and time.monotonic() > until - 3:
@@ -356,7 +357,8 @@ class Pipes(Case):
         feeder.join()
         self.same("lines and status", (lines, status), (seen, child.wait(SECONDS)))
 
-    # Mutant of `drop_rest` in set_run: it returns false, so that the workers aren't woken, and the collecting thread sleeps.
+    # Mutant of `drop_rest` in set_run: it returns false, so that the workers aren't woken, and the collecting thread
+    # sleeps.
     @rows((f"{command} --workers {workers}", command, workers) for command in ("set", "stream") for workers in (2, 4))
     def test_rest_of_an_abandoned_source(self, command, workers):
         """If memory for a record is lacking, the lines after it are dropped as fast as they are read."""
@@ -431,9 +433,10 @@ class Pipes(Case):
         self.same("lines", (513 * count, ends, 0), (len(lines), ends.intersection(lines), child.returncode))
 
     def reads_ahead(self, stopped, cases):
-        """Several batches, each with pipes as its files, while threads of them are stopped: each source is read as far as
-        stated. A case has the number of workers, the command with its options, the reads, the texts of its sources, and
-        how many lines each of these has. The threads are all that don't read a source, or only the collecting thread."""
+        """Several batches, each with pipes as its files, while threads of them are stopped: each source is read as far
+        as stated. A case has the number of workers, the command with its options, the reads, the texts of its sources,
+        and how many lines each of these has. All threads that don't read a source, or only the collecting thread, are
+        stopped."""
         with contextlib.ExitStack() as stack:
             found = []
             for workers, words, reads, texts, lines in cases:
@@ -445,7 +448,8 @@ class Pipes(Case):
                 found.append((words, child, pipes, reads, texts, lines))
 
             def wrong():
-                seen = [(words, workers, reads, [(len(text) - unread(pipe)) // 4096 for pipe, text in zip(pipes, texts)])
+                seen = [(words, workers, reads,
+                         [(len(text) - unread(pipe)) // 4096 for pipe, text in zip(pipes, texts)])
                         for (workers, *_), (words, _, pipes, reads, texts, _) in zip(cases, found)]
                 return [f"{words}, {workers} workers: {read} reads instead of {reads}"
                         for words, workers, reads, read in seen if set(read) != {reads}]
@@ -459,12 +463,13 @@ class Pipes(Case):
         for words, child, pipes, _, _, lines in found:
             seen = child.communicate(timeout=SECONDS)[0].splitlines()
             ends = {b"%d end complete %d" % (number, lines) for number in range(1, len(pipes) + 1)}
-            self.same(words, ((lines + 1) * len(pipes), ends, 0), (len(seen), ends.intersection(seen), child.returncode))
+            self.same(words, ((lines + 1) * len(pipes), ends, 0),
+                      (len(seen), ends.intersection(seen), child.returncode))
 
     # Mutant of `LaneCount` in set_run: for one number of sources, each has one lane.
     @rows((f"--workers {workers}", workers) for workers in range(1, 17))
     def test_lanes_of_each_number(self, workers):
-        """With each number of files from 1 to 8, a source has a lane for each worker, but at most 64 are of all sources."""
+        """With each number of files from 1 to 8, a source has a lane for each worker, of 64 lanes in all."""
         # Eight lines are a read, and a block.
         text = (b"five " * 101 + b"office\n") * 8 * 20
         self.reads_ahead("others", [
@@ -474,24 +479,27 @@ class Pipes(Case):
     # Mutant of `batch` in run_texts: a capacity above 100 is taken as 16.
     @rows((f"{' '.join(words)}, {workers} workers, without {stopped}", stopped, words, workers, block, most)
           for stopped, words, workers, block, most in (
-              ("others", ["set"], 1, 1, 65536), ("others", ["each"], 1, 1, 65536), ("others", ["stream", "--block", "1"], 1, 1, 65536),
-              ("others", ["stream", "--block", "8"], 2, 8, 16384), ("the collecting thread", ["stream", "--block", "1"], 1, 1, 65536)))
+              ("others", ["set"], 1, 1, 65536), ("others", ["each"], 1, 1, 65536),
+              ("others", ["stream", "--block", "1"], 1, 1, 65536), ("others", ["stream", "--block", "8"], 2, 8, 16384),
+              ("the collecting thread", ["stream", "--block", "1"], 1, 1, 65536)))
     def test_slots(self, stopped, words, workers, block, most):
         """As many blocks are read ahead as fill the slots that `--capacity` states, and one more."""
         cases = []
         for slots in (number for number in CAPACITIES if number <= most):
-            # All blocks but the last one fill reads. The last one has one line, which is a read, and so is the one after it.
+            # All blocks but the last one fill reads. The last one has one line, which is a read, and so is the next one.
             first = workers * slots if stopped == "others" else 2 * slots + 1
             full, rest = divmod(first, 2048 // block)
             text = b"a\n" * (2048 * full) + (b" " * 4095 + b"\n") * 2
             if rest:
                 text = (b"a\n" * (rest * block - 1)).rjust(4095) + b"\n" + text
-            cases.append((workers, [*words, "--capacity", str(slots)], full + (rest > 0) + 1, [text], first * block + 2))
+            cases.append((workers, [*words, "--capacity", str(slots)], full + (rest > 0) + 1, [text],
+                          first * block + 2))
         self.reads_ahead(stopped, cases)
 
     @contextlib.contextmanager
     def others_stopped(self, child, count, sources, which="others"):
-        """Stops the threads of a batch that don't read its sources, so many, when these wait for input; or one of them."""
+        """Stops the threads of a batch that don't read its sources, so many, when these wait for input; or only the
+        collecting thread."""
         tasks = f"/proc/{child.pid}/task"
 
         def others():
