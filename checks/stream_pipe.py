@@ -20,7 +20,6 @@ import termios
 import threading
 import time
 
-from lib import refuse
 from lib.base import DEMO, PROGRAM, Case, read, rows
 from lib.tfm import path_of
 
@@ -38,7 +37,6 @@ MEGABYTES = (20, 200)
 WORDS = b"the office five after all of it affable flow in".split()
 PIECE = b"".join(b" ".join(WORDS[(line * 7 + i * 3) % 10] for i in range(line % 20))[:80] + b"\n"
                  for line in range(21259))
-DROPPED = 40000  # lines after one without a result
 MOST_GROWTH = 2 * 1024  # KB
 MOST_MEMORY = 24 * 1024  # KB
 LONG, LONG_LINES, MOST_LONG_MEMORY = b"five " * 6600 + b"\n", 600, 16 * 1024  # 33 KB, the number of lines, KB
@@ -258,7 +256,7 @@ class Pipes(Case):
         # Of two sources one is silent, and the other one has a line now and then.
         names, (never, now_and_then) = self.fifos(2)
         half = self.start("--workers", "1", DEMO, *names, stdin=None)
-        # A record doesn't fit into a pipe. The number of lines determines whether a line or the end waits for a free slot.
+        # A record doesn't fit into a pipe. The number of lines determines whether a line or the end waits for a slot.
         for lines in (*range(1, 9), 300):
             self.file(f"{lines}", LONG * lines)
         unread = [(lines, self.start("--workers", workers, *options, DEMO, f"{self.room}/{lines}", stdin=None))
@@ -356,22 +354,6 @@ class Pipes(Case):
         seen = [re.sub(rb" set .*", b" set", line) for line in child.stdout.read().splitlines()]
         feeder.join()
         self.same("lines and status", (lines, status), (seen, child.wait(SECONDS)))
-
-    # Mutant of `drop_rest` in set_run: it returns false, so that the workers aren't woken, and the collecting thread
-    # sleeps.
-    @rows((f"{command} --workers {workers}", command, workers) for command in ("set", "stream") for workers in (2, 4))
-    def test_rest_of_an_abandoned_source(self, command, workers):
-        """If memory for a record is lacking, the lines after it are dropped as fast as they are read."""
-        self.need("cc")
-        long = b"five " * 4000 + b"\n"
-        record = b"1:41 set 4784120000" + b" c12=367001 c118=340787 k-16384 c101=294911 s209715" * 4000
-        file = self.file("lines", b"five\n" * 40 + long + b"five\n" * DROPPED)
-        words = [PROGRAM, command, "--workers", str(workers), "--block", "1", DEMO, file]
-        got = refuse.execute(words, f"bytes{len(record)}", 1, timeout=SECONDS)
-        self.same("requests that failed", ["memory"], got.told)
-        lines = got.out.splitlines()
-        self.same("status, error, lines", (5, "tfmset: out of memory\n", 41, "1 end gave-up 40"),
-                  (got.status, got.err, len(lines), "".join(lines[-1:])))
 
     # Mutants of `deliver` in tfm_requests: the plan has one worker, or 16. Of `options` in run_texts: one lane a source.
     @rows((f"{command} --workers {workers}, {count} files: {threads} threads", command, workers, count, threads)
@@ -486,7 +468,7 @@ class Pipes(Case):
         """As many blocks are read ahead as fill the slots that `--capacity` states, and one more."""
         cases = []
         for slots in (number for number in CAPACITIES if number <= most):
-            # All blocks but the last one fill reads. The last one has one line, which is a read, and so is the next one.
+            # All blocks but the last one fill reads. The last one has one line, which is a read. So is the next one.
             first = workers * slots if stopped == "others" else 2 * slots + 1
             full, rest = divmod(first, 2048 // block)
             text = b"a\n" * (2048 * full) + (b" " * 4095 + b"\n") * 2
