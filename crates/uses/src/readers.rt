@@ -14,7 +14,9 @@ use std::sync::{Arc, Wait};
 use std::thread::Threads;
 
 /// Returns a plan with 64 slots in each ring, blocks of eight lines, and at most two threads that set lines.
-pub(crate) fn plan() -> Plan {
+pub(crate) fn plan() -> Plan
+    ensures { result ≡ record { capacity = 64; block = 8; workers = 2 } }
+{
     let (Some(capacity), Some(block), Some(workers)) = (
         Capacity::new(64),
         Block::new(8),
