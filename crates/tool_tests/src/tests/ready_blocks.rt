@@ -1,5 +1,7 @@
-//! `has_item` of a source of blocks. No clause states when it is true: results don't depend on it, but the
-//! worker is woken before the next block is requested only if it is false.
+//! `has_item` of a source of blocks, and the number of lines of its blocks. No clause states when `has_item` is
+//! true: results don't depend on it, but the worker is woken before the next block is requested only if it is
+//! false. No clause states either how many lines a block has: a block needs memory, and its lines wait for each
+//! other.
 use super::*;
 use line_blocks::LineBlocks;
 use line_lane::SourceFault;
@@ -104,5 +106,116 @@ fn an_end_that_is_held_is_ready(rt: HostRuntime) -> Result<(), Fail> {
         &mut blocks,
         &[(true, 1), (true, 0), (false, 0)],
     );
+    Ok(())
+}
+
+/// A source whose lines are all equal. The next line isn't ready at first, and after each `group` lines.
+#[derive(Drop)]
+struct GroupedSource<'a> {
+    alloc: Global,
+    line: &'a [u8],
+    group: usize,
+    /// The number of lines of the group that were returned.
+    returned: usize,
+}
+
+impl LineSource for GroupedSource<'_> {
+    ghost use Rattle.std.specs.Prelude.{None};
+
+    ghost to_come = { λ _. None };
+
+    ghost failed = { λ _. None };
+
+    ghost Origin = { Unit {0} };
+
+    ghost origin = { λ _. tt };
+
+    fn next_line(&mut self) -> Result<Option<Line>, SourceFault> {
+        self.returned = if self.returned < self.group {
+            self.returned.wrapping_add(1)
+        } else {
+            1
+        };
+        Ok(line(self.alloc, self.line))
+    }
+
+    fn is_ready(&self) -> bool {
+        self.returned < self.group
+    }
+}
+
+/// More lines than a block of 64 KB has.
+const MOST: usize = 200_000;
+
+/// Lines of this many bytes, in groups of this many lines, are in blocks that are ready and have lines as expected.
+fn are_gathered<R: Abort + AllocGlobal>(
+    rt: &R,
+    length: usize,
+    group: usize,
+    wanted: Blocks<'_>,
+) -> Result<(), Fail> {
+    let text = vec![in rt.alloc(); b'a'; length]?;
+    let source = GroupedSource {
+        alloc: rt.alloc(),
+        line: &text,
+        group,
+        returned: group,
+    };
+    let mut blocks = LineBlocks::new(rt.alloc(), source, MOST);
+    let case = format!(in rt.alloc(); "{length} bytes, {group} lines")?;
+    are_ready(rt, &case, &mut blocks, wanted);
+    Ok(())
+}
+
+/// The number of bytes of each line, and how many of these lines have 65,536 bytes or more with a line feed each,
+/// but fewer without the last line.
+static FULL: [(usize, usize); 11] = [
+    (0, 65_536),
+    (1, 32_768),
+    (30, 2_115),
+    (999, 66),
+    (4_095, 16),
+    (4_096, 16),
+    (21_844, 4),
+    (21_845, 3),
+    (32_767, 2),
+    (65_534, 2),
+    (65_535, 1),
+];
+
+// Mutants of `is_full` in line_blocks: half or twice as many bytes are a full block, or one byte more; only the
+// bytes or only the lines count; of `fill`: a block ends after 1,000 lines.
+#[test]
+fn a_block_of_64_kb_is_full(rt: HostRuntime) -> Result<(), Fail> {
+    for (length, lines) in &FULL {
+        let wanted = [(false, *lines), (true, *lines)];
+        are_gathered(&rt, *length, MOST, &wanted)?;
+    }
+    Ok(())
+}
+
+/// The number of bytes of each line, and numbers of lines that don't fill a block. Of a line of more than 65,535
+/// bytes only the length is in a block.
+static GROUPS: [(usize, &[usize]); 10] = [
+    (0, &[1, 2, 7, 64, 1_000, 65_535]),
+    (1, &[1, 3, 8, 500, 30_000]),
+    (30, &[1, 2, 9, 100, 2_000]),
+    (4_095, &[1, 2, 5, 10, 15]),
+    (8_192, &[1, 7]),
+    (20_000, &[1, 2, 3]),
+    (40_000, &[1]),
+    (50_000, &[1]),
+    (65_534, &[1]),
+    (65_536, &[1, 2, 40]),
+];
+
+// Mutants of `fill`: after 40,000 bytes, or after a line that is too long, the next line is awaited.
+#[test]
+fn a_block_ends_if_the_next_line_is_not_ready(rt: HostRuntime) -> Result<(), Fail> {
+    for (length, groups) in &GROUPS {
+        for group in *groups {
+            are_gathered(&rt, *length, *group, &[(false, *group), (false, *group)])?;
+        }
+    }
     Ok(())
 }
