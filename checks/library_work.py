@@ -13,11 +13,11 @@ import resource
 import subprocess
 import sys
 
-from lib.base import DEMO, ROOT, output, read, rows, shared, table
+from lib.base import DEMO, ROOT, Case, output, read, rows, shared, table
 from lib.clib import WARNINGS, LibraryCase
 from lib.tfm import make, sample
 from stream_pipe import PIECE
-from work import MB, SECONDS, TIMES, limited, named, seconds
+from work import MB, SECONDS, TIMES, instructions, limited, named, seconds
 
 WEIGHT = 6
 TABLE = table("library_work")
@@ -261,3 +261,19 @@ class LibraryTimes(LibraryCase):
         many, few = (self.time(call.format(count), "aa") for count in (20000, 2000))
         print(f"{many:.3f} s, {many / few:.1f} times {few:.3f} s")
         self.assertLess(many, 30 * few)
+
+
+class Lanes(Case):
+    """Instructions of a lane of lines, if valgrind is installed"""
+
+    # Mutant of `make` in line_lane: each line is set once more, and this result is dropped.
+    def test_lines_in_a_lane(self):
+        """Lines that go through a lane, in blocks of eight, take little more than lines that are set alone."""
+        self.need("valgrind")
+        program = f"{ROOT}/crates/lane_bench/out/lane_bench"
+        if not os.path.exists(program):
+            self.skipTest("no lane_bench, which rt run in its directory builds")
+        lane, alone = (instructions([program, way, "1000", "79", "8"]) - instructions([program, way, "500", "79", "8"])
+                       for way in ("lane", "set"))
+        print(f"{lane / alone:.2f} times the instructions; less than 1.3 times is right")
+        self.assertLess(lane, 1.3 * alone)
