@@ -415,6 +415,21 @@ class Verbose(Case):
                   "tfmset: 70000 lines set, 70000 refused: 70000 missing\n")
         self.same("counts", (1, wanted), (status, err))
 
+    # Mutant of tally.rt in tfm_tool: 43 bytes of a record are kept, in which its result doesn't begin.
+    @rows((f"record format {form}", form) for form in ("1", "2", "json"))
+    def test_each_result(self, form):
+        """Lines after the 100,000th of the tenth file are counted, whatever their result is."""
+        lines = {"too-long": b"a" * 65536, "encoding": b"\xff", "uncoded": "\u20ac".encode(), "missing": b"d", "steps": b"ab"}
+        text = b"a\n" * 100000 + b"".join((line + b"\n") * count for count, line in enumerate(lines.values(), 1))
+        files = [*[self.file("none", b"")] * 9, self.file("text", text + b"b\n" * 7)]
+        for command in ("set", "stream"):
+            status, out, err = run(command, "-v", "--record", form, "--encoding", "t1", "--limit", "1",
+                                   self.file("font", sample("plain")), *files)
+            reasons = ", ".join(f"{count} {word}" for count, word in enumerate(lines, 1))
+            wanted = f"tfmset: 100007 lines set, 15 refused: {reasons}\n"
+            self.same((command, "counts"), (1, wanted), (status, err))
+            self.same((command, "records"), 15, out.count("refused"))
+
 
 class Library(LibraryCase):
     """Texts of many megabytes in one call of the library"""

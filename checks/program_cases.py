@@ -119,6 +119,22 @@ class Verbose(Case):
             wanted = f"{returns * (['--crlf'] not in several)}tfmset: {done} lines set, {refused} refused"
             self.same((several, "errors"), (wanted, wanted.count("\n") + 1), (err[:len(wanted)], err.count("\n")))
 
+    # Mutant of `fonts_of` in verbose.rt: the fonts of `each` from the ninth on are counted as files with lines.
+    @rows((" ".join([command, *options]), command, options) for command in ("set", "each", "stream")
+          for options in ([], ["--encoding", "./V.enc"], ["--missing", "skip"]))
+    def test_carriage_returns_of_many_files(self, command, options):
+        """The carriage returns of up to 64 files are counted, and not those of their fonts and vectors."""
+        self.file("V.enc", content("vector-crlf 97=a 98=b"))
+        self.file("font", content("@plain 6: 0D0A0D0A"))
+        texts = [self.file(f"text{number}", b"a\r\n" * number + b"b\n") for number in range(1, 65)]
+        for count in [*range(2, 13), 16, 17, 32, 33, 48, 63, 64]:
+            words = ["font", *texts[:count]]
+            if command == "each":
+                words = [word for text in texts[:count] for word in ("font", "9", text)]
+            _, _, err = run([command, "-v", *options, *words], b"", self.room)
+            wanted = f"tfmset: {count * (count + 1) // 2} lines end with a carriage return: see --crlf"
+            self.same(count, wanted, err.split("\n")[0])
+
     def test_permission_denied(self):
         """The cause is printed for a font, an encoding vector and a file that may not be read."""
         start = []
@@ -558,22 +574,25 @@ class Help(Case):
 # Some arguments of the table of usage errors, and the word of each that may have any length.
 WORDS = (("set --size x - a", "x"), ("stream --missing other -", "other"), ("stream --record 3 -", "3"),
          ("pairs --format xml -", "xml"), ("pairs --encoding utf8 -", "utf8"), ("set --encoding utf8 - a", "utf8"),
-         ("set --size 0pt - a", "0pt"), ("help none", "none"), ("measure", "measure"), ("list --foo -", "foo"))
+         ("set --size 0pt - a", "0pt"), ("stream --size 134217728 -", "134217728"), ("help none", "none"),
+         ("measure", "measure"), ("list --foo -", "foo"))
 
 
 class Invalid(Case):
     """Invalid arguments of each length, and with each character"""
 
-    # Mutant of `wrong_encoding` in command_line: a value of more than 8 bytes is told as a missing one.
+    # Mutants of command_line: an encoding of more than 8 bytes is reported as a missing one (`wrong_encoding`); a size of
+    # more than 12 bytes isn't shown.
     @rows((args, args, word) for args, word in WORDS)
     def test_length(self, args, word):
         """The message of a longer word is the one in the table, with this word."""
         known = read("checks/help/usage_errors.txt").partition(f"$ tfmset {args}\n")[2].partition("exit status 2\n")[0]
         self.none([] if word in known else [f"no message with {word}"])
         for length in [*range(1, 80), *range(80, 4000, 97), 65536]:
-            other = ("qz" * length)[:length] if length % 2 else "é" * (length // 2)
-            given = [re.sub(f"^(-*){word}$", rf"\1{other}", one) for one in args.split()]
-            wanted = re.sub(f"'(-*){word}'", rf"'\1{other}'", known)
+            letters = "94" if word.isdigit() and length > len(word) else "qz"
+            other = (letters * length)[:length] if length % 2 else "é" * (length // 2)
+            given = [re.sub(f"^(-*){word}$", rf"\g<1>{other}", one) for one in args.split()]
+            wanted = re.sub(f"'(-*){word}'", rf"'\g<1>{other}'", known)
             self.same((args, length), (2, "", wanted), run(given))
 
     # Mutant of `is_negative` in usage_text.rt: a number that begins with -2 isn't a negative number.
