@@ -1,8 +1,9 @@
 """The instructions of commands that read fonts or encoding vectors, and set nothing.
 
-No contract counts the work of reading a font: a body that checks the characters once for each instruction, or copies
-the text so far for each pair, is proved. `cases/font_work.toml` has the instructions that the program took, by valgrind,
-beyond those of `tfmset --version`. A command may take a quarter more. The tests print their numbers in the same form.
+No contract counts the work of reading a font: a body that checks the characters once for each instruction, or
+copies the text so far for each pair, is proved. `cases/font_work.toml` has the instructions that the program took,
+by valgrind, beyond those of `tfmset --version`. A command may take a quarter more, and 15,000 instructions. The tests
+print their numbers in the same form.
 """
 import functools
 import re
@@ -61,7 +62,7 @@ class FontWork(Case):
     def setUp(self):
         super().setUp()
         self.need("valgrind")
-        self.none_path = self.file("none", "")
+        self.empty = self.file("empty", "")
 
     def compare(self, row, found, much=MUCH, more=MORE):
         """Compares numbers with a row of the table, which has one for each."""
@@ -71,9 +72,9 @@ class FontWork(Case):
         self.none([f"{row}, {column}: {count:.1f} and not {measured[column]}" for column, count in found.items()
                    if count > much * measured.get(column, count) + more])
 
-    # Mutants of tfm_tables: the characters of a font with 301 to 4,999 instructions are checked once for each of them. Of
-    # font_texts: `pairs --encoding` copies the whole text for each pair. Of font_output: the text of `list --all` is made
-    # twice.
+    # Mutants. Of tfm_tables: the characters of a font with 301 to 4,999 instructions are checked once for each
+    # instruction. Of font_texts: `pairs --encoding` copies the whole text for each pair. Of font_output: the text of
+    # `list --all` is made twice.
     @rows((row, row, words) for row, words in COMMANDS.items())
     def test_fonts(self, row, words):
         """Thousands of instructions for fonts with many instructions, kerns and recipes, and many pairs."""
@@ -81,7 +82,7 @@ class FontWork(Case):
         for turn, (name, font) in enumerate(FONTS.items()):
             given = ["stream" if turn % 3 and word == "set" else word for word in words]
             given += ["--size", "12pt"] * (turn % 2 and row != "counts") + [self.file("font", font)]
-            count = instructions([PROGRAM, *given, *[self.none_path] * (row == "set or stream")])
+            count = instructions([PROGRAM, *given, *[self.empty] * (row == "set or stream")])
             found[name] = (count - start()) / 1000
         self.compare(row, found)
 
@@ -93,18 +94,19 @@ class FontWork(Case):
         font, found = self.file("font", ONE_CHARACTER), {}
         for name, length in KB.items():
             words = [command, "--encoding", self.file("V.enc", vector(length, form)), font]
-            count = instructions([PROGRAM, *words, *[self.none_path] * (command != "pairs")])
+            count = instructions([PROGRAM, *words, *[self.empty] * (command != "pairs")])
             found[name] = (count - start()) / 1000
         self.compare(row, found)
 
     # Mutant of tfm_requests: all names are compared with - for each font.
     def test_many_fonts(self):
         """Instructions for each font of a `check`. cachegrind is faster than callgrind if there are many."""
-        font, found = self.file("f", ONE_CHARACTER), {}
+        self.file("f", ONE_CHARACTER)
+        found = {}
         counting = ["valgrind", "--tool=cachegrind", "--cache-sim=no", "--cachegrind-out-file=/dev/null"]
+        how = {"stdout": subprocess.DEVNULL, "stderr": subprocess.PIPE, "timeout": 5 * SECONDS, "encoding": "utf-8"}
         for count in (200, 20000):
-            ran = subprocess.run([*counting, PROGRAM, "check", *["f"] * count], stdout=subprocess.DEVNULL, cwd=self.room,
-                                 stderr=subprocess.PIPE, timeout=5 * SECONDS, encoding="utf-8", check=True)
+            ran = subprocess.run([*counting, PROGRAM, "check", *["f"] * count], cwd=self.room, check=True, **how)
             taken = int(re.search(r"I +refs: +([\d,]+)$", ran.stderr, re.M)[1].replace(",", ""))
             found[f"{count} fonts"] = (taken - start()) / count / 1000
         self.compare("each font of check", found, more=0)

@@ -61,6 +61,8 @@ ENCODED = {"not UTF-8": (line(20, b"\xff"), LIMIT, 0), "uncoded": (line(20, "\u2
            **{f"uncoded, skipped, {length}": (line(length, "\u20d0".encode()), LIMIT, 1) for length in (20, 200)},
            "accents": ("äöü äöü ab\n".encode(), LIMIT, 0), "soft hyphens": (("\u00ad" * 9 + "\n").encode(), LIMIT, 0)}
 LENGTHS = (1000, 10000, 30000, 60000, 100000, 200000)
+# Calls for a text that is longer, one for each function.
+LONGER, FOR_LONGER = 400000, [(name, "t1", 1) for name in ("set", "widths", "records", "encoded_records", "encode")]
 # Bytes of a text for which `widths` and `records` make a table, and for which they make none, with some and many lines.
 LONG, SHORT, MANY = {"widths": 70000, "records": 14000}, 4000, 12000
 
@@ -172,10 +174,12 @@ class Instructions(WorkCase):
                 found.append((row, kind, (count - empty) / len(call.text)))
         self.compare(f"lines {font}", found)
 
-    # Mutants of tfmset_c: `FEW_BYTES` or `FEW_FOR_TABLE` is 90,000, or there is never a table.
+    # Mutants of tfmset_c: `FEW_BYTES` or `FEW_FOR_TABLE` is 90,000, or there is never a table; `tfmset_encode` looks up
+    # each character of a text above 300,000 bytes twice.
     def test_lengths(self):
         """One byte more of texts of several lengths takes few instructions."""
-        calls = [Call(*setter, FONTS["demo"], PIECE[:length]) for setter in SETTERS + ENCODERS for length in LENGTHS]
+        calls = [Call(*setter, FONTS["demo"], PIECE[:length]) for setter in SETTERS + ENCODERS
+                 for length in (*LENGTHS, *[LONGER] * (setter in FOR_LONGER))]
         found = zip(calls, self.instructions(calls))
         per_byte = ((name_of(call), len(call.text), count / len(call.text)) for call, count in found)
         self.compare("lengths", per_byte, much=6 / 5)
