@@ -3,8 +3,8 @@
 The fields of the header must be where the Python module has them, and the attributes of the module must have
 the values that lib/tfm.py reads from the font, or those of docs/ERRORS.md and of the program's records. The
 constants must be the numbers that the library takes and returns. Any other name fails. So does any other
-sentence with a number, a constant or a promise about memory in the comments of the header: those of the table
-CLAIMS are compared with what the library does, with its contracts, or with docs/CALLING.md.
+sentence in the comments of the header: those of the tables CLAIMS and SENTENCES are compared with what the library
+does, with its contracts, or with docs/CALLING.md.
 """
 import collections
 import ctypes
@@ -278,8 +278,6 @@ RULES = {"truncated, 24": "the file is too short for the twelve counts", "out of
 PLACES = {r"bytes needed": "the number of bytes that are needed", r"character \d": "a character code",
           r"entry \d": "the index of an entry in its table, from 0; in table 9 (param) from 1",
           r"instruction \d": "the address of an instruction, from 0"}
-PROMISES = (r"\d|TFMSET_[A-Z]|\bnull\b|unchanged|unspecified|undefined|\benough\b|overlap|aligned|Otherwise|\bfree"
-            r"|\bwrites? to|\bkeeps")
 ROOM = 8192  # bytes of each array; all of them, and of the last argument, have this value before a call
 BEFORE = b"\x55"
 Call = collections.namedtuple("Call", "code written last arrays")
@@ -536,6 +534,142 @@ CLAIMS = (
       c.records("encoded_records", text="\ufeffox".encode()) == c.records() and c.call("encoded_records",
       encoding=b"x").code == 4))
 
+# All other sentences of the header, in its order, and what has to be true. `None`: the name of a paragraph.
+SENTENCES = (
+    ("SPDX-License-Identifier: MIT OR Apache-2.0",
+     lambda _: " ".join(re.findall(r"SPDX-\S+ .*", read("bindings/python/tfmset.py"))) ==
+      "SPDX-License-Identifier: MIT OR Apache-2.0"),
+    ("tfmset.h: the C interface of tfmset, which sets lines of text with TeX Font Metric (TFM) files.",
+     page("libtfmset is the C library of tfmset. Its functions read a [TFM file]")),
+    ("`font` points to the contents of a TFM file, and `font_length` is the number of its bytes. The bytes may be "
+     "arbitrary:",
+     page("| `font`, `font_length` | the contents of a TFM file, and their number of bytes | any bytes |")),
+    ("Each call reads the font again.",
+     page("Each call of a function with the argument `font` reads the font again.")),
+    ("Size: `size` is the size to read the font at,",
+     page("| `size` | the size to read the font at, in sp | 1 to 134,217,727, or 0 for the design size |")),
+    ("tfmset_size reads a size from a text with a unit.",
+     lambda c: c.sizes("2pt") == [131_072]),
+    ("The slant is the exception:",
+     lambda c: c.unscaled() == ["slant"]),
+    ("Pointers:", None),
+    ("and may be shared by several calls.",
+     page("several threads may pass the same font and the same text.")),
+    ("Lengths: each length is a number of elements that the memory really has.",
+     page("Each array has at least as many elements as the length that is passed with it.")),
+    ("Memory:", None),
+    ("Threads: any thread may call any function at any time.",
+     page("Any thread may call any function at any time, and")),
+    ("Don't call the library from a signal handler, or in the child process after a fork of a process that has "
+     "several threads.",
+     page("No call is made from a signal handler, or in the child process after `fork` in a process with several "
+      "threads.")),
+    ("Stack:", None),
+    ("This is only tested.",
+     page("that 64 KB of stack are enough for each function")),
+    ("Time: a font's lig/kern program may run until a line has taken `limit` steps.",
+     page("a lig/kern program may run until a line has taken `limit` steps.")),
+    ("The time of a call therefore grows with the number of lines times `limit`.",
+     page("The time of a call is bounded by the number of lines and the limit, not by the length of the text alone:")),
+    ("For fonts from strangers choose a small limit.",
+     page("For fonts from an untrusted source pass a low limit;")),
+    ("Encoding: the bytes of a line are codes of the font, and not Unicode.",
+     page("Text is codes of the font, or UTF-8 with the encoding of the font.")),
+    ("tfmset_encode turns a text in UTF-8 into such bytes.",
+     lambda c: c.encoding("ß".encode(), b"t1") == b"\xff"),
+    ("Return value: each function except tfmset_version returns",
+     page("Each function except `tfmset_version` returns one of these numbers:")),
+    ("the structs tfmset_font, tfmset_metrics and tfmset_pair have the names of functions.",
+     lambda c: {*FORMS, "version"} & {*STRUCTS.values()} == {"font", "metrics", "pair"}),
+    ("C++ therefore needs the keyword, as C does: `struct tfmset_font about;`.",
+     page("C++ needs the keyword `struct` for them, as in `struct tfmset_font about;`.")),
+    ("Returns the version of the library:",
+     page("Returns 1,000,000 * X + 1,000 * Y + Z for version X.Y.Z of the library.")),
+    ("A number with a unit is read and rounded as TeX reads a dimension:",
+     page("A number with a unit is read and rounded as TeX reads a dimension.")),
+    ("The result of tfmset_encode.",
+     lambda c: c.header_of("encode").endswith("struct tfmset_encoded *encoded")),
+    ("Turns a text in UTF-8 into the codes of a font,",
+     page("Turns a text in UTF-8 into the codes of a font, which are")),
+    ("`encoding` is the name of the font's encoding, which needs no zero byte at its end:",
+     page("`encoding` is the name of the font's encoding, which needs no zero byte at its end:")),
+    ("The codes of a character are those that LaTeX sets for it.",
+     page("The codes of a character are those that LaTeX sets for it with its packages inputenc and fontenc.")),
+    ("The first error of a font. docs/ERRORS.md in the sources describes each error, with an example.",
+     lambda c: {int(re.match(r"\d+", message)[0]) for message, _ in font_errors()} == {*range(1, 15)}),
+    ("Checks a font.",
+     page("then `fault` describes its first [font error](ERRORS.md#font-errors):")),
+    ("The numbers of parameters, of kerns, and of instructions in the lig/kern program.",
+     lambda c: [c.about(0)[:3]] == [tuple(c.font.lengths[name] for name in ("param", "kern", "program"))]),
+    ("The check sum, as it is in the file.",
+     lambda c: c.about(0).check_sum == int.from_bytes(c.font.data[24:28], "big")),
+    ("Reports the sizes, boundaries and parameters of a font in `about`.",
+     lambda c: c.header_of("font").endswith("struct tfmset_font *about")),
+    ("The sizes, boundaries and parameters of a font.",
+     lambda c: len(c.about(0)) == 3 + 2 + 1 + 2 + 7),
+    ("Reports the dimensions and the tag of a character in `metrics`, or that the font doesn't have it.",
+     lambda c: c.header_of("metrics").endswith("struct tfmset_metrics *metrics")),
+    ("The dimensions and the tag of a character.",
+     page("Reports the width, height, depth, italic correction and tag of the character `code`,")),
+    ("`italic` is the italic correction.",
+     page("Reports the width, height, depth, italic correction and tag of the character `code`,")),
+    ("The action of a font's lig/kern program between two neighbours.",
+     page("nothing, a kern, or one of the eight [ligature operations]")),
+    ("Reports in `pair` what the font's lig/kern program does between two neighbours.",
+     page("Reports what the font's [lig/kern program](GLOSSARY.md#ligkern-program) does between two neighbours:")),
+    ("Two neighbours, and the action between them.",
+     page("`left` and `right` as in `tfmset_pair`, and `pair`, which is what `tfmset_pair` reports for them.")),
+    ("Reports all pairs of neighbours that have an action, in the array `pairs`, which has `pairs_length` elements.",
+     page("Reports all pairs of neighbours that have a kern or a ligature operation:")),
+    ("A neighbour is a character of the font or a boundary.",
+     page("A neighbour is a character of the font or a boundary;")),
+    ("The missing-character policies.",
+     page("| `policy` | whether a line with a missing character is refused | `TFMSET_REFUSE` 0, `TFMSET_SKIP` 1 |")),
+    ("The largest step limit.",
+     page("| `limit` | the [step limit](GLOSSARY.md#limit) of each line | 1 to 16,777,216 |")),
+    ("The kinds of items.",
+     page("| items `c`, `k`, `s`, `m` | `kind`: 0, 1, 2, 3 (`TFMSET_CHARACTER`, ..) |")),
+    ("An item of a line.",
+     page("The items of a line are `count` elements of `items`,")),
+    ("The result of a line. Check `refusal` before using `width`.",
+     page("Check the field `refusal` of each line before using its width.")),
+    ("The sum of the widths of its items.",
+     lambda c: c.line(b"office ox").width == sum(item[2] for item in c.items(text=b"office ox"))),
+    ("The number of lines in a text, and the number of items that all its lines have together.",
+     lambda c: c.counts("set", text=b"ox\nA\nox") == (3, 6)),
+    ("Sets the lines of a text as tfmset_set does, without returning the items.",
+     page("Sets the lines of a text as `tfmset_set` does, without the items.")),
+    ("The record format that the command line calls `json`.",
+     page("| `--record 1`, `2`, `json` | `version`: 1, 2, 3 (`TFMSET_JSON`) |")),
+    ("Sets the lines of a text as tfmset_set does, and writes their records, as the program prints them, to the array "
+     "`records`, which has `records_length` bytes.",
+     page("Sets the lines of a text as `tfmset_set` does, and writes their [records](TEXTS.md#records) as the program "
+      "prints them.")),
+    ("Sets the lines of a text in UTF-8, and writes their records as tfmset_records does. `encoding` is the name of "
+     "the font's encoding, as for tfmset_encode.",
+     page("Sets the lines of a text in UTF-8, and writes their records. `encoding` is the name of the font's encoding, "
+      "as for `tfmset_encode`;")),
+    ("The records are those of tfmset_records, except that:",
+     lambda c: all(c.records("encoded_records", text=text) == c.records(text=text) for text in (b"ox", b"A", b"\n o"))),
+    ("Lengths and offsets count bytes of the line in UTF-8, and codes are those of the font.",
+     lambda c: c.records("encoded_records", text="¡Q".encode(), encoding=b"ly1") == b"1:1 refused missing 0 161\n" and
+      c.records("encoded_records", text="\xad\xadoQ".encode()) == b"1:1 refused missing 5 81\n"),
+    ("In JSON the members are \"refused\":\"encoding\" and \"offset\".",
+     lambda c: b'"refused":"encoding","offset":1' in c.records("encoded_records", text=b"o\xff", version=3)),
+    ("- `refused uncoded OFFSET U+XXXX`:",
+     lambda c: c.records("encoded_records", text="o€".encode()) == b"1:1 refused uncoded 1 U+20AC\n"),
+    ("- The item `uXXXX` is a character without codes that was skipped. In JSON it is [\"u\",CHARACTER].",
+     lambda c: c.records("encoded_records", text="€".encode(), policy=1) == b"1:1 set 0 u20AC\n" and
+      b'[["u",8364]]' in c.records("encoded_records", text="€".encode(), policy=1, version=3)),
+    ("XXXX is the number of a character in Unicode: CHARACTER and the member \"character\" are this number in decimal.",
+     lambda c: ord("€") == 0x20AC == 8364),
+    ("Sets the lines of a text. `lines_length` and `items_length` are the lengths of the arrays in elements.",
+     lambda c: c.call("set", room=3).code == 0 and c.call("set", room=2).code == 3),
+    ("Returns", None),
+    ("Returns", None),
+    ("The library was compiled for structs of this layout: their sizes, and the offsets of their last fields.",
+     page("The header asserts the size of each struct and the offset of its last field at compile time.")))
+
 
 class Comments(LinesCase):
     """The comments of the header"""
@@ -575,6 +709,15 @@ class Comments(LinesCase):
         found = self.call("font", size=size, data=sample(font)).last
         names = [name for name, _ in found._fields_]
         return collections.namedtuple("About", names)(*(getattr(found, name) for name in names))
+
+    def unscaled(self):
+        """The parameters that are the same at two sizes."""
+        one, other = (self.call("font", data=every_field(), size=size).last for size in (655_360, 1_000_000))
+        return [name for name in PARAMETERS if getattr(one, name) == getattr(other, name)]
+
+    def header_of(self, name):
+        """The parameters of a function in the header."""
+        return re.search(rf"uint32_t tfmset_{name}\((.*?)\);", self.text)[1]
 
     def size(self, text):
         called = self.call("size", text=text)
@@ -715,20 +858,20 @@ class Comments(LinesCase):
     # Mutants of the header: two numbers of `action`, `tag` or `named` are swapped; a pointer may be null; one line less
     # suffices; a number or a constant in any other comment is another one.
     def test_claims(self):
-        """Each sentence of the header with a number, a constant or a promise about memory is true."""
+        """The comments of the header have the sentences of the tables, each of which is true, and no others."""
         numbers, text = self.numbers(), self.text
-        for claim, check in CLAIMS:
+        text = re.sub(r"Functions: .*? Font:", "", text)  # library_examples compares these.
+        for claim, check in CLAIMS + SENTENCES:
             claim = claim.format(**numbers) if re.search(r"\{\w+\}", claim) else claim
-            if text.count(claim) != 1:
+            if text.count(claim) != 1 and claim != "Returns":
                 self.wrong.append(f"the header has {text.count(claim)} times: {claim}")
             elif check and not check(self):
                 self.wrong.append(f"isn't true: {claim}")
-            text = text.replace(claim, "".join(re.findall(r"/\*|\*/", claim)))
+            text = text.replace(claim, "".join(re.findall(r"/\*|\*/", claim)), 1)
+            text = re.sub(" +", " ", text)
         text = re.sub(r"The last argument is written to as follows; .*? C\+\+:", "", text)
-        text = re.sub(r"Functions: .*? Font:", "", text)  # library_examples compares these.
-        text = re.sub(r"UTF-8|Apache-2.0", "", text)
         others = [sentence for comment in re.findall(r"/\*(.*?)\*/", text)
-                  for sentence in re.split(r"(?<=[.:;]) ", comment) if re.search(PROMISES, sentence)]
+                  for sentence in re.split(r"(?<=[.:;]) ", comment) if sentence.strip()]
         self.same("sentences that aren't compared", [], others)
 
     # Mutant of the header: the private macros aren't undefined at its end.
