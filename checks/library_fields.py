@@ -6,11 +6,14 @@ constants must be the numbers that the library takes and returns. Any other name
 sentence in the comments of the header: those of the tables CLAIMS and SENTENCES are compared with what the library
 does, with its contracts, or with docs/CALLING.md.
 """
+import ast
 import collections
 import ctypes
+import inspect
 import itertools
 import json
 import re
+import typing
 
 from lib.base import DEMO, PROGRAM, ROOT, execute, files, has, output, read, rows
 from lib.clib import encode
@@ -97,6 +100,24 @@ def fault(message):
     place = [int(word) for word in words if word.isdigit() and number != "6"]
     found = int(number), [*named, ""][0], [*place, 0][0]
     return {"args": found, **dict(zip(("number", "named", "place"), found))}
+
+
+def types_of(*values):
+    """The types of values, as a text. Those of the elements of lists, and of each element of tuples, are joined."""
+    arrays, lists, tuples = ([one for one in values if isinstance(one, kind) and not hasattr(one, "_fields")]
+                             for kind in (ctypes.Array, list, tuple))
+    found = {type(one).__name__ for one in values if not any(one is each for each in arrays + lists + tuples)}
+    found |= {f"Array[{one._type_.__name__}]" for one in arrays}
+    found |= {f"list[{types_of(*itertools.chain(*lists))}]"} if lists else set()
+    found |= {f"tuple[{', '.join(types_of(*column) for column in zip(*tuples))}]"} if tuples else set()
+    return " | ".join(sorted(found))
+
+
+def types_in(annotation):
+    """The text of `types_of` for the values that an annotation permits."""
+    origin, parts = typing.get_origin(annotation), [types_in(part) for part in typing.get_args(annotation)]
+    joined = " | ".join(sorted(parts)) if origin is typing.Union else ", ".join(parts)
+    return joined if origin is typing.Union else f"{origin.__name__}[{joined}]" if parts else annotation.__name__
 
 
 class Fields(LinesCase):
@@ -201,6 +222,8 @@ class Fields(LinesCase):
             seen["items"] = [(item.kind, item.code, item.width) for item in seen["items"]]
         self.classes.add(type(value).__name__)
         self.same(value, wanted, seen)
+        if isinstance(value, tuple):
+            self.same(value, (tuple(wanted), tuple(wanted.values())), (value._fields, tuple(value)))
 
     def compare_lines(self, found, size, path, limit, missing):
         """Compares the lines and items of the text with the program's records."""
@@ -249,6 +272,80 @@ class Fields(LinesCase):
                        "__version__": output(PROGRAM, "--version").split()[1]})
         self.same("constants", wanted, {name: value for name, value in found.items() if not callable(value)})
         self.same("names", set(found), {*wanted, *self.classes, "encode", "version"} - {"NoneType"})
+
+    def results(self):
+        """Functions of the module, each with an overload or itself, valid arguments, and results of all kinds."""
+        own, data = self.tfmset, ARGUMENTS["data"]
+        font, text = own.Font(data), b"ox\nQ"
+        lines, plain, encoded = font.set(text), {"text": text}, {"text": text.decode(), "encoding": "t1"}
+        settings, more = {"limit": 1, "missing": "skip"}, {"version": 1, "source": 1, "first_line": 1}
+        yield "version", own.version, {}, [own.version()]
+        yield "encode", own.encode, encoded, [own.encode(**encoded)]
+        yield "Font", own.Font.__init__, {"data": data, "size": 1}, [None]
+        yield "Font.from_file", own.Font.from_file, {"size": 1}, [own.Font.from_file(DEMO)]
+        yield "Font.metrics", font.metrics, {"code": 1}, map(font.metrics, (97, 65))
+        yield "Font.pair", font.pair, {"left": 1, "right": 1}, (font.pair(*pair) for pair in (b"ox", b"fi", b"oo"))
+        yield "Font.pairs", font.pairs, {}, [font.pairs()]
+        for name, added in (("set", {}), ("widths", {}), ("records", more)):
+            for function, given in zip(typing.get_overloads(getattr(own.Font, name)), (plain, encoded), strict=True):
+                result = getattr(font, name)(**given)
+                yield f"Font.{name}", function, {**given, **settings, **added}, [result]
+        for function, index in zip(typing.get_overloads(own.Lines.__getitem__), (0, slice(0, 2)), strict=True):
+            yield "Lines", function, {"index": index}, [lines[index], lines[1]][:2 - isinstance(index, slice)]
+        yield "Lines.items", own.Lines.items.fget, {}, [lines.items]
+        yield "Line.items", own.Line.items.fget, {}, [lines[0].items]
+        yield "len", own.Lines.__len__, {}, [len(lines)]
+        for one in (font, lines, lines[0], lines[0].items[0]):
+            yield "repr", type(one).__repr__, {}, [repr(one)]
+
+    def taken(self, title, given, name):
+        """The types of the values that a function takes for an argument."""
+        own, words = self.tfmset, {"encoding": "t1", "missing": "skip", "size": "9pt"}
+        content = ARGUMENTS["data"] if name == "data" else b"ox"
+        font = own.Font(ARGUMENTS["data"])
+        lines = font.set(b"ox\nox")
+        call = {"encode": own.encode, "Font": own.Font, "Lines": lambda index: lines[index],
+                "Font.from_file": lambda **more: own.Font.from_file(DEMO, **more)}.get(title)
+        call, found = call or getattr(font, title[5:]), []
+        for value in (None, 0, 1, 1.0, words.get(name, "ox"), content, bytearray(content), memoryview(content), [1],
+                      slice(0, 1)):
+            try:
+                call(**{**given, name: value})
+            except (TypeError, ValueError):
+                continue
+            # An overload of `Lines` is for one of the types of indices.
+            found += [value] if title != "Lines" or isinstance(value, type(given[name])) else []
+        return types_of(*found)
+
+    # Mutants: a method never returns a Refusal, or None; an int is a bool; an argument may be None; the default of an
+    # overload is another one.
+    def test_annotations(self):
+        """The annotations are the types of the results and of the arguments that are taken, for each overload."""
+        own = self.tfmset
+        for title, function, given, results in self.results():
+            hints, plain = typing.get_type_hints(function), inspect.signature(function).parameters
+            self.same(f"{title}: its result", types_of(*results), types_in(hints.pop("return")))
+            if "path" in hints:
+                self.same("path", "PathLike | str", types_in(hints.pop("path")))
+            self.same(f"{title}: arguments", set(given), set(hints))
+            for name, kind in hints.items():
+                # With bytes, `encoding` is left out; no overload has None for it.
+                self.same(f"{title}: {name}", self.taken(title, given, name), types_in(kind))
+            if function.__name__ in ("set", "widths", "records"):
+                whole = inspect.signature(getattr(own.Font, function.__name__)).parameters
+                shown = [{name: (one.default, one.kind) for name, one in every.items() if name != "encoding"}
+                         for every in (whole, plain)]
+                self.same(f"{title}: defaults", *shown)
+                self.same(f"{title}: encoding", "encoding" in given, "encoding" in plain)
+        fonts = [own.Font.from_file(path, size) for path, _, size in self.fonts()]
+        lines = fonts[2].set(b"o\nA")  # of demo.tfm
+        objects = {own.Font: fonts, own.Metrics: [fonts[0].metrics(97)], own.Kern: [own.Kern(1)], own.Item: lines.items,
+                   own.Ligature: [one for _, _, one in fonts[0].pairs() if isinstance(one, own.Ligature)],
+                   own.Refusal: [lines[1]]}
+        for kind, values in objects.items():
+            hints = {name: one for name, one in typing.get_type_hints(kind).items() if name[0] != "_"}
+            self.same(kind, {name: types_of(*(getattr(one, name) for one in values)) for name in hints},
+                      {name: types_in(one) for name, one in hints.items()})
 
 
 CODES = ("DONE", "FONT_REFUSED", "OUT_OF_MEMORY", "NO_ROOM", "OUT_OF_RANGE", "NOT_UTF8", "UNCODED")
