@@ -6,7 +6,7 @@ import sys
 
 from lib.base import DEMO, environment, execute, read, write
 from lib.clib import BINDINGS, LibraryCase
-from lib.tfm import path_of
+from lib.tfm import make, path_of
 
 # What the module uses of other modules. Python 3.8 has all of it.
 IMPORTED = {"__future__": "annotations", "operator": "index", "functools": "lru_cache", "struct": "iter_unpack",
@@ -15,6 +15,9 @@ IMPORTED = {"__future__": "annotations", "operator": "index", "functools": "lru_
             "ctypes": "Array CDLL Structure byref c_char_p c_int32 c_int64 c_size_t c_uint32 c_uint64 c_void_p "
                       "create_string_buffer sizeof"}
 NEWER = {"removeprefix", "removesuffix", "bit_count", "is_relative_to", "with_stem", "add_note"}
+# A font of 70 characters, with a kern between any two of them: 4,900 pairs, of 40,960 sp each.
+KERNED = make([(1, 0, 1, 0)] * 70, (0, 65536), [(128 * (code == 166), code, 128, 0) for code in range(97, 167)],
+              (65536,))
 
 # Each row: a title, a program, and its output.
 PROGRAMS = (
@@ -265,6 +268,96 @@ print(isinstance(lines, collections.abc.Sequence), lines.index(refusal), lines.c
 print([pickle.loads(pickle.dumps(part)) == part for part in (refusal, kern, ligature, metrics)])
 """, "Line False Refusal False Kern False Ligature False Metrics False ('missing', 0, 81) (-16384,) (12, False, False, 0) 6 2\n"
      "True 1 2 True 3\n[True, True, True, True]\n"),
+    # Mutants: `pairs` makes an object for each element of its array; a method makes a long array; `widths` makes an
+    # object for each line. The limits are twice the number of instructions that Python 3.11 executes in the module, and
+    # one and a half times the largest memory during the call, in bytes.
+    ("The work of each call in Python", """
+import sys, tracemalloc
+def instructions(call):
+    count = [0]
+    def step(frame, event, _):
+        count[0] += event == "opcode"
+        return step
+    def trace(frame, *_):
+        if frame.f_code.co_filename == tfmset.__file__:
+            frame.f_trace_opcodes, frame.f_trace_lines = True, False
+            return step
+    sys.settrace(trace)
+    call()
+    sys.settrace(None)
+    return count[0]
+def memory(call):
+    tracemalloc.start()
+    call()
+    peak = tracemalloc.get_traced_memory()[1]
+    tracemalloc.stop()
+    return peak
+text = b"office ox\\n" * 100
+lines = font.set(text)
+encoded = text.decode(), 99, "refuse"
+for name, call, most, peak in (
+        ("a font", lambda: tfmset.Font(data), 680, 3000), ("a size", lambda: tfmset.Font(data, "9pt"), 790, 3000),
+        ("metrics", lambda: font.metrics(97), 190, 2000), ("pair", lambda: font.pair(111, 120), 260, 2000),
+        ("pairs", font.pairs, 2000, 210_000), ("set", lambda: font.set(text), 450, 30_000),
+        ("set a str", lambda: font.set(*encoded, encoding="t1"), 670, 34_000),
+        ("widths", lambda: font.widths(text), 3600, 15_000),
+        ("widths of a str", lambda: font.widths(*encoded, encoding="t1"), 3800, 19_000),
+        ("records", lambda: font.records(text), 600, 46_000),
+        ("records of a str", lambda: font.records(*encoded, encoding="t1"), 670, 49_000),
+        ("encode", lambda: tfmset.encode(encoded[0], "t1"), 220, 8000), ("a line", lambda: lines[50], 140, 2000),
+        ("items of a line", lambda: lines[50].items, 180, 2000), ("all items", lambda: lines.items, 30, 2000),
+        ("lines", lambda: [line.width for line in lines], 13_500, 9000), ("a slice", lambda: lines[::2], 7500, 11_000)):
+    call()
+    found = instructions(call), memory(call)
+    print(name if found[0] <= most and found[1] <= peak else (name, *found), end=", ")
+""", "a font, a size, metrics, pair, pairs, set, set a str, widths, widths of a str, records, records of a str, encode, "
+     "a line, items of a line, all items, lines, a slice, "),
+    # Mutants: `pairs` tries an array that is twice as long until there is room; it returns 4,096 pairs; the second array
+    # has elements for all codes.
+    ("A font with more than 4,096 pairs", """
+class Library:
+    def __getattr__(self, name):
+        return lambda *arguments: print(name, arguments[-2]) or getattr(library, name)(*arguments)
+other = tfmset.Font(%r)
+library, tfmset._library = tfmset._library, Library()
+codes = range(97, 167)
+print(other.pairs() == [(left, right, tfmset.Kern(40960)) for left in codes for right in codes])
+""" % KERNED, "tfmset_pairs 4096\ntfmset_pairs 4900\nTrue\n"),
+    # Mutants: a method removes CR at the ends of lines, or reads CR LF as LF, in bytes or in a str.
+    ("A CR at the end of a line is a character of it", """
+for text in "o\\r\\nox\\r", "\\r\\n", "ox\\n\\r":
+    print(font.records(text, encoding="t1"), font.records(text.encode()), font.records(text, encoding="latin1"))
+    print(font.widths(text.encode()), font.widths(text, encoding="latin1"), [line.place for line in font.set(text.encode())
+          if isinstance(line, tfmset.Refusal)], tfmset.encode(text, "latin1"))
+""", """b'1:1 refused uncoded 1 U+000D\\n1:2 refused uncoded 2 U+000D\\n' \
+b'1:1 refused missing 1 13\\n1:2 refused missing 2 13\\n' \
+b'1:1 refused missing 1 13\\n1:2 refused missing 2 13\\n'
+[Refusal(reason='missing', place=1, code=13), Refusal(reason='missing', place=2, code=13)] \
+[Refusal(reason='missing', place=1, code=13), Refusal(reason='missing', place=2, code=13)] [1, 2] b'o\\r\\nox\\r'
+b'1:1 refused uncoded 0 U+000D\\n' b'1:1 refused missing 0 13\\n' b'1:1 refused missing 0 13\\n'
+[Refusal(reason='missing', place=0, code=13)] [Refusal(reason='missing', place=0, code=13)] [0] b'\\r\\n'
+b'1:1 set 665189 c111=334233 k-16384 c120=347340\\n1:2 refused uncoded 0 U+000D\\n' \
+b'1:1 set 665189 c111=334233 k-16384 c120=347340\\n1:2 refused missing 0 13\\n' \
+b'1:1 set 665189 c111=334233 k-16384 c120=347340\\n1:2 refused missing 0 13\\n'
+[665189, Refusal(reason='missing', place=0, code=13)] [665189, Refusal(reason='missing', place=0, code=13)] [0] b'ox\\n\\r'
+"""),
+    # Mutants: `_bytes` calls `cast`, which fails for memory with gaps; it copies elements and not bytes; it passes the
+    # object on without a copy.
+    ("Buffers of all kinds count as their bytes", """
+import array, ctypes
+text = b"ox\\nfox\\nwave of"
+wide = array.array("I", (111, 120))
+views = [bytearray(text), memoryview(text), memoryview(b"".join(bytes((one, 0)) for one in text))[::2],
+         memoryview(text[::-1])[::-1], memoryview(text).cast("B", (2, 7)), memoryview(bytearray(text)).toreadonly(),
+         memoryview(array.array("H", text)), memoryview((ctypes.c_char * len(text))(*text))]
+print([font.records(view) == font.records(text) for view in views])
+print(font.records(memoryview(wide)[:1], missing="skip"), tfmset.Font(memoryview(data[::-1])[::-1]).data == data)
+changed = bytearray(data)
+other = tfmset.Font(changed)
+changed[:] = b"\\0" * len(data)
+print(other.widths(b"ox"), other.data == data)
+""", "[True, True, True, True, True, True, True, True]\n"
+     "b'1:1 set 334233 c111=334233 m0 m0 m0\\n' True\n[665189] True\n"),
     # Mutants: `_items` keeps no type, or each one.
     ("The types of arrays of up to 1,024 lengths are kept", """
 import ctypes, gc, weakref
