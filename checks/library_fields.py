@@ -4,7 +4,8 @@ The fields of the header must be where the Python module has them, and the attri
 the values that lib/tfm.py reads from the font, or those of docs/ERRORS.md and of the program's records. The
 constants must be the numbers that the library takes and returns. Any other name fails. So does any other
 sentence in the comments of the header: those of the tables CLAIMS and SENTENCES are compared with what the library
-does, with its contracts, or with docs/CALLING.md.
+does, with its contracts, or with docs/CALLING.md. The sentences of the module with a number, a constant or an
+exception are those of DOCSTRINGS.
 """
 import ast
 import collections
@@ -13,12 +14,13 @@ import inspect
 import itertools
 import json
 import re
+import struct
 import typing
 
 from lib.base import DEMO, PROGRAM, ROOT, execute, files, has, output, read, rows
-from lib.clib import encode
+from lib.clib import BINDINGS, encode
 from lib.docs import font_errors
-from lib.tfm import BOUNDARY, NAMES, Font, changed, make, sample, scaled
+from lib.tfm import BOUNDARY, LISTED, NAMES, Font, changed, make, sample, scaled
 from library import between, listing
 from library_lines import LinesCase
 
@@ -383,7 +385,7 @@ MOST = 134_217_727
 
 def page(text):
     """Whether docs/CALLING.md has a sentence."""
-    return lambda _: text in " ".join(read("docs/CALLING.md").split())
+    return lambda *_: text in " ".join(read("docs/CALLING.md").split())
 
 
 def size_of(text):
@@ -638,6 +640,32 @@ SENTENCES = (
       "SPDX-License-Identifier: MIT OR Apache-2.0"),
     ("tfmset.h: the C interface of tfmset, which sets lines of text with TeX Font Metric (TFM) files.",
      page("libtfmset is the C library of tfmset. Its functions read a [TFM file]")),
+    ("Functions:", None),
+    ("tfmset_version returns the version of the library",
+     page("Returns 1,000,000 * X + 1,000 * Y + Z for version X.Y.Z of the library.")),
+    ("tfmset_size reads a size, such as \"12pt\", from a text",
+     lambda c: c.sizes("12pt") == [786_432]),
+    ("tfmset_encode turns a text in UTF-8 into the codes of a font",
+     page("Turns a text in UTF-8 into the codes of a font,")),
+    ("tfmset_check returns whether a font is accepted, or its first error",
+     page("Returns `TFMSET_DONE` if the font is accepted, and leaves `fault` unchanged.")),
+    ("tfmset_font returns the sizes, boundaries and parameters of a font",
+     page("Reports the numbers of parameters, kerns and [instructions](GLOSSARY.md#instruction), the design size, the "
+      "size that the font is read at,")),
+    ("tfmset_metrics returns the dimensions and the tag of a character",
+     page("Reports the width, height, depth, italic correction and tag of the character `code`,")),
+    ("tfmset_pair returns the kern or the ligature operation between two characters",
+     page("does between two neighbours: nothing, a kern, or one of the eight [ligature operations]")),
+    ("tfmset_pairs returns all pairs of characters that have a kern or a ligature operation",
+     page("Reports all pairs of neighbours that have a kern or a ligature operation:")),
+    ("tfmset_set sets the lines of a text: their widths and their items",
+     page("Sets the lines of a text. A line ends before a line feed (byte 10);")),
+    ("tfmset_widths sets the lines of a text: their widths",
+     page("Sets the lines of a text as `tfmset_set` does, without the items.")),
+    ("tfmset_records sets the lines of a text: their records, as the program prints them",
+     page("and writes their [records](TEXTS.md#records) as the program prints them.")),
+    ("tfmset_encoded_records sets the lines of a text in UTF-8: their records",
+     page("Sets the lines of a text in UTF-8, and writes their records.")),
     ("`font` points to the contents of a TFM file, and `font_length` is the number of its bytes. The bytes may be "
      "arbitrary:",
      page("| `font`, `font_length` | the contents of a TFM file, and their number of bytes | any bytes |")),
@@ -957,7 +985,7 @@ class Comments(LinesCase):
     def test_claims(self):
         """The comments of the header have the sentences of the tables, each of which is true, and no others."""
         numbers, text = self.numbers(), self.text
-        text = re.sub(r"Functions: .*? Font:", "", text)  # library_examples compares these.
+        text = re.sub(r"Example: .*? Font:", "", text)  # library_examples compares it.
         for claim, check in CLAIMS + SENTENCES:
             claim = claim.format(**numbers) if re.search(r"\{\w+\}", claim) else claim
             if text.count(claim) != 1 and claim != "Returns":
@@ -984,3 +1012,215 @@ class Comments(LinesCase):
         self.same("macros", wanted | {"#define TFMSET_H"}, {line.strip() for line in after - before})
         alone = set(output(*command, given=own.encode()).splitlines())
         self.same("headers that it includes", after, alone)
+
+
+def raises(kind, *calls):
+    """Whether each call raises an exception of exactly this class."""
+    def raised(call):
+        try:
+            call()
+        except Exception as error:  # pylint: disable=broad-except
+            return type(error)
+        return None
+    return {raised(call) for call in calls} == {kind}
+
+
+def refused_fonts(m):
+    """The messages of docs/ERRORS.md, each with the exception for its font."""
+    for message, content in font_errors():
+        try:
+            m.Font(content)
+        except m.FontRefused as error:
+            yield message, error
+
+
+# Sentences of the docstrings of the module, in its order, and what has to be true of the module and of the font demo.
+# Before the text of an attribute is its name.
+DOCSTRINGS = (
+    ("each byte is a character code of the font, byte 32 is a space, and byte 10 ends a line.",
+     lambda m, f: [[item.kind for item in line.items] for line in f.set(b"o \no")] == [[m.CHARACTER, m.SPACE],
+      [m.CHARACTER]]),
+    ("Or it is a str, with the encoding of the font: `font.set(\"Straße\", encoding=\"t1\")`.",
+     lambda m, f: isinstance(f.set("Straße", encoding="t1"), m.Lines)),
+    ("All dimensions are in scaled points (sp); 65,536 sp are one TeX point, and 72.27 TeX points are one inch.",
+     lambda m, f: [m.Font(f.data, size).size for size in ("1pt", "1in")] == [65_536, 65_536 * 7227 // 100]),
+    ("`ENCODINGS` are the names of the encodings.",
+     lambda m, f: all(m.encode("a", name) == b"a" for name in m.ENCODINGS)),
+    ("`POINT` is the number of sp in a point.",
+     lambda m, f: m.Font(f.data, "1pt").size == m.POINT),
+    ("`CHARACTER`, `KERN`, `SPACE` and `SKIPPED` are the kinds of items.",
+     lambda m, f: [item.kind for item in f.set(b"ox Q", missing="skip")[0].items] ==
+      [m.CHARACTER, m.KERN, m.CHARACTER, m.SPACE, m.SKIPPED]),
+    ("`BOUNDARY` stands for a boundary in `Font.pair` and `Font.pairs`.",
+     lambda m, f: (11, m.BOUNDARY, f.pair(11, m.BOUNDARY)) in f.pairs()),
+    ("1. the path in the environment variable TFMSET_LIBRARY, if it isn't empty; no other location is tried then; "
+     "2. `libtfmset.so` in the directory of this module; 3. `PREFIX/lib/libtfmset.so.0`, if this module is installed "
+     "in `PREFIX/lib/pythonX.Y/site-packages` (or `dist-packages`); 4. the directories that the system's dynamic "
+     "linker searches, such as those in LD_LIBRARY_PATH. The import raises ImportError if no library is found, if it "
+     "can't be loaded, or if its version isn't that of this module (the first two numbers of `__version__` have to be "
+     "the same): the layout of its structs could differ.",
+     page("It loads the first library of these: the file that the environment variable `TFMSET_LIBRARY` names; "
+          "`libtfmset.so` in the module's own directory; `PREFIX/lib/libtfmset.so.0`, if the module is in PREFIX;")),
+    ("The library has no state. Any thread may call any function at any time, and calls of several threads run "
+     "concurrently.",
+     page("Any thread may call any function at any time, and several threads may pass the same font")),
+    ("Each call reads the font again, which for the font cmr10 takes up to 30 microseconds.",
+     page("which makes it about 25 microseconds for cmr10,")),
+    ("POINT: The number of scaled points in a point.",
+     lambda m, f: m.POINT == 65_536),
+    ("(CHARACTER, KERN, SPACE, SKIPPED): The kinds of items: a character, a kern, a space, and a missing character "
+     "that was skipped.",
+     lambda m, f: (m.CHARACTER, m.KERN, m.SPACE, m.SKIPPED) == (0, 1, 2, 3)),
+    ("BOUNDARY: In `Font.pair` and `Font.pairs`: the left boundary on the left, the right boundary on the right.",
+     page("as `left` the left boundary, as `right` the right boundary.")),
+    ("ENCODINGS: The names of the encodings: OT1 is that of cmr10, T1 that of ecrm1000, and Latin 1 is ISO 8859-1.",
+     lambda m, f: [m.encode("ßÿ"[name == "latin1"], name) for name in ("ot1", "t1", "latin1")] ==
+      [b"\x19", b"\xff", "ÿ".encode("iso-8859-1")]),
+    ("`kind` is CHARACTER, KERN, SPACE or SKIPPED. `code` is the code of a character or of a skipped one, and "
+     "otherwise 0. `width` is in sp, and is 0 for a skipped character.",
+     lambda m, f: [(item.kind, item.code) for item in f.set(b"ox Q", missing="skip")[0].items] ==
+      [(m.CHARACTER, 111), (m.KERN, 0), (m.CHARACTER, 120), (m.SPACE, 0), (m.SKIPPED, 81)] and
+      f.set(b"Q", missing="skip")[0].items[0].width == 0),
+    ("Raised for a character that has no codes in an encoding.",
+     lambda m, f: raises(m.EncodingError, lambda: m.encode("€", "t1"))),
+    ("`encoding` is one of ENCODINGS. Most characters have one code, some have two or three, and the soft hyphen has "
+     "none. Line feeds are kept, and a byte order mark (U+FEFF) at the front of the text is left out. Raises "
+     "EncodingError if a character has no codes: one that isn't in the encoding, or that LaTeX puts together from an "
+     "accent and a letter. Raises ValueError for any other name of an encoding, and TypeError if an argument isn't a "
+     "str.",
+     lambda m, f: m.encode("\ufeff\xad\n", "t1") == b"\n" and raises(m.EncodingError, lambda: m.encode("á", "ot1")) and
+      raises(ValueError, lambda: m.encode("a", "T1"), lambda: m.encode("a", "bytes")) and
+      raises(TypeError, lambda: m.encode(b"a", "t1"), lambda: m.encode("a", b"t1"))),
+    ("Raised for a font that is refused. Carries the first error of the font. `number` is the number of the rule that "
+     "the font breaks, from 1 to 14. `named` is the name of the count, of the table or of the part of an instruction "
+     "that is wrong, or an empty string. `place` depends on `number`: with 1 and 8 it is the number of bytes that are "
+     "needed; with 10 and 11 a character code; with 13 the index of an entry in its table, from 0 (in the table "
+     "`param` from 1); with 14 the address of an instruction, from 0. With any other `number` it is 0. `str` returns "
+     "the text that the program prints.",
+     lambda m, f: all(message == str(error) for message, error in refused_fonts(m)) and
+      {error.number for _, error in refused_fonts(m)} == {*range(1, 15)} and
+      {error.number for _, error in refused_fonts(m) if error.place} <= {1, 8, 10, 11, 13, 14}),
+    ("- tag 0: the character has no tag; `remainder` is 0 - tag 1: the character has instructions in the lig/kern "
+     "program; `remainder` is the address of an instruction, as the file has it; if that instruction is an indirect "
+     "start (docs/LIGATURES.md in the sources), it isn't followed - tag 2: `remainder` is the code of the next larger "
+     "character - tag 3: `remainder` is the number of its extensible recipe",
+     lambda m, f: [m.Font(every_field()).metrics(code)[4:] for code in range(97, 101)] == [(1, 1), (2, 99), (3, 0),
+      (0, 0)]),
+    ("`keep_left` and `keep_right` are true if the left and the right character stay. `passed` is the number of "
+     "elements, 0 to 2, that are passed over after the operation (docs/LIGATURES.md in the sources has a table).",
+     lambda m, f: [m.Font(sample(f"ligature_{op}")).pair(97, 98)[1:] for op in LISTED] ==
+      [(op & 2 > 0, op & 1 > 0, op // 4) for op in LISTED]),
+    ("- 'missing': the byte at the offset `place` (from 0) of the line is `code`, and the font has no such character. "
+     "In a str, `place` is the index in the line of the character that has this code. - 'too-long': the line has "
+     "`place` bytes, which are more than 65,535; `code` is 0. In a str, `place` is the number of its codes. - 'steps': "
+     "the line takes more steps than the limit; `place` and `code` are 0",
+     lambda m, f: f.widths(b"oA\n" + b"o" * 65_536 + b"\nox", 2) == [("missing", 1, 65), ("too-long", 65_536, 0),
+      ("steps", 0, 0)] and f.widths("\xadoA\n" + "¡" * 32_768, encoding="ot1") == [("missing", 2, 65),
+      ("too-long", 65_536, 0)]),
+    ("`struct.iter_unpack(\"IIi\", line.items)`, or `numpy.frombuffer(line.items, \"u4,u4,i4\")`.",
+     lambda m, f: [*struct.iter_unpack("IIi", f.set(b"ox")[0].items)] == [(0, 111, 334_233), (1, 0, -16_384),
+      (0, 120, 347_340)]),
+    ("`size` is from 1 to 134,217,727 sp: a str with a unit (pt, in, pc, cm, mm, bp, dd, cc or sp), such as \"10pt\", "
+     "\"10.95pt\" or \"4mm\", which is rounded as TeX rounds it; or an int, in sp; or None for the design size of the "
+     "font. Spaces in a str are ignored. Raises FontRefused if the font is refused, ValueError if the size is out of "
+     "range or the str isn't a size, and TypeError for arguments of another type. Like each method that calls the "
+     "library, it raises MemoryError if an allocation fails.",  # python_module
+     lambda m, f: [m.Font(f.data, size).size for size in (1, MOST, "10pt", "1 0.95 pt", "4mm", None)] ==
+      [1, MOST, 655_360, 717_619, 745_871, f.design_size] and
+      all(m.Font(f.data, "2" + unit) for unit in "pt in pc cm mm bp dd cc sp".split()) and
+      raises(ValueError, *(lambda size=size: m.Font(f.data, size) for size in (0, MOST + 1, "2", "2em"))) and
+      raises(m.FontRefused, lambda: m.Font(b"")) and
+      raises(TypeError, lambda: m.Font("x"), lambda: m.Font(f.data, 1.5))),
+    ("- `right_boundary`: the code of the right boundary character, or None if the font has none - `left_boundary`: "
+     "whether the left boundary has instructions - `slant`: parameter 1, in units of 2^-20, not scaled - `space`, "
+     "`stretch`, `shrink`, `x_height`, `quad`, `extra_space`: parameters 2 to 7, in sp; 0 for one that the font lacks",
+     None),  # test_attributes
+    ("right_boundary: The code of the right boundary character, or None if the font has none.", None),
+    ("slant: Parameter 1, in units of 2^-20, not scaled. Each parameter that the font doesn't have is 0.", None),
+    ("space: Parameter 2: the width of a space, in sp.",
+     lambda m, f: f.set(b" ")[0].width == f.space),
+    ("stretch: Parameter 3: the stretch of a space, in sp.", None),
+    ("shrink: Parameter 4: the shrink of a space, in sp.", None),
+    ("x_height: Parameter 5: the height of the letter x, in sp.", None),
+    ("quad: Parameter 6: the width of one em, in sp.", None),
+    ("extra_space: Parameter 7: the space that is added at the end of a sentence, in sp.", None),
+    ("Raises OSError if the file can't be read, and what `Font` raises.",
+     lambda m, f: raises(FileNotFoundError, lambda: m.Font.from_file("/none")) and
+      issubclass(FileNotFoundError, OSError) and raises(m.FontRefused, lambda: m.Font.from_file(__file__))),
+    ("Returns the dimensions and the tag of a character, or None if the font has no such character. `code` is from 0 "
+     "to 255. Raises ValueError for any other number.",
+     lambda m, f: [f.metrics(code) for code in (0, 65, 255)] == [None] * 3 and
+      raises(ValueError, lambda: f.metrics(-1), lambda: f.metrics(256))),
+    ("Returns the kern or the ligature operation between two neighbours, or None if there is neither. `left` and "
+     "`right` are codes from 0 to 255, or BOUNDARY. Raises ValueError for any other number.",
+     lambda m, f: [f.pair(*pair) for pair in ((0, 255), (255, 0), (m.BOUNDARY, m.BOUNDARY))] == [None] * 3 and
+      raises(ValueError, *(lambda pair=pair: f.pair(*pair) for pair in ((-1, 0), (0, -1), (257, 0), (0, 257))))),
+    ("A neighbour is the code of a character of the font, or BOUNDARY. The pairs are in the order of the left "
+     "neighbour, where the left boundary comes first, and then of the right one, where the right boundary comes last.",
+     lambda m, f: all([(left % BOUNDARY if left == BOUNDARY else left + 1, right) for left, right, _ in found] ==
+      sorted((left % BOUNDARY if left == BOUNDARY else left + 1, right) for left, right, _ in found)
+      for found in (f.pairs(), m.Font(sample("left_boundary")).pairs()))),
+    ("A line that takes more than `limit` steps is refused; `limit` is from 1 to 16,777,216.",
+     lambda m, f: [f.widths(b"ox", limit) for limit in (2, 3, 1 << 24)] == [[("steps", 0, 0)], [665_189], [665_189]] and
+      raises(ValueError, lambda: f.set(b"", 0), lambda: f.set(b"", (1 << 24) + 1))),
+    ("With `missing=\"skip\"` the byte is skipped, and is an item of kind SKIPPED.",
+     lambda m, f: [item.kind for item in f.set(b"Q", missing="skip")[0].items] == [m.SKIPPED]),
+    ("or a str, with `encoding`, the encoding of the font: one of ENCODINGS. Its codes are then those that `encode` "
+     "returns. A character without codes raises EncodingError, also with `missing=\"skip\"`. In a refusal of a line of "
+     "a str, `place` counts characters. Raises ValueError if `limit`, `missing` or `encoding` has any other value; "
+     "EncodingError; and TypeError if `limit` isn't an int, or if `text` isn't bytes, a bytearray or a memoryview, or "
+     "with `encoding` a str.",
+     lambda m, f: raises(m.EncodingError, lambda: f.set("€", missing="skip", encoding="t1")) and
+      f.widths("\xadoßQ", encoding="t1") == [("missing", 2, 255)] and
+      raises(ValueError, lambda: f.set(b"", missing=""), lambda: f.set("", encoding="T1")) and
+      raises(TypeError, lambda: f.set(b"", 1.0), lambda: f.set(""), lambda: f.set([1]), lambda: f.set(b"",
+      encoding="t1"))),
+    ("`version` is the record format: 1, 2, or 3 for JSON (`--record json` on the command line). `source`, from 0 to "
+     "2^64 - 1, is the number of the source in each record, and `first_line` is the number of the first line; "
+     "`first_line` plus the length of the text must be below 2^64. The result has neither the line `records 2`, with "
+     "which the output of the program begins in format 2, nor an end line.",
+     lambda m, f: [f.records(b"ox", version=version) for version in (1, 2, 3)] == [b"".join(one.encode() + b"\n"
+      for one in execute(PROGRAM, "stream", "--record", form, DEMO, given=b"ox\n")[1].splitlines() if '1:1 ' in one
+      or '"line":1' in one) for form in ("1", "2", "json")] and [f.records(b"ox", source=source, first_line=first)
+      .split()[0] for source, first in ((0, 0), ((1 << 64) - 1, (1 << 64) - 3))] == [b"0:0",
+      b"18446744073709551615:18446744073709551613"] and raises(ValueError, *(lambda more=more: f.records(b"ox", **more)
+      for more in ({"version": 0}, {"version": 4}, {"source": -1}, {"source": 1 << 64}, {"first_line": -1},
+      {"first_line": (1 << 64) - 2})))),
+    ("Offsets and lengths in the records then count bytes of the line in UTF-8. A character without codes doesn't "
+     "raise EncodingError: it refuses the line, as in `1:1 refused uncoded 3 U+20AC`, or with `missing=\"skip\"` it is "
+     "skipped, and is an item such as `u20AC`. Only a lone surrogate, which UTF-8 doesn't have, raises EncodingError.",
+     lambda m, f: f.records("ox €", encoding="t1") == b"1:1 refused uncoded 3 U+20AC\n" and
+      f.records("€", missing="skip", encoding="t1") == b"1:1 set 0 u20AC\n" and
+      raises(m.EncodingError, lambda: f.records("\ud800", encoding="t1"))))
+
+
+class Docstrings(LinesCase):
+    """The docstrings of the Python module"""
+
+    def texts(self):
+        """The texts of the public names, without examples; before the text of a variable is its name."""
+        nodes = [ast.parse(read(BINDINGS + "/tfmset.py"))]
+        for node in nodes:
+            yield ast.get_docstring(node) or ""
+            nodes += [each for each in node.body if isinstance(each, (ast.ClassDef, ast.FunctionDef))
+                      and each.name[0] != "_"] if not isinstance(node, ast.FunctionDef) else []
+            for one, other in zip(node.body, node.body[1:]):
+                text = getattr(other.value, "value", None) if isinstance(other, ast.Expr) else None
+                if isinstance(one, (ast.Assign, ast.AnnAssign)) and isinstance(text, str):
+                    target = one.targets[0] if isinstance(one, ast.Assign) else one.target
+                    yield f"{ast.unparse(target)}: {text}"
+
+    # Mutants: a number in a docstring is another one; a function raises another exception than its text says.
+    def test_docstrings(self):
+        """Each sentence of the module with a number, a constant or an exception is true."""
+        plain = [re.sub(r"^ *>>> .*?(\n\n|\Z)", "", text + "\n", flags=re.M | re.S) for text in self.texts()]
+        text, font = "\n".join(" ".join(one.split()) for one in plain), self.tfmset.Font.from_file(DEMO)
+        for claim, check in DOCSTRINGS:
+            if text.count(claim) != 1:
+                self.wrong.append(f"the module has {text.count(claim)} times: {claim}")
+            elif check and not check(self.tfmset, font):
+                self.wrong.append(f"isn't true: {claim}")
+            text = text.replace(claim, "")
+        others = [sentence for sentence in re.split(r"(?<=[.:;]) |\n", text)
+                  if re.search(r"\d|\b[A-Z_]{4,}\b|[Rr]aise|None", sentence)]
+        self.same("sentences that aren't compared", [], others)
