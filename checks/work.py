@@ -18,7 +18,7 @@ import threading
 import time
 
 from lib import refuse
-from lib.base import DEMO, PROGRAM, ROOT, Case, output, rows, shared, write
+from lib.base import DEMO, PROGRAM, ROOT, Case, output, read, rows, shared, write
 from lib.tfm import make, path_of
 from stream_pipe import PIECE
 
@@ -111,9 +111,49 @@ def neighbours(codes):
     return b"".join(b"".join(bytes((left, right)) for right in codes) + b"\n" for left in codes)
 
 
-TEXTS = {**FONTS, **LETTERS,
+# Texts for ratios of instructions. Their names have no space. Some have 120 KB, in lines of so many bytes, which have the
+# words of a group or are refused at their end; others have 60 KB, in words of so many bytes; in others, of 100 KB, letters
+# are replaced by other codes.
+SIZES = (20, 200, 1000, 5000, 20000, 30000, 60000)
+CODES = {"letters": range(97, 123), "figures": range(48, 58), "punctuation": range(33, 48), "high": range(128, 255)}
+
+
+def of_size(group, size, end=b"\n"):
+    """Lines of so many bytes, made of the words of a group, or lines of some 20 bytes, of five of its words."""
+    line = group * (size // len(group)) if size > 20 else b" ".join(group.split()[3:8])
+    return (line.strip() + end) * (120000 // max(size, len(line)))
+
+
+def of_words(size, end=b""):
+    """Lines of 6,000 bytes, whose words have so many."""
+    return (((b"office" * 400)[:size] + b" ") * (6000 // (size + 1)) + end + b"\n") * 10
+
+
+def of_codes(codes, end=b""):
+    """Usual lines, whose letters are replaced by these codes in turn."""
+    table = bytes(codes[(code - 97) % len(codes)] if 97 <= code < 123 else code for code in range(256))
+    return PIECE[:100000].translate(table).replace(b"\n", end + b"\n")
+
+
+RATIO_TEXTS = {
+    **{f"{name}-{size}": of_size(group, size) for size in SIZES for name, group in GROUPS.items()},
+    **{f"crlf-{size}": of_size(GROUPS["usual"], size, b"\r\n") for size in SIZES},
+    **{f"refused-{size}": of_size(GROUPS["usual"], size, b"A\n") for size in SIZES},
+    **{f"umlauts-{size}": of_size(GROUPS["usual"].replace(b"a", "\u00e4".encode()), size) for size in SIZES},
+    **{f"words-{size}": of_words(size) for size in (5, 100, 400, 2000)},
+    **{f"words-{size}-missing": of_words(size, b"A") for size in (5, 100, 400, 2000)},
+    **{name: of_codes(codes) for name, codes in CODES.items()},
+    **{f"{name}-missing": of_codes(codes, b"\xff") for name, codes in CODES.items()},
+    "lines": PIECE[:100000], "lines-crlf": PIECE[:100000].replace(b"\n", b"\r\n"), "line": b"a\n",
+    "short-lines": b"office\n" * 15000, "short-crlf": b"office\r\n" * 15000,
+    "demo": read("examples/demo.tfm", "rb"),
+    "255-codes": make([(1, 0, 0, 0)] * 255, (0, 1 << 20), params=(0, 1 << 18), first=0),
+    # Each code has kerns of 16 amounts in turn.
+    "alternating": make([(1, 0, 1, 0)] * 256, (0, 1 << 20),
+                        [(128 * (code == 255), code, 128, code % 16) for code in range(256) if code not in (10, 32)],
+                        [16 * number for number in range(1, 17)], (0, 1 << 18), first=0)}
+TEXTS = {**FONTS, **LETTERS, **RATIO_TEXTS,
          **{f"long lines, {name}": (group * 1300 + b"\n") * 16 for name, group in GROUPS.items()},
-         **{f"short lines, {name}": (group + b"\n") * 20800 for name, group in GROUPS.items()},
          **{f"{letter} for a": PIECE[:100000].replace(b"a", letter.encode()) for letter in "a\u00df\u00e4"},
          "many alphabets": VECTOR_OF_MANY.encode(),
          **{f"letters from {start:X}": ("".join(LETTERS_OF_MANY[55 * at:55 * at + 55]) + "\n").encode() * 400
@@ -147,17 +187,12 @@ RATIOS = [
     ("ten times the text, stream", [*STREAM, "20 MB"], 30, [*STREAM, "2 MB"]),
     ("ten times the text, set", [*SET, "20 MB"], 30, [*SET, "2 MB"]),
     ("ten times the fonts", CHECK + [DEMO] * 2000, 30, CHECK + [DEMO] * 200),
-    ("lines of 65,000 bytes, stream", [*STREAM, "long"], 4, [*STREAM, "usual"]),
     ("lines of 65,000 bytes, set", [*SET, "long"], 4, [*SET, "usual"]),
     *((f"a limit of 100, operation {op}", [*LIMITED, path_of(f"endless_{op}"), "aa"], 20,
        [*LIMITED, path_of("plain"), "aa"]) for op in (1, 2, 3, 7)),
     ("one program for all characters", [PROGRAM, "each", *["one program for all", "9", "none"] * 20], 4,
      [PROGRAM, "each", *["one program for one", "9", "none"] * 20]),
     *((f"the plain program, {name}", [*STREAM, name], 20, ["plain", name]) for name in ("20 MB", "short")),
-    *((f"lines of 62,400 bytes, {name}", [PROGRAM, "stream", *options, DEMO, f"long lines, {name}"], 4,
-       [PROGRAM, "stream", *options, DEMO, f"short lines, {name}"]) for name, options in (
-           ("usual", ["--record", "json"]), ("missing", ["--missing", "skip"]),
-           ("missing", ["--missing", "skip", "--record", "json"]), ("uncoded", ["--encoding", "t1", "--missing", "skip"]))),
     # About 4,200,000 steps, and for the largest limit 16,777,216.
     *((f"{name}, operation {op}", [PROGRAM, "stream", *options, path_of(f"endless_{op}"), text], most,
        [*LIMITED, path_of(f"endless_{op}"), "aa, 42000 lines"]) for op, name, options, text, most in (
@@ -253,6 +288,47 @@ INSTRUCTIONS = [
 ]
 
 
+# A command with @ for a text or options; those of the first execution; and those of the other executions, each with the
+# measured ratio of its instructions per byte to those of the first one. Above 500pt, the texts of neighbours can be too long
+# for the table, and lines are set in the general way. --verbose, --crlf and --encoding look at each byte once more.
+PER_BYTE = [
+    ("lines of each size", "stream demo @", "usual-1000", {
+        "usual-20": 1.62, "usual-200": 0.91, "usual-5000": 0.97, "usual-20000": 1.02, "usual-30000": 1.06, "usual-60000": 1.14,
+        "short-lines": 3.56}),
+    ("lines of each size, in JSON", "stream --record json demo @", "usual-1000", {
+        "usual-20": 1.18, "usual-30000": 0.99}),
+    ("lines of each size, with skipped characters", "stream --missing skip demo @", "missing-1000", {
+        "missing-20": 1.49, "missing-5000": 0.98, "missing-30000": 0.98, "missing-60000": 0.98}),
+    ("lines of each size, with characters without codes", "stream --missing skip --encoding t1 demo @", "uncoded-1000", {
+        "uncoded-20": 1.50, "uncoded-30000": 1.0}),
+    ("lines of each size, refused", "stream demo @", "refused-1000", {"refused-200": 1.14, "refused-30000": 1.07}),
+    ("lines of each size, in UTF-8", "stream --encoding latin1 255-codes @", "umlauts-1000", {
+        "umlauts-20": 1.5, "umlauts-5000": 1.0, "umlauts-20000": 1.04, "umlauts-30000": 1.09, "umlauts-60000": 1.17}),
+    ("lines of each size, in UTF-8 and JSON", "stream --encoding latin1 --record json 255-codes @", "umlauts-1000", {
+        "umlauts-20": 1.11, "umlauts-30000": 1.0, "umlauts-60000": 1.0}),
+    ("lines of each size, with CR LF", "stream --crlf demo @", "crlf-1000", {
+        "crlf-20": 1.46, "crlf-30000": 1.05, "short-crlf": 2.77}),
+    ("words of each size", "stream demo @", "words-5", {"words-100": 1.01, "words-400": 1.03}),
+    ("words of each size, in JSON", "stream --record json demo @", "words-5", {
+        "words-100": 0.91, "words-400": 0.91, "words-2000": 0.93}),
+    ("words of each size, with a skipped character", "stream --missing skip demo @", "words-5-missing", {
+        "words-100-missing": 0.79, "words-400-missing": 0.79}),
+    ("codes of each kind", "stream 255-codes @", "letters", {"figures": 0.99, "punctuation": 0.99, "high": 1.0}),
+    ("codes of each kind, with a skipped character", "stream --missing skip 255-codes @", "letters-missing", {
+        "figures-missing": 1.0, "punctuation-missing": 1.0, "high-missing": 1.0}),
+    ("sizes", "stream --size @ demo lines", "12pt", {"20pt": 1.0, "60pt": 1.02, "100pt": 1.02, "500pt": 1.03, "1000pt": 2.36}),
+    ("options", "stream @ demo lines", "", {
+        "--missing skip": 1.0, "--record 2": 1.02, "--limit 16777216": 1.0, "--verbose": 1.28, "--size 12pt": 1.0,
+        **{f"--encoding {encoding}": 1.19 for encoding in SINGLE}, "--encoding t1 --missing skip --record 2 --size 100pt": 1.23}),
+    ("options, with CR LF", "stream --crlf @ demo lines-crlf", "", {"--missing skip": 1.0, "--encoding t1 --record 2": 1.19}),
+    ("options, in JSON", "stream --record json @ demo lines", "", {"--missing skip --encoding t1": 1.06}),
+    ("options of set", "set --block 8 @ demo lines", "", {"--missing skip": 1.01, "--crlf": 1.15, "--encoding t1 --record 2": 1.2}),
+    *((f"sixteen files, {command}", f"{command} demo @", "lines" + " line" * 15, {
+        "line " * before + "lines" + " line" * (15 - before): 1.01 for before in (1, 8, 15)})
+      for command in ("stream", "set --block 8")),
+]
+
+
 def instructions(command):
     """The number of instructions that a command takes, of all its threads. With one worker and blocks of eight lines it
     depends little on their schedule."""
@@ -280,6 +356,26 @@ class Instructions(Case):
         many, few = (instructions([PROGRAM, *words]) for words in (command, other))
         print(f"{many / few:.2f} times {few} instructions; less than {ratio} times is right")
         self.assertLess(many, ratio * few)
+
+    def per_byte(self, words):
+        """The instructions of a command with one worker, for each byte of its longest text."""
+        command, *others = words
+        return instructions([PROGRAM, command, "--workers", "1", *others]) / max(len(TEXTS.get(word, b"")) for word in others)
+
+    # Mutants of `find_refusal` and others in encoded_lines and encodings: lines above 4,096 or 21,000 bytes are read twice. Of
+    # lig_kern: a run of more than 300 bytes is set with a list of pending symbols. Of `ReadyTexts` in set_line: figures have no
+    # text. Of pair_texts: a text of six-digit kerns isn't in a cell; lines aren't set with the table if missing characters are
+    # skipped. Of run_texts: blocks of the ninth file and later ones have one line.
+    @rows(PER_BYTE)
+    def test_ratios(self, command, first, others):
+        """Executions that differ in one thing take about as many instructions per byte as when they were measured."""
+        self.need("valgrind")
+        few = self.per_byte(command.replace("@", first).split())
+        for other, usual in others.items():
+            ratio = self.per_byte(command.replace("@", other).split()) / few
+            print(f"{command.replace('@', other)}: {ratio:.2f} times; usually {usual}")
+            if ratio >= 1.15 * usual:
+                self.wrong.append(f"{command.replace('@', other)}: {ratio:.2f} times {few:.1f}, usually {usual}")
 
     # Mutant of `append_codes` in line_blocks: lines with an encoding that is no vector are set in the general way.
     @rows((encoding, encoding, letter) for encoding, letter in SINGLE.items())
@@ -442,7 +538,7 @@ class Requests(Case):
         self.count([PROGRAM, *words, *texts], "bytes8224", 0)
 
     # Mutants of line_blocks: lines are set without the table of texts that was made. Of pair_texts: record texts are never made,
-    # or for each line; equal texts are kept for each pair of neighbours; lines are set in the general way for some codes, or
+    # or for each line; equal texts are kept for each pair of neighbours, or unless they are the last two; lines are set in the general way for some codes, or
     # after 4,096 texts; lines with a ligature of a code from 27 to 31 are, and those from the 500,000th on, and those whose
     # first missing character is at offset 16 or later; after one long block, more room is requested for all later blocks or texts (line_blocks). The records are the same, and so is, in order, the
     # time of a stream. The texts of 129 to 256 cells take 16,384 bytes, those of more than 1,024 at least 131,072, and
@@ -455,7 +551,8 @@ class Requests(Case):
           for block, size, count in (("1", 275023, 1), ("1", 20001, 0), ("2", 20002, 1))),
         *(([font, text], 8224, 0) for font, text in (
             ("same widths", "neighbours"), ("same widths", "low neighbours"), ("many pairs", "codes in pairs"),
-            ("ligatures", "all ligatures"), ("same widths", "1,100,000 lines"), (DEMO, "missing at each"))),
+            ("ligatures", "all ligatures"), ("same widths", "1,100,000 lines"), (DEMO, "missing at each"),
+            ("alternating", "neighbours"))),
         ([DEMO, "2 MB"], 8224, 0), (["--missing", "skip", DEMO, "missing"], 8224, 1),
         (["--encoding", "t1", "--missing", "skip", DEMO, "missing"], 8224, 1)))
     def test_texts(self, words, size, count):
@@ -485,11 +582,11 @@ class Requests(Case):
 
     # Mutants of `append_generally` in pair_texts and of set_line: the list of a line isn't used for the next one. Of
     # line_blocks: the codes of a line in UTF-8 aren't; the text of a block has no room beforehand.
-    # Of `deliver` in tfm_requests: the blocks of several files have at most eight lines.
+    # Of `deliver` in tfm_requests: the blocks of several files, or with --crlf, have at most eight lines.
     @rows((" ".join(words), words, files) for *words, files in (
         ["--record", "json", "missing", 1], ["--missing", "skip", "missing", 1], ["missing", 1], ["2 MB", 1],
         ["2 MB", 3], ["--record", "json", "2 MB", 2], ["--encoding", "t1", "missing", 1], ["--encoding", "t1", "uncoded", 1],
-        ["--encoding", "t1", "2 MB", 2]))
+        ["--encoding", "t1", "2 MB", 2], ["--crlf", "2 MB", 1], ["--missing", "skip", "--record", "2", "2 MB", 1]))
     def test_memory_is_used_again(self, words, files):
         """There are hardly more requests for memory than lines. Reading a line takes one."""
         *options, text = words
@@ -501,6 +598,13 @@ class Requests(Case):
         how = {"stdout": subprocess.DEVNULL, "timeout": SECONDS}
         got = refuse.execute(named([PROGRAM, "stream", *words]), "memory", most, **how)
         self.same("requests that failed", [], got.told)
+
+    # Mutant of `most_lines` in run_texts: a block has at most 100 lines.
+    @rows((" ".join(words), words) for words in (["short-lines"], ["--crlf", "short-crlf"], ["--encoding", "t1", "short-lines"]))
+    def test_memory_for_short_lines(self, words):
+        """All short lines of a read are one block, and each block takes a few requests for memory."""
+        *options, text = words
+        self.fewer(15520, ["--workers", "1", *options, DEMO, text])
 
     # Mutant of `make_run` in encoded_lines: the items before a run are copied for it.
     @rows((text, options, text) for options, text in (
@@ -544,11 +648,11 @@ class Amounts(Case):
         self.assertLess(len(sizes), sum(sizes) / 32768 + 20)
 
     @rows((f"{words[1]}, {most} MB", words, most) for words, most in (
-        ([*STREAM, "2 MB"], 200), ([*SET, "2 MB"], 250), ([*SET, "20 MB"], 900), (CHECK + [DEMO] * 6000, 64),
+        ([*STREAM, "2 MB"], 200), ([*SET, "2 MB"], 250), ([*SET, "20 MB"], 560), (CHECK + [DEMO] * 6000, 64),
         (CHECK + [path_of("largest")] * 1000, 64), ([PROGRAM, "list", "--all", DEMO], 64), ([PROGRAM, "counts", DEMO], 64)))
     def test_address_space(self, words, most):
         """A command succeeds in so much address space. Mutants: 200 MB are requested for each font; the bytes of each font
-        are kept."""
+        are kept; buffers of the output of `set` have 128 KB, for 64 KB of text."""
         how = {"stdout": subprocess.DEVNULL, "stderr": subprocess.PIPE, "timeout": SECONDS, "check": False}
         ran = subprocess.run(named(words), preexec_fn=limited(resource.RLIMIT_AS, most * MB), **how)
         self.same(words[1], (0, b""), (ran.returncode, ran.stderr))
