@@ -111,9 +111,9 @@ def neighbours(codes):
     return b"".join(b"".join(bytes((left, right)) for right in codes) + b"\n" for left in codes)
 
 
-# Texts for ratios of instructions. Their names have no space. Some have 120 KB, in lines of so many bytes, which have the
-# words of a group or are refused at their end; others have 60 KB, in words of so many bytes; in others, of 100 KB, letters
-# are replaced by other codes.
+# Texts for ratios of instructions. Their names have no space. Some have 120 KB, in lines of so many bytes, which have
+# the words of a group or are refused at their end; others have 60 KB, in words of so many bytes; in others, of 100 KB,
+# letters are replaced by other codes.
 SIZES = (20, 200, 1000, 5000, 20000, 30000, 60000)
 CODES = {"letters": range(97, 123), "figures": range(48, 58), "punctuation": range(33, 48), "high": range(128, 255)}
 
@@ -288,19 +288,20 @@ INSTRUCTIONS = [
 ]
 
 
-# A command with @ for a text or options; those of the first execution; and those of the other executions, each with the
-# measured ratio of its instructions per byte to those of the first one. Above 500pt, the texts of neighbours can be too long
-# for the table, and lines are set in the general way. --verbose, --crlf and --encoding look at each byte once more.
+# A command with @ for a text or options; those of the first execution; and those of the other executions, each with
+# the measured ratio of its instructions per byte to those of the first one. Above 500pt, the texts of neighbours can be
+# too long for the table, and lines are set in the general way. --verbose, --crlf and --encoding look at each byte once
+# more.
 PER_BYTE = [
     ("lines of each size", "stream demo @", "usual-1000", {
-        "usual-20": 1.62, "usual-200": 0.91, "usual-5000": 0.97, "usual-20000": 1.02, "usual-30000": 1.06, "usual-60000": 1.14,
-        "short-lines": 3.56}),
+        "usual-20": 1.62, "usual-200": 0.91, "usual-5000": 0.97, "usual-20000": 1.02, "usual-30000": 1.06,
+        "usual-60000": 1.14, "short-lines": 3.56}),
     ("lines of each size, in JSON", "stream --record json demo @", "usual-1000", {
         "usual-20": 1.18, "usual-30000": 0.99}),
     ("lines of each size, with skipped characters", "stream --missing skip demo @", "missing-1000", {
         "missing-20": 1.49, "missing-5000": 0.98, "missing-30000": 0.98, "missing-60000": 0.98}),
-    ("lines of each size, with characters without codes", "stream --missing skip --encoding t1 demo @", "uncoded-1000", {
-        "uncoded-20": 1.50, "uncoded-30000": 1.0}),
+    ("lines of each size, with characters without codes", "stream --missing skip --encoding t1 demo @",
+     "uncoded-1000", {"uncoded-20": 1.50, "uncoded-30000": 1.0}),
     ("lines of each size, refused", "stream demo @", "refused-1000", {"refused-200": 1.14, "refused-30000": 1.07}),
     ("lines of each size, in UTF-8", "stream --encoding latin1 255-codes @", "umlauts-1000", {
         "umlauts-20": 1.5, "umlauts-5000": 1.0, "umlauts-20000": 1.04, "umlauts-30000": 1.09, "umlauts-60000": 1.17}),
@@ -316,28 +317,39 @@ PER_BYTE = [
     ("codes of each kind", "stream 255-codes @", "letters", {"figures": 0.99, "punctuation": 0.99, "high": 1.0}),
     ("codes of each kind, with a skipped character", "stream --missing skip 255-codes @", "letters-missing", {
         "figures-missing": 1.0, "punctuation-missing": 1.0, "high-missing": 1.0}),
-    ("sizes", "stream --size @ demo lines", "12pt", {"20pt": 1.0, "60pt": 1.02, "100pt": 1.02, "500pt": 1.03, "1000pt": 2.36}),
+    ("sizes", "stream --size @ demo lines", "12pt", {
+        "20pt": 1.0, "60pt": 1.02, "100pt": 1.02, "500pt": 1.03, "1000pt": 2.36}),
     ("options", "stream @ demo lines", "", {
-        "--missing skip": 1.0, "--record 2": 1.02, "--limit 16777216": 1.0, "--verbose": 1.28, "--size 12pt": 1.0,
-        **{f"--encoding {encoding}": 1.19 for encoding in SINGLE}, "--encoding t1 --missing skip --record 2 --size 100pt": 1.23}),
-    ("options, with CR LF", "stream --crlf @ demo lines-crlf", "", {"--missing skip": 1.0, "--encoding t1 --record 2": 1.19}),
+        "--missing skip": 1.0, "--record 2": 1.02, "--limit 16777216": 1.0, "--verbose": 1.28, "--crlf": 1.15,
+        **{f"--encoding {encoding}": 1.19 for encoding in SINGLE},
+        "--encoding t1 --missing skip --record 2 --size 100pt": 1.23}),
+    ("options, with CR LF", "stream --crlf @ demo lines-crlf", "", {
+        "--missing skip": 1.0, "--encoding t1 --record 2": 1.19}),
     ("options, in JSON", "stream --record json @ demo lines", "", {"--missing skip --encoding t1": 1.06}),
-    ("options of set", "set --block 8 @ demo lines", "", {"--missing skip": 1.01, "--crlf": 1.15, "--encoding t1 --record 2": 1.2}),
+    ("options of set", "set --block 8 @ demo lines", "", {
+        "--missing skip": 1.01, "--crlf": 1.15, "--encoding t1 --record 2": 1.2}),
     *((f"sixteen files, {command}", f"{command} demo @", "lines" + " line" * 15, {
         "line " * before + "lines" + " line" * (15 - before): 1.01 for before in (1, 8, 15)})
       for command in ("stream", "set --block 8")),
 ]
 
 
+VALGRIND = ["valgrind", "--tool=callgrind", "--callgrind-out-file=/dev/null"]
+
+
+def counted(messages):
+    """The number of instructions in the messages of valgrind."""
+    return int(re.search(r"Collected : (\d+)$", messages, re.M)[1])
+
+
 def instructions(command):
     """The number of instructions that a command takes, of all its threads. With one worker and blocks of eight lines it
     depends little on their schedule."""
-    valgrind = ["valgrind", "--tool=callgrind", "--callgrind-out-file=/dev/null"]
-    ran = subprocess.run([*valgrind, *named(command)], stdout=subprocess.DEVNULL, stderr=subprocess.PIPE,
+    ran = subprocess.run([*VALGRIND, *named(command)], stdout=subprocess.DEVNULL, stderr=subprocess.PIPE,
                          timeout=5 * SECONDS, encoding="utf-8", check=False)
     if ran.returncode not in (0, 1):
         raise AssertionError(f"{command[:2]}: exit status {ran.returncode}: {ran.stderr[-1000:]}")
-    return int(re.search(r"Collected : (\d+)$", ran.stderr, re.M)[1])
+    return counted(ran.stderr)
 
 
 class Instructions(Case):
@@ -360,12 +372,13 @@ class Instructions(Case):
     def per_byte(self, words):
         """The instructions of a command with one worker, for each byte of its longest text."""
         command, *others = words
-        return instructions([PROGRAM, command, "--workers", "1", *others]) / max(len(TEXTS.get(word, b"")) for word in others)
+        return (instructions([PROGRAM, command, "--workers", "1", *others])
+                / max(len(TEXTS.get(word, b"")) for word in others))
 
-    # Mutants of `find_refusal` and others in encoded_lines and encodings: lines above 4,096 or 21,000 bytes are read twice. Of
-    # lig_kern: a run of more than 300 bytes is set with a list of pending symbols. Of `ReadyTexts` in set_line: figures have no
-    # text. Of pair_texts: a text of six-digit kerns isn't in a cell; lines aren't set with the table if missing characters are
-    # skipped. Of run_texts: blocks of the ninth file and later ones have one line.
+    # Mutants of encodings and encoded_lines: lines above 4,096 or 21,000 bytes are read twice. Of lig_kern: a run above
+    # 300 bytes is set with a list of pending symbols. Of `of` in set_line: figures have no text. Of pair_texts: a
+    # text with kerns of six digits isn't in a cell; with --missing skip, lines aren't set with the table. Of run_texts:
+    # blocks of the ninth file and later ones have one line. Of tfm_requests: those of a stream with --crlf have.
     @rows(PER_BYTE)
     def test_ratios(self, command, first, others):
         """Executions that differ in one thing take about as many instructions per byte as when they were measured."""
@@ -376,6 +389,27 @@ class Instructions(Case):
             print(f"{command.replace('@', other)}: {ratio:.2f} times; usually {usual}")
             if ratio >= 1.15 * usual:
                 self.wrong.append(f"{command.replace('@', other)}: {ratio:.2f} times {few:.1f}, usually {usual}")
+
+    # Mutant of `Backoff` in set_run: a thread that waits spins eight times as long before it sleeps.
+    def test_single_lines(self):
+        """A stream takes few instructions for a line that is sent alone, with those of the threads that wait for it."""
+        self.need("valgrind")
+        few, many = map(self.taken_alone, (20, 220))
+        print(f"{(many - few) / 200:.0f} instructions per line; less than 24000 are right")
+        self.assertLess(many - few, 200 * 24000)
+
+    def taken_alone(self, count):
+        """The instructions of a stream that gets so many lines, each after the record of the one before."""
+        command = [*VALGRIND, PROGRAM, "stream", "--workers", "1", DEMO]
+        with subprocess.Popen(command, **dict.fromkeys(("stdin", "stdout", "stderr"), subprocess.PIPE)) as child:
+            for _ in range(count):
+                child.stdin.write(b"office\n")
+                child.stdin.flush()
+                if not child.stdout.readline():
+                    break
+            child.stdin.close()
+            child.stdout.read()
+            return counted(child.stderr.read().decode())
 
     # Mutant of `append_codes` in line_blocks: lines with an encoding that is no vector are set in the general way.
     @rows((encoding, encoding, letter) for encoding, letter in SINGLE.items())
@@ -538,7 +572,8 @@ class Requests(Case):
         self.count([PROGRAM, *words, *texts], "bytes8224", 0)
 
     # Mutants of line_blocks: lines are set without the table of texts that was made. Of pair_texts: record texts are never made,
-    # or for each line; equal texts are kept for each pair of neighbours, or unless they are the last two; lines are set in the general way for some codes, or
+    # or for each line; equal texts are kept for each pair of neighbours, or unless they are the last two;
+    # lines are set in the general way for some codes, or
     # after 4,096 texts; lines with a ligature of a code from 27 to 31 are, and those from the 500,000th on, and those whose
     # first missing character is at offset 16 or later; after one long block, more room is requested for all later blocks or texts (line_blocks). The records are the same, and so is, in order, the
     # time of a stream. The texts of 129 to 256 cells take 16,384 bytes, those of more than 1,024 at least 131,072, and
@@ -600,7 +635,8 @@ class Requests(Case):
         self.same("requests that failed", [], got.told)
 
     # Mutant of `most_lines` in run_texts: a block has at most 100 lines.
-    @rows((" ".join(words), words) for words in (["short-lines"], ["--crlf", "short-crlf"], ["--encoding", "t1", "short-lines"]))
+    @rows((" ".join(words), words) for words in (
+        ["short-lines"], ["--crlf", "short-crlf"], ["--encoding", "t1", "short-lines"]))
     def test_memory_for_short_lines(self, words):
         """All short lines of a read are one block, and each block takes a few requests for memory."""
         *options, text = words
