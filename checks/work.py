@@ -375,7 +375,7 @@ class Instructions(Case):
         return (instructions([PROGRAM, command, "--workers", "1", *others])
                 / max(len(TEXTS.get(word, b"")) for word in others))
 
-    # Mutants of encodings and encoded_lines: lines above 4,096 or 21,000 bytes are read twice. Of lig_kern: a run above
+    # Mutants of encodings and encoded_lines: lines above 4,096 bytes are read twice. Of lig_kern: a run above
     # 300 bytes is set with a list of pending symbols. Of `of` in set_line: figures have no text. Of pair_texts: a
     # text with kerns of six digits isn't in a cell; with --missing skip, lines aren't set with the table. Of run_texts:
     # blocks of the ninth file and later ones have one line. Of tfm_requests: those of a stream with --crlf have.
@@ -387,7 +387,7 @@ class Instructions(Case):
         for other, usual in others.items():
             ratio = self.per_byte(command.replace("@", other).split()) / few
             print(f"{command.replace('@', other)}: {ratio:.2f} times; usually {usual}")
-            if ratio >= 1.15 * usual:
+            if ratio >= 1.1 * usual:
                 self.wrong.append(f"{command.replace('@', other)}: {ratio:.2f} times {few:.1f}, usually {usual}")
 
     # Mutant of `Backoff` in set_run: a thread that waits spins eight times as long before it sleeps.
