@@ -177,7 +177,7 @@ TEXTS = {**FONTS, **LETTERS, **RATIO_TEXTS,
          "long hyphens": ("\u00ad" * 32000 + "\n").encode() * 60, "usual hyphens": ("\u00ad" * 32 + "\n").encode() * 60000,
          "neighbours": neighbours(range(100, 256)), "low neighbours": neighbours([*range(10), *range(11, 32), *range(33, 156)]),
          "codes in pairs": neighbours(range(100, 226)), "one long line": b"a" * 20000 + b"\n" + b"a\n" * 100,
-         "none": b"", "ends": ENDS, "after": ENDS + b"\xff\n" * 400000,
+         "20,000 lines": (WORDS[:56] + b"\n") * 20000, "none": b"", "ends": ENDS, "after": ENDS + b"\xff\n" * 400000,
          "before": b"\xff\n" * 400000 + ENDS}
 OPTIONS = ["--size", "12pt", "--missing", "skip", "--limit", "900", "--crlf", "--encoding", "t1", "--workers", "3",
            "--capacity", "9", "--block", "3", "--record", "2", "--verbose"]
@@ -675,6 +675,20 @@ class Amounts(Case):
     def test_writes(self, words, most):
         """The number of writes. Mutant: one for each record."""
         self.assertLess(len(self.writes(words)), most)
+
+    # Mutant of set_run: a worker leaves a lane after each message, so that the other threads are woken each time.
+    def test_sleeps(self):
+        """With 64 slots and blocks of eight lines, the threads of a stream sleep a few times for each half ring, of which
+        there are 78. With the mutant, they sleep more than 2,000 times."""
+        options = ["--block", "8", "--workers", "1", "--capacity", "64"]
+        command, sleeps = named([PROGRAM, "stream", *options, DEMO, "20,000 lines"]), []
+        for _ in range(5):
+            with subprocess.Popen(command, stdout=subprocess.DEVNULL) as child:
+                _, child.returncode, used = os.wait4(child.pid, 0)
+            self.same("exit status", 0, child.returncode)
+            sleeps.append(used.ru_nvcsw)
+        print(f"{sorted(sleeps)} sleeps; fewer than 1000 are right")
+        self.assertLess(min(sleeps), 1000)
 
     # Mutants of `make_room` in run_texts: the buffer of a stream is full if it isn't empty, or has 16 KB. If the reader is
     # slow, there are always results, so that the stream never writes because it would have to wait.
