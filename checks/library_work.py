@@ -276,6 +276,8 @@ class Lanes(Case):
         self.need("valgrind")
         program = f"{ROOT}/crates/lane_bench/out/lane_bench"
         if not os.path.exists(program):
+            if os.environ.get("CHECKS_STRICT"):
+                self.fail(f"no {program}, which rt ci leaves")
             self.skipTest("no lane_bench, which rt run in its directory builds")
         lane, alone = (instructions([program, way, "1000", "79", "8"]) - instructions([program, way, "500", "79", "8"])
                        for way in ("lane", "set"))
