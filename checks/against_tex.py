@@ -148,7 +148,7 @@ class Listings(Case):
         found = re.findall(r"\[([-\d,]+)\]", read(os.path.join(self.room, "list.log")))
         return [tuple(map(int, numbers.split(","))) for numbers in found]
 
-    # Mutants of `list`: at the design size; at a size without its fraction.
+    # Wrong definitions of the listing: at the design size; at a size without its fraction.
     @rows((f"{font} at {size}", font, size) for font in ("cmr10", "cmmi10", "cmex10")
           for size in ("12pt", "10.95pt", "4mm", "150pt", "1sp"))
     def test_sizes(self, font, size):

@@ -85,7 +85,6 @@ class Pairs(Case):
 class Characters(Case):
     """Characters after the codes"""
 
-    # Mutants: the texts of checks/mutants.toml.
 
     def run_format(self, path, form, *options):
         """The lines of a format. No character except a line feed ends a line."""

@@ -84,7 +84,7 @@ def codes_of_box(lines, font):
 class Encodings(LinesCase):
     """Codes of characters, and widths of pages"""
 
-    # Mutants: one number of T1_SINGLE in the installed library; the texts of checks/mutants.toml.
+    # Mutant: one number of T1_SINGLE in the installed library.
 
     def latex(self, name, font, body):
         """Runs LaTeX on the body of a document, and returns its log."""

@@ -85,8 +85,8 @@ def files():
 class Vectors(Case):
     """Encoding vectors"""
 
-    # Mutants of tfm_tool and encodings: the highest code of a character; the space at the code of its name; bytes in
-    # place of the encoding of a vector; a line counted from 0.
+    # The prover rejects a body that isn't as defined. Wrong definitions that this rejects: the highest code of a
+    # character; the space at the code of its name; a line counted from 0.
 
     def seen(self, path, numbers):
         """The codes that each of these characters has with the encoding in this file, or None, by the records of
@@ -148,7 +148,7 @@ class Vectors(Case):
         ("a name in parentheses", vector_text([*PLAIN[:99], "(g)", *PLAIN[100:]])),
         ("a brace", vector_text([*PLAIN[:99], "/g{}", *PLAIN[100:]])),
         ("a bracket more", vector_text([*PLAIN[:99], "[", *PLAIN[100:]])),
-        # Mutants of encoding_vectors: one of these bytes is a regular character.
+        # A wrong definition of encoding_vectors: one of these bytes is a regular character.
         *((f"{byte} behind a name", vector_text([*PLAIN[:99], "/g" + byte, *PLAIN[100:]])) for byte in "()<>[]{}"),
         ("CR", vector_text(PLAIN[1:], between="\r")),
         ("CR LF", vector_text(PLAIN[1:], between="\r\n")),
@@ -170,7 +170,7 @@ class Vectors(Case):
         ("comments", vector_text(between=" % [ /x ] def\n")),
         ("white space", vector_text(between="\0\t\f\r")),
         ("more after def", vector_text(end="]def ( /x")),
-        # Mutant of encoding_vectors: a vertical tab is white space.
+        # A wrong definition of encoding_vectors: a vertical tab is white space.
         ("a vertical tab in a name", vector_text(names_at(A=200)).replace(b"/A\n", b"/A\x0b\n")),
         ("names of all kinds", vector_text(names_at(A=200, B=20, uni00A0=7, u1F600=8, u01F600=9, uniD800=11, uni20ac=12,
                                                     u20AC=13, ff=14, sfthyphen=15, space=16, C=10, D=32, u110000=17,
