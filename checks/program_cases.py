@@ -390,7 +390,7 @@ class Names(Case):
         for other in similar - {name, ""}:
             self.file(other, content("@plain"))
         font, text = self.file("usual.tfm", content("@ligature_0")), self.file("usual.txt", "ab\n")
-        told = shown(name)
+        printed = shown(name)
         lines = "1:1 set 491520 c99=491520\n1 end complete 1\n"
         calls = [(text, [command, "--", font, name], lines, "file 1") for command in ("set", "stream")]
         calls += [(font, ["each", "--", name, "9", text], lines, "font 1"),
@@ -398,18 +398,18 @@ class Names(Case):
         if name != "-":
             calls += [(font, [command, "--", name, text], lines, "font") for command in ("set", "stream")]
             calls += [(font, ["list", "--", name], run(["list", font])[1], "font"),
-                      (font, ["check", "--", name], told + ": accepted\n", "some font was")]
+                      (font, ["check", "--", name], printed + ": accepted\n", "some font was")]
         for source, args, out, what in calls:
             path = self.file(name, read(source, "rb"))
             self.same(args, (0, out, ""), run(args, b"", self.room))
             os.remove(path)
-            out = told + ": not read\n" if args[0] == "check" else ""
+            out = printed + ": not read\n" if args[0] == "check" else ""
             wanted = (4, out, f"tfmset: {what} not read\n")
             self.same((args, "isn't there"), wanted, run(args, b"", self.room))
             # Mutants of watched.rt in tfm_tool: the name in a cause is trimmed, or cut; the hint is for each name that begins
             # with a dash, or only for files with lines.
             hint = "tfmset: -: this is the name of a file; /dev/stdin is standard input\n" * (name == "-")
-            causes = f"tfmset: {told}: No such file or directory (os error 2)\n{hint}"
+            causes = f"tfmset: {printed}: No such file or directory (os error 2)\n{hint}"
             self.same((args, "-v"), (*wanted[:2], causes + wanted[2]), run([args[0], "-v", *args[1:]], b"", self.room))
 
 
