@@ -1,11 +1,6 @@
-//! Layouts of lanes and batches.
-use line_lane::{Block, Capacity};
+//! Layouts of batches.
 use set_run::{Plan, Workers};
-
-/// Returns the capacity and the block of a lane; `None` if a number is out of its range.
-pub fn sizes(capacity: usize, block: usize) -> Option<(Capacity, Block)> {
-    Some((Capacity::new(capacity)?, Block::new(block)?))
-}
+use test_support::sizes;
 
 /// Returns a plan with this capacity, this block and this many workers.
 pub fn plan(capacity: usize, block: usize, workers: usize) -> Result<Plan, &'static str> {

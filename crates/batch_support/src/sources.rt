@@ -1,11 +1,11 @@
 //! Sources of lines, with terms and failures.
-use crate::lines::lines_of;
 use line_lane::SourceFault;
 use set_line::{Line, Terms};
 use set_run::{LineSource, ListSource};
 use std::alloc::Global;
 use std::sync::Arc;
 use std::vec;
+use test_support::lines_of;
 
 /// Returns a source of lines with these texts; `None` if an allocation fails.
 pub fn source_of(alloc: Global, texts: &[&str]) -> Option<ListSource> {

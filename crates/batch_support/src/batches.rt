@@ -1,10 +1,10 @@
 //! A batch of three sources, and its output.
-use crate::lines::line;
 use crate::sources::source_of;
 use set_line::Line;
 use set_run::ListSource;
 use std::alloc::Global;
 use std::fmt;
+use test_support::line;
 
 /// Returns a source without lines, one with the line `abc`, and one with 100 lines `ab`, of which line 50
 /// is replaced by 65,536 bytes; `None` if an allocation fails.
