@@ -9,6 +9,7 @@ of `check` before the failure are printed. If only one allocation failed, at mos
 and writes that transfer only a few bytes change nothing.
 """
 import errno
+import itertools
 import os
 import re
 import subprocess
@@ -244,14 +245,15 @@ class Failures(Case):
 
     @rows((command.name, command) for command in COMMANDS + LONG)
     def test_few(self, command):
-        """Nothing fails, 1 or 7 bytes are read and written at a time, or standard error can't be written."""
+        """Nothing fails, 1 or 7 bytes are read and written at a time, a read or a write is interrupted, or standard error
+        can't be written."""
         if self.undisturbed(command):
             for number in (1, 7):
                 fault = fault_of(command, run(command, "few", number), "few", False, 0)
                 self.same(f"{number} bytes at a time", None, fault)
-            for number in (1, 2, 3):
-                fault = fault_of(command, run(command, "write", number, False, errno.EINTR), "few", False, 0)
-                self.same(f"write {number} is interrupted", None, fault)
+            for what, number in itertools.product(("read", "write"), (1, 2, 3, 4)):
+                fault = fault_of(command, run(command, what, number, False, errno.EINTR), "few", False, 0)
+                self.same(f"{what} {number} is interrupted", None, fault)
             if command.want.err:
                 got = run(command, "telling", 1, True, errno.EIO)
                 self.same("standard error", None, fault_of(command, got, "telling", True, errno.EIO))
@@ -267,15 +269,15 @@ class Failures(Case):
             opened = [run(watched, "open", number, False, errno.EIO).told for number in range(1, len(files) + 2)]
             self.same(verbose, [*([name] for name in files), []], opened)
 
-    # Mutant of `WatchedWriter` in tfm_tool: the error of an interrupted write is noted.
+    # Mutants of `WatchedReader` and `WatchedWriter` in tfm_tool: the error of an interrupted read or write is noted.
     @rows((words, words) for words in ("list -v font.tfm", "set -v font.tfm b", "stream -v font.tfm b"))
     def test_interrupted(self, words):
-        """With --verbose, nothing is printed about a write that is interrupted and made again."""
+        """With --verbose, nothing is printed about a read or a write that is interrupted and made again."""
         command = Command(words, 0, "c", "font.tfm", "b")
         wanted = run(command)
-        for number in (1, 2):
-            got = run(command, "write", number, False, errno.EINTR)
-            self.same(f"write {number} is interrupted", wanted[:3], got[:3])
+        for what, number in itertools.product(("read", "write"), (1, 2, 3, 4)):
+            got = run(command, what, number, False, errno.EINTR)
+            self.same(f"{what} {number} is interrupted", wanted[:3], got[:3])
 
     # Mutant of `WatchedFiles` in tfm_tool: an opening for which memory was lacking has no cause.
     @rows((f"{what}, {errno.errorcode[error]}", what, error) for what in ("open", "read")

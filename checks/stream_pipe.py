@@ -16,10 +16,12 @@ import socket
 import statistics
 import struct
 import subprocess
+import tempfile
 import termios
 import threading
 import time
 
+from lib import refuse
 from lib.base import DEMO, PROGRAM, Case, read, rows
 from lib.tfm import path_of
 
@@ -30,6 +32,7 @@ TIMED = 200  # that are sent one by one, and timed
 PAUSE = 0.12  # seconds before each fifth of them; no sleep is longer than 0.05
 MOST_LATENCY = (0.005, 0.012, 0.03)  # seconds: the median, that after a pause, the 95th percentile
 LONG_WAIT, MOST_SLEEPS = 30, 400  # seconds, and how often a thread sleeps in the last three of them; about 130
+MOST_REQUESTS = 2000  # of memory, of which each fails in turn until a lane is abandoned
 SILENCE, MOST_IDLE = 5, 0.2  # seconds, and the seconds of processor time in them; about 0.01
 MB = 1 << 20
 MEGABYTES = (20, 200)
@@ -48,9 +51,9 @@ ALL_PLACES = [(1, 2), (2, 2), (1, 3), (2, 3), (3, 3)]  # of a busy source, and t
 BLOCKS = [("--block 1", ["--block", "1"]), ("--block 8", ["--block", "8"]), ("the default", [])]
 
 
-def read_line(pipe):
+def read_line(pipe, seconds=SECONDS):
     """The next line of a pipe, or what has arrived of it in time."""
-    line, until = b"", time.monotonic() + SECONDS
+    line, until = b"", time.monotonic() + seconds
     while not line.endswith(b"\n"):
         ready, _, _ = select.select([pipe], [], [], max(0, until - time.monotonic()))
         more = os.read(pipe.fileno(), 1) if ready else b""
@@ -58,6 +61,12 @@ def read_line(pipe):
             break
         line += more
     return line
+
+
+def seconds_of(child):
+    """The processor time of a process."""
+    ticks = map(int, read(f"/proc/{child.pid}/stat").rsplit(")", 1)[1].split()[11:13])
+    return sum(ticks) / os.sysconf("SC_CLK_TCK")
 
 
 def unread(pipe):
@@ -175,7 +184,8 @@ class Pipes(Case):
 
     def fifos(self, count):
         """Named pipes that are open for reading and writing, so that to open them never waits."""
-        names = [os.path.join(self.room, f"silent{number}") for number in range(count)]
+        room = self.other_room()
+        names = [os.path.join(room, str(number)) for number in range(count)]
         for name in names:
             os.mkfifo(name)
         pipes = [open(name, "r+b", 0) for name in names]  # pylint: disable=consider-using-with
@@ -242,9 +252,46 @@ class Pipes(Case):
         """Silent sources take hardly any processor time. Mutant: the threads poll and never sleep."""
         child = self.start("--workers", "16", DEMO, *self.fifos(count)[0], stdin=None)
         time.sleep(SILENCE)
-        with open(f"/proc/{child.pid}/stat", encoding="ascii") as stat:
-            ticks = sum(map(int, stat.read().rsplit(")", 1)[1].split()[11:13]))
-        self.assertLess(ticks / os.sysconf("SC_CLK_TCK"), MOST_IDLE)
+        self.assertLess(seconds_of(child), MOST_IDLE)
+
+    # Mutants of set_run: `drop_rest` in lane_taker.rt always returns true; `collect_all` returns after the last end
+    # without `about_to_wait`.
+    @rows((f"{sources} sources, --workers {workers}", sources, workers) for sources in (1, 2) for workers in (1, 2))
+    def test_abandoned_lane(self, sources, workers):
+        """After the lane of a source that goes on was abandoned, its end and the records of another source are printed
+        promptly, and nothing takes processor time."""
+        self.need("cc")
+        for number in range(1, MOST_REQUESTS):
+            names, pipes = self.fifos(sources)
+            with tempfile.TemporaryFile() as told:
+                child = self.start("--workers", str(workers), DEMO, *names, stdin=None, stderr=subprocess.DEVNULL,
+                                   **refuse.failing(told, "memory", number))
+            for line in range(3):
+                pipes[0].write(b"the office five\n")
+                seen = read_line(child.stdout, 2)
+                if not seen.startswith(b"1:%d set " % (line + 1)):
+                    break
+            if seen == b"1 end gave-up %d\n" % line:
+                return self.goes_on(child, pipes)
+            # The batch hasn't begun, a source has ended for want of memory, or the lines are set.
+            for pipe in pipes:
+                pipe.close()
+            self.assertNotIn(b"gave-up", child.communicate(timeout=SECONDS)[0], f"request {number}")
+        return self.fail("no lane was abandoned")
+
+    def goes_on(self, child, pipes):
+        """The lane of the first source was abandoned: its lines bring nothing more, those of the others their records."""
+        pipes[0].write(b"the office five\n" * 200)
+        for number, line in itertools.product(range(2, len(pipes) + 1), (1, 2, 3)):
+            pipes[number - 1].write(b"ox\n")
+            self.same("record", b"%d:%d set" % (number, line), b" ".join(read_line(child.stdout).split()[:2]))
+        before = seconds_of(child)
+        time.sleep(2)
+        self.assertLess(seconds_of(child) - before, MOST_IDLE)
+        for pipe in pipes:
+            pipe.close()
+        ends = [b"%d end complete 3" % number for number in range(2, len(pipes) + 1)]
+        self.same("ends", (ends, 5), (child.stdout.read().splitlines(), child.wait(SECONDS)))
 
     # Mutants of set_run: a worker gives up after 400 waits for lines, or a source after 200 for a free slot; a source
     # that waits for one never sleeps for more than a millisecond.

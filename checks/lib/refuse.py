@@ -17,15 +17,19 @@ def library():
     return shared("refuse.so", lambda path: output("cc", "-O1", "-shared", "-fPIC", "-o", path, source, "-ldl"))
 
 
-def execute(command, what="nothing", number=0, on=False, error=errno.ENOMEM, **how):
-    """Executes a command. Its request of a kind with this number fails, or all such requests from it on."""
+def failing(told, what="nothing", number=0, on=False, error=errno.ENOMEM):
+    """How to start a process whose request of a kind with this number fails, or all such requests from it on. The
+    name of each is written to a file."""
+    words = f"{what} {number} {int(on)} {error} {told.fileno()}"
+    return {"env": {**os.environ, "LD_PRELOAD": library(), "REFUSE": words}, "pass_fds": [told.fileno()]}
+
+
+def execute(command, *fails, **how):
+    """Executes a command in which requests fail, as `failing` describes."""
     how = {"stdin": subprocess.DEVNULL, "stdout": subprocess.PIPE, "timeout": PATIENCE, **how}
     with tempfile.TemporaryFile() as told:
-        env = {**os.environ, "LD_PRELOAD": library(),
-               "REFUSE": f"{what} {number} {int(on)} {error} {told.fileno()}"}
         try:
-            ran = subprocess.run(command, stderr=subprocess.PIPE, check=False, pass_fds=[told.fileno()],
-                                 env=env, **how)
+            ran = subprocess.run(command, stderr=subprocess.PIPE, check=False, **failing(told, *fails), **how)
         except subprocess.TimeoutExpired:
             return Got(f"no end in {how['timeout']} seconds", "", "", ["time"])
         told.seek(0)

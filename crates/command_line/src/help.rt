@@ -112,9 +112,10 @@ that isn't accepted doesn't stop the check. With --verbose, the cause for each
 font that was not read is printed on standard error.
 
 TeX may refuse to load a font that is accepted here: two rules of TeX are not
-checked. A character with the tag `list` must lead to existing characters and
-not back to itself, and a character with the tag `ext` must have an extensible
-recipe whose pieces exist. `tftopl` reports fonts that break these rules.
+checked. A code with the tag `list` must lead to codes from bc to ec and not
+back to itself, and a code with the tag `ext` must have an extensible recipe
+whose pieces exist. `tftopl` reports fonts that break these rules, but checks
+no code without a character.
 
 Exit status:
   0  Every FONT is accepted.

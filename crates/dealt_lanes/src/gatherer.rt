@@ -34,9 +34,9 @@ impl<O: Stored> Gatherer<O> {
 }
 
 impl<O: Made + Stored> Gatherer<O> {
-    ghost use Rattle.std.specs.Prelude.{◌≡◌, ◌↔◌, IsSome, IsTrue, None};
+    ghost use Rattle.std.specs.Prelude.{◌≡◌, IsSome, None};
     ghost use Rattle.std.specs.List.{AllZip};
-    ghost use Rattle.dealt_lanes.specs.Takers.{HasMessagesAt, HaveEnded, IsDrainedOf};
+    ghost use Rattle.dealt_lanes.specs.Takers.{HasMessagesAt, IsDrainedOf};
     ghost use Rattle.dealt_lanes.specs.Dealt.{Gathers, SameGatherer, gathered, gatherer_end, gatherer_turn};
 
     /// Takes the next result, which is from the lane in turn, after which the next lane is in turn. If this
@@ -69,9 +69,9 @@ impl<O: Made + Stored> Gatherer<O> {
     }
 
     /// Takes up to `most` results of each lane and drops them, once `take` has returned an end, so that no
-    /// setter waits for a free slot. The results gathered are unchanged. Returns whether each lane has
-    /// returned its end; until then it is to be called again. Before `take` has returned an end, it does
-    /// nothing and returns false.
+    /// setter waits for a free slot. The results gathered are unchanged. Returns whether results were
+    /// dropped. It is to be called again until `have_ended` returns true. Before `take` has returned an end,
+    /// it does nothing and returns false.
     pub fn drop_rest(&mut self, most: usize) -> bool
         ensures lanes { SameGatherer self.old self.new }
         ensures gathered { gathered self.new ≡ gathered self.old }
@@ -79,13 +79,10 @@ impl<O: Made + Stored> Gatherer<O> {
         ensures unchanged { gatherer_end self.old ≡ None → self.new ≡ self.old }
         ensures emptied { IsSome (gatherer_end self.old)
             → AllZip (IsDrainedOf most) self.old.takers.items self.new.takers.items }
-        ensures ended { IsTrue result
-            ↔ (IsSome (gatherer_end self.old) × HaveEnded self.new.takers.items) }
     {
         if self.end.is_none() {
             return false;
         }
-        drop_all(&mut self.takers, most);
-        self.have_ended()
+        drop_all(&mut self.takers, most)
     }
 }

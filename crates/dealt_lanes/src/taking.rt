@@ -15,26 +15,29 @@ pub(crate) fn take_at<O: Made + Stored>(takers: &mut Vec<Taker<O>>, lane: usize)
     takers[lane].take()
 }
 
-/// Takes up to `most` results of a lane and drops them.
-fn drop_some<O: Made + Stored>(taker: &mut Taker<O>, most: usize)
+/// Takes up to `most` results of a lane and drops them. Returns whether there were any.
+fn drop_some<O: Made + Stored>(taker: &mut Taker<O>, most: usize) -> bool
     ensures { IsDrainedOf most taker.old taker.new }
 {
     for dropped in 0..most {
         match taker.take() {
             Took::Answer(_) => (),
-            Took::Nothing => return,
-            Took::End(_) => return,
+            Took::Nothing => return dropped > 0,
+            Took::End(_) => return dropped > 0,
         }
     }
+    most > 0
 }
 
-/// Takes up to `most` results of each lane and drops them.
-pub(crate) fn drop_all<O: Made + Stored>(takers: &mut Vec<Taker<O>>, most: usize)
+/// Takes up to `most` results of each lane and drops them. Returns whether there were any.
+pub(crate) fn drop_all<O: Made + Stored>(takers: &mut Vec<Taker<O>>, most: usize) -> bool
     ensures { AllZip (IsDrainedOf most) takers.old.items takers.new.items }
 {
+    let mut any = false;
     for lane in 0..takers.len() {
-        drop_some(&mut takers[lane], most);
+        any |= drop_some(&mut takers[lane], most);
     }
+    any
 }
 
 /// Returns whether the end of each lane was taken.

@@ -158,7 +158,7 @@ module _ {S : Type 0} (gives : S → Result (Option (List ℕ)) SourceFault → 
           read = read_then source between.last.value lines (others ++ extra) last lane.source.source begun
               (read_then between.last.value now.last.value others extra last lane.source.source others_read extra_read);
           complete = λ is. let whole = made.complete is in (no_more SourceComplete whole.0 whole.1, (ends SourceComplete whole.1).1);
-          failed = λ fault is. (ends (Failed fault) (made.failed fault is)).1;
+          failed = λ fault is. let whole = made.failed fault is in (no_more (Failed fault) whole.0 whole.1, (ends (Failed fault) whole.1).1);
           abandoned = λ is none.
               let empty = left_empty lines (others ++ extra) none in
               let no_others = (left_empty others extra empty.1).0 in

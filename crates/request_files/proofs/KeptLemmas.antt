@@ -2,7 +2,7 @@
 use Rattle.std.proofs.Common.{◌≡◌, ℕ, ◌+◌, ◌-◌, ◌*◌, ◌^◌, ◌<◌, ◌≤◌, Bool, true, false, List, [], ◌∷◌, ◌++◌, take, drop, length, get_or, min, zero, suc, Option, Some, None, inl, inr, arith, lit≤, refl, sym, ◌∙◌, ap, subst}
 use Rattle.std.proofs.lemmas.Bool.{cases_lt, le-ltb, leb-false}
 use Rattle.std.specs.Prelude.{IfSome, OnOk, Result, Ok, Err, is_ok}
-use Rattle.std.specs.Io.KnownBytes.{Consumes, IsAtEnd}
+use Rattle.std.specs.Io.KnownBytes.{Consumes, IsAtEnd, Keeps}
 use Rattle.std.proofs.lemmas.List.{append-nil, append_assoc, get_or-take, get_or-drop, length-take-le, take_all, take_min, take-take, drop-take}
 use Rattle.tfm_words.specs.declared.numbers.Numbers.{Numbers}
 use Rattle.tfm_words.specs.declared.count_fault.CountFault.{CountFault}
@@ -144,6 +144,12 @@ pub kept_more : (read old next : List ℕ) → old ≡ kept_of read → old ++ t
 kept_more read old next is = take_more_of 131068 read old next is
 
 -- ---- a reader's bytes, some after the others
+
+-- an interrupted read has taken none
+pub nothing_read : (before after : Option (List ℕ)) → Keeps before after → Consumes before after []
+nothing_read None after is = tt
+nothing_read (Some bytes) None is = absurd is
+nothing_read (Some bytes) (Some rest) is = sym is
 
 pub consumed_more : (start now next : Option (List ℕ)) (read more : List ℕ) → Consumes start now read → Consumes now next more → Consumes start next (read ++ more)
 consumed_more None now next read more first then = first

@@ -1,6 +1,6 @@
 //! Reads the fonts of a request to their end, and opens its files with lines.
-ghost use Rattle.std.specs.Prelude.{◌≡◌, ◌≢◌, ◌⊎◌, ℕ, ◌++◌, List, map, Some, true, false, codes, Err, IfErr, IfOk, IfSome, IsErr, OnOk, is_ok};
-ghost use Rattle.std.specs.Io.KnownBytes.{IsAtEnd};
+ghost use Rattle.std.specs.Prelude.{◌≡◌, ◌≢◌, ◌⊎◌, ◌<◌, ◌≤◌, ℕ, ◌++◌, List, [], length, map, take, Some, true, false, codes, Err, IfErr, IfOk, IfSome, IsErr, IsNone, OnOk, is_ok};
+ghost use Rattle.std.specs.Io.KnownBytes.{Consumes, IsAtEnd};
 ghost use Rattle.std.specs.List.{AllZip};
 ghost use Rattle.request_files.specs.Jobs.{IsOpenedWith};
 ghost use Rattle.request_files.specs.Kept.{HaveSameFont, kept_of};
@@ -43,7 +43,7 @@ pub enum ReadFault {
 
 /// Reads the font of this name to its end: the file of this name, or `input` if the name is `-`. Returns its
 /// bytes, up to the number that a font can have. Fails if the file isn't opened, a read fails, 1,048,576 reads
-/// don't reach its end, or an allocation fails.
+/// don't reach its end, or an allocation fails. A read that is interrupted is made again, and counts.
 pub fn font_bytes<F, I>(
     alloc: Global,
     files: &F,
@@ -65,6 +65,24 @@ where
     font_file(alloc, files, font)
 }
 
+/// Reads with one call into a buffer that isn't empty. Returns the number of bytes, which is 0 if the read was
+/// interrupted, or `None` at the end.
+#[tactic(auto, using(crate::proofs::KeptLemmas::nothing_read))]
+fn read_once<I: Read>(input: &mut I, buffer: &mut [u8]) -> Result<Option<usize>, ReadFault>
+    requires room { 0 < length buffer.old }
+    ensures read { IfOk result (λ read. IfSome read (λ count. (count ≤ length buffer.new)
+        × Consumes (I.remaining input.old) (I.remaining input.new) (take count buffer.new))) }
+    ensures end { IfOk result (λ read. IsNone read
+        → Consumes (I.remaining input.old) (I.remaining input.new) [] × IsAtEnd (I.remaining input.new)) }
+{
+    match input.read(buffer) {
+        Ok(0) => Ok(None),
+        Ok(count) => Ok(Some(count)),
+        Err(error) if error.kind() == ErrorKind::Interrupted => Ok(Some(0)),
+        Err(_) => Err(ReadFault::NotRead),
+    }
+}
+
 /// Reads to the end of `input`. Returns its bytes, up to the number that a font can have.
 fn kept_bytes<I: Read>(alloc: Global, input: &mut I) -> Result<Vec<u8>, ReadFault>
     ensures bytes { IfOk result (λ bytes.
@@ -74,11 +92,10 @@ fn kept_bytes<I: Read>(alloc: Global, input: &mut I) -> Result<Vec<u8>, ReadFaul
     let mut bytes = Vec::new(alloc);
     let mut buffer = [0; READ_SIZE];
     for _ in 0..MAX_READS {
-        let count = input.read(&mut buffer).map_err(|_| ReadFault::NotRead)?;
-        if count == 0 {
-            return Ok(bytes);
+        match read_once(input, &mut buffer)? {
+            Some(count) => keep(&mut bytes, &buffer[..count]).map_err(|_| ReadFault::OutOfMemory)?,
+            None => return Ok(bytes),
         }
-        keep(&mut bytes, &buffer[..count]).map_err(|_| ReadFault::OutOfMemory)?;
     }
     Err(ReadFault::NotRead)
 }

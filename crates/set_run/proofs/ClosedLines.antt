@@ -136,7 +136,7 @@ module _ {S : Type 0} (to_come : S → Option (List (List ℕ))) (failed : S →
               gave_all terms answers made.items (to_come source) (to_come now) (to_come lane.source) made.made
                   (subst (λ l. Gave (to_come source) l (to_come now)) only gave) last.2,
             )),
-        (λ fault is. (subst (λ e. HasEnded (gives_line to_come failed) now e lane.source) (made.failed fault is) ended).0),
+        (λ fault is. (subst (λ e. HasEnded (gives_line to_come failed) now e lane.source) (made.failed fault is).1 ended).0),
         (λ none. left_of (length answers) source now lane.source made.last
             (gave_left (length answers) made.items made.more (to_come source) (to_come now) long gave) ended none),
         (λ fault had.
@@ -155,7 +155,7 @@ module _ {S : Type 0} (to_come : S → Option (List (List ℕ))) (failed : S →
       lane_end Complete fault is none kept =
           let no : SourceComplete ≡ Failed fault = kept SourceComplete (made.complete is).1 in absurd (search rules)
       lane_end (SourceFailed other) fault is none kept =
-          let own : Failed other ≡ Failed fault = kept (Failed other) (made.failed other is) in search (rules, own)
+          let own : Failed other ≡ Failed fault = kept (Failed other) (made.failed other is).1 in search (rules, own)
       lane_end GaveUp fault is none kept = absurd (made.abandoned is none)
 
   -- the closed lanes of sources of lines

@@ -149,7 +149,8 @@ module _ {S M I O Q IS OS : Type 0} {ghosts : Ghosts M I O IS OS} where
               (no_others n given more (sym (ap length facts.1 ∙ length-map given makes)) end.0, end.1);
           failed = λ fault is.
               let facts = over (SourceFailed fault) is (λ no. absurd (search rules)) in
-              (ends (Failed fault) (failed_source (dealer_end back.dealer) fault facts.0)).1;
+              let end = ends (Failed fault) (failed_source (dealer_end back.dealer) fault facts.0) in
+              (no_others n given more (sym (ap length facts.1 ∙ length-map given makes)) end.0, end.1);
           abandoned = λ up none.
               let here : last.end ≡ Some GaveUp = sym finished.1 ∙ up in
               let all = came.2 (ap is_some here) in

@@ -3,7 +3,7 @@ use Rattle.std.proofs.Common.{◌≡◌, ◌≢◌, ℕ, suc, ◌+◌, ◌-◌, 
 use Rattle.std.specs.Prelude.{◌↔◌, IsSome}
 use Rattle.std.specs.List.{Contains, position, position_or_len}
 use Rattle.std.specs.Option.{option_map}
-use Rattle.std.specs.Io.KnownBytes.{Consumes, prepend_known}
+use Rattle.std.specs.Io.KnownBytes.{Consumes, Keeps, prepend_known}
 use Rattle.std.proofs.lemmas.Bool.{true≢false}
 use Rattle.std.proofs.lemmas.Bool.Decides.{nat_tests}
 use Rattle.std.proofs.lemmas.List.{get_or_default, get_or-take, length-take, drop_all, drop-drop, take-append-drop}
@@ -107,6 +107,12 @@ moves_all items buffer view line longer start end same read none appended =
     at_end = drop_all end (take end items) (omega (arith, length-take end items))
 
 -- ---- taken off the bytes to come
+
+-- an interrupted read has taken none
+pub nothing_read : (before after : Option (List ℕ)) → Keeps before after → Consumes before after []
+nothing_read None after is = tt
+nothing_read (Some bytes) None is = absurd is
+nothing_read (Some bytes) (Some rest) is = sym is
 
 -- the line, the bytes up to the line feed, and the rest
 to_feed : (line part rest known : List ℕ) → line ++ ((part ++ 10 ∷ rest) ++ known) ≡ ((line ++ part) ++ 10 ∷ []) ++ (rest ++ known)

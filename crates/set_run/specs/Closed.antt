@@ -22,9 +22,8 @@ pub record ItemsSeen (S I O : Type 0) : Type 0 where
 
 module _ {S I O : Type 0} where
   -- a lane agrees with its source: the source returned some items and perhaps an end, and the results are made
-  -- of the first of these items. If the lane is complete, they are made of all items, and the source returned
-  -- its end; if the lane ended with an error of the source, the source returned this error; if the lane was
-  -- abandoned, the source returned an item
+  -- of the first of these items. If the lane is complete, or ended with an error of the source, they are made of all
+  -- items, and the source returned its end, or this error; if the lane was abandoned, the source returned an item
   pub record IsMadeOfSource (gives : S → Result (Option I) SourceFault → S → Type 0) (lane : ItemsSeen S I O) : Type 0 where
     pub items : List I
     pub more : List I
@@ -32,7 +31,7 @@ module _ {S I O : Type 0} where
     pub made : lane.results ≡ map lane.makes items
     pub read : WasRead gives lane.before (items ++ more) last lane.after
     pub complete : lane.end ≡ Some Complete → (more ≡ []) × (last ≡ Some SourceComplete)
-    pub failed : (fault : SourceFault) → lane.end ≡ Some (SourceFailed fault) → last ≡ Some (Failed fault)
+    pub failed : (fault : SourceFault) → lane.end ≡ Some (SourceFailed fault) → (more ≡ []) × (last ≡ Some (Failed fault))
     pub abandoned : lane.end ≡ Some GaveUp → items ++ more ≡ [] → ⊥
 
   -- `IsMadeOfSource` for a closed lane with these results, its source at the call, and the source as it was

@@ -31,8 +31,8 @@ impl From<AllocError> for Refusal {
 /// source over several. The results of one lane come in the order of the items of its source; the order among
 /// different lanes isn't specified. All calls are made in the thread that called the batch.
 ///
-/// After a refusal the collector isn't called again, and the batch is stopped. Before the thread sleeps, it
-/// calls `about_to_wait`, so that the collector can write what it has buffered.
+/// After a refusal the collector isn't called again, and the batch is stopped. Before the thread sleeps, and
+/// after the end of the last lane, it calls `about_to_wait`, so that the collector can write what it has buffered.
 pub trait Collector {
     /// A result: [`Answer`](set_line::Answer) if lines are set.
     type Item: Made + Stored;
@@ -67,7 +67,7 @@ pub trait Collector {
         ensures refused { refused self.new (result_err result) };
 
     /// Writes what the collector has buffered, if anything: no result is available, and the thread is about
-    /// to sleep.
+    /// to sleep, or to wait for the end of the other threads.
     fn about_to_wait(&mut self) -> Result<(), Refusal>
         requires { refused self.old None }
         ensures quiet { OnOk result (quiet self.new) }

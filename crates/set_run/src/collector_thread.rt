@@ -12,8 +12,8 @@ use crate::{Collector, Gate, Refusal, Stage};
 use line_lane::Stored;
 use std::sync::Wait;
 
-/// Takes the available results of all sources, source by source. Returns whether there were any, or more may
-/// have to be dropped.
+/// Takes the available results of all sources, source by source, and drops those of abandoned lanes. Returns
+/// whether there were any.
 fn go_round<C: Collector>(
     signals: &Signals,
     lanes: &mut Vec<LaneTaker<C::Item>>,
@@ -69,8 +69,9 @@ fn wait<R: Wait, C: Collector>(
     Ok(())
 }
 
-/// Takes the results of all sources up to their ends. The error is the refusal of the collector, after which
-/// nothing more is taken.
+/// Takes the results of all sources up to their ends, and then calls the collector's `about_to_wait`, since the
+/// source of an abandoned lane may still be read. The error is the refusal of the collector, after which nothing
+/// more is taken.
 fn collect_all<R: Wait, C: Collector>(
     rt: &R,
     signals: &Signals,
@@ -90,7 +91,7 @@ fn collect_all<R: Wait, C: Collector>(
         if go_round(signals, lanes, collector)? {
             backoff.renew();
         } else if have_ended(lanes.as_slice()) {
-            return Ok(());
+            return collector.about_to_wait();
         } else {
             wait(rt, signals, &mut backoff, collector)?;
         }

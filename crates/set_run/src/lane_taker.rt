@@ -60,7 +60,7 @@ impl<O: Made + Stored> LaneTaker<O> {
     }
 
     /// After the end of an abandoned lane, takes up to `most` results of each lane of the source and drops
-    /// them, so that the setters of the other lanes reach the end. Returns whether more may follow.
+    /// them, so that the setters of the other lanes reach the end. Returns whether there were any.
     fn drop_rest(&mut self, most: usize) -> bool
         ensures same { SameGatherer self.old.gatherer self.new.gatherer }
         ensures gathered { gathered self.new.gatherer ≡ gathered self.old.gatherer }
@@ -70,8 +70,7 @@ impl<O: Made + Stored> LaneTaker<O> {
         if self.end.is_none() || self.is_over() {
             return false;
         }
-        self.gatherer.drop_rest(most);
-        true
+        self.gatherer.drop_rest(most)
     }
 
     /// Takes the available results and the end, together at most `most`, and gives them to the collector.
@@ -99,7 +98,7 @@ impl<O: Made + Stored> LaneTaker<O> {
 
     /// Takes the available results and the end, together at most `most`, and gives them to the collector.
     /// After the end of an abandoned lane, drops the results that the other lanes still have, up to `most` of
-    /// each. Returns whether results or the end were taken, or more may have to be dropped.
+    /// each. Returns whether results or the end were taken, or results were dropped.
     pub fn visit<C: Collector<Item = O>>(
         &mut self,
         lane: usize,

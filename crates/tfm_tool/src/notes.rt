@@ -51,8 +51,7 @@ impl Notes {
         Vec::from_slice(self.alloc, name.as_bytes()).ok()
     }
 
-    /// Notes an error of the file of this name. An interrupted read is noted, too, since it isn't made again. If
-    /// an allocation fails, nothing is noted.
+    /// Notes an error of the file of this name. If an allocation fails, nothing is noted.
     pub fn note<R: Wait>(&self, rt: &R, name: &[u8], error: &io::Error) {
         if self.verbose {
             let mut line = Vec::new(self.alloc);

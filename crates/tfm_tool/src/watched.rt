@@ -113,6 +113,18 @@ impl<'r, 'n, R, T: Read> WatchedReader<'r, 'n, R, T> {
     }
 }
 
+impl<'r, 'n, R: Wait, T: Read> WatchedReader<'r, 'n, R, T> {
+    /// Notes an error. An interrupted read isn't noted, since it is made again.
+    fn note(&self, error: &io::Error) {
+        if error.kind() == ErrorKind::Interrupted {
+            return;
+        }
+        if let Some(name) = &self.name {
+            self.notes.note(self.rt, name.as_slice(), error);
+        }
+    }
+}
+
 impl<R: Wait, T: Read> Read for WatchedReader<'_, '_, R, T> {
     ghost remaining = { λ watched. T.remaining watched.reader };
 
@@ -125,9 +137,7 @@ impl<R: Wait, T: Read> Read for WatchedReader<'_, '_, R, T> {
                 Ok(count)
             }
             Err(error) => {
-                if let Some(name) = &self.name {
-                    self.notes.note(self.rt, name.as_slice(), &error);
-                }
+                self.note(&error);
                 Err(error)
             }
         }

@@ -14,7 +14,7 @@ mod encoded_texts;
 mod failing_streams;
 mod font_texts_written;
 mod gates;
-mod interrupted_writes;
+mod interruptions;
 mod prompt_records;
 mod reads_and_writes;
 mod ready_blocks;

@@ -7,7 +7,7 @@ use crate::reader_source::kept_line::KeptLine;
 use line_lane::SourceFault;
 use memchr::memchr;
 use std::alloc::Global;
-use std::io::Read;
+use std::io::{ErrorKind, Read};
 use std::marker::Model;
 
 /// The largest number of bytes of one read.
@@ -44,16 +44,18 @@ impl Buffer {
         }
     }
 
-    /// Replaces the bytes of the buffer by those of one read, and returns their number, which is 0 at the end
-    /// of the reader. The error is `OutOfMemory` if an allocation failed, and `Read` if the read failed.
+    /// Replaces the bytes of the buffer by those of one read, which are none if the read was interrupted.
+    /// Returns whether the reader is at its end. The error is `OutOfMemory` if an allocation failed, and `Read`
+    /// if the read failed.
+    #[tactic(auto, using(crate::proofs::ReadingLemmas::nothing_read))]
     pub(crate) fn refill<R: Read>(
         &mut self,
         alloc: Global,
         reader: &mut R,
-    ) -> Result<usize, SourceFault>
+    ) -> Result<bool, SourceFault>
         ensures read { OnOk result
             (Consumes (R.remaining reader.old) (R.remaining reader.new) self.new) }
-        ensures end { IfOk result (λ count. count ≡ 0
+        ensures end { IfOk result (λ at_end. IsTrue at_end
             → (self.new ≡ []) × IsAtEnd (R.remaining reader.new)) }
     {
         if self.space.is_empty() {
@@ -67,8 +69,9 @@ impl Buffer {
         match reader.read(self.space.as_mut_slice()) {
             Ok(count) => {
                 self.end = count;
-                Ok(count)
+                Ok(count == 0)
             }
+            Err(fault) if fault.kind() == ErrorKind::Interrupted => Ok(false),
             Err(_) => Err(SourceFault::Read),
         }
     }

@@ -21,8 +21,9 @@ pub(crate) enum RawLine {
 }
 
 /// Returns the next raw line, from the bytes in the buffer and those that are read. At most `most` of its
-/// bytes are kept: of a longer line only the length. The error is `OutOfMemory` if an allocation failed,
-/// `Read` if a read failed, and `ReadBound` if 1,048,576 reads contain neither a line feed nor the end.
+/// bytes are kept: of a longer line only the length. A read that is interrupted is made again, and counts. The
+/// error is `OutOfMemory` if an allocation failed, `Read` if a read failed, and `ReadBound` if 1,048,576 reads
+/// contain neither a line feed nor the end.
 pub(crate) fn next_raw_line<R: Read>(
     alloc: Global,
     reader: &mut R,
@@ -37,7 +38,7 @@ pub(crate) fn next_raw_line<R: Read>(
         return Ok(RawLine::Ended(line));
     }
     for _ in 0..MAX_READS {
-        if buffer.refill(alloc, reader)? == 0 {
+        if buffer.refill(alloc, reader)? {
             return Ok(RawLine::Last(line));
         }
         if buffer.move_line(&mut line)? {

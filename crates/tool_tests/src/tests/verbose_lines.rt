@@ -1,9 +1,8 @@
 //! `--verbose`: what is on standard error, and what doesn't change.
 use super::settings::file_name;
 use super::*;
-use std::io::{ErrorKind, Read};
 use std::test::Fail;
-use std::{fs, io, process};
+use std::{fs, process};
 use test_support::{FailingWriter, TricklingReader};
 
 /// Arguments, the status, and what is on the two outputs, with `NO_CHARACTERS` as standard input.
@@ -142,39 +141,5 @@ fn an_error_of_standard_error_changes_nothing(rt: HostRuntime) -> Result<(), Fai
             "{words:?}"
         );
     }
-    Ok(())
-}
-
-/// A reader whose first read is interrupted.
-#[derive(Drop)]
-struct InterruptedReader<'a> {
-    bytes: &'a [u8],
-    was_read: bool,
-}
-
-impl Read for InterruptedReader<'_> {
-    fn read(&mut self, buf: &mut [u8]) -> io::Result<usize> {
-        if !self.was_read {
-            self.was_read = true;
-            return Err(io::Error::from(ErrorKind::Interrupted));
-        }
-        self.bytes.read(buf)
-    }
-}
-
-/// An interrupted read isn't made again, and therefore has a cause like each read that fails.
-// Mutant: `note` of `notes.rt` notes no call that was interrupted.
-#[test]
-fn an_interrupted_read_has_a_cause(rt: HostRuntime) -> Result<(), Fail> {
-    let mut input = InterruptedReader {
-        bytes: &NO_CHARACTERS,
-        was_read: false,
-    };
-    let mut out = Vec::new(rt.alloc());
-    let mut err = Vec::new(rt.alloc());
-    let status = tool(&rt, &["counts", "-v", "-"], &mut input, &mut out, &mut err);
-    let done = Outcome { status, out, err };
-    let wanted = b"tfmset: standard input: operation interrupted\ntfmset: font not read\n";
-    assert!(rt; done.is(4, b"", wanted), "{}", String::from_utf8(done.err)?);
     Ok(())
 }

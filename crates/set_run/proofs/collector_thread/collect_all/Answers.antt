@@ -53,8 +53,11 @@ returns-then-have_ended-clause-same g c =
 pub returns-then-have_ended-clause-told : goal.returns-then-have_ended-clause-told
 returns-then-have_ended-clause-told g c =
     let ts = c.args.lanes.now.items in let now = c.loop.lanes.items in
-    tells_all_then g.C.Collector.given ts now c.go_round.new.lanes.items c.args.collector.now c.loop.collector c.go_round.new.collector true
-    (sym (zip_length SameLane ts now c.loop.invariant.same)) c.loop.invariant.told c.in_ok-go_round.ensures.told
+    tells_all_kept g.C.Collector.given ts c.go_round.new.lanes.items c.args.collector.now c.go_round.new.collector c.about_to_wait.new.self
+    (is_ok c.about_to_wait.result)
+    (tells_all_then g.C.Collector.given ts now c.go_round.new.lanes.items c.args.collector.now c.loop.collector c.go_round.new.collector true
+    (sym (zip_length SameLane ts now c.loop.invariant.same)) c.loop.invariant.told c.in_ok-go_round.ensures.told)
+    c.about_to_wait.ensures.given
 
 pub returns-in_err-wait-clause-same : goal.returns-in_err-wait-clause-same
 returns-in_err-wait-clause-same g c =

@@ -3,10 +3,10 @@ use Rattle.std.specs.Io.KnownBytes.{prepend_known}
 use Rattle.set_run.proofs.ReadingLemmas.{takes_to_feed, takes_all}
 use Rattle.set_run.proofs.reader_source.raw_line.next_raw_line.Goals as goal
 
-pub returns-then-branch-2 : goal.returns-then-branch-2
-returns-then-branch-2 g c =
+pub returns-then-branch-3 : goal.returns-then-branch-3
+returns-then-branch-3 g c =
     let (line, kept, no_feed, taken) = c.loop.invariant.read in
-    let (longer, still, moved) = rw c.if-branch-2.true at c.in_ok-move_line-2.ensures.moved c.args.most line kept in
+    let (longer, still, moved) = rw c.if-branch-3.true at c.in_ok-move_line-2.ensures.moved c.args.most line kept in
     let all =
     takes_to_feed (prepend_known c.args.buffer.now (g.R.Read.remaining c.args.reader.now)) (g.R.Read.remaining c.loop.reader)
     (g.R.Read.remaining c.refill.new.reader) line longer c.refill.new.self
@@ -16,7 +16,7 @@ returns-then-branch-2 g c =
 pub loop-preserved : goal.loop-preserved
 loop-preserved g c =
     let (line, kept, no_feed, taken) = c.loop.invariant.read in
-    let (longer, still, moved) = rw c.if-branch-2.false at c.in_ok-move_line-2.ensures.moved c.args.most line kept in
+    let (longer, still, moved) = rw c.if-branch-3.false at c.in_ok-move_line-2.ensures.moved c.args.most line kept in
     let all =
     takes_all (prepend_known c.args.buffer.now (g.R.Read.remaining c.args.reader.now)) (g.R.Read.remaining c.loop.reader)
     (g.R.Read.remaining c.refill.new.reader) line longer c.refill.new.self

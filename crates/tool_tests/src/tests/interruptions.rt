@@ -1,7 +1,7 @@
-//! Writes that are interrupted are made again, and the output is the same as without interruptions.
+//! Reads and writes that are interrupted are made again, and the output is the same as without interruptions.
 use super::settings::file_name;
 use super::*;
-use std::io::{ErrorKind, Write};
+use std::io::{ErrorKind, Read, Write};
 use std::test::Fail;
 use std::{fs, io, process};
 
@@ -45,8 +45,42 @@ impl Write for InterruptedWriter {
     }
 }
 
-/// How many bytes a write takes at most, and how often it is interrupted before.
-static WRITES: [(usize, usize); 6] = [
+/// A reader that returns a few bytes in each read, and is interrupted several times before each of them.
+#[derive(Drop)]
+struct InterruptedReader<'a> {
+    bytes: &'a [u8],
+    step: usize,
+    interruptions: usize,
+    /// The number of interruptions before the next read that returns bytes.
+    left: usize,
+}
+
+impl<'a> InterruptedReader<'a> {
+    /// Makes a reader that returns at most `step` bytes in each read, after `interruptions` interruptions.
+    fn new(bytes: &'a [u8], step: usize, interruptions: usize) -> InterruptedReader<'a> {
+        InterruptedReader {
+            bytes,
+            step,
+            interruptions,
+            left: interruptions,
+        }
+    }
+}
+
+impl Read for InterruptedReader<'_> {
+    fn read(&mut self, buf: &mut [u8]) -> io::Result<usize> {
+        if self.left > 0 {
+            self.left -= 1;
+            return Err(io::Error::from(ErrorKind::Interrupted));
+        }
+        self.left = self.interruptions;
+        let count = self.step.min(buf.len());
+        self.bytes.read(&mut buf[..count])
+    }
+}
+
+/// How many bytes a read or a write transfers at most, and how often it is interrupted before.
+static CALLS: [(usize, usize); 6] = [
     (usize::MAX, 1),
     (usize::MAX, 100),
     (1, 1),
@@ -55,8 +89,8 @@ static WRITES: [(usize, usize); 6] = [
     (4096, 2),
 ];
 
-/// These words, with this standard input, end with status 0 and print this output, whichever writes are
-/// interrupted.
+/// These words, with this standard input, end with status 0 and print this output, whichever reads and writes
+/// are interrupted.
 fn prints<R: Abort + Files + Env + Threads + Wait + Sync + AllocGlobal>(
     rt: &R,
     words: &[&str],
@@ -68,8 +102,8 @@ where
 {
     let done = run(rt, words, input);
     assert!(rt; done.is(0, wanted, b""), "{words:?} without interruptions");
-    for (step, interruptions) in &WRITES {
-        let mut input = input;
+    for (step, interruptions) in &CALLS {
+        let mut input = InterruptedReader::new(input, *step, *interruptions);
         let mut out = InterruptedWriter::new(rt.alloc(), *step, *interruptions);
         let mut err = Vec::new(rt.alloc());
         let status = tool(rt, words, &mut input, &mut out, &mut err);
@@ -102,10 +136,11 @@ fn many_lines(alloc: Global, lines: usize) -> Result<(Vec<u8>, String), Fail> {
 }
 
 /// The output of 2,500 lines is longer than a buffer.
-// Mutants of `write_once` and `write_some` in `writing.rt` of `run_texts`: an interrupted write is an error of the
+// Mutants of `refill` in set_run and of `read_once` in `request_files`: an interrupted read is an error, or the end. Of
+// `note` in `watched.rt` of `tfm_tool`: it is noted. Of `CrlfReader`: a carriage return before it is lost. Mutants of `write_once` and `write_some` in `writing.rt` of `run_texts`: an interrupted write is an error of the
 // output, or takes all bytes; after an interruption the first part is written again; only a few writes are made.
 #[test]
-fn an_interrupted_write_changes_nothing(rt: HostRuntime) -> Result<(), Fail> {
+fn an_interruption_changes_nothing(rt: HostRuntime) -> Result<(), Fail> {
     let id = process::id(rt.process());
     let font = file_name(&rt, "interrupted-font", id)?;
     let lines = file_name(&rt, "interrupted-lines", id)?;
@@ -114,12 +149,62 @@ fn an_interrupted_write_changes_nothing(rt: HostRuntime) -> Result<(), Fail> {
     let (text, records) = many_lines(rt.alloc(), 2500)?;
     prints(&rt, &["list", "-"], &PLAIN, LISTING.as_bytes());
     prints(&rt, &["check", "-"], &PLAIN, b"-: accepted\n");
+    prints(&rt, &["counts", "-v", "-"], &NO_CHARACTERS, TEXT.as_bytes());
     prints(&rt, &["set", &font, &lines], b"", RECORDS.as_bytes());
     prints(&rt, &["stream", &font], b"ab\n\nc", RECORDS.as_bytes());
+    prints(
+        &rt,
+        &["stream", "--crlf", &font],
+        b"ab\r\n\r\nc",
+        RECORDS.as_bytes(),
+    );
     prints(&rt, &["stream", &font], &text, records.as_bytes());
     fs::write(&rt, lines.as_str(), text.as_slice())?;
     prints(&rt, &["set", &font, &lines], b"", records.as_bytes());
     fs::remove_file(&rt, font.as_str())?;
     fs::remove_file(&rt, lines.as_str())?;
+    Ok(())
+}
+
+/// The command, how often each read is interrupted before, and the status and both outputs. The font takes two
+/// reads, with that of its end, and the empty text one.
+static BOUNDS: [(&str, usize, u8, &str, &str); 4] = [
+    ("counts", 524_287, 0, TEXT, ""),
+    ("counts", 524_288, 4, "", "tfmset: font not read\n"),
+    ("stream", 1_048_575, 0, "1 end complete 0\n", ""),
+    (
+        "stream",
+        1_048_576,
+        4,
+        "1 end bound 0\n",
+        "tfmset: some file was not read to its end\n",
+    ),
+];
+
+#[test]
+fn interrupted_reads_count_among_the_1048576(rt: HostRuntime) -> Result<(), Fail> {
+    let font = file_name(&rt, "interrupted-bound", process::id(rt.process()))?;
+    fs::write(&rt, font.as_str(), PLAIN.as_slice())?;
+    for (command, interruptions, status, text, errors) in &BOUNDS {
+        let (file, bytes) = match *command {
+            "counts" => ("-", NO_CHARACTERS.as_slice()),
+            _ => (font.as_str(), b"".as_slice()),
+        };
+        let words = [*command, file];
+        let mut input = InterruptedReader::new(bytes, usize::MAX, *interruptions);
+        let mut out = Vec::new(rt.alloc());
+        let mut err = Vec::new(rt.alloc());
+        let ended = tool(&rt, &words, &mut input, &mut out, &mut err);
+        let done = Outcome {
+            status: ended,
+            out,
+            err,
+        };
+        assert!(rt;
+            done.is(*status, text.as_bytes(), errors.as_bytes()),
+            "{command}, {interruptions} interruptions"
+        );
+    }
+    fs::remove_file(&rt, font.as_str())?;
     Ok(())
 }
