@@ -134,7 +134,6 @@ class Page(LibraryCase):
         self.same("largest size", {"134,217,727"}, set(sizes))
         self.assertIn(f"{257 * 257:,} elements", header)
 
-    # Mutants: the texts of checks/mutants.toml.
     def printed(self, name, function, text, font, kinds):
         """What a function of the page prints for a text, with a `main` of checks/lib, and with sanitizers of these kinds,
         which report nothing on standard error."""

@@ -200,8 +200,6 @@ class Records(LinesCase):
     @rows((kinds, kinds) for kinds in ("address,undefined", "thread"))
     def test_with_sanitizers(self, kinds):
         """The programs in C and C++ print the same with sanitizers, which report nothing."""
-        # Mutants: threads.cpp counts its calls in a static variable; ten_lines.c prints text[sizeof text]; the texts of
-        # checks/mutants.toml.
         self.need("c++")
         if not sanitizers(kinds):
             self.lack("-fsanitize=" + kinds)
