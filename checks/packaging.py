@@ -277,7 +277,7 @@ echo "${PWD##*/} $*" >> ../../calls
 cat > /dev/null
 if [ -e ../../fail ]; then seq 30; echo "no proof of ${PWD##*/}"; exit 1; fi
 if [ -e ../../edit ]; then rm ../../edit; sleep 0.1; touch src/main.rt; fi
-if [ -e ../../slow ] && [ "${PWD##*/}" = base ]; then echo $$ > ../../process; exec sleep "$(cat ../../slow)"; fi
+if [ -e ../../slow ] && [ "${PWD##*/}" = base ]; then echo "so far: 3 of 7 functions"; echo $$ > ../../process; exec sleep "$(cat ../../slow)"; fi
 [ "${PWD##*/}" = tfmset ] || exit 0
 mkdir -p out
 printf '#!/bin/sh\\necho "$(cat) $# $*"\\n[ ! -e /proc/self/fd/9 ] || echo locked\\nexit 3\\n' > out/tfmset
