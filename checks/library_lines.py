@@ -42,6 +42,7 @@ class Job:
         self.font = os.path.join(EXAMPLES, font)
         self.name = f"{font} {text[:12]!r} at {size}, {limit}, {missing}"
 
+    @functools.lru_cache(maxsize=9)
     def records(self, form):
         """The program's records, in record format 1, 2, or 3 for JSON."""
         size = ["--size", str(self.size)] if self.size else []
