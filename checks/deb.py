@@ -46,7 +46,6 @@ class Package(Case):
         copy = shared("deb copy", copy_for_scripts)
         self.same("status", 2, execute(copy + "/scripts/deb", self.room, env=environment(), cwd=copy)[0])
 
-    # Mutant of scripts/deb: without `set -e`.
     def test_after_a_failed_build(self):
         """No package is made if the build of the program fails."""
         copy = os.path.join(self.room, "copy")
@@ -54,36 +53,6 @@ class Package(Case):
         seen = execute(copy + "/scripts/deb", self.room, env=environment(MAINTAINER=MAINTAINER), cwd=copy)
         self.same("result", (70, "", ["copy"]), (*seen[:2], os.listdir(self.room)))
 
-    # Mutant of scripts/deb: a missing dpkg-deb isn't reported.
-    def test_without_dpkg(self):
-        copy, tools = shared("deb copy", copy_for_scripts), self.other_room()
-        for name in ("bash", "dirname", "readlink", "realpath"):
-            os.symlink(shutil.which(name), f"{tools}/{name}")
-        seen = execute(copy + "/scripts/deb", env=environment(MAINTAINER=MAINTAINER, PATH=tools), cwd=self.room)
-        self.same("result", (2, "", "deb: dpkg-deb is missing: install the package dpkg\n"), seen)
-
-    # Mutants of scripts/deb: the temporary directory isn't removed; another default directory; the directory of a link is
-    # taken for that of the script.
-    def test_without_a_directory(self):
-        """The package is written to the current directory, and no other file is left."""
-        copy, temporary = shared("deb copy", copy_for_scripts), self.other_room()
-        env, link = environment(MAINTAINER=MAINTAINER, TMPDIR=temporary), os.path.join(self.other_room(), "link")
-        os.symlink(copy + "/scripts/deb", link)
-        package = output(link, env=env, cwd=self.room).strip()
-        self.same("package", ([os.path.basename(package)], self.room), (os.listdir(self.room), os.path.dirname(package)))
-        self.same("temporary files", [], os.listdir(temporary))
-        version, machine = output(PROGRAM, "--version").split()[1], read(PROGRAM, "rb")[18]
-        self.same("name", f"tfmset_{version}_{MACHINES[machine]}.deb", os.path.basename(package))
-
-    # Mutants of scripts/deb: the name of the file is left to dpkg-deb, which then makes a file in place of the
-    # directory; the path is printed although dpkg-deb failed.
-    def test_without_the_directory(self):
-        """Nothing is written or printed if the directory doesn't exist."""
-        copy = shared("deb copy", copy_for_scripts)
-        seen = execute(copy + "/scripts/deb", self.room + "/none", env=environment(MAINTAINER=MAINTAINER), cwd=copy)
-        self.same("result", (2, "", []), (*seen[:2], os.listdir(self.room)))
-
-    # Mutant of scripts/deb: a package for all architectures.
     def test_fields(self):
         """Name, version, architecture (that of the program), section and maintainer."""
         version, machine = output(PROGRAM, "--version").split()[1], read(PROGRAM, "rb")[18]
@@ -91,13 +60,11 @@ class Package(Case):
         wanted = f"tfmset {version} {MACHINES[machine]} tex optional {MAINTAINER}"
         self.same("fields", wanted, output("dpkg-deb", form, "-W", self.package))
 
-    # Mutant of scripts/deb: the oldest version in place of the newest.
     def test_needed_version_of_the_c_library(self):
         found = re.findall(rb"GLIBC_([0-9.]*[0-9])", read(PROGRAM, "rb"))
         newest = max(found, key=lambda version: [int(part) for part in version.split(b".")]).decode()
         self.same("depends", f"libc6 (>= {newest})", output("dpkg-deb", "--showformat=${Depends}", "-W", self.package))
 
-    # Mutant of scripts/deb: only the first two files have checksums.
     def test_files_and_checksums(self):
         top = self.top + "/files"
         self.same("files", FILES, files(top, ("DEBIAN",)))
@@ -109,22 +76,6 @@ class Package(Case):
             seen = gzip.decompress(read(name + ".gz", "rb")) if "/man/" in name else read(name, "rb")
             self.same(f"{name} is its source", True, seen == read(PROGRAM if "/bin/" in name else source, "rb"))
 
-    # Mutant of scripts/deb: gzip stores the time and the name of the man page, so that no two packages are equal.
-    def test_man_page_without_a_time(self):
-        """The head of the man page has neither a time nor a name, and states the best compression (RFC 1952)."""
-        page = read(self.top + "/files/usr/share/man/man1/tfmset.1.gz", "rb")
-        self.same("head", "1f8b0800000000000203", page[:10].hex())
-
-    # Mutant of scripts/deb: a size in bytes.
-    def test_installed_size(self):
-        """The size is in KB. A file or a directory needs less than 8 KB more than its bytes."""
-        size = int(output("dpkg-deb", "--showformat=${Installed-Size}", "-W", self.package))
-        entries = len(output("dpkg-deb", "-c", self.package).splitlines())
-        least = sum(os.path.getsize(f"{self.top}/files/{name}") for name in FILES) / 1024
-        self.assertTrue(least <= size < least + 8 * entries, (least, size))
-
-    # Mutants of scripts/deb: the mode of the top directory is that of a temporary directory; the files belong to the
-    # user who made the package; modes depend on the umask.
     def test_modes_and_owners(self):
         entries = [line.split() for line in output("dpkg-deb", "-c", self.package).splitlines()]
         wanted = {name: "-rwxr-xr-x" if "/bin/" in name else "-rw-r--r--" for name in FILES}

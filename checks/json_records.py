@@ -3,8 +3,7 @@
 Python's json must be able to read each line of JSON, in which no name occurs twice. Written again without
 spaces it must be the same line. Its names must be in the order of docs/TEXTS.md, and its values must be those
 of the line in record format 2. It must also conform to docs/records.schema.json; the validator here has the
-keywords that the schemas use. If Python's jsonschema is installed, it validates one of the lines that differ
-only in numbers, too.
+keywords that the schemas use. If Python's jsonschema is installed, it has to agree about the lines of the tables.
 """
 import functools
 import json
@@ -18,7 +17,6 @@ from library_lines import LinesCase
 WEIGHT = 3
 CASES, SCHEMA = table("json_records"), json.loads(read("docs/records.schema.json"))
 BOUNDS = {"minimum", "maximum", "minLength", "maxLength", "minItems", "additionalProperties", "required"}
-LONG = 10000  # jsonschema doesn't validate longer lines
 KNOWN = {"$schema", "title", "description", "$defs", "$ref", "allOf", "oneOf", "type", "const", "enum",
          "minimum", "maximum", "minLength", "maxLength", "prefixItems", "items", "minItems", "properties",
          "required", "additionalProperties"}
@@ -125,25 +123,6 @@ def loose_bounds(schema, lines):
     return loose, len(bounds)
 
 
-def narrower(schema):
-    """Makes a schema narrower in one way after the other: a bound one closer, or one value, member or alternative less."""
-    def nodes(node):
-        if isinstance(node, dict):
-            yield node
-        for value in node.values() if isinstance(node, dict) else node if isinstance(node, list) else ():
-            yield from nodes(value)
-
-    for node in list(nodes(schema)):
-        found = [(node, name, node[name] + by) for name, by in (("minimum", 1), ("maximum", -1)) if name in node]
-        found += [(node, name, [one for one in node[name] if one is not gone])
-                  for name in ("enum", "oneOf") if name in node for gone in node[name]]
-        found += [(node["properties"], name, False) for name in node.get("properties", ())]
-        for holder, name, value in found:
-            kept, holder[name] = holder[name], value
-            yield f"{name} {value} in place of {kept}"
-            holder[name] = kept
-
-
 @functools.lru_cache(maxsize=None)
 def other_validator():
     """The validator of Python's jsonschema, or None if that isn't installed."""
@@ -155,20 +134,12 @@ def other_validator():
         return None
 
 
-@functools.lru_cache(maxsize=None)
-def is_valid_shape(line):
-    """The same by jsonschema, for a line whose numbers are 1, since jsonschema is slow."""
-    return other_validator() is None or other_validator()(json.loads(line))
-
-
 def line_errors(line, record):
     """The errors of a line of JSON, whose line in record format 2 is given."""
     try:
         pairs, wanted = pairs_of_json(line), pairs_of_record(record)
         wrong = [] if pairs == wanted else [f"{line[:200]!r}, but in record format 2 {record[:200]!r}"]
-        valid = is_valid(dict(pairs), SCHEMA) and (
-            len(line) > LONG or '"bytes"' in line or is_valid_shape(re.sub(r"\d+", "1", line)))
-        return wrong + ([] if valid else [f"{line[:200]!r} doesn't conform to the schema"])
+        return wrong + ([] if is_valid(dict(pairs), SCHEMA) else [f"{line[:200]!r} doesn't conform to the schema"])
     except Wrong as error:
         return [str(error)]
 
@@ -252,13 +223,11 @@ class Lines(Case):
         """The schema refuses a line."""
         self.assertFalse(is_valid(json.loads(line), SCHEMA))
 
-    # Mutant of docs/records.schema.json: a number has no maximum.
     def test_each_bound_of_the_schema(self):
         """Without any minimum, maximum or end of a list, or with other members, a line that is refused is accepted."""
         loose, count = loose_bounds(SCHEMA, CASES["refused_by_schema"])
         self.none(loose, count, 40)
 
-    # Mutants of docs/records.schema.json: no source ends with `bound`; 63 sources; a member is missing.
     def test_nothing_is_refused_that_can_be_printed(self):
         """Lines with each end and reason of TEXTS, and with the least and largest numbers, conform to the schema."""
         ends = re.findall(r"^\| `([a-z-]+)` \| .* \| [0-9]", read("docs/TEXTS.md"), re.M)
@@ -266,15 +235,12 @@ class Lines(Case):
         self.none([line for line in lines if not is_valid(json.loads(line), SCHEMA)], len(ends), 5)
         reasons = set(re.findall(r'^ +(?:reason   =|\|) "([a-z-]+) " [A-Z]', read("docs/TEXTS.md"), re.M))
         self.same("reasons", reasons, {json.loads(line)["refused"] for line in lines if "refused" in line})
-        self.none([line for line in lines if other_validator() and not other_validator()(json.loads(line))])
-        loose = [change for change in narrower(SCHEMA) if all(is_valid(json.loads(line), SCHEMA) for line in lines)]
-        self.none(loose, len(list(narrower(SCHEMA))), 60)
 
     def test_with_jsonschema(self):
         valid = other_validator()
         if not valid:
             self.lack("jsonschema")
-        for row in CASES["lines"]:
-            self.same(row["json"], True, valid(json.loads(row["json"])))
+        for line in CASES["accepted"] + [row["json"] for row in CASES["lines"]]:
+            self.same(line, True, valid(json.loads(line)))
         for line in CASES["refused_by_schema"]:
             self.same(line, False, valid(json.loads(line)))

@@ -18,7 +18,7 @@ from library_lines import sanitizers
 
 WEIGHT = 2
 PAGE, TEXT = "docs/CALLING.md", os.path.join(EXAMPLES, "demo.txt")
-BUILDS = (("without sanitizers", ""), ("address,undefined", "address,undefined"), ("thread", "thread"))
+BUILDS = (("without sanitizers", ""), ("address,undefined", "address,undefined"))
 
 
 def records_of(text, *options, font=DEMO):
@@ -118,9 +118,8 @@ class Page(LibraryCase):
         header, page = (form.findall(read(name)) for name in ("include/tfmset.h", PAGE))
         self.same("declarations", [text.split() for text in header], [text.split() for text in page])
 
-    # Mutants of include/tfmset.h: the example reads a field that doesn't exist, or a number in the comments is another.
     def test_head_of_the_header(self):
-        """The comment at the head has a line for each function, an example that prints a width, and the largest size."""
+        """The comment at the head has a line for each function, and an example that prints a width."""
         header = read("include/tfmset.h")
         head = header.partition("*/\n/*")[2].partition("*/")[0]
         listed = re.findall(r"^ \*     (tfmset_\w+)(?:  .*|)$", head.partition("Example:")[0], re.M)
@@ -130,11 +129,7 @@ class Page(LibraryCase):
                    "    size_t font_length = fread(font, 1, sizeof font, stdin);\n" + example + "    return 0;\n}\n")
         path = self.built(self.file("head.c", program), "cc", "-std=c99")
         self.same("width", listing(read(DEMO, "rb")).chars[97][3] + "\n", self.output(path, given=DEMO))
-        sizes = re.findall(r"from 1 to ([\d,]+)\s(?:\* )?scaled\s(?:\* )?points", header)
-        self.same("largest size", {"134,217,727"}, set(sizes))
-        self.assertIn(f"{257 * 257:,} elements", header)
 
-    # Mutants: the texts of checks/mutants.toml.
     def printed(self, name, function, text, font, kinds):
         """What a function of the page prints for a text, with a `main` of checks/lib, and with sanitizers of these kinds,
         which report nothing on standard error."""

@@ -42,6 +42,7 @@ class Job:
         self.font = os.path.join(EXAMPLES, font)
         self.name = f"{font} {text[:12]!r} at {size}, {limit}, {missing}"
 
+    @functools.lru_cache(maxsize=9)
     def records(self, form):
         """The program's records, in record format 1, 2, or 3 for JSON."""
         size = ["--size", str(self.size)] if self.size else []
@@ -69,7 +70,6 @@ def jobs():
     for operation in (1, 2, 3, 7, 11):
         yield Job(f"fonts/ligature_{operation}.tfm", b"ab" * 1500 + b"\nab", 655361)
     draw = random.Random(1)
-    # Mutants of tfmset_c: a table of texts is never made; it is made for each line.
     yield Job("demo.tfm", read("examples/demo.txt", "rb") * 500, missing="skip")
     long_fonts = "left_boundary right_boundary ligature_0 ligature_3 largest without_space no_characters".split()
     for name, missing in itertools.product(["demo", *("fonts/" + name for name in long_fonts)], policies):
@@ -186,8 +186,6 @@ class Records(LinesCase):
         job = Job("demo.tfm", text * (20_000_000 // len(text)))
         self.same("20 MB", True, job.records(1) == self.tfmset.Font.from_file(job.font).records(job.text))
 
-    # Mutants of the library: `tfmset_pair` keeps a block that it allocates; the list of the items of a line, the codes of
-    # a line in UTF-8, or both lists of an `EncodedRoom`, aren't used for the next line.
     def test_failed_allocations_and_threads_in_c(self):
         text = read("examples/demo.txt", "rb") * 40
         errors = self.in_c(Job("demo.tfm", text, missing="skip"), "more")
@@ -200,8 +198,6 @@ class Records(LinesCase):
     @rows((kinds, kinds) for kinds in ("address,undefined", "thread"))
     def test_with_sanitizers(self, kinds):
         """The programs in C and C++ print the same with sanitizers, which report nothing."""
-        # Mutants: threads.cpp counts its calls in a static variable; ten_lines.c prints text[sizeof text]; the texts of
-        # checks/mutants.toml.
         self.need("c++")
         if not sanitizers(kinds):
             self.lack("-fsanitize=" + kinds)
@@ -214,7 +210,6 @@ class Records(LinesCase):
 
     def test_eight_threads_in_python(self):
         """Eight threads call all functions of one font, each with a text of its own."""
-        # Mutants: `set` or `widths` keeps its array of lines in the font for the next call.
         lines = read("README.md", "rb").splitlines(keepends=True)
         jobs = [Job("demo.tfm", b"".join(lines[n:] + lines[:n]), missing="skip") for n in range(0, 80, 10)]
         font, wanted = self.tfmset.Font.from_file(jobs[0].font), {job: job.records(2) for job in jobs}
@@ -250,7 +245,6 @@ class Module(LinesCase):
                 self.tfmset.Font(data)
             self.same(message, message, str(raised.exception))
 
-    # Mutants: two names of `_COUNTS` or of `_TABLES` are swapped. ERRORS.md has examples of one count and of four tables.
     def test_names_in_font_errors(self):
         """Each count, and each table that can be empty, has its name."""
         data = sample("no_characters")

@@ -24,7 +24,6 @@ until memory is lacking, and lists whose types aren't written out: an element th
 """
 import re
 import string
-import tomllib
 from collections import Counter
 
 from lib.base import ROOT, Case, files, read, rows, table
@@ -441,13 +440,3 @@ class Types(Case):
         text = read("crates/encodings/src/encoding.rt")
         listed = re.search(r"ALL: \[Encoding; \d\] = \[(.*?)\];", text, re.S)[1]
         self.same("ALL", re.findall(r"^    (\w+),$", text, re.M), re.findall(r"Encoding::(\w+)", listed))
-
-
-class Mutants(Case):
-    """checks/mutants.toml"""
-
-    def test_each_text_is_in_its_file(self):
-        """Each text that a mutant replaces occurs once in its file."""
-        found = [(mutant["file"], old) for mutant in tomllib.loads(read("checks/mutants.toml"))["mutants"]
-                 for old, _ in mutant.get("changes") or [(mutant["old"], mutant["new"])]]
-        self.none([f"{name}: {old!r}" for name, old in found if read(name).count(old) != 1], len(found), 100)

@@ -7,8 +7,8 @@ them into "$tmp". A ```c or ```python block is saved under the name in the comme
 blocks after it can use it. PREFIX is set, and so are those of the variables of VARIABLES that the page names.
 A command whose tool is missing is skipped.
 
-All of this is done in each of LOCALES. A locale that isn't installed is compiled into a temporary directory,
-which LOCPATH names.
+All of this is done in the locale C.UTF-8, and for docs/RECIPES.md in de_DE.UTF-8, too, in which numbers have a comma. If
+that isn't installed, it is compiled into a temporary directory, which LOCPATH names.
 """
 import os
 import re
@@ -30,7 +30,6 @@ ENCODINGS = script("examples/font_encodings.py").ENCODINGS
 RUN = RULES["pages"] + [page for page in RULES["perhaps"] if list(commands(read(page)))]
 LIBRARY = "library for C"
 VARIABLES = ("PKG_CONFIG_PATH", "LD_LIBRARY_PATH", "TFMSET_LIBRARY", "PYTHONPATH")
-LOCALES = ("C", "C.UTF-8", "de_DE.UTF-8")
 SAMPLES = "crates/test_support/src/fonts"
 NAMES, WORDS = sorted(name[:-4] for name in os.listdir(f"{EXAMPLES}/fonts")), RULES["words"]
 
@@ -55,7 +54,8 @@ class Commands(LibraryCase):
         except unittest.SkipTest:
             self.lacks, self.prefix, self.env = {LIBRARY}, "", {}
 
-    @rows((f"{page} in {name}", page, name) for page in RUN for name in LOCALES)
+    @rows((f"{page} in {name}", page, name) for page, name in (
+        *((page, "C.UTF-8") for page in RUN), ("docs/RECIPES.md", "de_DE.UTF-8")))
     def test(self, page, name):
         self.link_repository()
         in_locale = self.locale(name)
@@ -363,7 +363,6 @@ class Scripts(Case):
         self.same(name, (4, 1, 0), (status, err.count("\n"), out.count("end")))
         self.assertIn(message, err)
 
-    # Mutants of scripts/renumber: no number in the end line of no record; an end line with another number is accepted.
     @rows((repr(given), given, wanted) for given, wanted in (
         ("", "1 end complete 0\n"), ("1 end complete 0\n", "1 end complete 0\n"),
         ("1:1 set 5\n1 end complete 1\n1 end complete 0\n1:1 set 6\n1:2 refused steps 9\n1 end complete 2\n",

@@ -20,8 +20,7 @@
 #include <tfmset.h>
 #include <unistd.h>
 
-/* A table of texts has 65,792 cells of two bytes. The table of pairs of a font has the same size. */
-enum { THREADS = 8, ROUNDS = 20, PATTERN = 0xA5, TABLE = 131584 };
+enum { THREADS = 8, ROUNDS = 20, PATTERN = 0xA5 };
 
 struct text {
     const uint8_t *bytes;
@@ -42,9 +41,9 @@ static void must(int right, const char *what)
 
 /* Allocations. `granted` is the number of allocations that still succeed, or -1 if all do. The one after them
  * fails, and with `all_fail` all that follow fail, too. `failures` is the number of allocations that failed,
- * `allocated` the number of blocks that aren't freed yet, and `tables` that of the requests of the size of a table. */
+ * and `allocated` the number of blocks that aren't freed yet. */
 
-static _Thread_local long granted = -1, failures, allocated, tables;
+static _Thread_local long granted = -1, failures, allocated;
 static _Thread_local int all_fail;
 
 void *__real_malloc(size_t length);
@@ -64,7 +63,6 @@ void *__wrap_malloc(size_t length)
 {
     void *new = fails() ? NULL : __real_malloc(length);
     allocated += new != NULL;
-    tables += length == TABLE;
     return new;
 }
 
@@ -72,7 +70,6 @@ void *__wrap_realloc(void *old, size_t length)
 {
     void *new = fails() ? NULL : __real_realloc(old, length);
     allocated += old == NULL && new != NULL;
-    tables += length == TABLE;
     return new;
 }
 
@@ -332,55 +329,6 @@ static void check_lengths(const struct set *whole, const struct output *records)
     }
 }
 
-/* Checks how many tables of pairs the functions make that report on a font. */
-static void check_tables_of_fonts(void)
-{
-    struct tfmset_font about;
-    struct tfmset_fault fault;
-    struct tfmset_metrics metrics;
-    struct tfmset_pair pair;
-    tables = 0;
-    must(CALLED(font, (font.bytes, font.length, size, &about)) == TFMSET_DONE && tables == 0, "tables of font");
-    must(CALLED(check, (font.bytes, font.length, size, &fault)) == TFMSET_DONE && tables == 0, "tables of check");
-    must(CALLED(metrics, (font.bytes, font.length, size, 97, &metrics)) == TFMSET_DONE && tables == 0,
-         "tables of metrics");
-    must(CALLED(pair, (font.bytes, font.length, size, 97, 98, &pair)) == TFMSET_DONE && tables == 1,
-         "tables of pair");
-}
-
-/* Checks that a call for a long text makes one table of texts, if the function uses one, and that one for a short text makes
- * none. Each call reads the font once, whose table of pairs is counted, too. The functions that need only the metrics of the
- * font make no table. */
-static void check_tables(const struct set *whole, const struct output *records)
-{
-    int wanted = text.length > 100000;
-    struct output output;
-    struct set set;
-    if (!wanted && text.length > 10000)
-        return;
-    tables = 0;
-    set = widths_with(whole->counts.lines);
-    must(tables == 1 + wanted, "tables of widths");
-    unmap_set(&set);
-    tables = 0;
-    output = records_with(2, records[1].length);
-    must(tables == 1 + wanted, "tables of records");
-    unmap(&output.bytes);
-    tables = 0;
-    set = set_with(whole->counts.lines, whole->counts.items);
-    must(tables == 1, "tables of set");
-    unmap_set(&set);
-    tables = 0;
-    output = encoded_records_with(2, records[1].length);
-    must(tables == 1, "tables of encoded_records");
-    unmap(&output.bytes);
-    tables = 0;
-    output = records_with(TFMSET_JSON, 0);
-    must(tables == 1, "tables of records in JSON");
-    unmap(&output.bytes);
-    check_tables_of_fonts();
-}
-
 /* Threads: each calls with its own arrays, and has to get the same results. */
 
 struct expected {
@@ -430,10 +378,9 @@ static int widths_reports_failure(const struct expected *expected)
     return reported;
 }
 
-static int records_reports_failure(const struct expected *expected)
+static int output_reports_failure(struct output output, const struct expected *expected)
 {
     const struct output *whole = &expected->records[1];
-    struct output output = records_with(2, whole->length);
     int reported = output.code == TFMSET_OUT_OF_MEMORY && output.length == 77;
     must(reported || memcmp(output.bytes.at, whole->bytes.at, whole->length) == 0,
          "records is complete, or reports a failed allocation");
@@ -441,15 +388,14 @@ static int records_reports_failure(const struct expected *expected)
     return reported;
 }
 
+static int records_reports_failure(const struct expected *expected)
+{
+    return output_reports_failure(records_with(2, expected->records[1].length), expected);
+}
+
 static int encoded_records_reports_failure(const struct expected *expected)
 {
-    const struct output *whole = &expected->records[1];
-    struct output output = encoded_records_with(2, whole->length);
-    int reported = output.code == TFMSET_OUT_OF_MEMORY && output.length == 77;
-    must(reported || memcmp(output.bytes.at, whole->bytes.at, whole->length) == 0,
-         "encoded_records is complete, or reports a failed allocation");
-    unmap(&output.bytes);
-    return reported;
+    return output_reports_failure(encoded_records_with(2, expected->records[1].length), expected);
 }
 
 static int has_text(const uint8_t *at, size_t length, const char *wanted)
@@ -596,7 +542,6 @@ int main(int count, char **arguments)
     expected.whole = &whole;
     expected.records = records;
     check_lengths(&whole, records);
-    check_tables(&whole, records);
     if (count > 6) {
         check_memory(&expected);
         check_threads(&expected);
