@@ -231,13 +231,16 @@ class Linking(LibraryCase):
 
 def copy_for_installing(prefix):
     """Makes a function that copies what scripts/library needs, with a stand-in for rt, by which nothing is proved or built:
-    the library of a prefix takes the place of what `rt lib` writes."""
+    the library of a prefix takes the place of what `rt lib` writes, and is newer than the sources."""
     def make(top):
-        for name in ("scripts/library", "include/tfmset.h", "bindings/python/tfmset.py"):
-            os.makedirs(os.path.dirname(f"{top}/{name}"))
+        for name in ("scripts/library", "scripts/prove", "scripts/seconds.txt", "include/tfmset.h", "bindings/python/tfmset.py"):
+            os.makedirs(os.path.dirname(f"{top}/{name}"), exist_ok=True)
             shutil.copy(f"{ROOT}/{name}", f"{top}/{name}")
+        write(top + "/crates.txt", "base:\ntfmset_c staticlib: base\n")
+        for name in ("base", "tfmset_c"):
+            write(f"{top}/crates/{name}/src/lib.rt", "")
         write(top + "/crates/tfmset_c/out/libtfmset_c.a", read(prefix + "/lib/libtfmset.a", "rb"))
-        rt = f'[ "$1" = lib ] || exec "{shutil.which("rt")}" "$@"\n[ ! -e ../../fail ] || {{ seq 30; exit 1; }}\n'
+        rt = f'[ "$1" = lib ] || exec "{shutil.which("rt")}" "$@"\nseq 30\nexit 1\n'
         os.chmod(write(top + "/bin/rt", "#!/bin/sh\n" + rt), 0o755)
     return make
 
@@ -296,7 +299,7 @@ class Installing(LibraryCase):
 
     def test_after_a_failed_build(self):
         """Nothing is installed if the library isn't built, and the last lines of the log are printed."""
-        write(self.copy + "/fail", "")
+        write(self.copy + "/crates/tfmset_c/src/lib.rt", "fn")
         ran = self.run_script(self.room + "/none")
         self.same("result", (1, "", False), (*ran[:2], os.path.exists(self.room + "/none")))
         self.assertIn("29\n30\n", ran[2])

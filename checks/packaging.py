@@ -14,9 +14,10 @@ import shlex
 import shutil
 import signal
 import subprocess
+import sys
 import time
 
-from lib.base import (EXAMPLES, PROGRAM, ROOT, Case, bash, copy_for_scripts, environment, execute, files, output, read,
+from lib.base import (DEMO, EXAMPLES, PROGRAM, ROOT, Case, bash, copy_for_scripts, environment, execute, files, output, read,
                       rows, script, table)
 
 SECONDS = 20  # for the answer of a shell
@@ -271,8 +272,9 @@ class Build(Case):
     """./tfmset, which builds the program if necessary"""
 
     # The stand-in for rt builds a program when it is called in crates/tfmset, whatever its arguments are.
-    crates = "# The crates.\nother: base\nbase:\nmiddle: base std\ntfmset: middle\n"
+    crates = "# The crates.\nother: base\nbase:\nside: base\nmiddle: base std\ntfmset: middle side\n"
     rt = """#!/bin/sh
+[ "$1" != doc ] || exec echo "$(dirname "$0")/kit/START-HERE.md"
 echo "${PWD##*/} $*" >> ../../calls
 cat > /dev/null
 if [ -e ../../fail ]; then seq 30; echo "no proof of ${PWD##*/}"; exit 1; fi
@@ -289,10 +291,12 @@ chmod +x out/tfmset
         self.need("flock")
         self.room = self.room + "/with a space"
         os.mkdir(self.room)
-        shutil.copy(ROOT + "/tfmset", self.room)
+        os.mkdir(self.room + "/scripts")
+        for name in ("tfmset", "HANDLES", "scripts/prove", "scripts/seconds.txt"):
+            shutil.copy(f"{ROOT}/{name}", f"{self.room}/{name}")
         self.file("crates.txt", self.crates)
         os.chmod(self.file("bin/rt", self.rt), 0o755)
-        for name in ("other", "base", "middle", "tfmset"):
+        for name in ("other", "base", "side", "middle", "tfmset"):
             self.file(f"crates/{name}/src/main.rt", "")
         for name in ("specs", "proofs"):
             self.file(f"crates/base/{name}/Lib.antt", "")
@@ -374,6 +378,15 @@ chmod +x out/tfmset
 
     def test_without_rt(self):
         tools = self.other_room()
-        for name in "bash sh dirname readlink find cat env date rm mkdir tac awk sleep touch chmod flock".split():
+        for name in "bash sh dirname readlink find cat env rm mkdir sleep touch chmod flock".split():
             os.symlink(shutil.which(name), f"{tools}/{name}")
+        os.symlink(sys.executable, tools + "/python3")
         self.assertIn("needs rt", self.call((127, ""), False, tools))
+
+    def test_try(self):
+        """--try runs the program unproved: it gets copies of the files, and standard input, and ends with the program's status."""
+        self.need("rt")
+        wanted = execute(PROGRAM, "stream", DEMO, given=b"office AV\nox\n")
+        status, out, err = execute(ROOT + "/tfmset", "--try", "stream", DEMO, given=b"office AV\nox\n", timeout=900)
+        self.same("result", wanted[:2], (status, out))
+        self.assertIn("nothing is proved", err)
