@@ -75,7 +75,7 @@ PURE = {"AllocError", "OutOfMemory", "(Line, OutOfMemory)"}
 
 def sources():
     """The files of the crates without tests, by short names, each with its lines."""
-    for name in files(ROOT + "/crates", ("out", "proofs", "specs", "must-fail", "tests", "test_support")):
+    for name in files(ROOT + "/crates", ("out", "proofs", "specs", "must-fail", "tests", "test_support", "batch_support")):
         if re.fullmatch(r"\w+(?<!_tests)/src/(?:.*/)?(?!tests\.rt)[^/]*\.rt", name):
             yield name.replace("/src/", "/"), read("crates/" + name)
 

@@ -1,4 +1,5 @@
 //! A source isn't asked for lines once the batch is stopped, even if its rings have room for them.
+use batch_support::plan;
 use line_lane::{LaneEnd, SourceFault};
 use set_line::{Answer, Line, Terms};
 use set_run::{BatchOptions, Collector, LineSource, NoGate, Refusal, run_into};
@@ -10,8 +11,8 @@ use std::test::Fail;
 use std::thread;
 use std::thread::Threads;
 use std::time::{Clock, Duration};
+use test_support::line;
 use test_support::terms::plain_terms;
-use test_support::{line, plan};
 
 /// The number of lines of the source, all of which fit into its rings.
 const LINES: u32 = 60;

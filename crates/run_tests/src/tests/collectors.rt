@@ -2,6 +2,7 @@
 ghost use Rattle.std.specs.Prelude.{◌<◌};
 
 use super::reports::sources_of_ab;
+use batch_support::plan;
 use line_lane::LaneEnd;
 use set_line::{Answer, Outcome};
 use set_run::{BatchOptions, ClosedLane, Collector, ListSource, NoGate, Refusal, RunEnd, run_into};
@@ -9,7 +10,6 @@ use std::process::Abort;
 use std::sync::Wait;
 use std::test::Fail;
 use std::thread::Threads;
-use test_support::plan;
 
 /// How many lines each source has.
 static LINES: [usize; 3] = [2, 0, 3];

@@ -1,5 +1,6 @@
 //! Runs with readers, and with sources that fail.
 use super::reports::{reports, text_of_ab};
+use batch_support::{FailingSource, plan, with_terms};
 use line_lane::SourceFault;
 use set_line::Terms;
 use set_run::ReaderSource;
@@ -9,8 +10,8 @@ use std::sync::{Arc, Wait};
 use std::test::Fail;
 use std::thread::Threads;
 use std::vec;
+use test_support::TricklingReader;
 use test_support::terms::plain_terms;
-use test_support::{FailingSource, TricklingReader, plan, with_terms};
 
 /// More reads than any text takes.
 const ALL: usize = usize::MAX;

@@ -1,4 +1,5 @@
 //! The lines of a source that isn't ready are sent: a line has its result before the next one is given.
+use batch_support::plan;
 use line_lane::{LaneEnd, SourceFault};
 use set_line::{Answer, Line, Terms};
 use set_run::{BatchOptions, Collector, LineSource, NoGate, Refusal, run_into};
@@ -10,8 +11,8 @@ use std::test::Fail;
 use std::thread::Threads;
 use std::time::{Clock, Duration};
 use std::{thread, vec};
+use test_support::repeated_line;
 use test_support::terms::plain_terms;
-use test_support::{plan, repeated_line};
 
 /// How many lines the source has.
 const LINES: u32 = 20;

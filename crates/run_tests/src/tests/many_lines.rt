@@ -1,4 +1,5 @@
 //! Many lines of many sources, compared with the same lines set one after the other.
+use batch_support::plan;
 use set_line::{Answer, Line, Outcome, Policy, Terms, set};
 use set_run::{ListSource, NoGate, Report, run};
 use std::alloc::Global;
@@ -7,8 +8,8 @@ use std::sync::{Arc, Wait};
 use std::test::Fail;
 use std::thread::Threads;
 use test_support::fonts::LIGATURE;
+use test_support::line;
 use test_support::terms::{LIMIT, terms_of};
-use test_support::{line, plan};
 
 const SOURCES: usize = 64;
 

@@ -3,6 +3,7 @@
 //! later ones fails, the batch returns an error, or a setter abandons its lane: the report then has the first
 //! results of this lane, and all results of the other lanes. The text that is printed states which case it was.
 use super::plans::three_with_terms;
+use batch_support::plan;
 use lig_kern::Item;
 use line_lane::LaneEnd;
 use set_line::{Answer, LineRefusal, Outcome};
@@ -10,7 +11,6 @@ use set_run::{LaneReport, ListSource, NoGate, Report, RunFault, run};
 use std::process::Abort;
 use std::test::Fail;
 use test_support::items::{A, B, C};
-use test_support::plan;
 
 /// Whether an answer has these items, with this width, a step each.
 fn is_set(answer: &Answer, wanted: (&[Item], i64)) -> bool {

@@ -1,5 +1,6 @@
 //! What a run reports doesn't hang on its plan.
 use super::reports::{reports, says_ab, sources_of_ab, text_of_ab};
+use batch_support::{CountingGate, plan, source_of, text_of_three, three_sources, with_terms};
 use set_line::{Policy, Terms};
 use set_run::{ListSource, NoGate, RunFault, run};
 use std::alloc::Global;
@@ -9,7 +10,6 @@ use std::test::Fail;
 use std::thread::Threads;
 use test_support::fonts::{ENDLESS, LIGATURE, PLAIN, Sample};
 use test_support::terms::{LIMIT, plain_terms, terms_of};
-use test_support::{CountingGate, plan, source_of, text_of_three, three_sources, with_terms};
 
 /// The sources of the batch of three, with the plain font; `None` if an allocation fails.
 pub fn three_with_terms(alloc: Global) -> Option<Vec<(ListSource, Arc<Terms>)>> {

@@ -1,4 +1,5 @@
 //! Reports as text.
+use batch_support::with_terms;
 use line_lane::{LaneEnd, SourceFault};
 use set_line::{Terms, Version, record};
 use set_run::{LaneReport, LineSource, ListSource, NoGate, Plan, Report, run};
@@ -7,8 +8,8 @@ use std::process::Abort;
 use std::sync::{Arc, Wait};
 use std::test::Fail;
 use std::thread::Threads;
+use test_support::repeated_line;
 use test_support::terms::plain_terms;
-use test_support::{repeated_line, with_terms};
 
 /// The word for an end.
 fn word_of(end: LaneEnd) -> &'static str {

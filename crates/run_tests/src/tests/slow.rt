@@ -1,4 +1,5 @@
 //! Sources, gates and collectors that take their time, so that the other threads of a run sleep.
+use batch_support::with_terms;
 use line_lane::{LaneEnd, SourceFault};
 use set_line::{Answer, Line, Outcome, Terms};
 use set_run::{Collector, Gate, LineSource, Refusal, Stage};
@@ -6,8 +7,8 @@ use std::alloc::Global;
 use std::sync::Arc;
 use std::thread;
 use std::time::{Clock, Duration};
+use test_support::line;
 use test_support::terms::plain_terms;
-use test_support::{line, with_terms};
 
 /// A source that gives the line `ab` this many times, each after a pause.
 #[derive(Drop)]

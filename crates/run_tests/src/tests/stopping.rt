@@ -1,12 +1,12 @@
 //! A run whose collector refuses something returns, wherever its threads are then.
 use super::slow::{LateGate, SlowCollector, sources};
+use batch_support::plan;
 use set_run::{ItemOptions, Refusal, run_items};
 use std::process::Abort;
 use std::sync::Wait;
 use std::test::Fail;
 use std::thread::Threads;
 use std::time::Clock;
-use test_support::plan;
 
 /// More lines than are ever set: such a source ends only if its thread is stopped.
 const ENDLESS: u32 = u32::MAX;

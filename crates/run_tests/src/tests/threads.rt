@@ -1,6 +1,7 @@
 //! The threads of a run really run beside one another, and each line goes through its lane's rings.
 use super::meeting::{Guest, Held, Meeting};
 use super::reports::says_ab;
+use batch_support::{plan, with_terms};
 use set_line::Terms;
 use set_run::run;
 use std::alloc::Global;
@@ -9,7 +10,6 @@ use std::sync::{Arc, Wait};
 use std::test::Fail;
 use std::thread::Threads;
 use test_support::terms::plain_terms;
-use test_support::{plan, with_terms};
 
 /// Two sources of a meeting, of this many lines each, which are always ready, or never.
 fn guests<'a>(

@@ -1,12 +1,12 @@
 //! Runs over small rings, whose threads often sleep: each is woken.
 use super::slow::{LateGate, SlowCollector, sources};
+use batch_support::plan;
 use set_run::{ItemOptions, run_items};
 use std::process::Abort;
 use std::sync::Wait;
 use std::test::Fail;
 use std::thread::Threads;
 use std::time::Clock;
-use test_support::plan;
 
 /// How many lines all sources have together, at most.
 const LINES: usize = 180;

@@ -1,5 +1,6 @@
 //! Lines in UTF-8 through `set_text` and `stream_text`. The expected codes are those of LaTeX's files t1enc.def
 //! and ot1enc.def.
+use batch_support::plan;
 use encodings::Encoding;
 use set_line::{Limit, Policy, Version};
 use set_run::{NoGate, ReaderSource};
@@ -9,7 +10,6 @@ use std::sync::Wait;
 use std::test::Fail;
 use std::thread::Threads;
 use test_support::fonts::{A_FROM_0, B, BACK, C, PLAIN, Sample};
-use test_support::plan;
 use tfm_tables::Step;
 use tfm_tool::{FontSetting, OutputOptions, Summary, set_text, stream_text};
 

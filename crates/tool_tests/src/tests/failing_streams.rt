@@ -4,12 +4,13 @@ use super::reads_and_writes::FAILED;
 use super::set_text_calls::two_sources;
 use super::settings::file_name;
 use super::*;
+use batch_support::small_plan;
 use encodings::Encoding;
 use set_line::{Limit, Policy, Version};
 use set_run::NoGate;
 use std::test::Fail;
 use std::{fs, process};
-use test_support::{FailingWriter, TricklingReader, small_plan};
+use test_support::{FailingWriter, TricklingReader};
 use tfm_tool::{
     Failure, FontSetting, InMemory, Layout, OutputOptions, Request, Setting, Summary, ToolFault,
     perform, stream_text,

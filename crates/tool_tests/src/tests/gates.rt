@@ -1,10 +1,10 @@
 //! The gate and the plan that the texts of runs are handed.
 use super::*;
+use batch_support::{CountingGate, plan};
 use encodings::Encoding;
 use set_line::{Limit, Policy, Version};
 use set_run::ReaderSource;
 use std::test::Fail;
-use test_support::{CountingGate, plan};
 use tfm_tool::{FontSetting, OutputOptions, Summary, ToolFault, set_text, stream_text};
 
 /// The threads that enter the gate for three sources of a line each, with this many workers. Each of the

@@ -1,6 +1,7 @@
 //! A stream whose source gives a line only once the record of the line before was written, as a program
 //! does that asks for one line after another at the other end of two pipes.
 use super::*;
+use batch_support::plan;
 use encodings::Encoding;
 use set_line::{Limit, Policy, Version};
 use set_run::{NoGate, ReaderSource};
@@ -8,7 +9,6 @@ use std::io::{ErrorKind, Read, Write};
 use std::sync::atomic::{AtomicU64, Ordering};
 use std::test::Fail;
 use std::{io, thread};
-use test_support::plan;
 use tfm_tool::{FontSetting, OutputOptions, Summary, ToolFault, stream_text};
 
 /// How often it is looked whether a record was written, at most: a stream that hoards fails by that.

@@ -1,13 +1,14 @@
 //! The texts of lanes, kept while answers come, in blocks.
 use super::*;
+use batch_support::{small_plan, source_of, with_terms};
 use encodings::Encoding;
 use set_line::{Policy, Terms, Version};
 use set_run::{ListSource, NoGate};
 use std::io::Write;
 use std::sync::Arc;
 use std::test::Fail;
+use test_support::FailingWriter;
 use test_support::terms::terms_of;
-use test_support::{FailingWriter, small_plan, source_of, with_terms};
 use tfm_tool::{OutputOptions, Summary, ToolFault, set_each};
 
 /// Lines, and what their records have after the numbers.

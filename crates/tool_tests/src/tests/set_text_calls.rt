@@ -1,12 +1,13 @@
 //! `set_text` itself: two sizes, sources that fail, writers that fail, and refused memory.
 use super::early_ends::{ONE_EARLY, ends_of};
 use super::*;
+use batch_support::{small_plan, text_of_three, three_sources};
 use encodings::Encoding;
 use set_line::{Limit, Policy, Version};
 use set_run::{LineSource, NoGate, ReaderSource};
 use std::io::Write;
 use std::test::Fail;
-use test_support::{FailingWriter, TricklingReader, small_plan, text_of_three, three_sources};
+use test_support::{FailingWriter, TricklingReader};
 use tfm_tool::{FontSetting, OutputOptions, Summary, ToolFault, set_text, status};
 use tfm_words::Size;
 

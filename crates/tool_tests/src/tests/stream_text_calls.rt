@@ -1,11 +1,12 @@
 //! `stream_text` itself: lines of several sources as they come, writers that fail, and sources that fail.
 use super::*;
+use batch_support::small_plan;
 use encodings::Encoding;
 use set_line::{Limit, Policy, Version};
 use set_run::{NoGate, ReaderSource, RunFault};
 use std::io::Write;
 use std::test::Fail;
-use test_support::{FailingWriter, TricklingReader, lines_of_source, small_plan};
+use test_support::{FailingWriter, TricklingReader, lines_of_source};
 use tfm_tool::{FontSetting, OutputOptions, Summary, ToolFault, stream_text};
 
 /// The bytes of a source, and how many of its reads succeed, one byte each.

@@ -1,10 +1,11 @@
 //! `perform_requested` with files in memory: requests with an encoding vector, and the order of their errors.
 use super::early_ends::{ONE_EARLY, ends_of};
 use super::*;
+use batch_support::small_plan;
 use encodings::Encoding;
 use set_line::{Limit, Policy, Version};
 use std::test::Fail;
-use test_support::{FailingWriter, small_plan};
+use test_support::FailingWriter;
 use tfm_tool::{
     Failure, InMemory, Layout, Request, Requested, Setting, ToolFault, perform_requested, requested,
 };
