@@ -55,8 +55,8 @@ ENDLESS = ["--limit", "5000", path_of("endless_3"), "@"]
 # What is counted; the command, whose @ is one of two arguments; how many more units the second one brings; and the
 # instructions that each takes.
 COUNTERS = [
-    # A byte is read, copied to its line, looked up once in the table of texts, copied twice and written. If a line isn't
-    # set with the table, a byte takes 176 instructions.
+    # A byte is read, copied to its line, looked up once in the table of texts, copied twice and written. A byte of a
+    # line that isn't set with the table takes 176 instructions.
     ("a byte of stream", [*STREAM, DEMO, "@"], ("100 KB", "200 KB"), 100000, 65),
     ("a byte of set", [*SET, DEMO, "@"], ("100 KB", "200 KB"), 100000, 65),
     # The same, and each character is decoded, and its code is looked up.
@@ -184,7 +184,7 @@ class Requests(Case):
         got = refuse.execute(command, what, most + 1, stdout=subprocess.DEVNULL, timeout=SECONDS)
         self.same((*words, f"{what}: requests above {most}"), (0, []), (got.status, got.told))
 
-    @rows((" ".join(words), words, files) for words, files in (
+    @rows((f"reads: {words[0]}, {files} files", words, files) for words, files in (
         (["set", DEMO], 1), (["stream", "--crlf", "--verbose", "--encoding", "t1", DEMO], 3), (["check", DEMO], 0),
         (["list", "--all", DEMO], 0)))
     def test_reads(self, words, files):
@@ -194,7 +194,7 @@ class Requests(Case):
 
     # Mutants of pair_texts and line_blocks: a table is made for each line or block; none is made, so that all lines are
     # set in the general way, which COUNTERS would show, too. The font has one table of the same size.
-    @rows((" ".join(words), words, lanes) for words, lanes in (
+    @rows((f"tables: {words[0]}, {lanes} lanes", words, lanes) for words, lanes in (
         (["stream", "--workers", "1", DEMO, "2 MB"], 1), (["set", "--workers", "3", DEMO, "100 KB", "100 KB"], 6),
         (["stream", "--workers", "2", "--encoding", "t1", DEMO, "2 MB"], 2),
         (["stream", "--record", "json", DEMO, "2 MB"], 0)))
@@ -204,13 +204,14 @@ class Requests(Case):
         got = refuse.execute([PROGRAM, *named(words)], "table", 1 + lanes, stdout=subprocess.DEVNULL, timeout=SECONDS)
         self.same("requests for the last table", 1, len(got.told))
 
-    @rows((" ".join(words), words) for words in (
+    @rows(("memory: " + " ".join(words), words) for words in (
         ["set"], ["stream", "--encoding", "t1"], ["stream", "--crlf", "--workers", "1"]))
     def test_memory(self, words):
         """A short line takes one request for memory, and a block of them a few. The bound is twice that."""
         self.at_most([*words, DEMO, "short lines"], "memory", 2 * 15000 + 1000)
 
-    @rows((words[0], words) for words in (["set", DEMO, "2 MB"], ["stream", DEMO, "2 MB"], ["list", "--all", DEMO]))
+    @rows(("writes: " + words[0], words) for words in (
+        ["set", DEMO, "2 MB"], ["stream", DEMO, "2 MB"], ["list", "--all", DEMO]))
     def test_writes(self, words):
         """The output is written in pieces of 64 KB if its reader is slow. The bound is twice as many."""
         # The socket keeps the boundaries of writes.
@@ -228,8 +229,11 @@ class Requests(Case):
 
     # Mutant of set_run: a worker leaves a lane after each message, so that the other threads are woken each time.
     def test_sleeps(self):
-        """The threads of a stream sleep about twice for each half of a ring, which has 32 blocks of eight lines: 156
-        times for 20,000 lines. Since the schedule decides, the bound is six times that."""
+        """The threads of a stream sleep about twice for each half of a ring.
+
+        It has 32 blocks of eight lines, so that they sleep 156 times for 20,000 lines. Since the schedule decides, the
+        bound is six times that.
+        """
         options = ["--block", "8", "--workers", "1", "--capacity", "64"]
         sleeps = [used(["stream", *options, DEMO, "20,000 lines"]).ru_nvcsw for _ in range(5)]
         print(f"{sorted(sleeps)} sleeps; fewer than 936 are right")
@@ -237,11 +241,11 @@ class Requests(Case):
 
     # Mutants: 200 MB are requested for each font; the bytes of each font are kept; buffers of the output of `set` have
     # 128 KB, for 64 KB of text.
-    @rows((" ".join(words[:2]), words, most) for words, most in (
+    @rows((f"address space: {words[0]}, {len(words) - 1} arguments, {most} MB", words, most) for words, most in (
         (["stream", DEMO, "20 MB"], 200), (["set", DEMO, "20 MB"], 560), (["check", *[DEMO] * 6000], 64),
-        (["check", *[path_of("largest")] * 1000], 64), (["list", "--all", DEMO], 64)))
+        (["check", *[path_of("largest")] * 600], 64), (["list", "--all", DEMO], 64)))
     def test_address_space(self, words, most):
         """A command succeeds in so many megabytes of address space. Only `set` keeps its output, until all is set."""
-        how = {"stdout": subprocess.DEVNULL, "stderr": subprocess.PIPE, "timeout": SECONDS, "check": False}
+        how = {"stdout": subprocess.DEVNULL, "stderr": subprocess.PIPE, "timeout": 4 * SECONDS, "check": False}
         ran = subprocess.run([PROGRAM, *named(words)], preexec_fn=limited(resource.RLIMIT_AS, most * MB), **how)
         self.same(words[0], (0, b""), (ran.returncode, ran.stderr))
