@@ -28,10 +28,9 @@ from lib.tfm import path_of
 WEIGHT = 4
 SECONDS = 20  # for one record or one end
 LINES = 50  # that are sent one by one
-TIMED = 200  # that are sent one by one, and timed
+TIMED = 100  # that are sent one by one, and timed
 PAUSE = 0.12  # seconds before each fifth of them; no sleep is longer than 0.05
 MOST_LATENCY = (0.005, 0.012, 0.03)  # seconds: the median, that after a pause, the 95th percentile
-LONG_WAIT, MOST_SLEEPS = 30, 400  # seconds, and how often a thread sleeps in the last three of them; about 130
 MOST_REQUESTS = 2000  # of memory, of which each fails in turn until a lane is abandoned
 SILENCE, MOST_IDLE = 5, 0.2  # seconds, and the seconds of processor time in them; about 0.01
 MB = 1 << 20
@@ -44,19 +43,15 @@ MOST_GROWTH = 2 * 1024  # KB
 MOST_MEMORY = 24 * 1024  # KB
 LONG, LONG_LINES, MOST_LONG_MEMORY = b"five " * 6600 + b"\n", 600, 16 * 1024  # 33 KB, the number of lines, KB
 BUSY = 10_000_000  # nanoseconds of processor time of a thread that sets a fourth of ten megabytes; about 80,000,000
-COMMANDS = ("set", "each", "stream")
-CAPACITIES = sorted({number for power in range(17) for number in (2 ** power - 1, 2 ** power, 2 ** power + 1)
-                     if 0 < number <= 65536} | {10, 100, 1000, 3000, 10000, 20000, 50000})
-ALL_PLACES = [(1, 2), (2, 2), (1, 3), (2, 3), (3, 3)]  # of a busy source, and the number of sources
 BLOCKS = [("--block 1", ["--block", "1"]), ("--block 8", ["--block", "8"]), ("the default", [])]
 
 
-def read_line(pipe, seconds=SECONDS):
-    """The next line of a pipe, or what has arrived of it in time."""
+def read_line(pipe, most=1, seconds=SECONDS):
+    """The next line of a pipe, or what has arrived of it in time. `most` may be above 1 only if no line follows yet."""
     line, until = b"", time.monotonic() + seconds
     while not line.endswith(b"\n"):
         ready, _, _ = select.select([pipe], [], [], max(0, until - time.monotonic()))
-        more = os.read(pipe.fileno(), 1) if ready else b""
+        more = os.read(pipe.fileno(), most) if ready else b""
         if not more:
             break
         line += more
@@ -116,6 +111,18 @@ class Pipes(Case):
         """The record of a line is printed before the next line is sent."""
         self.one_by_one(options, LINES)
 
+    # Mutant of `fill` in line_blocks: after a line of 40,000 bytes a stream waits for the next one.
+    @rows([*BLOCKS, ("UTF-8", ["--encoding", "t1"])])
+    def test_long_lines_one_by_one(self, options):
+        """So is the record of a long line, whether the line is set or refused."""
+        child, lengths = self.start(*options, DEMO), (0, 1, 4095, 4096, 10000, 40000, 65535, 65536, 200000)
+        for number, length in enumerate(lengths, 1):
+            child.stdin.write(b"a" * length + b"\n")
+            wanted = b"1:%d %s" % (number, b"set " if length < 65536 else b"refused too-long %d\n" % length)
+            self.same("record", wanted, read_line(child.stdout, MB)[:len(wanted)])
+        child.stdin.close()
+        self.same("end", (b"1 end complete %d\n" % len(lengths), 1), (read_line(child.stdout), child.wait(SECONDS)))
+
     @rows((f"{lines} lines, {title}", options, lines) for title, options in BLOCKS for lines in (8, 11))
     def test_of_one_write(self, options, lines):
         """Lines that arrive in one write bring all their records, even if they don't fill a block."""
@@ -162,7 +169,7 @@ class Pipes(Case):
         self.same("warning", wanted, read_line(child.stderr))
         self.ends(child, 0)
 
-    @rows((f"--block {block} --workers {workers}", block, workers) for block in "18" for workers in (1, 16))
+    @rows((f"--block {block} --workers {workers}", block, workers) for block, workers in (("8", 1), ("1", 16)))
     def test_latency(self, block, workers):
         """A record is printed soon after its line was sent. Mutant: the worker isn't woken."""
         least, tries, options = [SECONDS] * 3, 0, ["--block", block, "--workers", str(workers)]
@@ -193,8 +200,7 @@ class Pipes(Case):
             self.addCleanup(pipe.close)
         return names, pipes
 
-    @rows((f"number {place}, --workers {workers}", place, workers)
-          for place in (1, 20, 40) for workers in (1, 16))
+    @rows((f"number {place}, --workers {workers}", place, workers) for place, workers in ((1, 1), (40, 16)))
     def test_silent_source(self, place, workers):
         """One of 40 sources is silent, the others have all records. Mutant: a worker stays with its lane."""
         (name,), (pipe,) = self.fifos(1)
@@ -210,49 +216,35 @@ class Pipes(Case):
         pipe.close()
         self.same("end", (b"%d end complete 1\n" % place, 0), (read_line(child.stdout), child.wait(SECONDS)))
 
-    # Mutants of set_run: a worker stays with a lane, or only with the first one of its lanes, as long as it has lines
-    # (`moves_per_visit`), or for more than 512 moves; the collecting thread stays with a source, or with any but the
-    # first, as long as it has results (`visit` in lane_taker.rt), or for more than 512 (`lines_before_wake`).
-    @rows((f"number {busy} of {count}: {options} {font}", busy, count, font, options.split(), text, pause, most)
-          for font, options, text, pause, most, places in (
-              # The workers are the slowest threads, since each line takes many steps.
-              ("endless_3", "--workers 1 --limit 1000000 --block 8", "aa", 0, MB, ALL_PLACES),
-              ("endless_3", "--workers 2 --limit 1000000 --block 8", "aa", 0, MB, ALL_PLACES[:2]),
-              ("endless_3", "--workers 1 --limit 100000 --capacity 65536 --block 1", "aa", 0, MB, ALL_PLACES[:2]),
+    # Mutants of set_run: a worker stays with a lane as long as it has lines (`moves_per_visit`); the collecting thread
+    # stays with a source as long as it has results (`visit` in lane_taker.rt).
+    @rows((f"number {busy} of 2: {options} {font}", busy, font, options.split(), text, pause, most)
+          for font, options, text, pause, most in (
+              # The worker is the slowest thread, since each line takes many steps.
+              ("endless_3", "--workers 1 --limit 1000000 --block 8", "aa", 0, MB),
               # The collecting thread is the slowest one, since the output is read slowly. In a row it takes at most 32
-              # texts of 27 KB from a source, or 512 texts of a record.
-              ("demo", "--workers 1", "the office five", 0.003, 10 * MB, ALL_PLACES[:2]),
-              ("demo", "--workers 4", "the office five", 0.003, 10 * MB, ALL_PLACES),
-              ("demo", "--workers 1 --capacity 65536 --block 1", "the office five", 0.03, 2 * MB, ALL_PLACES[:2]))
-          for busy, count in places)
-    def test_busy_source(self, busy, count, font, options, text, pause, most):
-        """A source that always has lines doesn't keep the lines of the others from being set."""
-        names, pipes = self.fifos(count)
+              # texts of 27 KB from a source.
+              ("demo", "--workers 4", "the office five", 0.003, 10 * MB))
+          for busy in (1, 2))
+    def test_busy_source(self, busy, font, options, text, pause, most):
+        """A source that always has lines doesn't keep the line of another one from being set."""
+        names, pipes = self.fifos(2)
         child = self.start(*options, DEMO if font == "demo" else path_of(font), *names, stdin=None)
         # pylint: disable-next=consider-using-with
         sender = subprocess.Popen(["yes", text], stdout=pipes[busy - 1])
         self.addCleanup(sender.wait)
         self.addCleanup(sender.kill)
-        seen, until, size = read_line(child.stdout), time.monotonic() + SECONDS, 0
-        time.sleep(min(0.5, 60 * pause) or 0.1)
-        others = {number for number in range(1, count + 1) if number != busy}
-        for number in others:
-            pipes[number - 1].write(text.encode() + b"\n")
-        while others and time.monotonic() < until and size < most:
+        seen, until, size, found = read_line(child.stdout), time.monotonic() + SECONDS, 0, False
+        time.sleep(0.2)
+        pipes[2 - busy].write(text.encode() + b"\n")
+        while not found and time.monotonic() < until and size < most:
             time.sleep(pause)
             if select.select([child.stdout], [], [], SECONDS)[0]:
                 more = os.read(child.stdout.fileno(), 1 << 16)
                 seen, size = seen[-100:] + more, size + len(more)
-                others = {number for number in others if b"\n%d:1 " % number not in seen}
+                found = b"\n%d:1 " % (3 - busy) in seen
         child.kill()
-        self.assertEqual(set(), others, f"not in {size} bytes: {seen[-200:]!r}")
-
-    @rows((f"{count} sources", count) for count in (1, 16))
-    def test_silence_takes_no_processor_time(self, count):
-        """Silent sources take hardly any processor time. Mutant: the threads poll and never sleep."""
-        child = self.start("--workers", "16", DEMO, *self.fifos(count)[0], stdin=None)
-        time.sleep(SILENCE)
-        self.assertLess(seconds_of(child), MOST_IDLE)
+        self.assertTrue(found, f"not in {size} bytes: {seen[-200:]!r}")
 
     # Mutants of set_run: `drop_rest` in lane_taker.rt always returns true; `collect_all` returns after the last end
     # without `about_to_wait`.
@@ -268,7 +260,7 @@ class Pipes(Case):
                                    **refuse.failing(told, "memory", number))
             for line in range(3):
                 pipes[0].write(b"the office five\n")
-                seen = read_line(child.stdout, 2)
+                seen = read_line(child.stdout, seconds=2)
                 if not seen.startswith(b"1:%d set " % (line + 1)):
                     break
             if seen == b"1 end gave-up %d\n" % line:
@@ -293,71 +285,22 @@ class Pipes(Case):
         ends = [b"%d end complete 3" % number for number in range(2, len(pipes) + 1)]
         self.same("ends", (ends, 5), (child.stdout.read().splitlines(), child.wait(SECONDS)))
 
-    # Mutants of set_run: a worker gives up after 400 waits for lines, or a source after 200 for a free slot; a source
-    # that waits for one never sleeps for more than a millisecond.
-    def test_long_waits(self):
-        """After half a minute without a line, or without a reader of its output, a stream goes on as before."""
-        silent = [self.start("--workers", str(workers), DEMO) for workers in (1, 3, 16)]
-        held = [self.start("--workers", "2", DEMO, self.file("nine", b"five\n" * 9), "/dev/stdin", command=command)
-                for command in ("set", "stream")]
-        # Of two sources one is silent, and the other one has a line now and then.
-        names, (never, now_and_then) = self.fifos(2)
-        half = self.start("--workers", "1", DEMO, *names, stdin=None)
-        # A record doesn't fit into a pipe. The number of lines determines whether a line or the end waits for a slot.
-        for lines in (*range(1, 9), 300):
-            self.file(f"{lines}", LONG * lines)
-        unread = [(lines, self.start("--workers", workers, *options, DEMO, f"{self.room}/{lines}", stdin=None))
-                  for workers, options, numbers in (("1", ["--capacity", "1", "--block", "1"], range(1, 9)),
-                                                    *((workers, [], [300]) for workers in ("1", "3", "16")))
-                  for lines in numbers]
-        until, sent, before = time.monotonic() + LONG_WAIT, 0, None
-        while time.monotonic() < until:
-            if not before and time.monotonic() > until - 3:
-                before = [self.sleeps(child) for _, child in unread]
-            sent += 1
-            now_and_then.write(b"five\n")
-            self.assertEqual(b"2:%d set" % sent, b" ".join(read_line(half.stdout).split()[:2]))
-            time.sleep(0.2)
-        for (lines, child), old in zip(unread, before):
-            counts = sorted(count - old[thread] for thread, count in self.sleeps(child).items())
-            self.same(f"few sleeps in 3 seconds: {counts}", True, counts[-1] < MOST_SLEEPS)
-        for lines, child in unread:
-            records = child.communicate(timeout=SECONDS)[0].splitlines()
-            starts = [b"1:%d set " % number for number in range(1, lines + 1)] + [b"1 end complete %d" % lines]
-            self.none([str(record[:40]) for record, start in zip(records, starts) if not record.startswith(start)])
-            self.same(f"lines and status, {child.args}", (lines + 1, 0), (len(records), child.returncode))
-        for child in silent:
-            for number in (1, 2, 3):
-                child.stdin.write(b"five\n")
-                self.same("record", [b"1:%d" % number, b"set"], read_line(child.stdout).split()[:2])
-            self.ends(child, 3)
-        for child in held:
-            lines = child.communicate(b"five\n" * 3, timeout=SECONDS)[0].splitlines()
-            ends = {b"1 end complete 9", b"2 end complete 3"}
-            self.same("lines and status", (14, ends, 0), (len(lines), ends.intersection(lines), child.returncode))
-        never.write(b"five\n")
-        self.same("record", [b"1:1", b"set"], read_line(half.stdout).split()[:2])
-        for pipe in (never, now_and_then):
-            pipe.close()
-        lines = half.communicate(timeout=SECONDS)[0].splitlines()
-        self.same("ends", ({b"1 end complete 1", b"2 end complete %d" % sent}, 0), (set(lines), half.returncode))
-
-    def sleeps(self, child):
-        """How often each thread of a process has slept."""
-        tasks = f"/proc/{child.pid}/task"
-        return {thread: int(re.search(r"^voluntary_ctxt_switches:\s*(\d+)$", read(f"{tasks}/{thread}/status"), re.M)[1])
-                for thread in os.listdir(tasks)}
-
-    # Mutants of `Backoff` in set_run: a sleep lasts 50 seconds, or at most 8 milliseconds.
-    def test_a_sleep_ends_by_itself(self):
-        """In silence a thread that waits for another one wakes some 20 times a second, in case a wake-up is lost."""
-        child = self.start("--workers", "3", DEMO, *self.fifos(1)[0], stdin=None)
+    # Mutants of set_run: the threads poll and never sleep, while a source is silent or the ring of results is full.
+    def test_waiting_takes_no_processor_time(self):
+        """For seconds without a line, or without a reader of its output, a stream takes hardly any processor time, and
+        then goes on as before."""
+        silent = self.start("--workers", "16", DEMO, *self.fifos(15)[0], "/dev/stdin")
+        # A record doesn't fit into a pipe.
+        unread = self.start("--workers", "2", DEMO, self.file("long", LONG * 300), stdin=None)
         time.sleep(1)
-        before = self.sleeps(child)
-        time.sleep(2)
-        counts = sorted(count - before[thread] for thread, count in self.sleeps(child).items())
-        # One thread reads. Three workers and the collecting thread sleep for 50 milliseconds each time.
-        self.same(f"sleeps: {counts}", [False] + [True] * 4, [10 <= count <= 80 for count in counts])
+        before = [seconds_of(child) for child in (silent, unread)]
+        time.sleep(SILENCE)
+        took = [seconds_of(child) - old for child, old in zip((silent, unread), before)]
+        self.same(f"little time: {took}", [True, True], [one < MOST_IDLE for one in took])
+        silent.stdin.write(b"five\n")
+        self.same("record", [b"16:1", b"set"], read_line(silent.stdout).split()[:2])
+        lines = unread.communicate(timeout=SECONDS)[0].splitlines()
+        self.same("lines and status", (301, b"1 end complete 300", 0), (len(lines), lines[-1], unread.returncode))
 
     def start_with_fifos(self, command, count, *options):
         """A command whose files are so many named pipes: the process, and the pipes open for writing."""
@@ -404,9 +347,8 @@ class Pipes(Case):
 
     # Mutants of `deliver` in tfm_requests: the plan has one worker, or 16. Of `options` in run_texts: one lane a source.
     @rows((f"{command} --workers {workers}, {count} files: {threads} threads", command, workers, count, threads)
-          for command in ("set", "each", "stream")
-          for workers, count, threads in ((1, 3, 5), (2, 3, 6), (3, 3, 7), (16, 3, 20), (1, 1, 3), (16, 1, 18),
-                                          (16, 40, 57)))
+          for command, workers, count, threads in (("set", 1, 3, 5), ("each", 3, 3, 7), ("stream", 16, 1, 18),
+                                                   ("stream", 16, 40, 57)))
     def test_threads(self, command, workers, count, threads):
         """Each file has a thread, one thread collects, and so many threads set lines as `--workers` states."""
         child, pipes = self.start_with_fifos(command, count, "--workers", str(workers))
@@ -415,29 +357,13 @@ class Pipes(Case):
             pipe.close()
         self.same("threads and exit status", (threads, 0), (seen, child.wait(SECONDS)))
 
-    # Mutant of `worker_count` in set_run: for one number of workers, another number is started.
-    @rows((f"--workers {workers}", workers) for workers in range(1, 17))
-    def test_threads_of_each_number(self, workers):
-        """With each number of files from 1 to 8, as many threads set lines as `--workers` states."""
-        found = [(count, *self.start_with_fifos(COMMANDS[(workers + count) % 3], count, "--workers", str(workers)))
-                 for count in range(1, 9)]
-        wanted = [1 + count + workers for count in range(1, 9)]
-        self.same("threads", wanted, self.wait_for(
-            wanted, lambda: [len(os.listdir(f"/proc/{child.pid}/task")) for _, child, _ in found]))
-        for _, child, pipes in found:
-            for pipe in pipes:
-                pipe.close()
-            self.same("exit status", 0, child.wait(SECONDS))
-
     # Mutants of `deliver` in tfm_requests: the plan has 16 slots, or blocks of one line, or of eight; blocks of `set` have
     # the lines of a read, or those of `stream` don't. Of `LaneCount` in set_run: the lanes of all sources are more than 64.
     @rows((f"{command} --workers {workers} --capacity {slots} --block {block}, {count} files: {reads} reads",
            command, workers, slots, block, reads, count) for command, workers, slots, block, reads, count in (
-               ("set", 1, 40, None, 2, 1), ("each", 1, 40, None, 2, 1), ("stream", 1, 3, None, 4, 1),
-               ("stream", 3, 2, None, 7, 1),
-               *((command, *row) for command in ("set", "each", "stream") for row in (
-                   (1, 40, 1, 2, 1), (1, 40, 4, 6, 1), (1, 40, 8, 11, 1), (1, 10, 8, 3, 1), (3, 10, 8, 8, 1),
-                   (16, 1, 8, 5, 1), (16, 1, 8, 5, 4), (16, 1, 8, 3, 8), (16, 10, 8, 3, 33)))))
+               ("set", 1, 40, None, 2, 1), ("stream", 1, 3, None, 4, 1), ("stream", 3, 2, None, 7, 1),
+               ("each", 1, 40, 1, 2, 1), ("set", 1, 40, 8, 11, 1), ("each", 3, 10, 8, 8, 1), ("stream", 16, 1, 8, 5, 4),
+               ("stream", 16, 1, 8, 3, 8), ("set", 16, 10, 8, 3, 33)))
     def test_lines_ahead(self, command, workers, slots, block, reads, count):
         """While all other threads are stopped, each source is read until it has filled the rings of its lanes, and a
         block. It has a lane for each worker, but all sources have at most 64 lanes, or one each."""
@@ -461,74 +387,9 @@ class Pipes(Case):
         ends = {b"%d end complete 512" % number for number in range(1, count + 1)}
         self.same("lines", (513 * count, ends, 0), (len(lines), ends.intersection(lines), child.returncode))
 
-    def reads_ahead(self, stopped, cases):
-        """Several batches, each with pipes as its files, while threads of them are stopped: each source is read as far
-        as stated. A case has the number of workers, the command with its options, the reads, the texts of its sources,
-        and how many lines each of these has. All threads that don't read a source, or only the collecting thread, are
-        stopped."""
-        with contextlib.ExitStack() as stack:
-            found = []
-            for workers, words, reads, texts, lines in cases:
-                child, pipes = self.start_with_fifos(words[0], len(texts), "--workers", str(workers), *words[1:])
-                stack.enter_context(self.others_stopped(child, 1 + workers, len(texts), stopped))
-                for pipe, text in zip(pipes, texts):
-                    fcntl.fcntl(pipe, fcntl.F_SETPIPE_SZ, max(4096, len(text)))
-                    self.assertEqual(len(text), pipe.write(text))
-                found.append((words, child, pipes, reads, texts, lines))
-
-            def wrong():
-                seen = [(words, workers, reads,
-                         [(len(text) - unread(pipe)) // 4096 for pipe, text in zip(pipes, texts)])
-                        for (workers, *_), (words, _, pipes, reads, texts, _) in zip(cases, found)]
-                return [f"{words}, {workers} workers: {read} reads instead of {reads}"
-                        for words, workers, reads, read in seen if set(read) != {reads}]
-
-            self.none(self.wait_for([], wrong))
-            time.sleep(0.1)
-            self.none([f"later: {one}" for one in wrong()])
-        for _, _, pipes, *_ in found:
-            for pipe in pipes:
-                pipe.close()
-        for words, child, pipes, _, _, lines in found:
-            seen = child.communicate(timeout=SECONDS)[0].splitlines()
-            ends = {b"%d end complete %d" % (number, lines) for number in range(1, len(pipes) + 1)}
-            self.same(words, ((lines + 1) * len(pipes), ends, 0),
-                      (len(seen), ends.intersection(seen), child.returncode))
-
-    # Mutant of `LaneCount` in set_run: for one number of sources, each has one lane.
-    @rows((f"--workers {workers}", workers) for workers in range(1, 17))
-    def test_lanes_of_each_number(self, workers):
-        """With each number of files from 1 to 8, a source has a lane for each worker, of 64 lanes in all."""
-        # Eight lines are a read, and a block.
-        text = (b"five " * 101 + b"office\n") * 8 * 20
-        self.reads_ahead("others", [
-            (workers, [COMMANDS[(workers + count + 1) % 3], "--capacity", "1", "--block", "8"],
-             min(workers, 64 // count) + 1, [text] * count, 8 * 20) for count in range(1, 9)])
-
-    # Mutant of `batch` in run_texts: a capacity above 100 is taken as 16.
-    @rows((f"{' '.join(words)}, {workers} workers, without {stopped}", stopped, words, workers, block, most)
-          for stopped, words, workers, block, most in (
-              ("others", ["set"], 1, 1, 65536), ("others", ["each"], 1, 1, 65536),
-              ("others", ["stream", "--block", "1"], 1, 1, 65536), ("others", ["stream", "--block", "8"], 2, 8, 16384),
-              ("the collecting thread", ["stream", "--block", "1"], 1, 1, 65536)))
-    def test_slots(self, stopped, words, workers, block, most):
-        """As many blocks are read ahead as fill the slots that `--capacity` states, and one more."""
-        cases = []
-        for slots in (number for number in CAPACITIES if number <= most):
-            # All blocks but the last one fill reads. The last one has one line, which is a read. So is the next one.
-            first = workers * slots if stopped == "others" else 2 * slots + 1
-            full, rest = divmod(first, 2048 // block)
-            text = b"a\n" * (2048 * full) + (b" " * 4095 + b"\n") * 2
-            if rest:
-                text = (b"a\n" * (rest * block - 1)).rjust(4095) + b"\n" + text
-            cases.append((workers, [*words, "--capacity", str(slots)], full + (rest > 0) + 1, [text],
-                          first * block + 2))
-        self.reads_ahead(stopped, cases)
-
     @contextlib.contextmanager
-    def others_stopped(self, child, count, sources, which="others"):
-        """Stops the threads of a batch that don't read its sources, so many, when these wait for input; or only the
-        collecting thread."""
+    def others_stopped(self, child, count, sources):
+        """Stops the threads of a batch that don't read its sources, so many, when these wait for input."""
         tasks = f"/proc/{child.pid}/task"
 
         def others():
@@ -540,7 +401,7 @@ class Pipes(Case):
             self.assertEqual(count, self.wait_for(count, lambda: len(others())))
         except OSError:
             self.lack("/proc/PID/task/TID/syscall")
-        threads = others() if which == "others" else [child.pid]
+        threads = others()
         for thread in threads:
             if LIBC.ptrace(SEIZE, thread, None, None) or LIBC.ptrace(INTERRUPT, thread, None, None):
                 self.lack("ptrace")
@@ -615,7 +476,7 @@ class Pipes(Case):
 
     # Mutants: no block is large (line_blocks); a source doesn't hold a large block back (`offer_now` in set_run).
     @rows((f"{command} --capacity {slots}: {reads} reads", command, slots, reads)
-          for command in ("set", "stream") for slots, reads in ((4, 5), (8, 7)))
+          for command, slots, reads in (("set", 4, 5), ("stream", 8, 7)))
     def test_long_lines_ahead(self, command, slots, reads):
         """While all other threads are stopped, blocks above 8 KB fill a quarter of the slots, and one more is read."""
         child, (pipe,) = self.start_with_fifos(command, 1, "--workers", "1", "--capacity", str(slots))

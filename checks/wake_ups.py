@@ -3,14 +3,14 @@
 A waiting thread sleeps for at most 50 milliseconds, so that a lost wake-up costs little. Because of this
 timeout no test would notice a lost wake-up. In a copy of the crates such a sleep lasts a minute, and two
 tests of `run_tests` are executed there with `rt try`, without proofs: small rings with slow sources and slow
-collectors, and batches that are stopped. They must end within seconds. Without the wake-ups of one kind, or
-if another thread is woken in their place, they must hang.
+collectors, and batches that are stopped. They must end within seconds. Without one kind of wake-up, each of
+them must hang.
 """
 import os
 import re
 import shutil
 
-from lib.base import ROOT, Case, execute, read, rows, table, write
+from lib.base import ROOT, Case, execute, read, rows, write
 
 WEIGHT = 9
 SECONDS = 40  # for each of the two tests, which take one or two
@@ -55,19 +55,17 @@ class WakeUps(Case):
         self.assertEqual(len(words), 2, said[-2000:])
         return words, "the program did not end within the time limit" in said
 
-    def test_each_thread_is_woken(self):
-        self.same("tests", ["ok", "ok"], self.tried(SECONDS)[0])
-
     # Mutant of `stop` in set_run: the flag is set after the threads were woken.
-    def test_the_flag_comes_before_the_wake_ups(self):
-        """However long a stop takes, each thread that it wakes finds the flag."""
+    def test_each_thread_is_woken(self):
+        """No thread sleeps for a minute, and however long a stop takes, each thread that it wakes finds the flag."""
         slow = "\n        for _ in 0..1_000_000u32 {\n            hint::spin_loop();\n        }"
         changes = [("use std::array;", "use std::array;\nuse std::hint;")]
         changes += [(f"ring_all(&self.{kind});", f"ring_all(&self.{kind});{slow}") for kind in ("sources", "workers")]
         self.same("tests", ["ok", "ok"], self.tried(SECONDS, *changes)[0])
 
-    @rows(table("wake_ups")["kinds"])
-    def test_without(self, *change):
-        """The tests hang without a kind of wake-up."""
-        words, hung = self.tried(FEW_SECONDS, change)
+    @rows((("a worker wakes the collecting thread", "self.collector.ring();"),
+           ("the stop wakes the sources", "ring_all(&self.sources);")))
+    def test_without(self, text):
+        """One of the two tests hangs without a kind of wake-up."""
+        words, hung = self.tried(FEW_SECONDS, (text, "{}"))
         self.same("one test hangs", (True, True), (words != ["ok", "ok"], hung))

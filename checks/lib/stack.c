@@ -1,7 +1,7 @@
 /* Prints for each function of the library how many bytes of stack a thread used that called it: at two sizes, and
  * with each encoding and record format.
  *
- * usage: stack FONT TEXT   two files
+ * usage: stack FONT TEXT [FUNCTION]   two files, and the only function that is called, without tfmset_
  *
  * The stack is filled with a pattern before the calls, and the bytes that have changed are counted: those of the calls,
  * and those that the thread itself needs, about 4,600. Each line is `NAME CODE BYTES`, with the largest return code. */
@@ -21,6 +21,7 @@ enum { ROOM = 1 << 20, LINES = 1 << 16, PATTERN = 0xA5, STACK = 1 << 20 };
 static uint8_t font[131068], text[ROOM], bytes[32 * ROOM];
 static const char *const encodings[] = {"t1", "bytes", "ot1", "ly1", "latin1"};
 static size_t font_length, text_length;
+static const char *only;
 static struct tfmset_line lines[LINES];
 static struct tfmset_item items[2 * ROOM];
 static struct tfmset_neighbours pairs[66049];
@@ -102,7 +103,7 @@ static void measure(const char *name, void *(*call)(void *))
     munmap(stack, STACK);
 }
 
-#define MEASURE(name) measure(#name, call_##name)
+#define MEASURE(name) (only == NULL || strcmp(only, #name) == 0 ? measure(#name, call_##name) : (void)0)
 
 int main(int count, char **arguments)
 {
@@ -110,6 +111,7 @@ int main(int count, char **arguments)
         return 2;
     font_length = length_of(arguments[1], font, sizeof font);
     text_length = length_of(arguments[2], text, sizeof text);
+    only = count > 3 ? arguments[3] : NULL;
     MEASURE(version);
     MEASURE(size);
     MEASURE(encode);
