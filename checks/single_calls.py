@@ -18,7 +18,8 @@ ENOUGH = 12  # executions in which nothing fails, after which no more are made
 MOST = 1000  # allocations; no test makes so many
 PASSED = "\n\ntest result: ok\n"  # what follows the outcome if the test passed
 CASES = table("single_calls")
-CALLS = CASES["calls"]
+CALLS = [{**CASES["usual"], **call} for call in CASES["calls"]]
+EXAMPLE = {**CASES["usual"], **CASES["example"]}
 
 
 def program_of(crate):
@@ -37,14 +38,9 @@ def results_of(call):
     return results
 
 
-def before_of(call):
-    """The outcome if an allocation fails that makes the arguments of a call."""
-    return call.get("before", CASES["before"])
-
-
 def fault_of(call, got):
     """The error of one execution, or None."""
-    allowed = {before_of(call), *call["failed"]} if got.told else {call["done"]}
+    allowed = {call["before"], *call["failed"]} if got.told else {call["done"]}
     if got.status != 0 or not got.out.endswith(PASSED):
         return f"status {got.status}, {got.out[-300:]!r}, {got.err[-300:]!r}"
     if got.out.removesuffix(PASSED) not in allowed:
@@ -57,7 +53,7 @@ def faults_of(call, results):
     faults = [f"allocation {number}: {fault}" for number, got in enumerate(results, 1)
               if (fault := fault_of(call, got))]
     told = [got.out.removesuffix(PASSED) for got in results if got.told]
-    own = [outcome for outcome in told if outcome != before_of(call)]
+    own = [outcome for outcome in told if outcome != call["before"]]
     if own != told[len(told) - len(own):]:
         faults.append("an allocation of the arguments after one of the call")
     faults += [f"{own.count(outcome)} times {outcome!r} instead of {least} or more times"
@@ -98,4 +94,4 @@ class Judgement(Case):
         named = [CASES["executions"][name] for name in row["executions"].split()]
         results = [Got(status, out + PASSED, "", ["memory"] if failed else [])
                    for status, out, failed in named]
-        self.same("accepted", row["right"], not faults_of(CASES["example"], results))
+        self.same("accepted", row["right"], not faults_of(EXAMPLE, results))

@@ -1,7 +1,4 @@
 mod codes;
-mod fonts;
 mod records;
-mod rows;
-mod same;
 mod vector_files;
 mod vectors;

@@ -1,204 +1,181 @@
 //! Records of lines in UTF-8.
-use super::rows::{Case, REFUSING, Row, SKIPPING, refuses, sets};
+use encoded_lines::{EncodedRoom, RecordSettings, SourceLine, encoded_record};
 use encodings::Encoding;
+use set_line::{Limit, Policy, RecordNumber, RecordTexts, Terms, Version};
 use std::process::Abort;
 use std::test::Fail;
+use tfm_tables::Font;
 
-/// Lines whose characters all have codes. The soft hyphen has no codes, so that ä and å are neighbours.
-static SET: [Row; 5] = [
-    (
-        "äå",
-        "450560 c228=327680 k-40960 c229=163840",
-        "450560 steps 2 c228=327680 k-40960 c229=163840",
-        "\"width\":450560,\"steps\":2,\"items\":[[\"c\",228,327680],[\"k\",-40960],[\"c\",229,163840]]",
-    ),
-    (
-        "ä\u{AD}å",
-        "450560 c228=327680 k-40960 c229=163840",
-        "450560 steps 2 c228=327680 k-40960 c229=163840",
-        "\"width\":450560,\"steps\":2,\"items\":[[\"c\",228,327680],[\"k\",-40960],[\"c\",229,163840]]",
-    ),
-    (
-        "ä å",
-        "709973 c228=327680 s218453 c229=163840",
-        "709973 steps 2 c228=327680 s218453 c229=163840",
-        "\"width\":709973,\"steps\":2,\"items\":[[\"c\",228,327680],[\"s\",218453],[\"c\",229,163840]]",
-    ),
-    (
-        "\u{A0}",
-        "218453 s218453",
-        "218453 steps 0 s218453",
-        "\"width\":218453,\"steps\":0,\"items\":[[\"s\",218453]]",
-    ),
-    ("", "0", "0 steps 0", "\"width\":0,\"steps\":0,\"items\":[]"),
+/// The characters 228 to 230, which are ä, å and æ in T1, at 10 points, and a kern between ä and å.
+static FONT: [u8; 88] = [
+    0, 22, 0, 2, // lf, lh
+    0, 228, 0, 230, // bc, ec
+    0, 4, 0, 1, // nw, nh
+    0, 1, 0, 1, // nd, ni
+    0, 1, 0, 1, // nl, nk
+    0, 0, 0, 2, // ne, np
+    0, 0, 0, 0, // the check sum
+    0, 0xA0, 0, 0, // the design size
+    1, 0, 1, 0, // ä, with a program that begins at instruction 0
+    2, 0, 0, 0, // å
+    3, 0, 0, 0, // æ
+    0, 0, 0, 0, // width 0
+    0, 0, 0, 16, // width 1: 10 sp
+    0, 0, 0, 32, // width 2: 20 sp
+    0, 0, 0, 48, // width 3: 30 sp
+    0, 0, 0, 0, // height 0
+    0, 0, 0, 0, // depth 0
+    0, 0, 0, 0, // italic correction 0
+    128, 229, 128, 0, // before å, kern 0
+    0xFF, 0xFF, 0xFF, 0xF0, // kern 0: 10 sp to the left
+    0, 0, 0, 0, // slant
+    0, 0, 0, 80, // space: 50 sp
 ];
 
-/// Lines with characters without codes, which are skipped.
-static SKIPPED: [Row; 5] = [
-    (
-        "€",
-        "0 u20AC",
-        "0 steps 0 u20AC",
-        "\"width\":0,\"steps\":0,\"items\":[[\"u\",8364]]",
-    ),
-    (
-        "ä€å",
-        "491520 c228=327680 u20AC c229=163840",
-        "491520 steps 2 c228=327680 u20AC c229=163840",
-        "\"width\":491520,\"steps\":2,\"items\":[[\"c\",228,327680],[\"u\",8364],[\"c\",229,163840]]",
-    ),
-    (
-        "åb €",
-        "382293 c229=163840 m98 s218453 u20AC",
-        "382293 steps 1 c229=163840 m98 s218453 u20AC",
-        "\"width\":382293,\"steps\":1,\"items\":[[\"c\",229,163840],[\"m\",98],[\"s\",218453],[\"u\",8364]]",
-    ),
-    (
-        "\u{80}\u{FFFF}\u{10000}",
-        "0 u0080 uFFFF u10000",
-        "0 steps 0 u0080 uFFFF u10000",
-        "\"width\":0,\"steps\":0,\"items\":[[\"u\",128],[\"u\",65535],[\"u\",65536]]",
-    ),
-    (
-        "\u{FFFFF}\u{100000}\u{10FFFF}",
-        "0 uFFFFF u100000 u10FFFF",
-        "0 steps 0 uFFFFF u100000 u10FFFF",
-        "\"width\":0,\"steps\":0,\"items\":[[\"u\",1048575],[\"u\",1048576],[\"u\",1114111]]",
-    ),
-];
-
-#[test]
-fn lines_that_are_set(rt: HostRuntime) -> Result<(), Fail> {
-    for encoding in [Encoding::T1, Encoding::Ly1, Encoding::Latin1] {
-        sets(
-            &rt,
-            Case {
-                encoding,
-                ..REFUSING
-            },
-            &SET,
-        )?;
-        sets(
-            &rt,
-            Case {
-                encoding,
-                ..SKIPPING
-            },
-            &SET,
-        )?;
-    }
-    sets(&rt, SKIPPING, &SKIPPED)
+/// How a line is set and recorded.
+#[derive(Clone, Copy)]
+struct Case {
+    encoding: Encoding,
+    policy: Policy,
+    version: Version,
+    first: bool,
 }
 
-/// Lines that aren't UTF-8, with the offset at which no character begins.
-static NOT_UTF8: [(&[u8], &str, &str); 3] = [
-    (b"\xC3\xA4\xFF", "encoding 2", "\"encoding\",\"offset\":2"),
+/// In T1, with missing characters refused, in record format 2, after the first line of a source.
+const REFUSE: Case = Case {
+    encoding: Encoding::T1,
+    policy: Policy::Refuse,
+    version: Version::Two,
+    first: false,
+};
+
+const FIRST: Case = Case {
+    first: true,
+    ..REFUSE
+};
+
+const SKIP: Case = Case {
+    policy: Policy::Skip,
+    ..REFUSE
+};
+
+const FORMAT_1: Case = Case {
+    version: Version::One,
+    ..SKIP
+};
+
+const JSON: Case = Case {
+    version: Version::Json,
+    ..SKIP
+};
+
+const JSON_REFUSE: Case = Case {
+    version: Version::Json,
+    ..REFUSE
+};
+
+const BYTES: Case = Case {
+    encoding: Encoding::Bytes,
+    ..SKIP
+};
+
+/// Lines and their records.
+const LINES: [(Case, &str, &str); 15] = [
+    (REFUSE, "äå", "7:2 set 20 steps 2 c228=10 k-10 c229=20"),
+    // The soft hyphen has no codes, so that ä and å are neighbours.
+    (SKIP, "ä\u{AD}å", "7:2 set 20 steps 2 c228=10 k-10 c229=20"),
+    (SKIP, "ä€å", "7:2 set 30 steps 2 c228=10 u20AC c229=20"),
+    (SKIP, "åb €", "7:2 set 70 steps 1 c229=20 m98 s50 u20AC"),
+    (SKIP, "\u{80}\u{FFFF}", "7:2 set 0 steps 0 u0080 uFFFF"),
     (
-        b"\xC3\xA4\xE2\x82",
-        "encoding 2",
-        "\"encoding\",\"offset\":2",
+        SKIP,
+        "\u{10000}\u{10FFFF}",
+        "7:2 set 0 steps 0 u10000 u10FFFF",
+    ),
+    (REFUSE, "b\u{1F600}€", "7:2 refused uncoded 1 U+1F600"),
+    (REFUSE, "äb", "7:2 refused missing 2 98"),
+    (REFUSE, "äåæ", "7:2 refused steps 2"),
+    (SKIP, "äåæ€", "7:2 refused steps 2"),
+    (FIRST, "\u{FEFF}ä", "7:2 set 10 steps 1 c228=10"),
+    (FIRST, "\u{FEFF}b", "7:2 refused missing 3 98"),
+    (FORMAT_1, "ä€", "7:2 set 10 c228=10 u20AC"),
+    (
+        JSON,
+        "äb €",
+        r#"{"source":7,"line":2,"width":60,"steps":1,"items":[["c",228,10],["m",98],["s",50],["u",8364]]}"#,
     ),
     (
-        b"b\xE2\x82\xAC\xED\xA0\x80",
-        "encoding 4",
-        "\"encoding\",\"offset\":4",
+        JSON_REFUSE,
+        "ä€",
+        r#"{"source":7,"line":2,"refused":"uncoded","offset":2,"character":8364}"#,
     ),
 ];
 
-#[test]
-fn lines_that_are_not_utf8(rt: HostRuntime) -> Result<(), Fail> {
-    for (line, words, json) in &NOT_UTF8 {
-        refuses(&rt, REFUSING, line, (words, json))?;
-        refuses(&rt, SKIPPING, line, (words, json))?;
+/// Bytes, how often a line has them, and its record.
+const BYTE_LINES: [(Case, &[u8], usize, &str); 7] = [
+    (
+        BYTES,
+        b"\xE4\xE5",
+        1,
+        "7:2 set 20 steps 2 c228=10 k-10 c229=20",
+    ),
+    (
+        REFUSE,
+        b"b\xE2\x82\xAC\xED\xA0\x80",
+        1,
+        "7:2 refused encoding 4",
+    ),
+    (
+        JSON,
+        b"\xC3\xA4\xE2\x82",
+        1,
+        r#"{"source":7,"line":2,"refused":"encoding","offset":2}"#,
+    ),
+    // The length of a line is the number of its bytes. A line that is too long needn't be UTF-8.
+    (REFUSE, b"\xC3\xA4", 32_767, "7:2 refused steps 2"),
+    (REFUSE, b"\xC3\xA4", 32_768, "7:2 refused too-long 65536"),
+    (SKIP, b"\xFF", 65_535, "7:2 refused encoding 0"),
+    (SKIP, b"\xFF", 65_536, "7:2 refused too-long 65536"),
+];
+
+/// Line 2 of source 7 has this record, with texts made beforehand and without.
+fn has_record<R: Abort + AllocGlobal>(
+    rt: &R,
+    case: Case,
+    bytes: &[u8],
+    record: &str,
+) -> Result<(), Fail> {
+    let font = Font::read(rt.alloc(), &FONT, None)?;
+    let terms = Terms::new(font, Limit::new(2).ok_or("the limit")?, case.policy);
+    let settings = RecordSettings {
+        terms: &terms,
+        encoding: case.encoding,
+        version: case.version,
+    };
+    let line = SourceLine {
+        number: RecordNumber { source: 7, line: 2 },
+        first: case.first,
+        bytes,
+    };
+    let texts = RecordTexts::new(terms.font());
+    let mut room = EncodedRoom::new(rt.alloc());
+    let mut out = Vec::new(rt.alloc());
+    for texts in [None, Some(&texts)] {
+        let refused = encoded_record(settings, line, texts, &mut room, &mut out)?;
+        assert!(rt; refused == record.contains("refused"), "{record}");
     }
+    let wanted = format!(in rt.alloc(); "{record}\n{record}\n")?;
+    assert!(rt; out.as_slice() == wanted.as_bytes(), "{record}");
     Ok(())
 }
 
-/// Lines with characters that have no codes, or whose codes the font lacks. A character without codes takes
-/// precedence. Offsets count bytes of the line.
-static REFUSED: [(&str, &str, &str); 6] = [
-    (
-        "ä€",
-        "uncoded 2 U+20AC",
-        "\"uncoded\",\"offset\":2,\"character\":8364",
-    ),
-    (
-        "b\u{1F600}€",
-        "uncoded 1 U+1F600",
-        "\"uncoded\",\"offset\":1,\"character\":128512",
-    ),
-    (
-        "\u{FEFF}ä",
-        "uncoded 0 U+FEFF",
-        "\"uncoded\",\"offset\":0,\"character\":65279",
-    ),
-    ("äb", "missing 2 98", "\"missing\",\"offset\":2,\"code\":98"),
-    ("ä‰", "missing 2 37", "\"missing\",\"offset\":2,\"code\":37"),
-    (
-        "äﬁ",
-        "missing 2 102",
-        "\"missing\",\"offset\":2,\"code\":102",
-    ),
-];
-
 #[test]
-fn lines_that_are_refused(rt: HostRuntime) -> Result<(), Fail> {
-    for (line, words, json) in &REFUSED {
-        refuses(&rt, REFUSING, line.as_bytes(), (words, json))?;
+fn records_of_lines(rt: HostRuntime) -> Result<(), Fail> {
+    for (case, line, record) in LINES {
+        has_record(&rt, case, line.as_bytes(), record)?;
     }
-    let steps = ("steps 1", "\"steps\",\"limit\":1");
-    refuses(
-        &rt,
-        Case {
-            limit: 1,
-            ..REFUSING
-        },
-        "äå".as_bytes(),
-        steps,
-    )?;
-    refuses(
-        &rt,
-        Case {
-            limit: 1,
-            ..SKIPPING
-        },
-        "äå€".as_bytes(),
-        steps,
-    )
-}
-
-/// A byte order mark at the front of the first line of a source.
-static MARKED: [Row; 1] = [(
-    "\u{FEFF}ä",
-    "327680 c228=327680",
-    "327680 steps 1 c228=327680",
-    "\"width\":327680,\"steps\":1,\"items\":[[\"c\",228,327680]]",
-)];
-
-#[test]
-fn a_byte_order_mark_is_left_out_of_a_first_line(rt: HostRuntime) -> Result<(), Fail> {
-    let case = Case {
-        first: true,
-        ..REFUSING
-    };
-    sets(&rt, case, &MARKED)?;
-    let missing = ("missing 3 98", "\"missing\",\"offset\":3,\"code\":98");
-    refuses(&rt, case, "\u{FEFF}b".as_bytes(), missing)
-}
-
-/// The length of a line counts its bytes, and not its codes. A line that is too long needn't be UTF-8.
-#[test]
-fn a_line_that_is_too_long(rt: HostRuntime) -> Result<(), Fail> {
-    let long = "ä".repeat(rt.alloc(), 32_768)?;
-    let reason = ("too-long 65536", "\"too-long\",\"bytes\":65536");
-    refuses(&rt, REFUSING, long.as_bytes(), reason)?;
-    refuses(&rt, SKIPPING, long.as_bytes(), reason)?;
-    let fault = vec![in rt.alloc(); 0xFFu8; 65_536]?;
-    refuses(&rt, REFUSING, &fault, reason)?;
-    refuses(
-        &rt,
-        SKIPPING,
-        &fault[1..],
-        ("encoding 0", "\"encoding\",\"offset\":0"),
-    )
+    for (case, bytes, count, record) in BYTE_LINES {
+        has_record(&rt, case, &bytes.repeat(rt.alloc(), count)?, record)?;
+    }
+    Ok(())
 }

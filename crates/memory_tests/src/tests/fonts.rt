@@ -1,5 +1,5 @@
 //! `Font::read`. After a failed allocation the error is `OutOfMemory`.
-use super::NO_ARGUMENTS;
+use super::{NO_ARGUMENTS, outcome, report};
 use std::process::Abort;
 use std::test::Fail;
 use test_support::fonts::RIGHT_BOUNDARY;
@@ -36,11 +36,9 @@ fn reads<R: Abort + AllocGlobal>(rt: &R, file: &[u8]) -> bool {
 #[test]
 fn a_font_is_read(rt: HostRuntime) -> Result<(), Fail> {
     let Ok(file) = RIGHT_BOUNDARY.file(rt.alloc()) else {
-        return Ok(println!(rt; "{NO_ARGUMENTS}")?);
+        return report(&rt, NO_ARGUMENTS);
     };
-    if reads(&rt, &file) {
-        return Ok(println!(rt; "read")?);
-    }
-    assert!(rt; reads(&rt, &file));
-    Ok(println!(rt; "out of memory, then read")?)
+    let first = reads(&rt, &file);
+    assert!(rt; first || reads(&rt, &file));
+    report(&rt, outcome(first))
 }

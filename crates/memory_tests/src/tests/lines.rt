@@ -1,8 +1,8 @@
-//! `set`. After a failed allocation the line is handed back; a line that is too long, or has a missing
-//! character that is refused, gets this refusal.
-use super::NO_ARGUMENTS;
+//! `set`, `set_bytes` and `lines`. After a failed allocation `set` hands back the line, and the list of `set_bytes`
+//! is empty, with its memory; a line that is too long, or has a missing character that is refused, gets this refusal.
+use super::{NO_ARGUMENTS, outcome, report};
 use lig_kern::Item;
-use set_line::{Answer, Line, LineRefusal, OutOfMemory, Outcome, Policy, Terms, set};
+use set_line::{Line, LineRefusal, OutOfMemory, Outcome, Policy, Terms, lines, set, set_bytes};
 use std::alloc::{AllocError, Global};
 use std::process::Abort;
 use std::sync::Arc;
@@ -13,41 +13,35 @@ use test_support::terms::terms_of;
 
 const SKIPPED: Item = Item::Skipped(100);
 
-/// Settings with the font in this file and a limit of 100 steps, and a line; `None` if an allocation fails.
-fn ready(
-    alloc: Global,
-    file: Result<Vec<u8>, AllocError>,
-    policy: Policy,
-    bytes: &[u8],
-) -> Option<(Arc<Terms>, Line)> {
-    let terms = terms_of(alloc, file, 100, policy)?;
-    Some((terms, test_support::line(alloc, bytes)?))
-}
+const WITH_SPACE: [Item; 7] = [A, BACK, C, AHEAD, B, SPACE, SKIPPED];
 
-/// Settings that skip missing characters, with the font that inserts c between a and b, and a line; `None`
-/// if an allocation fails.
-pub fn ready_to_set(alloc: Global, bytes: &[u8]) -> Option<(Arc<Terms>, Line)> {
-    ready(alloc, ligature(alloc, 3), Policy::Skip, bytes)
-}
+const WITH_SKIPPED: [Item; 7] = [A, BACK, C, AHEAD, B, SKIPPED, SKIPPED];
 
-/// Whether the line was set in four steps with these items and this width.
-pub fn is_right(outcome: &Outcome, wanted: (&[Item], i64)) -> bool {
+/// The items of a line that is set in four steps, and its width; or why it is refused.
+type Wanted = Result<(&'static [Item], i64), LineRefusal>;
+
+fn is_right(outcome: &Outcome, wanted: Wanted) -> bool {
     match outcome {
         Outcome::Set {
             items,
             width,
             steps,
-        } => items.as_slice() == wanted.0 && *width == wanted.1 && *steps == 4,
-        Outcome::Refused(_) => false,
+        } => wanted == Ok((items.as_slice(), *width)) && *steps == 4,
+        Outcome::Refused(refusal) => wanted == Err(*refusal),
     }
 }
 
-/// Sets a line of these bytes. Returns the line if an allocation failed.
+/// Settings with the font that inserts c between a and b, and a limit of 100 steps; `None` if an allocation fails.
+pub fn settings(alloc: Global, policy: Policy) -> Option<Arc<Terms>> {
+    terms_of(alloc, ligature(alloc, 3), 100, policy)
+}
+
+/// Sets a line of these bytes, and compares its result. Returns the line if an allocation failed.
 fn sets<R: Abort + AllocGlobal>(
     rt: &R,
-    (terms, line): (Arc<Terms>, Line),
-    bytes: &[u8],
-    wanted: (&[Item], i64),
+    terms: Arc<Terms>,
+    line: Line,
+    (bytes, wanted): (&[u8], Wanted),
 ) -> Option<Line> {
     match set(rt.alloc(), terms, line) {
         Ok(answer) => {
@@ -62,128 +56,126 @@ fn sets<R: Abort + AllocGlobal>(
     }
 }
 
-/// Sets the line of these bytes, and prints the outcome. A line that is handed back is set with new settings.
-fn is_set<R: Abort + AllocGlobal + Print>(
+/// Sets a line of these bytes, and if it is handed back, once more. Returns the outcome.
+fn is_set<R: Abort + AllocGlobal>(
     rt: &R,
+    terms: Option<Arc<Terms>>,
     bytes: &[u8],
-    wanted: (&[Item], i64),
-) -> Result<(), Fail> {
-    let Some(ready) = ready_to_set(rt.alloc(), bytes) else {
-        return Ok(println!(rt; "{NO_ARGUMENTS}")?);
+    wanted: Wanted,
+) -> &'static str {
+    let Some((terms, line)) = terms.zip(test_support::line(rt.alloc(), bytes)) else {
+        return NO_ARGUMENTS;
     };
-    let Some(line) = sets(rt, ready, bytes, wanted) else {
-        return Ok(println!(rt; "set")?);
+    let Ok(again) = terms.clone() else {
+        return NO_ARGUMENTS;
     };
-    let (terms, _) = ready_to_set(rt.alloc(), b"").ok_or("out of memory again")?;
-    assert!(rt; sets(rt, (terms, line), bytes, wanted).is_none());
-    Ok(println!(rt; "out of memory, then set")?)
+    match sets(rt, terms, line, (bytes, wanted)) {
+        None => outcome(true),
+        Some(line) => {
+            assert!(rt; sets(rt, again, line, (bytes, wanted)).is_none());
+            outcome(false)
+        }
+    }
 }
 
 /// The run has more items than its line has bytes.
 #[test]
 fn a_line_of_one_run_is_set(rt: HostRuntime) -> Result<(), Fail> {
-    is_set(&rt, b"ab", (&A_C_B, 962_560))
+    let terms = settings(rt.alloc(), Policy::Skip);
+    report(&rt, is_set(&rt, terms, b"ab", Ok((&A_C_B, 962_560))))
 }
 
 /// Up to the space there is room for as many items as the run has.
 #[test]
 fn a_line_with_a_space_is_set(rt: HostRuntime) -> Result<(), Fail> {
-    let items = [A, BACK, C, AHEAD, B, SPACE, SKIPPED];
-    is_set(&rt, b"ab d", (&items, 1_181_013))
+    let terms = settings(rt.alloc(), Policy::Skip);
+    report(
+        &rt,
+        is_set(&rt, terms, b"ab d", Ok((&WITH_SPACE, 1_181_013))),
+    )
 }
 
 #[test]
 fn a_line_with_skipped_characters_is_set(rt: HostRuntime) -> Result<(), Fail> {
-    let items = [A, BACK, C, AHEAD, B, SKIPPED, SKIPPED];
-    is_set(&rt, b"abdd", (&items, 962_560))
-}
-
-/// Whether the line of an answer is refused for this reason.
-fn is_refused(answer: &Answer, wanted: LineRefusal) -> bool {
-    match answer.outcome() {
-        Outcome::Set { .. } => false,
-        Outcome::Refused(refusal) => *refusal == wanted,
-    }
-}
-
-/// Settings with a font in which the run `aa` never ends, and a line; `None` if an allocation fails.
-fn ready_without_end(alloc: Global, bytes: &[u8]) -> Option<(Arc<Terms>, Line)> {
-    ready(alloc, endless(alloc, 3), Policy::Refuse, bytes)
-}
-
-/// Sets a line `aa`, which takes too many steps. Returns the line if an allocation failed.
-fn takes_too_many<R: Abort + AllocGlobal>(
-    rt: &R,
-    (terms, line): (Arc<Terms>, Line),
-) -> Option<Line> {
-    match set(rt.alloc(), terms, line) {
-        Ok(answer) => {
-            assert!(rt; is_refused(&answer, LineRefusal::Steps(100)));
-            None
-        }
-        Err((line, OutOfMemory)) => {
-            assert_eq!(rt; line.bytes(), b"aa".as_slice());
-            Some(line)
-        }
-    }
+    let terms = settings(rt.alloc(), Policy::Skip);
+    report(
+        &rt,
+        is_set(&rt, terms, b"abdd", Ok((&WITH_SKIPPED, 962_560))),
+    )
 }
 
 /// Each step puts one more character ahead, until there are more than have room without an allocation.
 #[test]
 fn a_line_has_many_characters_ahead(rt: HostRuntime) -> Result<(), Fail> {
-    let Some(ready) = ready_without_end(rt.alloc(), b"aa") else {
-        return Ok(println!(rt; "{NO_ARGUMENTS}")?);
-    };
-    let Some(line) = takes_too_many(&rt, ready) else {
-        return Ok(println!(rt; "too many steps")?);
-    };
-    let (terms, _) = ready_without_end(rt.alloc(), b"").ok_or("out of memory again")?;
-    assert!(rt; takes_too_many(&rt, (terms, line)).is_none());
-    Ok(println!(rt; "out of memory, then too many steps")?)
-}
-
-/// Sets a line that is refused for this reason, whether or not an allocation fails.
-fn told_of_refusing<R: Abort + AllocGlobal>(
-    rt: &R,
-    (terms, line): (Arc<Terms>, Line),
-    refusal: LineRefusal,
-) -> &'static str {
-    match set(rt.alloc(), terms, line) {
-        Ok(answer) => {
-            assert!(rt; is_refused(&answer, refusal));
-            "refused"
-        }
-        Err(_) => panic!(rt; "out of memory in place of a refusal"),
-    }
-}
-
-/// The line of these bytes is refused for this reason. Prints the outcome.
-fn refuses<R: Abort + AllocGlobal + Print>(
-    rt: &R,
-    bytes: &[u8],
-    refusal: LineRefusal,
-) -> Result<(), Fail> {
-    let file = ligature(rt.alloc(), 3);
-    let told = match ready(rt.alloc(), file, Policy::Refuse, bytes) {
-        Some(ready) => told_of_refusing(rt, ready, refusal),
-        None => NO_ARGUMENTS,
-    };
-    Ok(println!(rt; "{told}")?)
+    let terms = terms_of(rt.alloc(), endless(rt.alloc(), 3), 100, Policy::Refuse);
+    report(&rt, is_set(&rt, terms, b"aa", Err(LineRefusal::Steps(100))))
 }
 
 #[test]
 fn a_missing_character_is_reported(rt: HostRuntime) -> Result<(), Fail> {
+    let terms = settings(rt.alloc(), Policy::Refuse);
     let missing = LineRefusal::Missing {
         offset: 3,
         code: 100,
     };
-    refuses(&rt, b"ab d", missing)
+    report(&rt, is_set(&rt, terms, b"ab d", Err(missing)))
 }
 
 #[test]
 fn a_line_that_is_too_long_is_reported(rt: HostRuntime) -> Result<(), Fail> {
     let Ok(line) = "d".repeat(rt.alloc(), 65_536) else {
-        return Ok(println!(rt; "{NO_ARGUMENTS}")?);
+        return report(&rt, NO_ARGUMENTS);
     };
-    refuses(&rt, line.as_bytes(), LineRefusal::TooLong(65_536))
+    let terms = settings(rt.alloc(), Policy::Refuse);
+    let refusal = LineRefusal::TooLong(65_536);
+    report(&rt, is_set(&rt, terms, line.as_bytes(), Err(refusal)))
+}
+
+/// Whether the line `ab` is set with this list, which is empty afterwards. Otherwise an allocation failed.
+fn sets_with<R: Abort>(rt: &R, terms: &Terms, list: &mut Vec<Item>) -> bool {
+    let before = list.capacity();
+    let set = set_bytes(terms, b"ab", list);
+    assert!(rt; list.is_empty());
+    match set {
+        Ok(outcome) => {
+            assert!(rt; is_right(&outcome, Ok((&A_C_B, 962_560))));
+            true
+        }
+        Err(_) => {
+            assert!(rt; list.capacity() >= before);
+            false
+        }
+    }
+}
+
+/// The list has room for one item, which it has.
+#[test]
+fn a_line_is_set_with_a_list(rt: HostRuntime) -> Result<(), Fail> {
+    let terms = settings(rt.alloc(), Policy::Skip);
+    let list = Vec::from_slice(rt.alloc(), &[Item::Kern(1)]).ok();
+    let Some((terms, mut list)) = terms.zip(list) else {
+        return report(&rt, NO_ARGUMENTS);
+    };
+    let first = sets_with(&rt, &terms, &mut list);
+    assert!(rt; first || sets_with(&rt, &terms, &mut list));
+    report(&rt, outcome(first))
+}
+
+/// Whether a text of three lines is cut. Otherwise an allocation failed.
+fn cuts<R: Abort + AllocGlobal>(rt: &R) -> bool {
+    let Ok(found) = lines(rt.alloc(), b"ab\n\nc") else {
+        return false;
+    };
+    assert_eq!(rt; found.len(), 3);
+    assert_eq!(rt; found[0].bytes(), b"ab".as_slice());
+    assert_eq!(rt; found[1].bytes(), b"".as_slice());
+    assert_eq!(rt; found[2].bytes(), b"c".as_slice());
+    true
+}
+
+#[test]
+fn a_text_is_cut_into_lines(rt: HostRuntime) -> Result<(), Fail> {
+    let first = cuts(&rt);
+    assert!(rt; first || cuts(&rt));
+    report(&rt, outcome(first))
 }
