@@ -2,7 +2,9 @@
 use set_line::{Limit, LineRefusal, Outcome, Policy, Terms, set_bytes};
 use std::alloc::AllocError;
 use std::process::Abort;
-use test_support::fonts::examples::{left_boundary, ligature, long_header, right_boundary};
+use test_support::fonts::examples::{
+    left_boundary, ligature, ligature_with_long_header, long_header, right_boundary,
+};
 use tfm_tables::Font;
 
 /// The limit that the lines are set with.
@@ -99,5 +101,11 @@ fn short_lines_in_damaged_fonts(rt: HostRuntime) {
     tries(&rt, ligature(rt.alloc(), 0), "a ligature", true);
     tries(&rt, right_boundary(rt.alloc()), "a right boundary", true);
     tries(&rt, left_boundary(rt.alloc()), "a left boundary", true);
-    tries(&rt, long_header(rt.alloc()), "a long header", false);
+}
+
+#[test]
+fn short_lines_in_damaged_fonts_with_a_long_header(rt: HostRuntime) {
+    tries(&rt, long_header(rt.alloc()), "no characters", false);
+    let file = ligature_with_long_header(rt.alloc(), 3);
+    tries(&rt, file, "a ligature and a long header", true);
 }

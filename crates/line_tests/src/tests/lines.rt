@@ -84,8 +84,9 @@ fn sets_line<R: Abort + AllocGlobal>(
 /// The line is refused with one step less as the limit, if that is a limit.
 fn refuses_line<R: Abort + AllocGlobal>(rt: &R, policy: Policy, (font, line, _, steps, _): Row) {
     let limit = steps.saturating_sub(1);
-    let file = font.file(rt.alloc());
-    if let Some(terms) = terms_of(rt.alloc(), file, limit, policy) {
+    if limit > 0 {
+        let file = font.file(rt.alloc());
+        let terms = terms_of(rt.alloc(), file, limit, policy).expect(rt, "terms");
         let refused = match outcome_of(rt, &terms, line) {
             Outcome::Set { .. } => None,
             Outcome::Refused(refusal) => Some(refusal),

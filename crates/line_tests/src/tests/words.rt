@@ -95,3 +95,13 @@ fn a_run_without_the_right_boundary(rt: HostRuntime) {
     assert_eq!(rt; set, Ok(1));
     assert_eq!(rt; list.as_slice(), [A].as_slice());
 }
+
+#[test]
+fn a_program_without_end_is_stopped(rt: HostRuntime) {
+    for op in [1, 2, 3, 7] {
+        let mut list = Vec::new(rt.alloc());
+        let set = set_word(&Endless(op).font(&rt), b"aa", true, 100, &mut list);
+        assert_eq!(rt; set, Err(WordFault::TooManySteps), "operation {op}");
+        assert!(rt; list.is_empty(), "operation {op}");
+    }
+}
