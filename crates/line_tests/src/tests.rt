@@ -1,2 +1,10 @@
+mod damage;
 mod lines;
-mod runs;
+mod long;
+mod matches;
+mod named;
+mod records;
+mod rewriting;
+mod slow;
+mod values;
+mod words;

@@ -1,3 +1,3 @@
+mod named;
 mod records;
 mod sums;
-mod writers;

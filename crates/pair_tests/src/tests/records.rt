@@ -1,338 +1,159 @@
-//! The records that `LineWriter` appends, with and without the texts of pairs: they are those of `set_bytes` and
-//! `record_outcome`, whichever lines the same writer has set before.
-use super::writers::Writer;
-use lig_kern::Item;
-use pair_texts::RecordForm;
-use set_line::{Limit, Outcome, Policy, RecordNumber, Terms, Version, record_outcome, set_bytes};
-use std::alloc::{AllocError, Global};
+//! The records that `LineWriter` appends, with and without the texts of pairs.
+ghost use Rattle.std.specs.Prelude.{◌≡◌};
+
+use super::named::Named;
+use super::named::Named::*;
+use super::sums::found;
+use pair_texts::{LineWriter, RecordForm};
+use set_line::Policy::{Refuse, Skip};
+use set_line::Version::{Json, One, Two};
+use set_line::{Policy, RecordNumber, Terms, Version};
 use std::process::Abort;
-use std::sync::Arc;
-use std::test::Fail;
-use test_support::fonts::examples::{
-    boundary_exists, endless, indirect, largest, left_boundary, ligature, no_characters, plain,
-    right_boundary, without_parameters, without_space,
-};
-use test_support::fonts::lengths::SHORT;
-use test_support::fonts::{
-    Info, LIGATURE, NOTHING, PLAIN, SKIPPING, Sample, TWO_KERNS, kern_before, last,
-};
-use tfm_tables::{Font, Step};
-use tfm_words::Size;
+use test_support::terms::{LIMIT, terms_of};
 
-const VERSIONS: [Version; 3] = [Version::One, Version::Two, Version::Json];
+/// The number of each record.
+const NUMBER: RecordNumber = RecordNumber { source: 2, line: 1 };
 
-/// The text before a record.
-const EARLIER: &[u8] = b"records 1\n";
+/// A font, a limit and a policy; a format, a line, and its record.
+type Row = ((Named, u32, Policy), Version, &'static str, &'static str);
 
-/// A font's file, and what the font is called in messages.
-type Named = (&'static str, Vec<u8>);
-
-/// A writer that is prepared, and one that isn't.
-#[derive(Drop)]
-struct Writers {
-    prepared: Writer,
-    plain: Writer,
-    /// The memory for the items of the lines that are set by `set_bytes`.
-    list: Vec<Item>,
+macro_rules! rows {
+    ($($font:expr, $limit:expr, $policy:expr; $version:expr, $line:expr => $record:expr;)+) => {
+        [$((($font, $limit, $policy), $version, $line, $record)),+]
+    };
 }
 
-impl Writers {
-    /// Returns writers for lines that are set with a font, at its design size or another one.
-    fn new(
-        alloc: Global,
-        file: &[u8],
-        size: Option<Size>,
-        (limit, policy): (u32, Policy),
-    ) -> Result<Self, Fail> {
-        let font = Font::read(alloc, file, size)?;
-        let limit = Limit::new(limit).ok_or("a limit out of range")?;
-        let terms = Arc::new(alloc, Terms::new(font, limit, policy))?;
-        Ok(Writers {
-            prepared: Writer::prepared(alloc, terms.clone()?),
-            plain: Writer::new(alloc, terms),
-            list: Vec::new(alloc),
-        })
-    }
+static ROWS: [Row; 15] = rows! {
+    // lines that are set by the texts of pairs
+    Plain, 5, Refuse; One, "ab abc" =>
+        "2:1 set 1693013 c97=327680 c98=163840 s218453 c97=327680 c98=163840 c99=491520\n";
+    Plain, 5, Skip; Two, "ab abc" =>
+        "2:1 set 1693013 steps 5 c97=327680 c98=163840 s218453 c97=327680 c98=163840 c99=491520\n";
+    Plain, LIMIT, Refuse; One, "" => "2:1 set 0\n";
+    Ligature(0), LIMIT, Refuse; Two, "ab" => "2:1 set 491520 steps 2 c99=491520\n";
+    Ligature(3), LIMIT, Refuse; One, "acb" =>
+        "2:1 set 962560 c97=327680 k-40960 c99=491520 k20480 c98=163840\n";
+    RightBoundary, LIMIT, Refuse; Two, "b b" =>
+        "2:1 set 587093 steps 4 c98=163840 k20480 s218453 c98=163840 k20480\n";
+    LeftBoundary, LIMIT, Refuse; Two, "a" => "2:1 set 286720 steps 1 k-40960 c97=327680\n";
+    // lines that are refused
+    Plain, LIMIT, Refuse; One, "ad" => "2:1 refused missing 1 100\n";
+    Plain, LIMIT, Refuse; Two, "ad" => "2:1 refused missing 1 100\n";
+    Plain, 4, Refuse; Two, "ab abc" => "2:1 refused steps 4\n";
+    // lines that are set in the general way
+    Ligature(3), LIMIT, Refuse; Two, "ab" =>
+        "2:1 set 962560 steps 4 c97=327680 k-40960 c99=491520 k20480 c98=163840\n";
+    RightBoundary, LIMIT, Refuse; One, "a" => "2:1 set 450560 c97=327680 k-40960 c98=163840\n";
+    RightBoundary, LIMIT, Skip; One, "ad" => "2:1 set 327680 c97=327680 m100\n";
+    // records in JSON
+    Plain, LIMIT, Refuse; Json, "a" =>
+        "{\"source\":2,\"line\":1,\"width\":327680,\"steps\":1,\"items\":[[\"c\",97,327680]]}\n";
+    Plain, LIMIT, Refuse; Json, "ad" =>
+        "{\"source\":2,\"line\":1,\"refused\":\"missing\",\"offset\":1,\"code\":100}\n";
+};
 
-    /// Returns the record of a line after earlier text, and whether the line is refused.
-    fn wanted(&mut self, line: &[u8], form: RecordForm) -> Result<(Vec<u8>, bool), Fail> {
-        let mut out = Vec::from_slice(*self.list.allocator(), EARLIER)?;
-        let outcome = set_bytes(&self.prepared.terms, line, &mut self.list)?;
-        record_outcome(&mut out, form.number, &outcome, form.version, None)?;
-        let refused = matches!(outcome, Outcome::Refused(_));
-        outcome.give_back(&mut self.list);
-        Ok((out, refused))
-    }
-
-    /// Both writers append the right record of a line, in each format.
-    fn write<R: Abort + AllocGlobal>(
-        &mut self,
-        rt: &R,
-        case: &str,
-        line: &[u8],
-    ) -> Result<(), Fail> {
-        let number = RecordNumber {
-            source: u64::MAX,
-            line: 10,
-        };
-        for version in VERSIONS {
-            let form = RecordForm { number, version };
-            let wanted = self.wanted(line, form)?;
-            writes(rt, case, &mut self.plain, (line, form), &wanted)?;
-            writes(rt, case, &mut self.prepared, (line, form), &wanted)?;
-        }
-        Ok(())
-    }
-}
-
-/// The writer appends this record of a line, and reports whether the line is refused.
-fn writes<R: Abort + AllocGlobal>(
+/// The record that a writer appends is this one.
+fn appends<R: Abort + AllocGlobal>(
     rt: &R,
-    case: &str,
-    writer: &mut Writer,
-    (line, form): (&[u8], RecordForm),
-    (wanted, refused): &(Vec<u8>, bool),
-) -> Result<(), Fail> {
-    let version = form.version;
-    let mut out = Vec::from_slice(rt.alloc(), EARLIER)?;
-    let found = writer.append(line, form, &mut out)?;
-    assert_eq!(rt; found, *refused, "{case}, {version:?}, {line:?}");
-    assert!(rt;
-        out.as_slice() == wanted.as_slice(),
-        "{case}, {version:?}, {line:?}"
+    writer: &mut LineWriter,
+    terms: &Terms,
+    form: (Version, &str),
+    record: &str,
+)
+    requires { writer.old ≡ terms.now.font }
+    ensures { writer.new ≡ terms.now.font }
+{
+    let (version, line) = form;
+    let form = RecordForm {
+        number: NUMBER,
+        version,
+    };
+    let mut out = Vec::new(rt.alloc());
+    let appended = writer.append(terms, line.as_bytes(), form, &mut out);
+    let refused = appended.expect(rt, "memory");
+    assert!(rt; out.as_slice() == record.as_bytes(), "{record}");
+    assert_eq!(rt; refused, record.contains("refused"), "{record}");
+}
+
+/// The record of the line is this one: if the writer isn't prepared, when its texts are made, and when they
+/// are there.
+fn has_record<R: Abort + AllocGlobal>(rt: &R, ((font, limit, policy), version, line, record): Row) {
+    let file = font.file(rt.alloc());
+    let terms = terms_of(rt.alloc(), file, limit, policy).expect(rt, "terms");
+    let mut writer = LineWriter::new(rt.alloc(), terms.font());
+    appends(rt, &mut writer, &terms, (version, line), record);
+    writer.prepare(terms.font());
+    appends(rt, &mut writer, &terms, (version, line), record);
+    appends(rt, &mut writer, &terms, (version, line), record);
+}
+
+#[test]
+fn records_are_the_same_with_and_without_texts(rt: HostRuntime) {
+    for row in ROWS {
+        has_record(&rt, row);
+    }
+}
+
+/// The record of a line is this one. After this line, `acb` is still set by pairs.
+fn still_sets<R: Abort + AllocGlobal>(
+    rt: &R,
+    writer: &mut LineWriter,
+    terms: &Terms,
+    line: &str,
+    record: &str,
+)
+    requires { writer.old ≡ terms.now.font }
+    ensures { writer.new ≡ terms.now.font }
+{
+    appends(rt, writer, terms, (Two, line), record);
+    let sums = found(writer.sums(terms, b"acb"));
+    assert_eq!(rt;
+        sums,
+        Some(Ok((962_560, 3, 5))),
+        "after {} bytes",
+        line.len()
     );
-    Ok(())
 }
 
-/// Returns one of the fonts of the folder examples/fonts without ligatures between characters, or of a few more.
-fn font(alloc: Global, number: usize) -> Option<(&'static str, Result<Vec<u8>, AllocError>)> {
-    Some(match number {
-        0 => ("no characters", no_characters(alloc)),
-        1 => ("plain", plain(alloc)),
-        2 => ("no space", without_space(alloc)),
-        3 => ("no parameters", without_parameters(alloc)),
-        4 => ("a right boundary", right_boundary(alloc)),
-        5 => ("a boundary that exists", boundary_exists(alloc)),
-        6 => ("a left boundary", left_boundary(alloc)),
-        7 => ("indirect", indirect(alloc)),
-        8 => ("the largest font", largest(alloc)),
-        9 => ("two kerns", TWO_KERNS.file(alloc)),
-        10 => ("skipping", SKIPPING.file(alloc)),
-        11 => ("three kerns", SHORT.file(alloc)),
-        12 => ("far back and ahead", FAR.file(alloc)),
-        _ => return None,
-    })
-}
-
-/// Returns these fonts, and those with a ligature.
-fn fonts(alloc: Global) -> Result<Vec<Named>, AllocError> {
-    let mut fonts = Vec::new(alloc);
-    for number in 0..13 {
-        if let Some((name, file)) = font(alloc, number) {
-            fonts.push((name, file?))?;
-        }
-    }
-    for op in [0, 1, 2, 3, 5, 6, 7, 11, 127] {
-        fonts.push(("ligatures", ligature(alloc, op)?))?;
-        fonts.push(("one more a", endless(alloc, op)?))?;
-    }
-    Ok(fonts)
-}
-
-/// Sixteen times the size, to the left.
-const FAR_BACK: u32 = 0xFF00_0000;
-
-/// Nearly sixteen times the size.
-const FAR_AHEAD: u32 = 0x00FF_FFFF;
-
-/// Characters, kerns and spaces that are as far back and ahead as they may be. The line `ab` is a ligature.
-const FAR: Sample<'static> = Sample {
-    width: &[0, FAR_BACK, FAR_AHEAD, FAR_BACK],
-    kerns: &[FAR_BACK, FAR_AHEAD],
-    parameters: &[0, FAR_BACK],
-    ..LIGATURE
-};
-
-/// Characters, a space, and two bytes without a character. The second one is the right boundary of a font.
-const BYTES: &[u8; 6] = b"abc d|";
-
-/// Each pair of the bytes a, b, c and space.
-const EACH_PAIR: &[u8] = b"aabbccacba  b  c a c bab";
-
-/// Appends the records of each byte, of each pair of bytes, and of longer lines.
-fn write_each<R: Abort + AllocGlobal>(
-    rt: &R,
-    case: &str,
-    writers: &mut Writers,
-) -> Result<(), Fail> {
-    for first in BYTES {
-        writers.write(rt, case, &[*first])?;
-        for second in BYTES {
-            writers.write(rt, case, &[*first, *second])?;
-        }
-    }
-    for line in [
-        b"".as_slice(),
-        EACH_PAIR,
-        b"acbc cb acb",
-        b"ab d ab",
-        b"a|\xff\x00",
-    ] {
-        writers.write(rt, case, line)?;
-    }
-    Ok(())
-}
-
-/// The size, or 0 for the design size; the step limit, which is just reached by some lines and exceeded by
-/// others; and the policy. The sizes are the smallest one and the largest one, too.
-const SETTINGS: [(u32, u32, Policy); 4] = [
-    (0, 1, Policy::Refuse),
-    (0, 3, Policy::Skip),
-    (1, 100, Policy::Skip),
-    (134_217_727, 100, Policy::Refuse),
-];
-
+/// The lines are set by pairs or in the general way, refused, or long.
 #[test]
-fn records_are_those_of_set_bytes(rt: HostRuntime) -> Result<(), Fail> {
-    for (case, file) in &fonts(rt.alloc())? {
-        for (size, limit, policy) in SETTINGS {
-            let size = Size::new(size);
-            let mut writers = Writers::new(rt.alloc(), file, size, (limit, policy))?;
-            write_each(&rt, case, &mut writers)?;
-        }
-    }
-    Ok(())
-}
-
-/// A line of at most this many bytes, in which a part is repeated.
-fn repeated(alloc: Global, part: &[u8], bytes: usize) -> Result<Vec<u8>, AllocError> {
-    let mut line = Vec::new(alloc);
-    for byte in part.iter().cycle().take(bytes) {
-        line.push(*byte)?;
-    }
-    Ok(line)
-}
-
-/// The size, and what is repeated in a line of 65,535 bytes: `a` is far back, and `b` far ahead.
-const REPEATED: [(u32, &[u8]); 3] = [(134_217_727, b"a"), (134_217_727, b"b"), (1, b"acb ab c")];
-
-#[test]
-fn records_of_long_lines_are_the_same(rt: HostRuntime) -> Result<(), Fail> {
-    let file = FAR.file(rt.alloc())?;
-    for (size, part) in REPEATED {
-        let terms = (65_535, Policy::Refuse);
-        let mut writers = Writers::new(rt.alloc(), &file, Size::new(size), terms)?;
-        let line = repeated(rt.alloc(), part, 65_535)?;
-        writers.write(&rt, "a long line", &line)?;
-    }
-    Ok(())
-}
-
-/// The lines that a writer sets one after the other: all are short but these.
-const LONG: [(&[u8], usize); 3] = [(b"ac", 65_535), (b"a", 65_536), (b"ab", 60_000)];
-
-/// In a line, `ab` has to be set in the general way, and takes four steps. `d` is missing.
-const SHORT_LINES: [&[u8]; 8] = [b"acb", b"ab", b"acb d", b"", b"cb a", b"d", b"  ", b"a"];
-
-/// After other lines the line `acb` is still set by pairs, and has the right record.
-fn is_as_before<R: Abort + AllocGlobal>(
-    rt: &R,
-    case: &str,
-    writers: &mut Writers,
-) -> Result<(), Fail> {
-    writers.write(rt, case, b"acb")?;
-    match writers.prepared.sums(b"acb") {
-        Some(Ok(sums)) => assert_eq!(rt; (sums.width, sums.steps, sums.items), (962_560, 3, 5)),
-        Some(Err(_)) | None => panic!(rt; "no sums, {case}"),
-    }
-    Ok(())
-}
-
-#[test]
-fn lines_do_not_depend_on_the_lines_before(rt: HostRuntime) -> Result<(), Fail> {
-    let file = ligature(rt.alloc(), 3)?;
-    let mut writers = Writers::new(rt.alloc(), &file, None, (65_535, Policy::Refuse))?;
-    is_as_before(&rt, "at first", &mut writers)?;
-    for (part, bytes) in LONG {
-        for short in SHORT_LINES {
-            writers.write(&rt, "a short line", short)?;
-            is_as_before(&rt, "after a short line", &mut writers)?;
-        }
-        let line = repeated(rt.alloc(), part, bytes)?;
-        writers.write(&rt, "a long line", &line)?;
-        is_as_before(&rt, "after a long line", &mut writers)?;
-    }
-    Ok(())
-}
-
-/// The codes of a font: all of them.
-const CODES: usize = 256;
-
-/// Each code is a character with a program that begins at the instruction of the same number.
-fn characters(alloc: Global) -> Result<Vec<Info>, AllocError> {
-    let mut characters = Vec::new(alloc);
-    for code in 0..=255u8 {
-        characters.push(Info {
-            width: code.max(1),
-            tag: 1,
-            remainder: code,
-            ..NOTHING
-        })?;
-    }
-    Ok(characters)
-}
-
-/// Before each code, the kern of this number; and the search ends after the last one.
-fn program(alloc: Global) -> Result<Vec<Step>, AllocError> {
-    let mut program = Vec::new(alloc);
-    for code in 0..=254u8 {
-        program.push(kern_before(code, code))?;
-    }
-    program.push(last(kern_before(255, 255)))?;
-    Ok(program)
-}
-
-/// 256 widths or kerns, which all differ.
-fn numbers(alloc: Global) -> Result<Vec<u32>, AllocError> {
-    let mut numbers = Vec::new(alloc);
-    for number in 0..256u32 {
-        numbers.push(number << 12)?;
-    }
-    Ok(numbers)
-}
-
-/// A font with 256 characters, of which the one with code n has a kern before n and each later code.
-fn with_many_pairs(alloc: Global) -> Result<Vec<u8>, AllocError> {
-    let characters = characters(alloc)?;
-    let program = program(alloc)?;
-    let numbers = numbers(alloc)?;
-    many_pairs(&characters, &program, &numbers).file(alloc)
-}
-
-/// The font of these parts.
-fn many_pairs<'a>(characters: &'a [Info], program: &'a [Step], numbers: &'a [u32]) -> Sample<'a> {
-    Sample {
-        bc: 0,
-        ec: 255,
-        characters,
-        width: numbers,
-        program,
-        kerns: numbers,
-        ..PLAIN
-    }
-}
-
-/// Every eighth code, and after it each of the codes.
-#[test]
-fn records_with_many_pairs_are_the_same(rt: HostRuntime) -> Result<(), Fail> {
-    let file = with_many_pairs(rt.alloc())?;
-    let mut writers = Writers::new(rt.alloc(), &file, None, (16_777_216, Policy::Skip))?;
-    for first in (1..=255).step_by(8) {
-        let mut line = Vec::with_capacity(rt.alloc(), 2 * CODES)?;
-        for second in 0..=255 {
-            line.extend_from_slice(&[first, second])?;
-        }
-        writers.write(&rt, "many pairs", &line)?;
-    }
-    Ok(())
+fn lines_do_not_depend_on_the_lines_before(rt: HostRuntime) {
+    let file = Ligature(3).file(rt.alloc());
+    let terms = terms_of(rt.alloc(), file, 65_535, Refuse).expect(&rt, "terms");
+    let long = "ac".repeat(rt.alloc(), 32_767).expect(&rt, "memory");
+    let items = " c97=327680 k-40960 c99=491520"
+        .repeat(rt.alloc(), 32_767)
+        .expect(&rt, "memory");
+    let set = format!(in rt.alloc(); "2:1 set 25500590080 steps 65534{items}\n").expect(
+        &rt, "memory",
+    );
+    let many_steps = "ab".repeat(rt.alloc(), 32_767).expect(&rt, "memory");
+    let too_long = "a".repeat(rt.alloc(), 65_536).expect(&rt, "memory");
+    let general = "2:1 set 962560 steps 4 c97=327680 k-40960 c99=491520 k20480 c98=163840\n";
+    let mut writer = LineWriter::new(rt.alloc(), terms.font());
+    writer.prepare(terms.font());
+    still_sets(&rt, &mut writer, &terms, "ab", general);
+    still_sets(
+        &rt,
+        &mut writer,
+        &terms,
+        "acb d",
+        "2:1 refused missing 4 100\n",
+    );
+    still_sets(&rt, &mut writer, &terms, "", "2:1 set 0 steps 0\n");
+    still_sets(&rt, &mut writer, &terms, &long, &set);
+    still_sets(
+        &rt,
+        &mut writer,
+        &terms,
+        &many_steps,
+        "2:1 refused steps 65535\n",
+    );
+    still_sets(
+        &rt,
+        &mut writer,
+        &terms,
+        &too_long,
+        "2:1 refused too-long 65536\n",
+    );
 }

@@ -1,0 +1,57 @@
+//! The sample fonts by name, so that a row of a table can have a font.
+use std::alloc::{AllocError, Global};
+use std::process::Abort;
+use test_support::fonts::examples::{
+    boundary_exists, endless, indirect, largest, left_boundary, ligature, plain, right_boundary,
+    without_parameters, without_space,
+};
+use test_support::fonts::lengths::SHORT;
+use test_support::fonts::{NO_PROGRAM, SKIPPING, TWO_KERNS};
+use test_support::terms::font_of;
+use tfm_tables::Font;
+
+/// The sample fonts. `Ligature` and `Endless` have an operation.
+#[derive(Clone, Copy, Debug)]
+pub enum Named {
+    Plain,
+    NoSpace,
+    NoParameters,
+    Ligature(u8),
+    TwoKerns,
+    Skipping,
+    ThreeKerns,
+    Indirect,
+    RightBoundary,
+    BoundaryExists,
+    LeftBoundary,
+    NoProgram,
+    Endless(u8),
+    Largest,
+}
+
+impl Named {
+    /// Returns the font's file.
+    pub fn file(self, alloc: Global) -> Result<Vec<u8>, AllocError> {
+        match self {
+            Named::Plain => plain(alloc),
+            Named::NoSpace => without_space(alloc),
+            Named::NoParameters => without_parameters(alloc),
+            Named::Ligature(op) => ligature(alloc, op),
+            Named::TwoKerns => TWO_KERNS.file(alloc),
+            Named::Skipping => SKIPPING.file(alloc),
+            Named::ThreeKerns => SHORT.file(alloc),
+            Named::Indirect => indirect(alloc),
+            Named::RightBoundary => right_boundary(alloc),
+            Named::BoundaryExists => boundary_exists(alloc),
+            Named::LeftBoundary => left_boundary(alloc),
+            Named::NoProgram => NO_PROGRAM.file(alloc),
+            Named::Endless(op) => endless(alloc, op),
+            Named::Largest => largest(alloc),
+        }
+    }
+
+    /// Reads the font at its design size.
+    pub fn font<R: Abort + AllocGlobal>(self, rt: &R) -> Font {
+        font_of(rt.alloc(), self.file(rt.alloc())).expect(rt, "a font")
+    }
+}

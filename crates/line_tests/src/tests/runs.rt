@@ -1,4 +1,0 @@
-mod matches;
-mod rewriting;
-mod slow;
-mod words;
