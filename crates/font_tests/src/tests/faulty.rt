@@ -1,303 +1,130 @@
-//! Fonts with faults, and the fault that is named of each.
-use test_support::fonts::{
-    A_FROM_0, AHEAD, B, BACK, C, HALF, Info, KERN_BEFORE_B, KERN_BEFORE_C, LIGATURE, LIGATURE_C,
-    NOTHING, PLAIN, QUARTER, Sample, THREE_QUARTERS,
-};
-use tfm_tables::{FontFault, Step};
+//! Words of the sample fonts that are changed, and the error that the font then has, if it has one.
+use super::samples::Change;
+use tfm_tables::FontFault;
+use tfm_words::Count::{Lf, Nd, Nh, Np};
+use tfm_words::DesignFault;
 use tfm_words::Table::{Depth, Height, Italic, Kern, Param, Width};
 
-/// There is no width 4.
-pub const TOO_WIDE: Info = Info {
-    width: 4,
-    ..NOTHING
-};
+/// Changed words, and the error.
+pub type Row = (&'static [Change], Option<FontFault>);
 
-/// There is no height 1.
-const TOO_HIGH: Info = Info {
-    height: 1,
-    ..NOTHING
-};
+/// The error of a design size below 1 point.
+pub const BELOW_ONE: Option<FontFault> = Some(FontFault::Design(DesignFault::DesignSize));
 
-/// There is no depth 1.
-const TOO_DEEP: Info = Info {
-    depth: 1,
-    ..NOTHING
-};
-
-/// There is no italic correction 1.
-const TOO_SLANTED: Info = Info {
-    italic: 1,
-    ..NOTHING
-};
-
-/// The plain font's b in another form, and its fault.
-pub static FORMS_OF_B: [(&str, Info, Option<FontFault>); 10] = [
-    ("width 4 of 4", TOO_WIDE, WIDTH_OF_B),
-    ("height 1 of 1", TOO_HIGH, HEIGHT_OF_B),
-    ("depth 1 of 1", TOO_DEEP, DEPTH_OF_B),
-    ("italic correction 1 of 1", TOO_SLANTED, ITALIC_OF_B),
-    (
-        "depth, then height",
-        Info {
-            depth: 1,
-            ..TOO_HIGH
-        },
-        HEIGHT_OF_B,
-    ),
-    (
-        "italic correction, then depth",
-        Info {
-            italic: 1,
-            ..TOO_DEEP
-        },
-        DEPTH_OF_B,
-    ),
-    (
-        "a program that isn't there",
-        Info { tag: 1, ..NOTHING },
-        Some(FontFault::LigStart(98)),
-    ),
-    ("a list", Info { tag: 2, ..NOTHING }, None),
-    (
-        "a recipe that isn't there",
-        Info {
-            tag: 3,
-            remainder: 255,
-            ..NOTHING
-        },
-        None,
-    ),
-    ("nothing", NOTHING, None),
+/// The font without characters: words 0 to 5 are the counts, 7 the design size, 8 to 11 the tables' entries 0.
+pub static OF_NO_CHARACTERS: [Row; 17] = [
+    (&[], None),
+    (&[(1, 0x0100_00FF)], None), // bc 256, ec 255
+    (&[(0, 0x000D_0002)], counts!(LengthEquation)),
+    (&[(2, 0x0001_8000)], counts!(CountRange(Nh))),
+    (&[(1, 0x0002_0000)], counts!(CharRange)),
+    (&[(1, 0x0001_0100)], counts!(CharRange)),
+    (&[(0, 0x000C_0001)], counts!(HeaderShort)),
+    (&[(3, 0x0001_0000)], counts!(EmptyTable(Italic))),
+    (&[(5, 0x0101_0000)], counts!(TooManyRecipes)),
+    (&[(7, 0)], BELOW_ONE),
+    (&[(7, 0x000F_FFFF)], BELOW_ONE),
+    (&[(7, 0x0010_0000)], None),
+    (&[(7, 0x7FFF_FFFF)], None),
+    (&[(7, 0x8000_0000)], BELOW_ONE),
+    (&[(7, 0xFFFF_FFFF)], BELOW_ONE),
+    (&[(7, 0x000F_FFFF), (8, 1)], BELOW_ONE),
+    (&[(10, 1), (11, 1)], first!(Depth)),
 ];
 
-const WIDTH_OF_B: Option<FontFault> = Some(FontFault::CharIndex {
-    code: 98,
-    table: Width,
-});
-
-const HEIGHT_OF_B: Option<FontFault> = Some(FontFault::CharIndex {
-    code: 98,
-    table: Height,
-});
-
-const DEPTH_OF_B: Option<FontFault> = Some(FontFault::CharIndex {
-    code: 98,
-    table: Depth,
-});
-
-const ITALIC_OF_B: Option<FontFault> = Some(FontFault::CharIndex {
-    code: 98,
-    table: Italic,
-});
-
-/// Before a character that isn't there.
-const BEFORE_100: Step = Step {
-    next: 100,
-    ..LIGATURE_C
-};
-
-/// Faults of characters and first entries, with others that come later.
-pub static CHARACTERS_AND_FIRST_ENTRIES: [(&str, Sample<'static>, FontFault); 9] = [
+/// The plain font: words 0 to 5 are the counts, 7 the design size, 8 to 10 the characters, 11 to 14 the widths,
+/// 15 to 17 the other entries 0, 18 and 19 the parameters.
+pub static OF_PLAIN: [Row; 39] = [
+    (&[], None),
+    // two errors of the counts
+    (&[(0, 0xFFFF_0002), (5, 0x9C40)], counts!(CountRange(Lf))),
+    (&[(3, 0x8000_0001), (4, 0x8000)], counts!(CountRange(Nd))),
+    (&[(1, 0x0065_0063), (5, 0x8000)], counts!(CountRange(Np))),
+    (&[(0, 0x0014_0001), (1, 0x0065_0063)], counts!(CharRange)),
+    (&[(0, 0x0014_0000), (2, 1)], counts!(HeaderShort)),
+    (&[(2, 1), (3, 0x0001_0000)], counts!(EmptyTable(Width))),
+    (&[(2, 0x0004_0000), (3, 1)], counts!(EmptyTable(Height))),
     (
-        "a program that isn't there, before an index",
-        Sample {
-            characters: &[A_FROM_0, TOO_WIDE, C],
-            ..PLAIN
-        },
-        FontFault::CharIndex {
-            code: 98,
-            table: Width,
-        },
+        &[(2, 0x0004_0000), (5, 0x0101_0002)],
+        counts!(EmptyTable(Height)),
     ),
+    (&[(3, 0)], counts!(EmptyTable(Depth))),
     (
-        "a program that isn't there",
-        Sample {
-            characters: &[A_FROM_0, B, C],
-            ..PLAIN
-        },
-        FontFault::LigStart(97),
+        &[(0, 0x0013_0002), (5, 0x0101_0002)],
+        counts!(TooManyRecipes),
     ),
+    (&[(0, 0x0015_0002)], counts!(LengthEquation)),
+    // the design size, and an index
+    (&[(7, 0), (9, 0x0400_0000)], BELOW_ONE),
+    (&[(7, 0x8000_0000), (9, 0x0400_0000)], BELOW_ONE),
+    (&[(7, 0x0010_0000)], None),
+    // the indices of b; no tag, a program, a list and a recipe
+    (&[(9, 0x0400_0000)], index!(98, Width)),
+    (&[(9, 0x0010_0000)], index!(98, Height)),
+    (&[(9, 0x0001_0000)], index!(98, Depth)),
+    (&[(9, 0x0000_0400)], index!(98, Italic)),
+    (&[(9, 0x0011_0000)], index!(98, Height)),
+    (&[(9, 0x0001_0400)], index!(98, Depth)),
+    (&[(9, 0)], None),
+    (&[(9, 0x0000_0100)], start!(98)),
+    (&[(9, 0x0000_0200)], None),
+    (&[(9, 0x0000_03FF)], None),
+    // the program of a, and an index of a smaller or a larger code
+    (&[(8, 0x0100_0100)], start!(97)),
+    (&[(8, 0x0100_0100), (9, 0x0400_0000)], index!(98, Width)),
+    (&[(8, 0x0010_0000), (9, 0x0400_0000)], index!(97, Height)),
+    (&[(9, 0x0100_0100), (10, 0x0100_0100), (11, 1)], start!(98)),
+    // entries 0; that of the heights scales to 0
+    (&[(11, 0x0100_0000)], first!(Width)),
+    (&[(11, 0x0100_0000), (12, 0x0100_0000)], first!(Width)),
+    (&[(15, 1)], first!(Height)),
+    (&[(16, 0xFFFF_0000), (17, 0xFFFF_0000)], first!(Depth)),
+    (&[(12, 0x0100_0000), (17, 0x80)], first!(Italic)),
+    // other entries; the slant may be any number
+    (&[(12, 0x0100_0000)], entry!(Width, 1)),
     (
-        "a height of one code, a width of the next",
-        Sample {
-            characters: &[TOO_HIGH, TOO_WIDE, C],
-            ..PLAIN
-        },
-        FontFault::CharIndex {
-            code: 97,
-            table: Height,
-        },
+        &[(12, 0x00FF_FFFF), (13, 0xFF00_0000), (14, 0xFEFF_FFFF)],
+        entry!(Width, 3),
     ),
-    (
-        "two programs that aren't there, and a first width",
-        Sample {
-            characters: &[B, A_FROM_0, A_FROM_0],
-            width: &[1, 0, 0, 0],
-            ..PLAIN
-        },
-        FontFault::LigStart(98),
-    ),
-    (
-        "width 0 out of range",
-        Sample {
-            width: &[0x0100_0000, HALF, QUARTER, THREE_QUARTERS],
-            ..PLAIN
-        },
-        FontFault::FirstNotZero(Width),
-    ),
-    (
-        "width 0, and width 1 out of range",
-        Sample {
-            width: &[0x0100_0000, 0x0100_0000, QUARTER, THREE_QUARTERS],
-            ..PLAIN
-        },
-        FontFault::FirstNotZero(Width),
-    ),
-    (
-        "italic correction 0 and depth 0",
-        Sample {
-            depth: &[BACK],
-            italic: &[BACK],
-            ..PLAIN
-        },
-        FontFault::FirstNotZero(Depth),
-    ),
-    (
-        "height 0, which scales to 0",
-        Sample {
-            height: &[1],
-            ..PLAIN
-        },
-        FontFault::FirstNotZero(Height),
-    ),
-    (
-        "italic correction 0, and width 1 out of range",
-        Sample {
-            width: &[0, 0x0100_0000, 0, 0],
-            italic: &[0x80],
-            ..PLAIN
-        },
-        FontFault::FirstNotZero(Italic),
-    ),
+    (&[(18, 0x0100_0000)], None),
+    (&[(19, 0xFE00_0000)], entry!(Param, 2)),
+    (&[(18, 0x0100_0000), (19, 0xFE00_0000)], entry!(Param, 2)),
 ];
 
-/// Faults of measures, with others that come later.
-pub static MEASURES: [(&str, Sample<'static>, FontFault); 10] = [
-    (
-        "width 1",
-        Sample {
-            width: &[0, 0x0100_0000, QUARTER, THREE_QUARTERS],
-            ..PLAIN
-        },
-        FontFault::FixWordRange {
-            table: Width,
-            index: 1,
-        },
-    ),
-    (
-        "the last width",
-        Sample {
-            width: &[0, 0x00FF_FFFF, 0xFF00_0000, 0xFEFF_FFFF],
-            height: &[0, 0x8000_0000],
-            ..PLAIN
-        },
-        FontFault::FixWordRange {
-            table: Width,
-            index: 3,
-        },
-    ),
-    (
-        "a height and a depth",
-        Sample {
-            height: &[0, HALF, 0x7FFF_FFFF],
-            depth: &[0, 0x7FFF_FFFF],
-            ..PLAIN
-        },
-        FontFault::FixWordRange {
-            table: Height,
-            index: 2,
-        },
-    ),
-    (
-        "an italic correction and a depth",
-        Sample {
-            depth: &[0, 0x7FFF_FFFF],
-            italic: &[0, 0x7FFF_FFFF],
-            ..PLAIN
-        },
-        FontFault::FixWordRange {
-            table: Depth,
-            index: 1,
-        },
-    ),
-    (
-        "a kern and an italic correction",
-        Sample {
-            italic: &[0, 0x0200_0000],
-            kerns: &[0x0200_0000],
-            ..PLAIN
-        },
-        FontFault::FixWordRange {
-            table: Italic,
-            index: 1,
-        },
-    ),
-    (
-        "a kern, and an instruction with a code that isn't there",
-        Sample {
-            program: &[BEFORE_100, KERN_BEFORE_C, KERN_BEFORE_B],
-            kerns: &[0x0100_0000, AHEAD],
-            ..LIGATURE
-        },
-        FontFault::FixWordRange {
-            table: Kern,
-            index: 0,
-        },
-    ),
-    (
-        "a parameter and a kern",
-        Sample {
-            kerns: &[0, 0x0100_0000],
-            parameters: &[0, 0x0100_0000],
-            ..PLAIN
-        },
-        FontFault::FixWordRange {
-            table: Kern,
-            index: 1,
-        },
-    ),
-    (
-        "parameter 2",
-        Sample {
-            parameters: &[0, 0xFE00_0000],
-            ..PLAIN
-        },
-        FontFault::FixWordRange {
-            table: Param,
-            index: 2,
-        },
-    ),
-    (
-        "parameter 2, and a slant that may be any number",
-        Sample {
-            parameters: &[0x0100_0000, 0xFE00_0000],
-            ..PLAIN
-        },
-        FontFault::FixWordRange {
-            table: Param,
-            index: 2,
-        },
-    ),
-    (
-        "the last parameter, and an instruction",
-        Sample {
-            program: &[BEFORE_100, KERN_BEFORE_C, KERN_BEFORE_B],
-            parameters: &[0, 0, 0, 0x0100_0000],
-            ..LIGATURE
-        },
-        FontFault::FixWordRange {
-            table: Param,
-            index: 4,
-        },
-    ),
+/// The font with a ligature: words 18 to 20 are the instructions, 21 and 22 the kerns.
+pub static OF_LIGATURE: [Row; 20] = [
+    (&[], None),
+    (&[(18, 0x0064_0063)], step!(0, Next)),
+    (&[(18, 0x0062_0064)], step!(0, Ligature)),
+    (&[(18, 0x0062_8002)], step!(0, Kern)),
+    (&[(18, 0x0062_8101)], step!(0, Kern)), // 257 of 2
+    (&[(18, 0x0262_0063)], step!(0, Skip)),
+    (&[(18, 0x8162_0003)], step!(0, Restart)),
+    (&[(18, 0xFF64_0100)], step!(0, Restart)), // 256 of 3
+    // two or three parts of an instruction
+    (&[(18, 0x7F64_7F64)], step!(0, Next)),
+    (&[(18, 0x7F62_7F64)], step!(0, Ligature)),
+    (&[(18, 0x7F62_FFFF)], step!(0, Kern)),
+    // to the last instruction; the end; a restart, whatever next is; a right boundary that doesn't exist
+    (&[(18, 0x0162_8001)], None),
+    (&[(18, 0x8062_8001)], None),
+    (&[(18, 0x8164_0002)], None),
+    (&[(18, 0xFF64_0000)], None),
+    // later instructions; only the first one with a skip of 255 names a right boundary
+    (&[(19, 0x7F62_8001), (20, 0x8064_8000)], step!(1, Skip)),
+    (&[(20, 0x7F62_8001)], step!(2, Skip)),
+    (&[(18, 0xFE64_0000), (19, 0x8064_8000)], step!(1, Next)),
+    (&[(19, 0x8064_8000), (20, 0xFF64_0000)], step!(1, Next)),
+    (&[(18, 0x0064_0063), (21, 0x0100_0000)], entry!(Kern, 0)),
+];
+
+/// The font with each kind of table.
+pub static OF_FULL: [Row; 7] = [
+    (&[], None),
+    (&[(14, 0xFEFF_FFFF), (16, 0x8000_0000)], entry!(Width, 3)),
+    (&[(17, 0x7FFF_FFFF), (19, 0x7FFF_FFFF)], entry!(Height, 2)),
+    (&[(19, 0x7FFF_FFFF), (22, 0x7FFF_FFFF)], entry!(Depth, 1)),
+    (&[(22, 0x0200_0000), (27, 0x0200_0000)], entry!(Italic, 1)),
+    (&[(28, 0x0100_0000), (30, 0x0100_0000)], entry!(Kern, 1)),
+    (&[(24, 0x0064_0063), (32, 0x0100_0000)], entry!(Param, 4)),
 ];

@@ -1,22 +1,27 @@
+//! Findings of `check`, and the texts of errors.
+use super::faulty::BELOW_ONE;
 use font_texts::{Finding, check_text, finding_text};
 use std::process::Abort;
 use std::test::Fail;
-use test_support::FailingWriter;
 use test_support::fonts::files::NO_CHARACTERS;
-use tfm_tables::{FontFault, Part};
-use tfm_words::{Count, CountFault, DesignFault, Size, Table};
+use tfm_tables::FontFault;
+use tfm_words::Count::Nh;
+use tfm_words::Size;
+use tfm_words::Table::{
+    CharInfo, Depth, Exten, Header, Height, Italic, Kern, LigKern, Param, Width,
+};
 
-/// Checks that these bytes have this finding, and that its line under this name is this one.
+/// The font in these bytes has this error, or none, at each size, and this line under this name.
 fn checks<R: Abort + AllocGlobal>(
     rt: &R,
     name: &str,
     bytes: &[u8],
-    wanted: Finding,
+    fault: Option<FontFault>,
     line: &str,
 ) -> Result<(), Fail> {
     for size in [None, Size::new(1), Size::new(134_217_727)] {
         let (finding, text) = check_text(rt.alloc(), name, bytes, size)?;
-        assert!(rt; finding == wanted, "{line}");
+        assert!(rt; finding == finding_of(fault), "{line}");
         assert!(rt; text.as_slice() == line.as_bytes(), "{line}");
     }
     Ok(())
@@ -24,144 +29,71 @@ fn checks<R: Abort + AllocGlobal>(
 
 #[test]
 fn a_font_is_accepted_or_refused_by_its_first_fault(rt: HostRuntime) -> Result<(), Fail> {
-    let cut = FontFault::Counts(CountFault::Truncated { need: 48 });
-    checks(
-        &rt,
-        "a.tfm",
-        &NO_CHARACTERS,
-        Finding::Accepted,
-        "a.tfm: accepted\n",
-    )?;
-    checks(
-        &rt,
-        "",
-        &NO_CHARACTERS[..47],
-        Finding::Refused(cut),
-        ": refused: 8 truncated, 48 bytes needed\n",
-    )?;
-    let mut first = NO_CHARACTERS;
+    let file = NO_CHARACTERS;
+    let mut first = file;
     first[47] = 1;
-    checks(
-        &rt,
-        "b\n: accepted",
-        &first,
-        Finding::Refused(FontFault::FirstNotZero(Table::Italic)),
-        "b\\x0a: accepted: refused: 12 table italic, first entry\n",
-    )
+    let line = "b\\x0a: accepted: refused: 12 table italic, first entry\n";
+    checks(&rt, "b\n: accepted", &first, first!(Italic), line)?;
+    let line = ": refused: 8 truncated, 48 bytes needed\n";
+    checks(&rt, "", &file[..47], truncated!(48), line)?;
+    checks(&rt, "a.tfm", &file, None, "a.tfm: accepted\n")
 }
 
-/// A fault, and its words.
-type Told = (FontFault, &'static str);
-
-static COUNTS: [Told; 8] = [
-    (
-        FontFault::Counts(CountFault::Truncated { need: 24 }),
-        "1 truncated, 24 bytes needed",
-    ),
-    (
-        FontFault::Counts(CountFault::CountRange(Count::Nh)),
-        "2 count nh out of range",
-    ),
-    (
-        FontFault::Counts(CountFault::CharRange),
-        "3 character range",
-    ),
-    (
-        FontFault::Counts(CountFault::HeaderShort),
-        "4 header too short",
-    ),
-    (
-        FontFault::Counts(CountFault::EmptyTable(Table::Italic)),
-        "5 table italic is empty",
-    ),
-    (
-        FontFault::Counts(CountFault::TooManyRecipes),
-        "6 more than 256 recipes",
-    ),
-    (
-        FontFault::Counts(CountFault::LengthEquation),
-        "7 length equation",
-    ),
-    (
-        FontFault::Counts(CountFault::Truncated { need: 131_068 }),
-        "8 truncated, 131068 bytes needed",
-    ),
+/// Errors, and their numbers and texts.
+static TEXTS: [(Option<FontFault>, &str); 25] = [
+    (truncated!(24), "1 truncated, 24 bytes needed"),
+    (counts!(CountRange(Nh)), "2 count nh out of range"),
+    (counts!(CharRange), "3 character range"),
+    (counts!(HeaderShort), "4 header too short"),
+    (counts!(EmptyTable(Italic)), "5 table italic is empty"),
+    (counts!(TooManyRecipes), "6 more than 256 recipes"),
+    (counts!(LengthEquation), "7 length equation"),
+    (truncated!(131_068), "8 truncated, 131068 bytes needed"),
+    (BELOW_ONE, "9 design size"),
+    (index!(255, Height), "10 character 255, table height"),
+    (start!(0), "11 character 0, program start"),
+    (first!(Header), "12 table header, first entry"),
+    (first!(CharInfo), "12 table char_info, first entry"),
+    (first!(Width), "12 table width, first entry"),
+    (first!(Depth), "12 table depth, first entry"),
+    (first!(LigKern), "12 table lig_kern, first entry"),
+    (first!(Exten), "12 table exten, first entry"),
+    (entry!(Param, 32_000), "13 table param, entry 32000"),
+    (entry!(Kern, 0), "13 table kern, entry 0"),
+    (step!(0, Restart), "14 instruction 0, restart"),
+    (step!(10, Next), "14 instruction 10, next"),
+    (step!(200, Ligature), "14 instruction 200, ligature"),
+    (step!(3_000, Kern), "14 instruction 3000, kern"),
+    (step!(32_000, Skip), "14 instruction 32000, skip"),
+    (Some(FontFault::OutOfMemory), "15 out of memory"),
 ];
 
-static TABLES: [Told; 11] = [
-    (FontFault::Design(DesignFault::DesignSize), "9 design size"),
-    (
-        FontFault::CharIndex {
-            code: 255,
-            table: Table::Height,
-        },
-        "10 character 255, table height",
-    ),
-    (FontFault::LigStart(0), "11 character 0, program start"),
-    (
-        FontFault::FirstNotZero(Table::Depth),
-        "12 table depth, first entry",
-    ),
-    (
-        FontFault::FixWordRange {
-            table: Table::Param,
-            index: 32_000,
-        },
-        "13 table param, entry 32000",
-    ),
-    (
-        FontFault::Step {
-            index: 0,
-            part: Part::Restart,
-        },
-        "14 instruction 0, restart",
-    ),
-    (
-        FontFault::Step {
-            index: 10,
-            part: Part::Next,
-        },
-        "14 instruction 10, next",
-    ),
-    (
-        FontFault::Step {
-            index: 200,
-            part: Part::Ligature,
-        },
-        "14 instruction 200, ligature",
-    ),
-    (
-        FontFault::Step {
-            index: 3_000,
-            part: Part::Kern,
-        },
-        "14 instruction 3000, kern",
-    ),
-    (
-        FontFault::Step {
-            index: 32_000,
-            part: Part::Skip,
-        },
-        "14 instruction 32000, skip",
-    ),
-    (FontFault::OutOfMemory, "15 out of memory"),
-];
+/// The finding for a font with this error, or without one.
+fn finding_of(fault: Option<FontFault>) -> Finding {
+    match fault {
+        Some(fault) => Finding::Refused(fault),
+        None => Finding::Accepted,
+    }
+}
 
-/// The line of a finding under the name `x`.
-fn line<R: AllocGlobal>(rt: &R, finding: Finding) -> Result<String, Fail> {
-    Ok(String::from_utf8(finding_text(rt.alloc(), "x", finding)?)?)
+/// The line of this finding under the name `x` has these words.
+fn has_words<R: Abort + AllocGlobal>(
+    rt: &R,
+    finding: Finding,
+    words: [&str; 2],
+) -> Result<(), Fail> {
+    let text = finding_text(rt.alloc(), "x", finding)?;
+    let [before, words] = words;
+    let wanted = format!(in rt.alloc(); "x: {before}{words}\n")?;
+    assert!(rt; text.as_slice() == wanted.as_bytes(), "{words}");
+    Ok(())
 }
 
 #[test]
 fn each_finding_has_its_words(rt: HostRuntime) -> Result<(), Fail> {
-    let unread = line(&rt, Finding::NotRead)?;
-    assert!(rt; unread.as_str() == "x: not read\n");
-    for faults in [COUNTS.as_slice(), TABLES.as_slice()] {
-        for (fault, words) in faults {
-            let told = line(&rt, Finding::Refused(*fault))?;
-            let wanted = format!(in rt.alloc(); "x: refused: {words}\n")?;
-            assert!(rt; told.as_str() == wanted.as_str(), "{words}");
-        }
+    for (fault, words) in TEXTS {
+        has_words(&rt, finding_of(fault), ["refused: ", words])?;
     }
-    Ok(())
+    has_words(&rt, Finding::Accepted, ["", "accepted"])?;
+    has_words(&rt, Finding::NotRead, ["", "not read"])
 }

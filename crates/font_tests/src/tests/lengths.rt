@@ -1,119 +1,157 @@
-//! Fonts of which a part is long are read, and tell all that they hold.
+//! Fonts of which a part is long are read and listed whole.
+use super::faults::fault_of;
+use font_texts::{Finding, check_text, list_all_text};
 use std::process::Abort;
 use std::test::Fail;
 use test_support::fonts::lengths::{LONG, Lengths, amount_of};
-use tfm_tables::{Font, LeftSide, Tag};
-
-/// The font has this kern.
-fn has_kern<R: Abort>(rt: &R, case: &str, font: &Font, kern: u16) {
-    let place = usize::from(kern);
-    assert!(rt; place < font.kerns(), "{case}: kern {kern}");
-    assert_eq!(rt; font.kern(place), amount_of(kern), "{case}: kern {kern}");
-}
+use test_support::fonts::{largest, largest_program};
+use tfm_tables::{Font, LeftSide, Step, Tag};
 
 /// The font has all of its kerns, and no more.
-fn has_kerns<R: Abort>(rt: &R, case: &str, font: &Font, lengths: &Lengths) {
-    assert_eq!(rt; font.kerns(), usize::from(lengths.kerns), "{case}");
+fn has_kerns(font: &Font, lengths: &Lengths) -> bool {
+    let mut same = font.kerns() == usize::from(lengths.kerns);
     for kern in 0..lengths.kerns {
-        has_kern(rt, case, font, kern);
+        let k = usize::from(kern);
+        same &= k < font.kerns() && font.kern(k) == amount_of(kern);
     }
+    same
 }
 
 /// The font has all of its parameters, and 0 after them.
-fn has_parameters<R: Abort>(rt: &R, case: &str, font: &Font, lengths: &Lengths) {
-    assert_eq!(rt; font.params(), usize::from(lengths.parameters), "{case}");
+fn has_parameters(font: &Font, lengths: &Lengths) -> bool {
+    let count = usize::from(lengths.parameters);
+    let mut same = font.params() == count && font.param(count + 1) == 0;
     for number in 2..=lengths.parameters {
-        let wanted = 160 * i32::from(number);
-        assert_eq!(rt;
-            font.param(usize::from(number)),
-            wanted,
-            "{case}: number {number}"
-        );
+        same &= font.param(usize::from(number)) == 160 * i32::from(number);
     }
-    let is_sloped = lengths.parameters > 0;
-    assert_eq!(rt; font.param(1), if is_sloped { 256 } else { 0 }, "{case}");
-    let has_space = lengths.parameters > 1;
-    assert_eq!(rt; font.space(), if has_space { 320 } else { 0 }, "{case}");
-    let after = usize::from(lengths.parameters) + 1;
-    assert_eq!(rt; font.param(after), 0, "{case}");
+    same && font.param(1) == if count > 0 { 256 } else { 0 }
 }
 
-/// The text is this if it has to be there, else none.
-fn has_text<R: Abort>(rt: &R, case: &str, found: Option<&[u8]>, there: bool, wanted: &[u8]) {
-    match found {
-        Some(text) => assert!(rt; there && text == wanted, "{case}"),
-        None => assert!(rt; !there, "{case}"),
-    }
-}
-
-/// The font has the texts that its header has room for.
-fn has_header<R: Abort>(rt: &R, case: &str, font: &Font, header: u16) {
-    has_text(rt, case, font.coding(), header >= 12, b"TEX TEXT");
-    has_text(rt, case, font.family(), header >= 17, b"CMR");
-    let is_whole = header >= 18;
-    assert_eq!(rt; font.seven_bit(), is_whole.then_some(false), "{case}");
-    assert_eq!(rt; font.face(), is_whole.then_some(234), "{case}");
-    assert_eq!(rt;
-        (font.check_sum(), font.design().get()),
-        (0, 655_360),
-        "{case}"
-    );
-}
-
-/// What b is: if there are recipes, it is made of the last one.
-fn tag_of_b(lengths: &Lengths) -> Tag {
-    match lengths.recipes.checked_sub(1) {
+/// The font has a, b and c; if there are recipes, b is made of the last one.
+fn has_characters(font: &Font, lengths: &Lengths) -> bool {
+    let of_b = match lengths.recipes.checked_sub(1) {
         Some(recipe) => Tag::Ext(recipe.to_be_bytes()[1]),
         None => Tag::Plain,
-    }
-}
-
-/// The font has a, b and c.
-fn has_characters<R: Abort>(rt: &R, case: &str, font: &Font, lengths: &Lengths) {
-    assert_eq!(rt; font.tag(96), None, "{case}");
-    assert_eq!(rt; font.tag(97), Some(Tag::Lig(0)), "{case}");
-    assert_eq!(rt; font.tag(98), Some(tag_of_b(lengths)), "{case}");
-    assert_eq!(rt; font.tag(99), Some(Tag::Plain), "{case}");
-    assert_eq!(rt; font.tag(100), None, "{case}");
+    };
+    let tags = [
+        font.tag(96),
+        font.tag(97),
+        font.tag(98),
+        font.tag(99),
+        font.tag(100),
+    ];
     let widths = [font.width(97), font.width(98), font.width(99)];
-    assert_eq!(rt; widths, [327_680, 163_840, 491_520], "{case}");
-}
-
-/// The font's instruction for a and this code is this one, with this kern.
-fn finds<R: Abort>(rt: &R, case: &str, font: &Font, (code, i): (u8, usize), kern: u16) {
-    let left = LeftSide::Char(97);
-    assert_eq!(rt; font.find(left, code), Some(i), "{case}: {code}");
-    assert!(rt; i < font.steps(), "{case}");
-    let step = font.step(i);
-    let number = 256 * (u32::from(step.op) % 128) + u32::from(step.remainder);
-    assert_eq!(rt;
-        (step.op >= 128, number),
-        (true, u32::from(kern)),
-        "{case}: {code}"
-    );
+    tags == [None, Some(Tag::Lig(0)), Some(of_b), Some(Tag::Plain), None]
+        && widths == [327_680, 163_840, 491_520]
 }
 
 /// The font has the program of a, with its three kerns.
-fn has_program<R: Abort>(rt: &R, case: &str, font: &Font, lengths: &Lengths) {
-    assert_eq!(rt; font.steps(), 3, "{case}");
-    let [before_a, before_b, before_c] = lengths.used;
-    finds(rt, case, font, (97, 0), before_a);
-    finds(rt, case, font, (98, 1), before_b);
-    finds(rt, case, font, (99, 2), before_c);
-    assert_eq!(rt; font.find(LeftSide::Char(98), 97), None, "{case}");
-    assert_eq!(rt; font.right_boundary(), None, "{case}");
+fn has_program(font: &Font, lengths: &Lengths) -> bool {
+    let mut same = font.steps() == 3;
+    for (i, kern) in lengths.used.iter().enumerate() {
+        let code = [97, 98, 99][i % 3];
+        same &= font.find(LeftSide::Char(97), code) == Some(i);
+        same &= i < font.steps() && font.step(i).kern_index() == Some(usize::from(*kern));
+    }
+    same
+}
+
+/// The first part of a font's name, and a line of its full listing.
+static LINES: [(&str, &str); 12] = [
+    ("nothing long", "\nstep 2 skip 128 next 99 KRN 2 480\n"),
+    ("30 parameters", "\nparam 30 4800\n"),
+    ("32743 parameters", "\nparam 32743 5238880\n"),
+    ("a header of 31 words", "\nlh 31\n"),
+    ("a header of 32743 words", "\nword 32748 78787878\n"),
+    ("a recipe", "\nrecipe 0 top 97 mid 0 bot 98 rep 99\n"),
+    (
+        "256 recipes",
+        "\nchar 98 width 163840 height 0 depth 0 italic 0 tag ext 255\n",
+    ),
+    ("256 recipes", "\nrecipe 255 top 0 mid 98 bot 0 rep 97\n"),
+    ("200000 bytes", "\nword 25 00000200\n"),
+    ("257 kerns", "\nstep 2 skip 128 next 99 KRN 256 41120\n"),
+    ("32744 kerns", "\nstep 0 skip 0 next 97 KRN 32512 5202080\n"),
+    ("32744 kerns", "\nkern 32743 -5239040\n"),
+];
+
+/// The number of lines of the full listing: 12 counts, 5 lines of any font, those of the texts of the header, 3
+/// characters, 3 instructions, and the other parts.
+fn lines_of(lengths: &Lengths, words: u16) -> usize {
+    let mut lines = match lengths.header {
+        0..12 => 23,
+        12..17 => 24,
+        17 => 25,
+        _ => 27usize,
+    };
+    for part in [lengths.kerns, lengths.parameters, lengths.recipes, words] {
+        lines = lines.saturating_add(usize::from(part));
+    }
+    lines
+}
+
+/// The font is accepted by `check_text`, and its full listing has these lines.
+fn is_listed<R: Abort + AllocGlobal>(
+    rt: &R,
+    case: &str,
+    file: &[u8],
+    lines: usize,
+) -> Result<(), Fail> {
+    let (finding, _) = check_text(rt.alloc(), "long.tfm", file, None)?;
+    assert!(rt; finding == Finding::Accepted, "{case}");
+    let text = String::from_utf8(list_all_text(rt.alloc(), file, None)?)?;
+    assert_eq!(rt; text.lines().count(), lines, "{case}");
+    for (name, line) in LINES {
+        assert!(rt;
+            !case.starts_with(name) || text.contains(line),
+            "{case}: {line}"
+        );
+    }
+    Ok(())
 }
 
 #[test]
-fn a_font_with_a_long_part_tells_all_of_it(rt: HostRuntime) -> Result<(), Fail> {
-    for (case, lengths, _) in &LONG {
+fn a_font_with_a_long_part_is_read_and_listed_whole(rt: HostRuntime) -> Result<(), Fail> {
+    for (case, lengths, words) in &LONG {
         let file = lengths.file(rt.alloc())?;
+        is_listed(&rt, case, &file, lines_of(lengths, *words))?;
         let font = Font::read(rt.alloc(), &file, None)?;
-        has_header(&rt, case, &font, lengths.header);
-        has_characters(&rt, case, &font, lengths);
-        has_program(&rt, case, &font, lengths);
-        has_kerns(&rt, case, &font, lengths);
-        has_parameters(&rt, case, &font, lengths);
+        assert!(rt; has_kerns(&font, lengths), "{case}");
+        assert!(rt; has_parameters(&font, lengths), "{case}");
+        assert!(rt; has_characters(&font, lengths), "{case}");
+        assert!(rt; has_program(&font, lengths), "{case}");
     }
+    Ok(())
+}
+
+/// The font of the largest file has these instructions, one kern, and programs for the boundaries alone.
+fn is_largest<R: Abort>(rt: &R, font: &Font, program: &[Step]) {
+    assert_eq!(rt;
+        (font.steps(), program.len(), font.kerns()),
+        (32_754, 32_754, 1)
+    );
+    for (i, step) in program.iter().enumerate() {
+        assert!(rt;
+            i < font.steps() && font.step(i) == *step,
+            "instruction {i}"
+        );
+    }
+    assert!(rt; font.kerns() > 0 && font.kern(0) == 20_480);
+    assert_eq!(rt; font.right_boundary(), Some(65));
+    assert_eq!(rt; font.start(LeftSide::Boundary), Some(1));
+    assert_eq!(rt; font.find(LeftSide::Boundary, 65), Some(1));
+    assert_eq!(rt; font.find(LeftSide::Boundary, 66), None);
+    assert_eq!(rt; font.find(LeftSide::Char(97), 65), None);
+    assert!(rt; !font.exists(65));
+}
+
+#[test]
+fn the_largest_file(rt: HostRuntime) -> Result<(), Fail> {
+    let program = largest_program(rt.alloc())?;
+    let file = largest(&program).file(rt.alloc())?;
+    assert_eq!(rt; file.len(), 131_068);
+    is_largest(&rt, &Font::read(rt.alloc(), &file, None)?, &program);
+    let cut = truncated!(131_068);
+    assert_eq!(rt; fault_of(rt.alloc(), &file[..131_067], None), cut);
     Ok(())
 }

@@ -1,165 +1,290 @@
-use std::alloc::Global;
-use std::process::Abort;
-use std::test::Fail;
+//! Fonts with some words changed, the sizes that they are read at, and what they return.
+use super::facts::Fact;
+use super::facts::Fact::{
+    Character, Codes, Finds, Header, Kerns, Parameters, Program, Right, Start, Starts,
+};
+use super::samples::{Change, FULL};
 use test_support::fonts::{
-    A, A_FROM_0, AHEAD, BACK, C, HALF, Info, KERN_BEFORE_C, LIGATURE, NO_CHARACTERS, NOTHING,
-    PLAIN, QUARTER, Sample, THREE_QUARTERS,
+    BOUNDARY_EXISTS, ENDLESS, INDIRECT, KERN_BEFORE_B, KERN_BEFORE_C, LEFT_BOUNDARY, LIGATURE,
+    LIGATURE_C, NO_CHARACTERS, NO_PROGRAM, PLAIN, RIGHT_BOUNDARY, SKIPPING, Sample, TWO_KERNS,
 };
-use tfm_tables::{Font, LeftSide, Metrics, Tag};
-use tfm_words::Size;
+use tfm_tables::LeftSide;
+use tfm_tables::Tag::{Ext, Lig, List, Plain};
 
-/// The font at its design size, or at a size in scaled points.
-pub fn read(alloc: Global, font: &Sample<'_>, points: Option<u32>) -> Result<Font, Fail> {
-    let file = font.file(alloc)?;
-    Ok(Font::read(alloc, &file, points.and_then(Size::new))?)
-}
+const BOUNDARY: LeftSide = LeftSide::Boundary;
 
-/// The characters a and c; b has a char_info word, and doesn't exist.
-const GAP: Sample<'static> = Sample {
-    characters: &[
-        A_FROM_0,
-        Info {
-            tag: 1,
-            remainder: 0,
-            ..NOTHING
-        },
-        C,
-    ],
-    program: &[KERN_BEFORE_C],
-    kerns: &[BACK],
+const A: LeftSide = LeftSide::Char(97);
+
+const B: LeftSide = LeftSide::Char(98);
+
+const C: LeftSide = LeftSide::Char(99);
+
+const D: LeftSide = LeftSide::Char(100);
+
+/// Changed words, and what the font then returns.
+type Row = (&'static [Change], &'static [Fact]);
+
+/// A font, its size in scaled points if it isn't the design size, and the rows.
+type Group = (&'static str, Sample<'static>, Option<u32>, &'static [Row]);
+
+const NO_PARAMETERS: Sample<'static> = Sample {
+    parameters: &[],
     ..PLAIN
 };
 
-/// The same, and the char_info word of b is four zero bytes.
-const ZERO: Sample<'static> = Sample {
-    characters: &[A, NOTHING, C],
+const SLANT_ALONE: Sample<'static> = Sample {
+    parameters: &[0x0100_0000],
     ..PLAIN
 };
 
-/// One character, whose code is the smallest.
-const FIRST_CODE: Sample<'static> = Sample {
-    bc: 0,
-    ec: 0,
-    characters: &[A],
-    ..PLAIN
-};
-
-/// One character, whose code is the largest.
-const LAST_CODE: Sample<'static> = Sample {
-    bc: 255,
-    ec: 255,
-    ..FIRST_CODE
-};
-
-/// No characters, said with the largest numbers.
-const NO_CHARACTERS_AT_THE_END: Sample<'static> = Sample {
-    bc: 256,
-    ec: 255,
-    ..NO_CHARACTERS
-};
-
-/// Fonts, and the codes of their characters.
-static CHARACTERS: [(&str, Sample<'static>, &[u8]); 7] = [
-    ("a, b and c", PLAIN, &[97, 98, 99]),
-    ("a and c", GAP, &[97, 99]),
-    ("a and c without programs", ZERO, &[97, 99]),
-    ("255 alone", LAST_CODE, &[255]),
-    ("0 alone", FIRST_CODE, &[0]),
-    ("none", NO_CHARACTERS, &[]),
-    ("none at the end", NO_CHARACTERS_AT_THE_END, &[]),
-];
-
-/// A character exists in all that the font answers, or in nothing of it.
-fn is_there<R: Abort>(rt: &R, case: &str, font: &Font, code: u8, exists: bool) {
-    assert_eq!(rt; font.exists(code), exists, "{code} of {case}");
-    assert_eq!(rt; font.metrics(code).is_some(), exists, "{code} of {case}");
-    assert_eq!(rt; font.tag(code).is_some(), exists, "{code} of {case}");
-}
-
-#[test]
-fn a_character_exists_where_it_has_a_width_index(rt: HostRuntime) -> Result<(), Fail> {
-    for (case, font, codes) in &CHARACTERS {
-        let font = read(rt.alloc(), font, None)?;
-        for code in 0..=255 {
-            is_there(&rt, case, &font, code, codes.contains(&code));
-        }
-        assert_eq!(rt; font.start(LeftSide::Char(98)), None, "{case}");
-    }
-    Ok(())
-}
-
-/// Characters with measures and all tags but the plain one.
-const MEASURED: Sample<'static> = Sample {
-    characters: &[
-        Info {
-            width: 1,
-            height: 1,
-            depth: 2,
-            italic: 1,
-            tag: 2,
-            remainder: 98,
-        },
-        Info {
-            width: 3,
-            height: 2,
-            depth: 1,
-            italic: 2,
-            tag: 3,
-            remainder: 7,
-        },
-        A_FROM_0,
-    ],
-    height: &[0, HALF, QUARTER],
-    depth: &[0, THREE_QUARTERS, AHEAD],
-    italic: &[0, BACK, HALF],
-    ..LIGATURE
-};
-
-/// A code, its width, height, depth and italic correction, and its tag.
-type Measures = (u8, [i32; 4], Tag);
-
-/// Fonts, and the measures and tags of their characters.
-static MEASURES: [(&str, Sample<'static>, [Measures; 3]); 2] = [
+pub static FONTS: [Group; 18] = [
     (
-        "all tags",
-        MEASURED,
-        [
-            (97, [327_680, 327_680, 20_480, -40_960], Tag::List(98)),
-            (98, [491_520, 163_840, 491_520, 327_680], Tag::Ext(7)),
-            (99, [327_680, 0, 0, 0], Tag::Lig(0)),
+        "no characters",
+        NO_CHARACTERS,
+        None,
+        &[
+            (
+                &[],
+                &[
+                    Header(0, 327_680, 327_680),
+                    Codes(&[]),
+                    Right(None),
+                    Starts([None; 5]),
+                    Program(&[]),
+                    Kerns(&[]),
+                    Parameters(&[]),
+                    Finds(BOUNDARY, 0, None),
+                ],
+            ),
+            (&[(1, 0x0100_00FF)], &[Codes(&[])]),
+            (&[(7, 0x0010_0000)], &[Header(0, 65_536, 65_536)]),
+            (&[(7, 0x0010_000F)], &[Header(0, 65_536, 65_536)]),
+            (&[(7, 0x0010_0010)], &[Header(0, 65_537, 65_537)]),
+            (
+                &[(6, 0xFEDC_BA98), (7, 0x7FFF_FFFF)],
+                &[Header(4_275_878_552, 134_217_727, 134_217_727)],
+            ),
         ],
     ),
     (
         "plain",
         PLAIN,
-        [
-            (97, [327_680, 0, 0, 0], Tag::Plain),
-            (98, [163_840, 0, 0, 0], Tag::Plain),
-            (99, [491_520, 0, 0, 0], Tag::Plain),
+        None,
+        &[
+            (
+                &[],
+                &[
+                    Header(0, 655_360, 655_360),
+                    Codes(&[97, 98, 99]),
+                    Character(97, [327_680, 0, 0, 0], Plain),
+                    Character(98, [163_840, 0, 0, 0], Plain),
+                    Character(99, [491_520, 0, 0, 0], Plain),
+                    Starts([None; 5]),
+                    Parameters(&[0, 218_453]),
+                    Finds(A, 98, None),
+                ],
+            ),
+            (&[(1, 0x0000_0002)], &[Codes(&[0, 1, 2])]),
+            (&[(1, 0x00FD_00FF)], &[Codes(&[253, 254, 255])]),
+            (&[(9, 0)], &[Codes(&[97, 99])]),
+            (&[(18, 0x0100_0000)], &[Parameters(&[16_777_216, 218_453])]),
+            (&[(18, 0x8000_0000)], &[Parameters(&[i32::MIN, 218_453])]),
         ],
     ),
+    (
+        "plain, at 20 points",
+        PLAIN,
+        Some(1_310_720),
+        &[(
+            &[(6, 0x0102_0304), (18, 0x0100_0000)],
+            &[
+                Header(16_909_060, 655_360, 1_310_720),
+                Character(97, [655_360, 0, 0, 0], Plain),
+                Character(98, [327_680, 0, 0, 0], Plain),
+                Character(99, [983_040, 0, 0, 0], Plain),
+                Parameters(&[16_777_216, 436_906]),
+            ],
+        )],
+    ),
+    (
+        "plain, at the smallest size",
+        PLAIN,
+        Some(1),
+        &[(&[], &[Header(0, 655_360, 1), Character(99, [0; 4], Plain)])],
+    ),
+    (
+        "plain, at the largest size",
+        PLAIN,
+        Some(134_217_727),
+        &[(
+            &[],
+            &[
+                Header(0, 655_360, 134_217_727),
+                Character(97, [67_108_856, 0, 0, 0], Plain),
+                Character(98, [33_554_428, 0, 0, 0], Plain),
+                Character(99, [100_663_284, 0, 0, 0], Plain),
+            ],
+        )],
+    ),
+    (
+        "no parameters",
+        NO_PARAMETERS,
+        None,
+        &[(&[], &[Parameters(&[])])],
+    ),
+    (
+        "the slant",
+        SLANT_ALONE,
+        None,
+        &[(&[], &[Parameters(&[16_777_216])])],
+    ),
+    (
+        "each table and each tag",
+        FULL,
+        None,
+        &[(
+            &[(8, 0x0112_0662), (9, 0x0321_0B07)],
+            &[
+                Character(97, [327_680, 327_680, 20_480, -40_960], List(98)),
+                Character(98, [491_520, 163_840, 491_520, 327_680], Ext(7)),
+                Character(99, [491_520, 0, 0, 0], Lig(2)),
+                Parameters(&[1, 327_680, -40_960, 0]),
+            ],
+        )],
+    ),
+    (
+        "a ligature",
+        LIGATURE,
+        None,
+        &[
+            (
+                &[],
+                &[
+                    Right(None),
+                    Starts([None, Some(0), None, Some(2), None]),
+                    Program(&[LIGATURE_C, KERN_BEFORE_C, KERN_BEFORE_B]),
+                    Kerns(&[-40_960, 20_480]),
+                    Finds(A, 98, Some(0)),
+                    Finds(A, 99, Some(1)),
+                    Finds(A, 97, None),
+                    Finds(C, 98, Some(2)),
+                    Finds(C, 99, None),
+                    Finds(BOUNDARY, 97, None),
+                    Finds(B, 98, None),
+                    Finds(D, 98, None),
+                ],
+            ),
+            // b doesn't exist, and has a program in vain
+            (
+                &[(9, 0x0100), (18, 0x8063_8000), (20, 0x8063_8000)],
+                &[
+                    Codes(&[97, 99]),
+                    Starts([None, Some(0), None, Some(2), None]),
+                ],
+            ),
+        ],
+    ),
+    (
+        "a ligature, at 20 points",
+        LIGATURE,
+        Some(1_310_720),
+        &[(&[], &[Kerns(&[-81_920, 40_960])])],
+    ),
+    (
+        "a right boundary",
+        RIGHT_BOUNDARY,
+        None,
+        &[
+            (
+                &[],
+                &[
+                    Right(Some(124)),
+                    Starts([None, Some(1), Some(3), None, None]),
+                    Finds(A, 124, Some(1)),
+                    Finds(A, 98, Some(2)),
+                    Finds(A, 97, None),
+                    Finds(B, 124, Some(3)),
+                    Finds(B, 98, None),
+                    Finds(BOUNDARY, 124, None),
+                    Finds(LeftSide::Char(124), 98, None),
+                ],
+            ),
+            // a skip above 128 is an indirection of a and of b; only one of 255 in the last instruction names
+            // the left boundary's program, which has no indirection
+            (
+                &[(19, 0xFF00_0002), (21, 0xFF00_0001)],
+                &[Starts([Some(1), Some(2), Some(1), None, None])],
+            ),
+            (
+                &[(19, 0xFE00_0002), (21, 0xFE00_0001)],
+                &[Starts([None, Some(2), Some(1), None, None])],
+            ),
+            (
+                &[(19, 0x8100_0002), (21, 0x8100_0001)],
+                &[Starts([None, Some(2), Some(1), None, None])],
+            ),
+        ],
+    ),
+    (
+        "a right boundary that exists",
+        BOUNDARY_EXISTS,
+        None,
+        &[(
+            &[],
+            &[Right(Some(98)), Start(A, Some(1)), Finds(A, 98, Some(1))],
+        )],
+    ),
+    (
+        "one instruction for both boundaries",
+        NO_PROGRAM,
+        None,
+        &[(
+            &[],
+            &[
+                Right(Some(65)),
+                Starts([Some(0), None, None, None, None]),
+                Finds(BOUNDARY, 65, None),
+            ],
+        )],
+    ),
+    (
+        "a left boundary",
+        LEFT_BOUNDARY,
+        None,
+        &[(
+            &[],
+            &[
+                Right(None),
+                Starts([Some(0), None, None, None, None]),
+                Finds(BOUNDARY, 97, Some(0)),
+                Finds(BOUNDARY, 98, Some(1)),
+                Finds(BOUNDARY, 0, None),
+                Finds(A, 98, None),
+            ],
+        )],
+    ),
+    (
+        "a second indirection is not followed, and a halt that is met",
+        INDIRECT,
+        None,
+        &[(&[], &[Start(A, Some(1)), Finds(A, 98, None)])],
+    ),
+    (
+        "no end",
+        ENDLESS,
+        None,
+        &[(&[], &[Start(A, Some(0)), Finds(A, 97, Some(0))])],
+    ),
+    (
+        "the first of two instructions for b",
+        TWO_KERNS,
+        None,
+        &[(&[], &[Finds(A, 98, Some(0)), Finds(A, 99, None)])],
+    ),
+    (
+        "a skip",
+        SKIPPING,
+        None,
+        &[(&[], &[Finds(A, 99, Some(0)), Finds(A, 98, Some(2))])],
+    ),
 ];
-
-/// The font has a character with this code, these measures and this tag.
-fn has<R: Abort>(rt: &R, case: &str, font: &Font, measures: Measures) {
-    let (code, [width, height, depth, italic], tag) = measures;
-    let metrics = Metrics {
-        width,
-        height,
-        depth,
-        italic,
-    };
-    assert_eq!(rt; font.metrics(code), Some(metrics), "{code} of {case}");
-    assert_eq!(rt; font.tag(code), Some(tag), "{code} of {case}");
-}
-
-#[test]
-fn metrics_and_tags(rt: HostRuntime) -> Result<(), Fail> {
-    for (case, sample, characters) in &MEASURES {
-        let font = read(rt.alloc(), sample, None)?;
-        for measures in characters {
-            has(&rt, case, &font, *measures);
-        }
-    }
-    Ok(())
-}

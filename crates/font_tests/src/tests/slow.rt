@@ -1,57 +1,29 @@
-//! A second look at what a font may not have: every condition in order, as the definition lists
-//! them, over the words of the file alone. Of the crates it uses the names of the faults, and
-//! nothing that reads or computes.
+//! A second look at what a font may not have: every condition in order, as the definition lists them, over the
+//! words of the file alone. Of the crates it uses the names of the faults, and nothing that reads or computes.
 use tfm_tables::{FontFault, Part};
+use tfm_words::Count::{Bc, Ec, Lf, Lh, Nd, Ne, Nh, Ni, Nk, Nl, Np, Nw};
 use tfm_words::{Count, CountFault, DesignFault, Table};
 
-const COUNTS: [Count; 12] = [
-    Count::Lf,
-    Count::Lh,
-    Count::Bc,
-    Count::Ec,
-    Count::Nw,
-    Count::Nh,
-    Count::Nd,
-    Count::Ni,
-    Count::Nl,
-    Count::Nk,
-    Count::Ne,
-    Count::Np,
-];
+const COUNTS: [Count; 12] = [Lf, Lh, Bc, Ec, Nw, Nh, Nd, Ni, Nl, Nk, Ne, Np];
 
-/// A list of conditions, of which the first that holds says the fault.
-#[derive(Drop)]
-struct Conditions {
-    fault: Option<FontFault>,
-}
-
-impl Conditions {
-    fn new() -> Self {
-        Conditions { fault: None }
-    }
-
-    /// The next condition of the list, and its fault.
-    fn next(&mut self, holds: bool, fault: FontFault) {
-        if holds && self.fault.is_none() {
-            self.fault = Some(fault);
+/// The fault of the first condition that holds.
+fn first<F: Copy>(conditions: &[(bool, F)]) -> Option<F> {
+    for (holds, fault) in conditions {
+        if *holds {
+            return Some(*fault);
         }
     }
-
-    fn next_of_counts(&mut self, holds: bool, fault: CountFault) {
-        self.next(holds, FontFault::Counts(fault));
-    }
+    None
 }
 
 /// A file whose counts are without fault, in its parts.
-#[derive(Drop)]
+#[derive(Clone, Copy)]
 struct Parts<'a> {
     bc: u16,
     design: [u8; 4],
     char_info: &'a [[u8; 4]],
-    width: &'a [[u8; 4]],
-    height: &'a [[u8; 4]],
-    depth: &'a [[u8; 4]],
-    italic: &'a [[u8; 4]],
+    /// Widths, heights, depths and italic corrections.
+    measures: [(Table, &'a [[u8; 4]]); 4],
     lig_kern: &'a [[u8; 4]],
     kern: &'a [[u8; 4]],
     param: &'a [[u8; 4]],
@@ -71,38 +43,31 @@ fn counts_of(bytes: &[u8]) -> Option<[u16; 12]> {
     Some(pairs.map(|pair| u16::from_be_bytes(pair)))
 }
 
-/// The conditions of each count alone, and of the two codes.
-fn list_counts(list: &mut Conditions, counts: [u16; 12]) {
+/// The first fault of the counts, in a file of this many bytes.
+fn count_fault(counts: [u16; 12], bytes: usize) -> Option<CountFault> {
+    let mut large = None;
     for (number, count) in counts.into_iter().zip(COUNTS) {
-        list.next_of_counts(number >= 0x8000, CountFault::CountRange(count));
+        large = large.or(first(&[(number >= 0x8000, CountFault::CountRange(count))]));
     }
-    let [_, lh, bc, ec, ..] = counts;
-    let (first, last) = (u32::from(bc), u32::from(ec));
-    list.next_of_counts(first > last + 1 || last > 255, CountFault::CharRange);
-    list.next_of_counts(lh < 2, CountFault::HeaderShort);
-}
-
-/// The conditions of the tables' counts.
-fn list_tables(list: &mut Conditions, counts: [u16; 12]) {
-    let [_, _, _, _, nw, nh, nd, ni, _, _, ne, _] = counts;
-    list.next_of_counts(nw == 0, CountFault::EmptyTable(Table::Width));
-    list.next_of_counts(nh == 0, CountFault::EmptyTable(Table::Height));
-    list.next_of_counts(nd == 0, CountFault::EmptyTable(Table::Depth));
-    list.next_of_counts(ni == 0, CountFault::EmptyTable(Table::Italic));
-    list.next_of_counts(ne > 256, CountFault::TooManyRecipes);
-}
-
-/// The conditions of the length, in a file of this many bytes.
-fn list_lengths(list: &mut Conditions, counts: [u16; 12], bytes: usize) {
     let [lf, lh, bc, ec, nw, nh, nd, ni, nl, nk, ne, np] = counts;
+    let beyond = u32::from(bc) > u32::from(ec) + 1 || ec > 255;
     let mut length = 6 + u32::from(ec) + 1;
     for number in [lh, nw, nh, nd, ni, nl, nk, ne, np] {
         length = length.saturating_add(u32::from(number));
     }
-    let wrong_length = length != u32::from(lf) + u32::from(bc);
-    list.next_of_counts(wrong_length, CountFault::LengthEquation);
+    let has_length = length == u32::from(lf) + u32::from(bc);
     let need = 4 * usize::from(lf);
-    list.next_of_counts(bytes < need, CountFault::Truncated { need });
+    large.or(first(&[
+        (beyond, CountFault::CharRange),
+        (lh < 2, CountFault::HeaderShort),
+        (nw == 0, CountFault::EmptyTable(Table::Width)),
+        (nh == 0, CountFault::EmptyTable(Table::Height)),
+        (nd == 0, CountFault::EmptyTable(Table::Depth)),
+        (ni == 0, CountFault::EmptyTable(Table::Italic)),
+        (ne > 256, CountFault::TooManyRecipes),
+        (!has_length, CountFault::LengthEquation),
+        (bytes < need, CountFault::Truncated { need }),
+    ]))
 }
 
 /// The parts of a file with these counts.
@@ -112,10 +77,12 @@ fn cut_all(bytes: &[u8], counts: [u16; 12]) -> Parts<'_> {
     let _counts = cut(&mut words, 6);
     let header = cut(&mut words, lh);
     let char_info = cut(&mut words, ec.wrapping_add(1).wrapping_sub(bc));
-    let width = cut(&mut words, nw);
-    let height = cut(&mut words, nh);
-    let depth = cut(&mut words, nd);
-    let italic = cut(&mut words, ni);
+    let measures = [
+        (Table::Width, cut(&mut words, nw)),
+        (Table::Height, cut(&mut words, nh)),
+        (Table::Depth, cut(&mut words, nd)),
+        (Table::Italic, cut(&mut words, ni)),
+    ];
     let lig_kern = cut(&mut words, nl);
     let kern = cut(&mut words, nk);
     let _recipes = cut(&mut words, ne);
@@ -123,28 +90,10 @@ fn cut_all(bytes: &[u8], counts: [u16; 12]) -> Parts<'_> {
         bc,
         design: header.get(1).copied().unwrap_or_default(),
         char_info,
-        width,
-        height,
-        depth,
-        italic,
+        measures,
         lig_kern,
         kern,
         param: cut(&mut words, np),
-    }
-}
-
-/// The parts of a file, or what is wrong with its counts.
-fn parts_of(bytes: &[u8]) -> Result<Parts<'_>, FontFault> {
-    let Some(counts) = counts_of(bytes) else {
-        return Err(FontFault::Counts(CountFault::Truncated { need: 24 }));
-    };
-    let mut list = Conditions::new();
-    list_counts(&mut list, counts);
-    list_tables(&mut list, counts);
-    list_lengths(&mut list, counts, bytes.len());
-    match list.fault {
-        Some(fault) => Err(fault),
-        None => Ok(cut_all(bytes, counts)),
     }
 }
 
@@ -163,130 +112,107 @@ impl Parts<'_> {
         matches!(self.lig_kern, [[255, next, _, _], ..] if *next == code)
     }
 
-    fn list_design(&self, list: &mut Conditions) {
-        // negative numbers have the highest bit; 1.0 is 00 10 00 00
+    /// The design size: negative numbers have the highest bit, and 1.0 is 00 10 00 00.
+    fn design_fault(&self) -> Option<FontFault> {
         let units = u32::from_be_bytes(self.design);
         let below_one = units >= 0x8000_0000 || units < 0x0010_0000;
-        list.next(below_one, FontFault::Design(DesignFault::DesignSize));
+        first(&[(below_one, FontFault::Design(DesignFault::DesignSize))])
     }
 
-    fn list_indices(&self, list: &mut Conditions) {
-        for code in 0..=255 {
-            if let Some(info) = self.info(code) {
-                self.list_indices_of(list, code, info);
+    fn index_fault(&self) -> Option<FontFault> {
+        let mut found = None;
+        for (code, info) in (self.bc..=255).zip(self.char_info) {
+            let [_, code] = code.to_be_bytes();
+            let [width, height_depth, italic_tag, _] = *info;
+            let indices = [width, height_depth >> 4, height_depth & 15, italic_tag >> 2];
+            for (index, (table, entries)) in indices.into_iter().zip(self.measures) {
+                let beyond = usize::from(index) >= entries.len();
+                found = found.or(first(&[(beyond, FontFault::CharIndex { code, table })]));
             }
         }
+        found
     }
 
-    fn list_indices_of(&self, list: &mut Conditions, code: u8, info: [u8; 4]) {
-        let [width, height_depth, italic_tag, _] = info;
-        let indices = [
-            (Table::Width, self.width.len(), width),
-            (Table::Height, self.height.len(), height_depth >> 4),
-            (Table::Depth, self.depth.len(), height_depth & 15),
-            (Table::Italic, self.italic.len(), italic_tag >> 2),
-        ];
-        for (table, entries, index) in indices {
-            let beyond = usize::from(index) >= entries;
-            list.next(beyond, FontFault::CharIndex { code, table });
+    fn start_fault(&self) -> Option<FontFault> {
+        let mut found = None;
+        for (code, info) in (self.bc..=255).zip(self.char_info) {
+            let [_, code] = code.to_be_bytes();
+            let [_, _, italic_tag, remainder] = *info;
+            let beyond = usize::from(remainder) >= self.lig_kern.len();
+            let wrong = italic_tag & 3 == 1 && beyond;
+            found = found.or(first(&[(wrong, FontFault::LigStart(code))]));
         }
+        found
     }
 
-    fn list_starts(&self, list: &mut Conditions) {
-        for code in 0..=255 {
-            if let Some(info) = self.info(code) {
-                let [_, _, italic_tag, remainder] = info;
-                let beyond = usize::from(remainder) >= self.lig_kern.len();
-                list.next(italic_tag & 3 == 1 && beyond, FontFault::LigStart(code));
-            }
-        }
-    }
-
-    fn list_firsts(&self, list: &mut Conditions) {
-        let tables = [
-            (Table::Width, self.width),
-            (Table::Height, self.height),
-            (Table::Depth, self.depth),
-            (Table::Italic, self.italic),
-        ];
-        for (table, entries) in tables {
+    fn entry_fault(&self) -> Option<FontFault> {
+        let mut found = None;
+        for (table, entries) in self.measures {
             let is_zero = matches!(entries, [[0, 0, 0, 0], ..]);
-            list.next(!is_zero, FontFault::FirstNotZero(table));
+            found = found.or(first(&[(!is_zero, FontFault::FirstNotZero(table))]));
         }
-    }
-
-    fn list_measures(&self, list: &mut Conditions) {
-        list_entries(list, Table::Width, self.width);
-        list_entries(list, Table::Height, self.height);
-        list_entries(list, Table::Depth, self.depth);
-        list_entries(list, Table::Italic, self.italic);
-        list_entries(list, Table::Kern, self.kern);
-    }
-
-    fn list_parameters(&self, list: &mut Conditions) {
-        for (index, [a, _, _, _]) in (1..).zip(self.param) {
-            let beyond = index > 1 && *a != 0 && *a != 255;
-            let table = Table::Param;
-            list.next(beyond, FontFault::FixWordRange { table, index });
+        for (table, entries) in self.measures {
+            found = found.or(range_fault(table, 0, entries));
         }
+        let parameters = self.param.get(1..).unwrap_or_default();
+        found
+            .or(range_fault(Table::Kern, 0, self.kern))
+            .or(range_fault(Table::Param, 2, parameters))
     }
 
-    fn list_program(&self, list: &mut Conditions) {
+    fn program_fault(&self) -> Option<FontFault> {
+        let mut found = None;
         for (index, word) in self.lig_kern.iter().enumerate() {
-            self.list_step(list, index, *word);
+            found = found.or(self.step_fault(index, *word));
         }
+        found
     }
 
-    fn list_step(&self, list: &mut Conditions, index: usize, word: [u8; 4]) {
+    fn step_fault(&self, index: usize, word: [u8; 4]) -> Option<FontFault> {
         let [skip, next, op, remainder] = word;
         let end = self.lig_kern.len();
         let number = u16::from_be_bytes([op, remainder]);
-        let parts = [
-            (Part::Restart, skip > 128 && usize::from(number) >= end),
+        let is_known = self.exists(next) || self.is_right_boundary(next);
+        let no_kern = usize::from(number & 0x7FFF) >= self.kern.len();
+        let left = end.saturating_sub(index);
+        let part = first(&[
+            (skip > 128 && usize::from(number) >= end, Part::Restart),
+            (skip <= 128 && !is_known, Part::Next),
             (
-                Part::Next,
-                skip <= 128 && !self.exists(next) && !self.is_right_boundary(next),
-            ),
-            (
-                Part::Ligature,
                 skip <= 128 && op < 128 && !self.exists(remainder),
+                Part::Ligature,
             ),
-            (
-                Part::Kern,
-                skip <= 128 && op >= 128 && usize::from(number & 0x7FFF) >= self.kern.len(),
-            ),
-            (
-                Part::Skip,
-                skip < 128 && end.saturating_sub(index) <= usize::from(skip) + 1,
-            ),
-        ];
-        for (part, is_wrong) in parts {
-            list.next(is_wrong, FontFault::Step { index, part });
-        }
+            (skip <= 128 && op >= 128 && no_kern, Part::Kern),
+            (skip < 128 && left <= usize::from(skip) + 1, Part::Skip),
+        ])?;
+        Some(FontFault::Step { index, part })
     }
 }
 
-/// The conditions of a table's entries.
-fn list_entries(list: &mut Conditions, table: Table, entries: &[[u8; 4]]) {
-    for (index, [a, _, _, _]) in entries.iter().enumerate() {
-        let beyond = *a != 0 && *a != 255;
-        list.next(beyond, FontFault::FixWordRange { table, index });
+/// The first entry of a table that is too large or too small; the first of these entries has this number.
+fn range_fault(table: Table, number: usize, entries: &[[u8; 4]]) -> Option<FontFault> {
+    for (place, [a, _, _, _]) in entries.iter().enumerate() {
+        if *a != 0 && *a != 255 {
+            let index = number.saturating_add(place);
+            return Some(FontFault::FixWordRange { table, index });
+        }
     }
+    None
 }
 
 /// The fault of a file, found the slow way.
 pub fn slow_fault(bytes: &[u8]) -> Option<FontFault> {
-    let parts = match parts_of(bytes) {
-        Ok(parts) => parts,
-        Err(fault) => return Some(fault),
+    let Some(counts) = counts_of(bytes) else {
+        return Some(FontFault::Counts(CountFault::Truncated { need: 24 }));
     };
-    let mut list = Conditions::new();
-    parts.list_design(&mut list);
-    parts.list_indices(&mut list);
-    parts.list_starts(&mut list);
-    parts.list_firsts(&mut list);
-    parts.list_measures(&mut list);
-    parts.list_parameters(&mut list);
-    parts.list_program(&mut list);
-    list.fault
+    if let Some(fault) = count_fault(counts, bytes.len()) {
+        return Some(FontFault::Counts(fault));
+    }
+    let parts = cut_all(bytes, counts);
+    parts
+        .design_fault()
+        .or(parts.index_fault())
+        .or(parts.start_fault())
+        .or(parts.entry_fault())
+        .or(parts.program_fault())
 }

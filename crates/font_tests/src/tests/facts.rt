@@ -1,0 +1,124 @@
+//! What the readers of a font return: a list of facts for each font, with some words changed.
+use super::readers::FONTS;
+use super::samples::read;
+use std::test::Fail;
+use tfm_tables::{Font, LeftSide, Metrics, Step, Tag};
+
+/// What the readers of a font return.
+#[derive(Clone, Copy)]
+pub enum Fact {
+    /// The check sum, the design size and the size.
+    Header(u32, u32, u32),
+    /// The codes of all characters.
+    Codes(&'static [u8]),
+    /// A character's width, height, depth and italic correction, and its tag.
+    Character(u8, [i32; 4], Tag),
+    /// The right boundary character.
+    Right(Option<u8>),
+    /// Where the program of a left side begins.
+    Start(LeftSide, Option<usize>),
+    /// Where the programs of the boundary, a, b, c and d begin.
+    Starts([Option<usize>; 5]),
+    /// All instructions.
+    Program(&'static [Step]),
+    /// All kerns.
+    Kerns(&'static [i32]),
+    /// All parameters, from number 1 on.
+    Parameters(&'static [i32]),
+    /// The address of the instruction for a left side and the code to its right.
+    Finds(LeftSide, u8, Option<usize>),
+}
+
+/// The font returns this.
+fn holds(font: &Font, fact: Fact) -> bool {
+    match fact {
+        Fact::Header(check_sum, design, size) => {
+            (font.check_sum(), font.design().get(), font.size().get()) == (check_sum, design, size)
+        }
+        Fact::Codes(codes) => has_codes(font, codes),
+        Fact::Character(code, [width, height, depth, italic], tag) => {
+            let metrics = Metrics {
+                width,
+                height,
+                depth,
+                italic,
+            };
+            font.metrics(code) == Some(metrics)
+                && font.tag(code) == Some(tag)
+                && font.width(code) == width
+        }
+        Fact::Right(right) => font.right_boundary() == right,
+        Fact::Start(left, start) => font.start(left) == start,
+        Fact::Starts(starts) => starts_of(font) == starts,
+        Fact::Program(program) => has_program(font, program),
+        Fact::Kerns(kerns) => has_kerns(font, kerns),
+        Fact::Parameters(parameters) => has_parameters(font, parameters),
+        Fact::Finds(left, code, address) => font.find(left, code) == address,
+    }
+}
+
+/// A character exists for these codes, and for no other.
+fn has_codes(font: &Font, codes: &[u8]) -> bool {
+    let mut same = true;
+    for code in 0..=255 {
+        let exists = [
+            font.exists(code),
+            font.metrics(code).is_some(),
+            font.tag(code).is_some(),
+        ];
+        same &= exists == [codes.contains(&code); 3];
+        same &= codes.contains(&code) || font.width(code) == 0;
+    }
+    same
+}
+
+fn starts_of(font: &Font) -> [Option<usize>; 5] {
+    [
+        font.start(LeftSide::Boundary),
+        font.start(LeftSide::Char(97)),
+        font.start(LeftSide::Char(98)),
+        font.start(LeftSide::Char(99)),
+        font.start(LeftSide::Char(100)),
+    ]
+}
+
+fn has_program(font: &Font, program: &[Step]) -> bool {
+    let mut same = font.steps() == program.len();
+    for (i, step) in program.iter().enumerate() {
+        same &= i < font.steps() && font.step(i) == *step;
+    }
+    same
+}
+
+fn has_kerns(font: &Font, kerns: &[i32]) -> bool {
+    let mut same = font.kerns() == kerns.len();
+    for (k, kern) in kerns.iter().enumerate() {
+        same &= k < font.kerns() && font.kern(k) == *kern;
+    }
+    same
+}
+
+/// The font has these parameters, and 0 for every other number. Number 2 is the space.
+fn has_parameters(font: &Font, parameters: &[i32]) -> bool {
+    let mut same = font.params() == parameters.len();
+    for number in [0, parameters.len().saturating_add(1), usize::MAX] {
+        same &= font.param(number) == 0;
+    }
+    for (number, value) in (1..).zip(parameters) {
+        same &= font.param(number) == *value;
+    }
+    same && font.space() == parameters.get(1).copied().unwrap_or_default()
+}
+
+#[test]
+fn fonts_return_what_their_files_have(rt: HostRuntime) -> Result<(), Fail> {
+    for (case, sample, points, rows) in &FONTS {
+        for (changes, facts) in *rows {
+            let font = read(rt.alloc(), sample, changes, *points)?;
+            for (number, fact) in facts.iter().enumerate() {
+                assert!(rt; holds(&font, *fact), "{case}, {changes:?}: fact {number}");
+            }
+        }
+    }
+    Ok(())
+}
