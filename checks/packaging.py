@@ -274,7 +274,7 @@ class Build(Case):
     # The stand-in for rt builds a program when it is called in crates/tfmset, whatever its arguments are.
     crates = "# The crates.\nother: base\nbase:\nside: base\nmiddle: base std\ntfmset: middle side\n"
     rt = """#!/bin/sh
-[ "$1" != doc ] || exec echo "$(dirname "$0")/kit/START-HERE.md"
+[ "$1" != doc ] || exec echo "$(dirname "$0")/kit/first.md"
 echo "${PWD##*/} $*" >> ../../calls
 cat > /dev/null
 if [ -e ../../fail ]; then seq 30; echo "no proof of ${PWD##*/}"; exit 1; fi
