@@ -230,18 +230,15 @@ class Linking(LibraryCase):
 
 
 def copy_for_installing(prefix):
-    """Makes a function that copies what scripts/library needs, with a stand-in for rt, by which nothing is proved or built:
-    the library of a prefix takes the place of what `rt lib` writes, and is newer than the sources."""
+    """Makes a function that copies what scripts/library needs. Nothing is proved or built, since the library of a prefix takes
+    the place of what scripts/prove makes, and is newer than the sources."""
     def make(top):
         for name in ("scripts/library", "scripts/prove", "scripts/seconds.txt", "include/tfmset.h", "bindings/python/tfmset.py"):
             os.makedirs(os.path.dirname(f"{top}/{name}"), exist_ok=True)
             shutil.copy(f"{ROOT}/{name}", f"{top}/{name}")
-        write(top + "/crates.txt", "base:\ntfmset_c staticlib: base\n")
-        for name in ("base", "tfmset_c"):
-            write(f"{top}/crates/{name}/src/lib.rt", "")
+        write(top + "/crates.txt", "tfmset_c staticlib:\n")
+        write(top + "/crates/tfmset_c/src/lib.rt", "")
         write(top + "/crates/tfmset_c/out/libtfmset_c.a", read(prefix + "/lib/libtfmset.a", "rb"))
-        rt = f'[ "$1" = lib ] || exec "{shutil.which("rt")}" "$@"\nseq 30\nexit 1\n'
-        os.chmod(write(top + "/bin/rt", "#!/bin/sh\n" + rt), 0o755)
     return make
 
 
@@ -259,7 +256,7 @@ class Installing(LibraryCase):
 
     def run_script(self, prefix, before=(), **more):
         """Runs scripts/library in the copy, with other directories before those of PATH."""
-        path = os.pathsep.join([*before, self.copy + "/bin", os.environ["PATH"]])
+        path = os.pathsep.join([*before, os.environ["PATH"]])
         return execute(self.copy + "/scripts/library", prefix, env=environment(PATH=path, **more))
 
     def install(self, *arguments, **more):
@@ -302,7 +299,7 @@ class Installing(LibraryCase):
         write(self.copy + "/crates/tfmset_c/src/lib.rt", "fn")
         ran = self.run_script(self.room + "/none")
         self.same("result", (1, "", False), (*ran[:2], os.path.exists(self.room + "/none")))
-        self.assertIn("29\n30\n", ran[2])
+        self.assertIn("error", ran[2])
 
     def test_a_file_in_the_way(self):
         """If a directory can't be made, the script fails, and names only the files that were installed."""

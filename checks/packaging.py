@@ -271,19 +271,24 @@ class Install(Case):
 class Build(Case):
     """./tfmset, which builds the program if necessary"""
 
-    # The stand-in for rt builds a program when it is called in crates/tfmset, whatever its arguments are.
+    # The stand-ins for rt and for the two commands of its toolchain make what scripts/prove wants, whatever the sources are.
     crates = "# The crates.\nother: base\nbase:\nside: base\nmiddle: base std\ntfmset: middle side\n"
     rt = """#!/bin/sh
-[ "$1" != doc ] || exec echo "$(dirname "$0")/kit/first.md"
+echo "$(dirname "$0")/kit/first.md"
+"""
+    rattle = """#!/bin/sh
 echo "${PWD##*/} $*" >> ../../calls
 cat > /dev/null
 if [ -e ../../fail ]; then seq 30; echo "no proof of ${PWD##*/}"; exit 1; fi
-if [ -e ../../edit ]; then rm ../../edit; sleep 0.1; touch src/main.rt; fi
-if [ -e ../../slow ] && [ "${PWD##*/}" = base ]; then echo "so far: 3 of 7 functions"; echo $$ > ../../process; exec sleep "$(cat ../../slow)"; fi
-[ "${PWD##*/}" = tfmset ] || exit 0
-mkdir -p out
-printf '#!/bin/sh\\necho "$(cat) $# $*"\\n[ ! -e /proc/self/fd/9 ] || echo locked\\nexit 3\\n' > out/tfmset
-chmod +x out/tfmset
+if [ -e ../../edit ] && [ "${PWD##*/}" = tfmset ]; then rm ../../edit; sleep 0.1; touch src/main.rt; fi
+if [ -e ../../slow ] && [ "${PWD##*/}" = base ]; then echo "so far: 3 of 7 functions"; echo $$ > ../../process; sleep "$(cat ../../slow)"; fi
+for made; do :; done
+if [ "${PWD##*/}" = tfmset ]; then touch "$made"; else mkdir -p "$made"; fi
+echo "logic=proved functions=7"
+"""
+    linker = """#!/bin/sh
+printf '#!/bin/sh\\necho "$(cat) $# $*"\\n[ ! -e /proc/self/fd/9 ] || echo locked\\nexit 3\\n' > "$6"
+chmod +x "$6"
 """
 
     def setUp(self):
@@ -295,7 +300,8 @@ chmod +x out/tfmset
         for name in ("tfmset", "HANDLES", "scripts/prove", "scripts/seconds.txt"):
             shutil.copy(f"{ROOT}/{name}", f"{self.room}/{name}")
         self.file("crates.txt", self.crates)
-        os.chmod(self.file("bin/rt", self.rt), 0o755)
+        for name, script in (("rt", self.rt), ("kit/bin/rattle", self.rattle), ("kit/bin/rattle-link", self.linker)):
+            os.chmod(self.file(f"bin/{name}", script), 0o755)
         for name in ("other", "base", "side", "middle", "tfmset"):
             self.file(f"crates/{name}/src/main.rt", "")
         for name in ("specs", "proofs"):

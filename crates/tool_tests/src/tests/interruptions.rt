@@ -137,8 +137,9 @@ fn many_lines(alloc: Global, lines: usize) -> Result<(Vec<u8>, String), Fail> {
 
 /// The output of 2,500 lines is longer than a buffer.
 // Mutants of `refill` in set_run and of `read_once` in `request_files`: an interrupted read is an error, or the end. Of
-// `note` in `watched.rt` of `tfm_tool`: it is noted. Of `CrlfReader`: a carriage return before it is lost. Mutants of `write_once` and `write_some` in `writing.rt` of `run_texts`: an interrupted write is an error of the
-// output, or takes all bytes; after an interruption the first part is written again; only a few writes are made.
+// `note` in `watched.rt` of `tfm_tool`: it is noted. Of `CrlfReader`: a carriage return before it is lost. Mutants
+// of `write_once` and `write_some` in `writing.rt` of `run_texts`: an interrupted write is an error of the output,
+// or takes all bytes; after an interruption the first part is written again; only a few writes are made.
 #[test]
 fn an_interruption_changes_nothing(rt: HostRuntime) -> Result<(), Fail> {
     let id = process::id(rt.process());
@@ -166,14 +167,19 @@ fn an_interruption_changes_nothing(rt: HostRuntime) -> Result<(), Fail> {
     Ok(())
 }
 
-/// The command, how often each read is interrupted before, and the status and both outputs. The font takes two
-/// reads, with that of its end, and the empty text one.
-static BOUNDS: [(&str, usize, u8, &str, &str); 4] = [
-    ("counts", 524_287, 0, TEXT, ""),
-    ("counts", 524_288, 4, "", "tfmset: font not read\n"),
-    ("stream", 1_048_575, 0, "1 end complete 0\n", ""),
+/// How often each read is interrupted before it returns, and then the status and both outputs.
+type Bound = (usize, u8, &'static str, &'static str);
+
+/// The font takes two reads, with that of its end.
+static OF_A_FONT: [Bound; 2] = [
+    (524_287, 0, TEXT, ""),
+    (524_288, 4, "", "tfmset: font not read\n"),
+];
+
+/// The empty text takes one read.
+static OF_A_TEXT: [Bound; 2] = [
+    (1_048_575, 0, "1 end complete 0\n", ""),
     (
-        "stream",
         1_048_576,
         4,
         "1 end bound 0\n",
@@ -181,30 +187,36 @@ static BOUNDS: [(&str, usize, u8, &str, &str); 4] = [
     ),
 ];
 
+/// These words, with this standard input, end as the rows have it.
+fn has_bounds<R: Abort + Files + Env + Threads + Wait + Sync + AllocGlobal>(
+    rt: &R,
+    words: &[&str],
+    input: &[u8],
+    bounds: &[Bound; 2],
+)
+where
+    R::File: Send,
+{
+    for (interruptions, status, text, errors) in bounds {
+        let mut input = InterruptedReader::new(input, usize::MAX, *interruptions);
+        let mut out = Vec::new(rt.alloc());
+        let mut err = Vec::new(rt.alloc());
+        let ended = tool(rt, words, &mut input, &mut out, &mut err);
+        assert!(rt;
+            ended == *status
+                && out.as_slice() == text.as_bytes()
+                && err.as_slice() == errors.as_bytes(),
+            "{words:?}, {interruptions} interruptions"
+        );
+    }
+}
+
 #[test]
 fn interrupted_reads_count_among_the_1048576(rt: HostRuntime) -> Result<(), Fail> {
     let font = file_name(&rt, "interrupted-bound", process::id(rt.process()))?;
     fs::write(&rt, font.as_str(), PLAIN.as_slice())?;
-    for (command, interruptions, status, text, errors) in &BOUNDS {
-        let (file, bytes) = match *command {
-            "counts" => ("-", NO_CHARACTERS.as_slice()),
-            _ => (font.as_str(), b"".as_slice()),
-        };
-        let words = [*command, file];
-        let mut input = InterruptedReader::new(bytes, usize::MAX, *interruptions);
-        let mut out = Vec::new(rt.alloc());
-        let mut err = Vec::new(rt.alloc());
-        let ended = tool(&rt, &words, &mut input, &mut out, &mut err);
-        let done = Outcome {
-            status: ended,
-            out,
-            err,
-        };
-        assert!(rt;
-            done.is(*status, text.as_bytes(), errors.as_bytes()),
-            "{command}, {interruptions} interruptions"
-        );
-    }
+    has_bounds(&rt, &["counts", "-"], &NO_CHARACTERS, &OF_A_FONT);
+    has_bounds(&rt, &["stream", &font], b"", &OF_A_TEXT);
     fs::remove_file(&rt, font.as_str())?;
     Ok(())
 }
