@@ -7,9 +7,10 @@ use std::alloc::{AllocError, Global};
 use std::process::Abort;
 use std::test::Fail;
 use test_support::fonts::{
-    A, A_FROM_0, BACK, LEFT_BOUNDARY, NO_CHARACTERS, PLAIN, RIGHT_BOUNDARY, Sample, kern_before,
-    last, ligature_before,
+    A, A_FROM_0, BACK, Info, LEFT_BOUNDARY, NO_CHARACTERS, PLAIN, RIGHT_BOUNDARY, Sample,
+    kern_before, last, ligature_before,
 };
+use tfm_tables::Step;
 
 /// The pairs of the font in this file have this text.
 fn has_text<R: Abort + AllocGlobal>(
@@ -98,7 +99,19 @@ const OF_ALL_CODES: [((Encoding, PairsFormat), &str); 3] = [
     ),
 ];
 
-/// The file of that font.
+/// That font, with these characters and this program.
+fn of_all_codes<'a>(characters: &'a [Info], program: &'a [Step]) -> Sample<'a> {
+    Sample {
+        bc: 0,
+        ec: 255,
+        characters,
+        program,
+        kerns: &[BACK],
+        ..PLAIN
+    }
+}
+
+/// Its file.
 fn with_all_codes(alloc: Global) -> Result<Vec<u8>, AllocError> {
     let program = [
         kern_before(10, 0),
@@ -114,15 +127,7 @@ fn with_all_codes(alloc: Global) -> Result<Vec<u8>, AllocError> {
     ];
     let mut characters = [A; 256];
     characters[65] = A_FROM_0;
-    let font = Sample {
-        bc: 0,
-        ec: 255,
-        characters: &characters,
-        program: &program,
-        kerns: &[BACK],
-        ..PLAIN
-    };
-    font.file(alloc)
+    of_all_codes(&characters, &program).file(alloc)
 }
 
 #[test]
