@@ -22,10 +22,10 @@ const C: LeftSide = LeftSide::Char(99);
 const D: LeftSide = LeftSide::Char(100);
 
 /// Changed words, and what the font then returns.
-type Row = (&'static [Change], &'static [Fact]);
+pub type Row = (&'static [Change], &'static [Fact]);
 
 /// A font, its size in scaled points if it isn't the design size, and the rows.
-type Group = (&'static str, Sample<'static>, Option<u32>, &'static [Row]);
+pub type Group = (&'static str, Sample<'static>, Option<u32>, &'static [Row]);
 
 const NO_PARAMETERS: Sample<'static> = Sample {
     parameters: &[],
