@@ -1,5 +1,5 @@
 //! What the readers of a font return: a list of facts for each font, with some words changed.
-use super::readers::{FONTS, Group};
+use super::readers::{Group, HEADERS, PROGRAMS, SEARCHES, SIZES};
 use super::samples::read;
 use std::process::Abort;
 use std::test::Fail;
@@ -135,5 +135,8 @@ fn return_facts<R: Abort + AllocGlobal>(rt: &R, fonts: &[Group]) -> Result<(), F
 
 #[test]
 fn fonts_return_what_their_files_have(rt: HostRuntime) -> Result<(), Fail> {
-    return_facts(&rt, &FONTS)
+    return_facts(&rt, &HEADERS)?;
+    return_facts(&rt, &SIZES)?;
+    return_facts(&rt, &PROGRAMS)?;
+    return_facts(&rt, &SEARCHES)
 }
