@@ -1,6 +1,7 @@
 //! What the readers of a font return: a list of facts for each font, with some words changed.
-use super::readers::FONTS;
+use super::readers::{Group, HEADERS, PROGRAMS, SEARCHES, SIZES};
 use super::samples::read;
+use std::process::Abort;
 use std::test::Fail;
 use tfm_tables::{Font, LeftSide, Metrics, Step, Tag};
 
@@ -121,13 +122,21 @@ fn first_false(font: &Font, facts: &[Fact]) -> Option<usize> {
     facts.iter().position(|fact| !holds(font, *fact))
 }
 
-#[test]
-fn fonts_return_what_their_files_have(rt: HostRuntime) -> Result<(), Fail> {
-    for (case, sample, points, rows) in &FONTS {
+/// Each of these fonts returns the facts of its rows.
+fn return_facts<R: Abort + AllocGlobal>(rt: &R, fonts: &[Group]) -> Result<(), Fail> {
+    for (case, font, points, rows) in fonts {
         for (changes, facts) in *rows {
-            let font = read(rt.alloc(), sample, changes, *points)?;
+            let font = read(rt.alloc(), font, changes, *points)?;
             assert_eq!(rt; first_false(&font, facts), None, "{case}, {changes:?}");
         }
     }
     Ok(())
+}
+
+#[test]
+fn fonts_return_what_their_files_have(rt: HostRuntime) -> Result<(), Fail> {
+    return_facts(&rt, &HEADERS)?;
+    return_facts(&rt, &SIZES)?;
+    return_facts(&rt, &PROGRAMS)?;
+    return_facts(&rt, &SEARCHES)
 }

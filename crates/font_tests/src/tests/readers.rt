@@ -22,10 +22,10 @@ const C: LeftSide = LeftSide::Char(99);
 const D: LeftSide = LeftSide::Char(100);
 
 /// Changed words, and what the font then returns.
-type Row = (&'static [Change], &'static [Fact]);
+pub type Row = (&'static [Change], &'static [Fact]);
 
 /// A font, its size in scaled points if it isn't the design size, and the rows.
-type Group = (&'static str, Sample<'static>, Option<u32>, &'static [Row]);
+pub type Group = (&'static str, Sample<'static>, Option<u32>, &'static [Row]);
 
 const NO_PARAMETERS: Sample<'static> = Sample {
     parameters: &[],
@@ -37,7 +37,8 @@ const SLANT_ALONE: Sample<'static> = Sample {
     ..PLAIN
 };
 
-pub static FONTS: [Group; 18] = [
+/// Headers, codes and parameters.
+pub static HEADERS: [Group; 2] = [
     (
         "no characters",
         NO_CHARACTERS,
@@ -91,6 +92,10 @@ pub static FONTS: [Group; 18] = [
             (&[(18, 0x8000_0000)], &[Parameters(&[i32::MIN, 218_453])]),
         ],
     ),
+];
+
+/// Sizes, and other parameters and tags.
+pub static SIZES: [Group; 6] = [
     (
         "plain, at 20 points",
         PLAIN,
@@ -152,6 +157,10 @@ pub static FONTS: [Group; 18] = [
             ],
         )],
     ),
+];
+
+/// Programs.
+pub static PROGRAMS: [Group; 3] = [
     (
         "a ligature",
         LIGATURE,
@@ -225,6 +234,10 @@ pub static FONTS: [Group; 18] = [
             ),
         ],
     ),
+];
+
+/// Boundaries and searches.
+pub static SEARCHES: [Group; 7] = [
     (
         "a right boundary that exists",
         BOUNDARY_EXISTS,
