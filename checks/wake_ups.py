@@ -13,7 +13,7 @@ import shutil
 from lib.base import ROOT, Case, execute, read, rows, write
 
 WEIGHT = 9
-SECONDS = 40  # for each of the two tests, which take one or two
+SECONDS = 120  # for each of the two tests, which take one or two on an idle machine
 FEW_SECONDS = 10  # if one of them has to hang
 MODULES = ("slow", "stopping", "waking")
 
