@@ -274,7 +274,7 @@ class Build(Case):
     # The stand-ins for rt and for the two commands of its toolchain make what scripts/prove wants, whatever the sources are.
     crates = "# The crates.\nother: base\nbase:\nside: base\nmiddle: base std\ntfmset: middle side\n"
     rt = """#!/bin/sh
-echo "$(dirname "$0")/kit/first.md"
+echo "$(dirname "$0")/kit/first"
 """
     rattle = """#!/bin/sh
 echo "${PWD##*/} $*" >> ../../calls
