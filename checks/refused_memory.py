@@ -168,8 +168,7 @@ def is_right_file(command, got, what, on, error):
     name = os.path.basename(got.told[0])
     number = (command.fonts if name in command.fonts else command.sources).index(name) + 1
     if name.endswith(".enc"):
-        # If all reads fail from this one on, the font isn't read either, and its error comes first.
-        line = MESSAGES["font" if on else "encoding"]
+        line = MESSAGES["encoding"]
     elif name in command.fonts:
         line = f"tfmset: font {number} not read\n" if command.kind == "each" else MESSAGES["font"]
     elif what == "open":
@@ -258,10 +257,10 @@ class Failures(Case):
                 got = run(command, "telling", 1, True, errno.EIO)
                 self.same("standard error", None, fault_of(command, got, "telling", True, errno.EIO))
 
-    # Mutant of `Disk::open` in request_files: each file is opened twice, so that the writer of a named pipe is lost.
+    # Mutant of `Disk::open` in tfm_requests: each file is opened twice, so that the writer of a named pipe is lost.
     @rows((command.name, command) for command in COMMANDS if len(command.fonts) > 1 or len(command.sources) > 1)
     def test_openings(self, command):
-        """Each file is opened once: the encoding vector, then the fonts, and then the files with lines."""
+        """Each file is opened once: the fonts, then the encoding vector, and then the files with lines."""
         files = [name for name in command.fonts + command.sources if name in command.words]
         for verbose in ([], ["-v"]):
             watched = Command(command.name.removeprefix("tfmset ").partition(" < ")[0], command.status, command.given)

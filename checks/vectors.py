@@ -188,7 +188,7 @@ class Vectors(Case):
         self.same("a list", list, type(read_vector(text, {})))
         self.none([], self.compare(self.file("x.enc", text)), 1)
 
-    # Mutant of `stated_encoding` in tfm_tool: the file is read twice.
+    # Mutant of `read_encoding` in tfm_requests: the file is read twice.
     def test_standard_input(self):
         """A vector is read once, so that it can come from standard input."""
         font = self.file("font", sample("no_characters"))

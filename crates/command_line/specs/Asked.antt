@@ -26,6 +26,8 @@ use Rattle.command_line.specs.Commands.{AllChoices, tfmset_app}
 use Rattle.command_line.specs.declared.request.Checking.{Checking}
 use Rattle.command_line.specs.declared.request.Jobs.{Jobs}
 use Rattle.command_line.specs.declared.request.Layout.{Layout}
+use Rattle.command_line.specs.declared.request.Listing.{Listing}
+use Rattle.command_line.specs.declared.request.Pairing.{Pairing}
 use Rattle.command_line.specs.declared.request.Request.{Request}
 use Rattle.command_line.specs.declared.request.Request.TheVariants.{Counts, List as ListFont, Pairs, Check, Set, Stream, Each}
 use Rattle.command_line.specs.declared.request.Requested.{Requested}
@@ -145,6 +147,22 @@ module _ (rows : List Row) where
       (first_of (codes "format") rows ≡ Some (format_word layout.format))
       × IsEncoding layout.encoding
 
+  -- the values of `list`: the font, its size, and whether `--all` and `--verbose` are given
+  abbrev pub IsListing : Listing → Type 0
+  IsListing asked =
+      (first_of (codes "FONT") rows ≡ Some asked.font.now)
+      × IsSize asked.size
+      × IsFlag (one_of (codes "all") rows) asked.all
+      × IsVerbose asked.verbose
+
+  -- the values of `pairs`: the font, its size, the layout, and whether `--verbose` is given
+  abbrev pub IsPairing : Pairing → Type 0
+  IsPairing asked =
+      (first_of (codes "FONT") rows ≡ Some asked.font.now)
+      × IsSize asked.size
+      × IsPairsLayout asked.layout
+      × IsVerbose asked.verbose
+
   -- the fonts of `check`, in order, their size, and whether `--verbose` is given
   abbrev pub IsChecking : Checking → Type 0
   IsChecking asked =
@@ -168,18 +186,8 @@ module _ (rows : List Row) where
   abbrev pub AsksFor : Text → Request → Type 0
   AsksFor name (Counts font verbose) =
       (name ≡ codes "counts") × (first_of (codes "FONT") rows ≡ Some font.now) × IsVerbose verbose
-  AsksFor name (ListFont font size all verbose) =
-      (name ≡ codes "list")
-      × (first_of (codes "FONT") rows ≡ Some font.now)
-      × IsSize size
-      × IsFlag (one_of (codes "all") rows) all
-      × IsVerbose verbose
-  AsksFor name (Pairs font size layout verbose) =
-      (name ≡ codes "pairs")
-      × (first_of (codes "FONT") rows ≡ Some font.now)
-      × IsSize size
-      × IsPairsLayout layout
-      × IsVerbose verbose
+  AsksFor name (ListFont asked) = (name ≡ codes "list") × IsListing asked
+  AsksFor name (Pairs asked) = (name ≡ codes "pairs") × IsPairing asked
   AsksFor name (Check asked) = (name ≡ codes "check") × IsChecking asked
   AsksFor name (Set asked) = (name ≡ codes "set") × IsSetting asked
   AsksFor name (Stream asked) = (name ≡ codes "stream") × IsSetting asked

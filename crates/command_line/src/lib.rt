@@ -2,7 +2,7 @@
 #![tactic(auto)]
 
 pub use reading::requested;
-pub use request::{Checking, Jobs, Layout, Request, Requested, Setting};
+pub use request::{Checking, Jobs, Layout, Listing, Pairing, Request, Requested, Setting};
 
 mod commands;
 mod help;

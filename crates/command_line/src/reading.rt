@@ -3,11 +3,11 @@
 ghost use Rattle.std.specs.Prelude.{◌≡◌, [], map, IfErr, IfOk, Some, codes, option_map, unwrap_or};
 ghost use Rattle.clap.specs.Words.{all_of, first_of, found_of, kind_of, one_of, rows_of, subcommand_rows_of};
 ghost use Rattle.command_line.specs.Commands.{AllChoices, IsCommandOf, tfmset_app};
-ghost use Rattle.command_line.specs.Asked.{AreJobs, Asks, AsksFor, Finds, encoding_stated, format_word, has_no_block, has_plain_size, IsAskedBy, IsAskedOf, IsAskedWith, IsBlock, IsChecking, IsEncoding, IsFlag, IsLayout, IsNumberIn, IsPairsLayout, IsPlan, IsRefusedBy, IsRefusedWith, IsSetting, IsSize, IsVerbose, is_path, kind_of_values, kind_without_request, misstates_encoding, misstates_size, policy_word, texts, vector_in, vector_named, version_word};
+ghost use Rattle.command_line.specs.Asked.{AreJobs, Asks, AsksFor, Finds, encoding_stated, format_word, has_no_block, has_plain_size, IsAskedBy, IsAskedOf, IsAskedWith, IsBlock, IsChecking, IsEncoding, IsFlag, IsLayout, IsListing, IsNumberIn, IsPairing, IsPairsLayout, IsPlan, IsRefusedBy, IsRefusedWith, IsSetting, IsSize, IsVerbose, is_path, kind_of_values, kind_without_request, misstates_encoding, misstates_size, policy_word, texts, vector_in, vector_named, version_word};
 
 use crate::commands::tfmset_command;
 use crate::help::{ENCODING_ERROR, SIZE_ERROR};
-use crate::request::{Checking, Jobs, Layout, Request, Requested, Setting};
+use crate::request::{Checking, Jobs, Layout, Listing, Pairing, Request, Requested, Setting};
 use clap::error::ErrorKind;
 use clap::{ArgMatches, Command, Error};
 use encodings::Encoding;
@@ -179,8 +179,14 @@ fn asked_by<'a>(
             let verbose = asked_verbose(matches);
             Ok(text(matches, "FONT").map(|font| Request::Counts { font, verbose }))
         }
-        "list" => Ok(asked_list(matches)),
-        "pairs" => Ok(asked_pairs(matches)),
+        "list" => match asked_list(matches) {
+            Some(asked) => Ok(Some(Request::List(asked))),
+            None => Ok(None),
+        },
+        "pairs" => match asked_pairs(matches) {
+            Some(asked) => Ok(Some(Request::Pairs(asked))),
+            None => Ok(None),
+        },
         "check" => Ok(asked_fonts(alloc, matches)?.map(Request::Check)),
         "set" => Ok(asked_setting(alloc, matches)?.map(Request::Set)),
         "stream" => Ok(asked_setting(alloc, matches)?.map(Request::Stream)),
@@ -189,43 +195,28 @@ fn asked_by<'a>(
     }
 }
 
-/// Returns the request of `list`.
-fn asked_list<'a>(matches: &ArgMatches<'a>) -> Option<Request<'a>>
-    ensures { Finds (AsksFor (rows_of (found_of matches.now)) (codes "list")) result }
+/// Returns the font that `list` prints, and its options.
+fn asked_list<'a>(matches: &ArgMatches<'a>) -> Option<Listing<'a>>
+    ensures { Finds (IsListing (rows_of (found_of matches.now))) result }
 {
-    let font = text(matches, "FONT")?;
-    let size = asked_size(matches)?;
-    let (all, verbose) = (flag(matches, "all"), asked_verbose(matches));
-    Some(Request::List {
-        font,
-        size,
-        all,
-        verbose,
+    Some(Listing {
+        font: text(matches, "FONT")?,
+        size: asked_size(matches)?,
+        all: flag(matches, "all"),
+        verbose: asked_verbose(matches),
     })
 }
 
-/// Returns the request of `pairs`.
-fn asked_pairs<'a>(matches: &ArgMatches<'a>) -> Option<Request<'a>>
-    ensures { Finds (AsksFor (rows_of (found_of matches.now)) (codes "pairs")) result }
+/// Returns the font whose pairs `pairs` prints, and its options.
+fn asked_pairs<'a>(matches: &ArgMatches<'a>) -> Option<Pairing<'a>>
+    ensures { Finds (IsPairing (rows_of (found_of matches.now))) result }
 {
-    let (font, layout) = font_layout(matches)?;
-    let size = asked_size(matches)?;
-    let verbose = asked_verbose(matches);
-    Some(Request::Pairs {
-        font,
-        size,
-        layout,
-        verbose,
+    Some(Pairing {
+        font: text(matches, "FONT")?,
+        size: asked_size(matches)?,
+        layout: asked_pairs_layout(matches)?,
+        verbose: asked_verbose(matches),
     })
-}
-
-/// Returns the font of `pairs`, and the layout of its output.
-fn font_layout<'a>(matches: &ArgMatches<'a>) -> Option<(&'a str, PairsLayout)>
-    ensures { Finds (λ found.
-        (first_of (codes "FONT") (rows_of (found_of matches.now)) ≡ Some found.0.now)
-        × IsPairsLayout (rows_of (found_of matches.now)) found.1) result }
-{
-    Some((text(matches, "FONT")?, asked_pairs_layout(matches)?))
 }
 
 /// Returns the format of the output of `pairs`, and the encoding of its characters.

@@ -1,7 +1,4 @@
 //! The requests that arguments can state.
-ghost use Rattle.std.specs.Prelude.{◌≡◌};
-ghost use Rattle.command_line.specs.WithEncoding.{with_encoding};
-
 use encodings::Encoding;
 use font_texts::PairsLayout;
 use run_plan::Plan;
@@ -11,8 +8,8 @@ use tfm_words::Size;
 /// What the arguments state: a request, and the file with its encoding vector if `--encoding` names one.
 #[derive(Drop)]
 pub struct Requested<'a> {
-    /// The request. If `vector` names a file, the encoding in the request is `Bytes`, until `set_encoding`
-    /// replaces it by that of the vector.
+    /// The request. If `vector` names a file, the encoding in the request is `Bytes`, and that of the vector takes
+    /// its place.
     pub request: Request<'a>,
     /// The name of the file with the encoding vector; `None` if the encoding is one that has a name, or if
     /// the request has no encoding.
@@ -30,27 +27,9 @@ pub enum Request<'a> {
         verbose: bool,
     },
     /// Prints the contents of a font.
-    List {
-        /// The name of the font; `-` is standard input.
-        font: &'a str,
-        /// The size of the font, in sp; `None` means its design size.
-        size: Option<Size>,
-        /// Whether the counts, the extensible recipes and all words of the file are printed, too.
-        all: bool,
-        /// Whether the causes of errors are printed on standard error.
-        verbose: bool,
-    },
+    List(Listing<'a>),
     /// Prints the pairs of a font for which its lig/kern program has an action.
-    Pairs {
-        /// The name of the font; `-` is standard input.
-        font: &'a str,
-        /// The size of the font, in sp; `None` means its design size.
-        size: Option<Size>,
-        /// The format of the output, and the encoding whose characters are printed after the codes.
-        layout: PairsLayout,
-        /// Whether the causes of errors are printed on standard error.
-        verbose: bool,
-    },
+    Pairs(Pairing<'a>),
     /// Checks whether fonts are accepted, and prints one line for each.
     Check(Checking<'a>),
     /// Sets the lines of files with one font, and prints nothing until all are set.
@@ -60,21 +39,6 @@ pub enum Request<'a> {
     Stream(Setting<'a>),
     /// Sets the lines of files, each with its own font and step limit, and prints nothing until all are set.
     Each(Jobs<'a>),
-}
-
-impl Request<'_> {
-    /// Replaces the encoding. A request of `counts`, `list` or `check`, which has no encoding, is unchanged.
-    pub fn set_encoding(&mut self, encoding: Encoding)
-        ensures { self.new ≡ with_encoding encoding self.old }
-    {
-        match self {
-            Request::Pairs { layout, .. } => layout.encoding = encoding,
-            Request::Set(setting) => setting.layout.encoding = encoding,
-            Request::Stream(setting) => setting.layout.encoding = encoding,
-            Request::Each(jobs) => jobs.layout.encoding = encoding,
-            Request::Counts { .. } | Request::List { .. } | Request::Check(_) => {}
-        }
-    }
 }
 
 /// The options that `set`, `stream` and `each` have in common: how lines are set, and how they are printed.
@@ -98,6 +62,32 @@ pub struct Layout {
     /// The record format.
     pub version: Version,
     /// Whether the causes of errors, and a summary, are printed on standard error.
+    pub verbose: bool,
+}
+
+/// The font that `list` prints.
+#[derive(Clone, Copy)]
+pub struct Listing<'a> {
+    /// The name of the font; `-` is standard input.
+    pub font: &'a str,
+    /// The size of the font, in sp; `None` means its design size.
+    pub size: Option<Size>,
+    /// Whether the counts, the extensible recipes and all words of the file are printed, too.
+    pub all: bool,
+    /// Whether the causes of errors are printed on standard error.
+    pub verbose: bool,
+}
+
+/// The font whose pairs `pairs` prints.
+#[derive(Clone, Copy)]
+pub struct Pairing<'a> {
+    /// The name of the font; `-` is standard input.
+    pub font: &'a str,
+    /// The size of the font, in sp; `None` means its design size.
+    pub size: Option<Size>,
+    /// The format of the output, and the encoding whose characters are printed after the codes.
+    pub layout: PairsLayout,
+    /// Whether the causes of errors are printed on standard error.
     pub verbose: bool,
 }
 

@@ -5,7 +5,6 @@
 
 pub use dealer::Dealer;
 pub use gatherer::Gatherer;
-pub use opening::open_lanes;
 pub use settling::settle_lanes;
 pub use shared::Shared;
 pub use sharing::open_shared;

@@ -85,14 +85,15 @@ pub ruleset plain = (record_of_plain)
 
 -- ---- laws
 
+-- Law: without an encoding, each line has the record of its result as a line of bytes
 pub bytes_law : (terms : TermsValue) (first : Bool) (line : List ℕ) (source place : ℕ) (version : Version) → HasRecordOfBytes terms first line source place version
 bytes_law terms first line source place version =
     ap (λ o. encoded_record_text source place o version) (is_that_of_bytes terms first line) ∙ record_of_plain source place (outcome_of terms line) version
 
+-- Law: with an encoding, a line whose characters all have codes has the record of the result of these codes,
+-- in which the offset of a missing character is that of the character it comes from
 pub record_law : (terms : TermsValue) (encoding : Encoding) (first : Bool) (line codes : List ℕ) (source place : ℕ) (version : Version)
     → HasRecordOfCodes terms encoding first line codes source place version
 record_law terms encoding first line codes source place version other short decoded are =
     ap (λ o. encoded_record_text source place o version) (codes_law terms encoding first line codes other short decoded are)
     ∙ record_of_plain source place (moved (elements_of encoding first line) (outcome_of terms codes)) version
-
-pub ruleset laws = (bytes_law, record_law)

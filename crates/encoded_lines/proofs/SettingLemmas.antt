@@ -124,7 +124,7 @@ long terms Ly1 first line other many = found terms Ly1 first line _ (sym (rw (lt
 long terms Latin1 first line other many = found terms Latin1 first line _ (sym (rw (lt-ltb 65535 (length line) many) refl))
 long terms (Vector vector) first line other many = found terms (Vector vector) first line _ (sym (rw (lt-ltb 65535 (length line) many) refl))
 
--- a line of bytes
+-- Law: without an encoding, each line has the result that it has as a line of bytes
 pub is_that_of_bytes : (terms : TermsValue) (first : Bool) (line : List ℕ) → encoded_outcome terms Bytes first line ≡ Plain (outcome_of terms line)
 unfolding encoded_outcome encoded_refusal encoded outcome_of
 is_that_of_bytes terms first line =
@@ -147,10 +147,10 @@ pub ruleset whole = (found, long, bytes_set, bytes_memory)
 
 -- ---- laws
 
+-- Law: with an encoding, a line whose characters all have codes has the result of the line of these codes,
+-- and the offset of a missing character is that of the character it comes from
 pub codes_law : (terms : TermsValue) (encoding : Encoding) (first : Bool) (line codes : List ℕ) → IsThatOfCodes terms encoding first line codes
 codes_law terms encoding first line codes other short decoded are =
     let long : length (map Code codes) ≡ length codes = length-map codes Code in
     let few = encoded_few encoding first line other (IsUtf8-from_is_utf8 line (is_decoded encoding line other decoded)) in
     is_that_of_codes terms encoding first line codes other short decoded (omega (arith, long, ap length are, few, short)) are
-
-pub ruleset laws = (is_that_of_bytes, codes_law)

@@ -2,7 +2,6 @@
 #![tactic(auto)]
 
 pub use items::{EncodedItem, EncodedItems};
-pub use laws::{records_of_bytes, results_of_bytes};
 pub use outcome::EncodedOutcome;
 pub use records::line_record::{RecordSettings, SourceLine, encoded_record};
 pub use records::record_text::record_encoded;
@@ -10,7 +9,6 @@ pub use room::EncodedRoom;
 pub use setting::set_encoded;
 
 mod items;
-mod laws;
 mod outcome;
 mod parting;
 mod records;

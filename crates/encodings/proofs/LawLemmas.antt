@@ -77,6 +77,7 @@ few_in_vector : (vector : Bor VectorValue) (c : ℕ) (codes : List ℕ) → HasF
 few_in_vector vector c codes is =
     omega (arith, vector_few (vector_characters vector.now.characters) c codes (sym (of_vector vector c) ∙ is), (len_utf8_bounds c).0)
 
+-- Law: a character has at most as many codes as it has bytes in UTF-8
 pub few_codes : (encoding : Encoding) (c : ℕ) (codes : List ℕ) → HasFewCodes encoding c codes
 few_codes encoding c codes = by_table (λ e. HasFewCodes e c codes) (λ e table. few_in_table e c codes table) (λ vector. few_in_vector vector c codes) encoding
 
@@ -122,6 +123,7 @@ feed_in_table encoding c codes table below is ten = eqb-true c 10 (feed_kept _ _
 feed_in_vector : (vector : Bor VectorValue) (c : ℕ) (codes : List ℕ) → KeepsFeed (Vector vector) c codes
 feed_in_vector vector c codes below is ten = vector_feed vector.now.characters c codes below (sym (of_vector vector c) ∙ is) ten
 
+-- Law: only the line feed has code 10
 pub feed_code : (encoding : Encoding) (c : ℕ) (codes : List ℕ) → KeepsFeed encoding c codes
 feed_code encoding c codes = by_table (λ e. KeepsFeed e c codes) (λ e table. feed_in_table e c codes table) (λ vector. feed_in_vector vector c codes) encoding
 
@@ -132,6 +134,7 @@ space_in_table encoding c codes table below is space =
 space_in_vector : (vector : Bor VectorValue) (c : ℕ) (codes : List ℕ) → KeepsSpace (Vector vector) c codes
 space_in_vector vector c codes below is space = vector_space vector.now.characters c codes (sym (of_vector vector c) ∙ is) space
 
+-- Law: only the space and the no-break space have code 32
 pub space_code : (encoding : Encoding) (c : ℕ) (codes : List ℕ) → KeepsSpace encoding c codes
 space_code encoding c codes = by_table (λ e. KeepsSpace e c codes) (λ e table. space_in_table e c codes table) (λ vector. space_in_vector vector c codes) encoding
 
@@ -152,6 +155,7 @@ itself Ly1 named other = refl
 itself Latin1 named other = refl
 itself (Vector vector) named other = cc
 
+-- Law: in an encoding that has a name, an ASCII letter or digit is its own code
 pub is_itself : (encoding : Encoding) (c : ℕ) → IsItself encoding c
 is_itself encoding c named other is =
     let at = at_member (itself_at encoding) c (range_with_len 0 128) (itself encoding named other) (in_range c 0 128 (omega arith) (alphanumeric_below c is)) in
@@ -188,6 +192,7 @@ unfolding characters_of
 comes_from_vector vector code within own =
     of_vector vector (character_at (Vector vector) code) ∙ vector_comes vector.now.characters code within own.is_character
 
+-- Law: each code of a table or of a vector comes from the character at this code
 pub comes_from : (encoding : Encoding) (code : ℕ) → ComesFromItsCharacter encoding code
 comes_from encoding code = by_table (λ e. ComesFromItsCharacter e code) (λ e table. comes_from_table e code table) (λ vector. comes_from_vector vector code) encoding
 
@@ -213,13 +218,12 @@ one_back : (encoding : Encoding) (c code : ℕ) (text : List ℕ) → codes_of e
     → characters_at encoding (text_codes encoding text) ≡ text → characters_at encoding (text_codes encoding (c ∷ text)) ≡ c ∷ text
 one_back encoding c code text codes at rest = rw codes (rw at (rw rest refl))
 
+-- Law: a text of characters that are set by their own codes comes back if it is encoded and decoded
 pub comes_back : (encoding : Encoding) (text : List ℕ) → ComesBack encoding text
 comes_back encoding [] all = refl
 comes_back encoding (c ∷ text) all =
     let own = own_code_is encoding c (all 0 c (omega arith)) in
     one_back encoding c own.0 text own.1 own.2 (comes_back encoding text (λ k d h. all (suc k) d (omega arith)))
-
-pub ruleset laws = (few_codes, feed_code, space_code, is_itself, comes_from, comes_back)
 
 -- ---- the number of elements
 

@@ -168,6 +168,7 @@ word_equal xs ys n i small few long wide below same =
 
 -- equal full listings have the same words: they begin with lf, so that the same number of rows at their ends
 -- are those of words, and equal rows are those of equal words
+-- Law: accepted fonts with equal full listings have the same words
 pub listing_tells : (font : FontValue) (other : FontValue) → ListingTellsWords font other
 unfolding all_listing_of word_rows
 listing_tells font other accepted read same =
@@ -223,6 +224,7 @@ same_font font other words size =
 
 -- equal full listings are those of the same font: they have the same words, therefore the same text before
 -- the size, and therefore the same size
+-- Law: they are the same font, with the same size, if both sizes are below 2^27 sp, which every `Size` is
 pub listing_tells_all : (font : FontValue) (other : FontValue) → ListingTellsFont font other
 listing_tells_all font other accepted read small few same =
     let words = listing_tells font other accepted read same in
@@ -232,5 +234,3 @@ listing_tells_all font other accepted read small few same =
     in let rest = append_cancel_left (before_size font.words) (tail font) (tail other) both in
     same_font font other words
     (numbers_equal font.size other.size (after_size font) (after_size other) (omega arith) (omega arith) (ap (drop 5) rest))
-
-pub ruleset laws = (listing_tells, listing_tells_all)

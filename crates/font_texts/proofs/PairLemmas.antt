@@ -118,8 +118,7 @@ lines_of_codes format (pair ∷ pairs) =
     ap (λ line. line ++ flat_map (pair_line_with Bytes format) pairs) (line_of_codes format pair)
     ∙ ap (λ lines. pair_line format pair ++ lines) (lines_of_codes format pairs)
 
+-- Law: the text of pairs with `Encoding::Bytes` has codes only
 pub text_of_codes : (format : PairsFormat) (font : FontValue) → HasTextOfCodes format font
 unfolding pairs_text_with pairs_head_with pairs_text_of
 text_of_codes format font = ap (λ lines. pairs_head format ++ lines) (lines_of_codes format (pairs_of font))
-
-pub ruleset of_bytes = (text_of_codes)

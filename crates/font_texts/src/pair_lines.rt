@@ -1,6 +1,5 @@
 //! Makes the text of the pairs of a font.
-ghost use Rattle.std.specs.Prelude.{◌≡◌, ◌++◌, codes, flat_map, replicate, IfOk, IfErr, OnOk};
-ghost use Rattle.tfm_tables.specs.Font.{FontValue, IsFontOf, IsRefusalOf};
+ghost use Rattle.std.specs.Prelude.{◌≡◌, ◌++◌, codes, flat_map, replicate, IfOk, OnOk};
 ghost use Rattle.font_texts.specs.PairCharacters.{pair_line_with, pairs_head_with, pairs_text_with};
 ghost use Rattle.font_texts.specs.PairsText.{action_name, action_value, json_symbol, line_end as end_of, pair_fields, pair_front, pair_members, slash_if, symbol_word};
 
@@ -10,8 +9,8 @@ use crate::{Pair, PairsFormat, PairsLayout};
 use encodings::Encoding;
 use lig_kern::{Action, Symbol};
 use std::alloc::{AllocError, Global};
-use tfm_tables::{Font, FontFault};
-use tfm_words::{Size, push_number};
+use tfm_tables::Font;
+use tfm_words::push_number;
 
 /// The first line of CSV without an encoding.
 const CODES_HEAD: &[u8] = b"left,right,action,value\n";
@@ -20,30 +19,11 @@ const CODES_HEAD: &[u8] = b"left,right,action,value\n";
 const CHARACTERS_HEAD: &[u8] =
     b"left,right,action,value,left_character,right_character,value_character\n";
 
-/// Reads a font at `size`, or at its design size for `None`, and returns the text of its pairs: a line for
-/// each pair that `pairs` returns, in order. With an encoding, the characters follow the codes in each line.
-/// In CSV a line with the names of the fields precedes the pairs. The error is that of `Font::read`, or
-/// `OutOfMemory` if an allocation fails after it.
-pub fn pairs_text(
-    alloc: Global,
-    bytes: &[u8],
-    size: Option<Size>,
-    layout: PairsLayout,
-) -> Result<Vec<u8>, FontFault>
-    ensures text { IfOk result (λ text. (f : FontValue) × IsFontOf bytes.now size f
-        × (text.items ≡ pairs_text_with layout.encoding layout.format f)) }
-    ensures fault { IfErr result (IsRefusalOf bytes.now) }
-{
-    let font = Font::read(alloc, bytes, size)?;
-    match text_of(alloc, &font, layout) {
-        Ok(text) => Ok(text),
-        Err(_) => Err(FontFault::OutOfMemory),
-    }
-}
-
-/// Returns the text of the pairs of a font. Fails if an allocation fails.
+/// Returns the text of the pairs of a font: a line for each pair that `pairs` returns, in order. With an
+/// encoding, the characters follow the codes in each line. In CSV a line with the names of the fields precedes
+/// the pairs. Fails if an allocation fails.
 #[tactic(auto, unfolding(crate::specs::PairCharacters::pairs_text_with))]
-fn text_of(alloc: Global, font: &Font, layout: PairsLayout) -> Result<Vec<u8>, AllocError>
+pub fn pairs_text(alloc: Global, font: &Font, layout: PairsLayout) -> Result<Vec<u8>, AllocError>
     ensures { IfOk result (λ text. text.items ≡ pairs_text_with layout.encoding layout.format font.now) }
 {
     let pairs = pairs(alloc, font)?;

@@ -59,6 +59,7 @@ same_steps font run right n m xs ys a b =
 abbrev setting : ℕ → List Item → Setting
 setting n xs = record { steps = n; items = xs }
 
+-- Law: a run has at most one result, because each step is determined by the configuration before it
 pub one_result : (font : FontValue) (run : List ℕ) (right : Bool) → HasOneResult font run right
 one_result font run right = λ a b is_a is_b.
     let steps : a.steps ≡ b.steps = same_steps font run right a.steps b.steps a.items b.items is_a is_b in
@@ -182,6 +183,8 @@ unfolding items_of
 plain_items_of font [] end nothing = nothing
 plain_items_of font (code ∷ codes) end nothing = ap (λ items. CharItem code (character_width font code) ∷ items) (plain_items_of font codes end nothing)
 
+-- Law: a run is set as itself if the font's program has no match for any two neighbours in it; this takes one
+-- step for each character, and one more if the right boundary follows the run
 pub sets_as_itself : (font : FontValue) (run : List ℕ) (right : Bool) → SetsAsItself font run right
 sets_as_itself font run right = λ none.
     let end = right_end font right in
@@ -240,4 +243,4 @@ pub few_items : (font : FontValue) (run : List ℕ) (right : Bool) → HasFewIte
 few_items font run right = λ setting is.
     finish_few font setting.steps Left (map Char run ++ right_end font right) setting.items (sym (result_is font run right setting.steps) ∙ is)
 
-pub ruleset laws = (one_result, finds_result, sets_as_itself, few_items)
+pub ruleset laws = (finds_result, few_items)

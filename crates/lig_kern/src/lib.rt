@@ -5,7 +5,7 @@
 
 pub use action::Action;
 pub use item::Item;
-pub use laws::{few_items, one_result, result_within_limit, set_as_itself};
+pub use laws::{few_items, result_within_limit};
 pub use matching::first_match;
 pub use setting::set_word;
 pub use symbol::Symbol;

@@ -13,7 +13,7 @@ use Rattle.set_line.specs.declared.outcome.Outcome.{Outcome}
 use Rattle.set_line.specs.declared.outcome.Outcome.TheVariants.{Set, Refused}
 use Rattle.set_line.specs.declared.version.Version.{Version}
 use Rattle.pair_texts.specs.Sums.{is_refused as is_refused_of_bytes}
-use Rattle.set_run.specs.Cuts.{cut, too_long, whole}
+use Rattle.set_run.specs.Cuts.{cut, whole}
 use Rattle.encodings.specs.declared.encoding.Encoding.{Encoding}
 use Rattle.encodings.specs.declared.encoding.Encoding.TheVariants.{Bytes, Ot1, T1, Ly1, Latin1, Vector}
 use Rattle.encodings.specs.declared.coded.Coded.{Coded}
@@ -102,7 +102,7 @@ pub ruleset kept = (outcome_in-cut, outcome_in-bytes, refused_in-cut, refused_in
 
 -- ---- records
 
--- the texts of blocks, joined
+-- Law: the texts of blocks, joined, are the records of all their lines
 pub texts_joined : (maker : MakerValue) (blocks : List BlockValue)
     → flat_map (λ block. (block_text maker block).text) blocks ≡ records_in maker (flat_map lines_of_block blocks)
 texts_joined maker [] = refl
@@ -110,6 +110,7 @@ texts_joined maker (block ∷ blocks) =
     ap (λ text. records_in maker (lines_of_block block) ++ text) (texts_joined maker blocks)
     ∙ sym (flat_map-append (record_in maker) (lines_of_block block) (flat_map lines_of_block blocks))
 
+-- Law: the records of lines are the same in blocks as elsewhere
 pub records_in-cuts : (maker : MakerValue) (first : ℕ) (lines : List (List ℕ)) → records_in maker (numbered_cuts first lines) ≡ line_records maker first lines
 records_in-cuts maker first [] = refl
 records_in-cuts maker first (line ∷ lines) =
@@ -118,15 +119,13 @@ records_in-cuts maker first (line ∷ lines) =
     ∙ ap (λ text. encoded_record maker.terms maker.style.encoding (first == 1) line maker.source first maker.style.version ++ text)
     (records_in-cuts maker (first + 1) lines)
 
--- the record of a line of bytes
+-- Law: those of lines of bytes are the records of `record_text`
 pub record_in-bytes : (maker : MakerValue) (number : ℕ) (line : List ℕ) → maker.style.encoding ≡ Bytes
     → record_in maker (number, cut line) ≡ record_text maker.source number (outcome_of maker.terms line) maker.style.version
 record_in-bytes maker number line bytes =
     ap (λ encoding. encoded_record_text maker.source number (outcome_in maker.terms encoding number (cut line)) maker.style.version) bytes
     ∙ ap (λ outcome. encoded_record_text maker.source number outcome maker.style.version) (outcome_in-bytes maker.terms number line)
     ∙ record_of_plain maker.source number (outcome_of maker.terms line) maker.style.version
-
-pub ruleset records = (texts_joined, records_in-cuts, record_in-bytes)
 
 -- ---- the maker
 

@@ -1,8 +1,7 @@
 //! Laws of the definitions. Each is the contract of a function with an empty body.
-ghost use Rattle.std.specs.Prelude.{◌≡◌, ◌==◌, ℕ, List, flat_map, map, count_by};
+ghost use Rattle.std.specs.Prelude.{◌≡◌, ◌==◌, ℕ, List, count_by};
 ghost use Rattle.set_line.specs.Terms.{TermsValue};
 ghost use Rattle.set_line.specs.Answer.{answer_of, outcome_of};
-ghost use Rattle.set_line.specs.Record.{record_text};
 ghost use Rattle.line_lane.specs.Lane.{answers_of};
 ghost use Rattle.set_run.specs.Closed.{IsClosedOf};
 ghost use Rattle.set_run.specs.Cuts.{cut};
@@ -13,10 +12,10 @@ ghost use Rattle.encodings.specs.declared.encoding.Encoding.TheVariants.{Bytes};
 ghost use Rattle.encoded_lines.specs.declared.outcome.EncodedOutcome.TheVariants.{Plain};
 ghost use Rattle.encoded_lines.specs.Answer.{encoded_outcome};
 ghost use Rattle.encoded_lines.specs.Record.{is_refused};
-ghost use Rattle.line_blocks.specs.Blocks.{BlockValue, lines_of_block, numbered_cuts};
+ghost use Rattle.line_blocks.specs.Blocks.{numbered_cuts};
 ghost use Rattle.line_blocks.specs.Gathering.{AreTextsOf, GathersFrom, gives_block, source_of};
 ghost use Rattle.line_blocks.specs.declared.gathering.LineBlocks.{LineBlocks};
-ghost use Rattle.line_blocks.specs.BlockText.{BlockTextValue, MakerValue, block_text, is_refusal, line_outcomes, line_records, outcome_in, record_in, records_in, refused_in};
+ghost use Rattle.line_blocks.specs.BlockText.{BlockTextValue, MakerValue, block_text, is_refusal, line_outcomes, outcome_in, refused_in};
 
 use set_run::LineSource;
 
@@ -35,20 +34,6 @@ pub fn kept_lines()
     ensures refused_bytes { (terms : TermsValue) (first : ℕ) (lines : List (List ℕ))
         → refused_in terms Bytes (numbered_cuts first lines)
         ≡ count_by (λ line. is_refusal (outcome_of terms line)) lines }
-{}
-
-/// States that the texts of blocks, joined, are the records of all their lines; that the records of lines are
-/// the same in blocks as elsewhere; and that those of lines of bytes are the records of `record_text`.
-#[tactic(auto, using(crate::proofs::TextLemmas::records))]
-pub fn records_of_blocks()
-    ensures joined { (maker : MakerValue) (blocks : List BlockValue)
-        → flat_map (λ block. (block_text maker block).text) blocks
-        ≡ records_in maker (flat_map lines_of_block blocks) }
-    ensures lines { (maker : MakerValue) (first : ℕ) (lines : List (List ℕ))
-        → records_in maker (numbered_cuts first lines) ≡ line_records maker first lines }
-    ensures bytes { (maker : MakerValue) (number : ℕ) (line : List ℕ) → maker.style.encoding ≡ Bytes
-        → record_in maker (number, cut line)
-        ≡ record_text maker.source number (outcome_of maker.terms line) maker.style.version }
 {}
 
 /// States that a lane that was fed with blocks of lines agrees with the source of the lines: the texts of the

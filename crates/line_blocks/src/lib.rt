@@ -4,7 +4,7 @@
 pub use block_lines::{BlockLineRef, BlockLines};
 pub use block_text::BlockText;
 pub use gathering::LineBlocks;
-pub use laws::{kept_lines, lanes_of_lines, records_of_blocks};
+pub use laws::{kept_lines, lanes_of_lines};
 pub use line_block::LineBlock;
 pub use record_maker::RecordMaker;
 pub use stored::{BlockSlots, TextSlots};

@@ -80,10 +80,11 @@ some_left (x ∷ y ∷ ys) some = by (is_stripped x (y ∷ ys)) refl (some_left 
 
 -- ---- the laws
 
--- a line feed is kept
+-- Law: an empty line stays as it is
 pub feed_kept : (bytes : List ℕ) → without_returns (10 ∷ bytes) ≡ 10 ∷ without_returns bytes
 feed_kept bytes = kept 10 bytes refl
 
+-- Law: a last line without a line feed stays as it is
 pub kept_without_feed : (line : List ℕ) → IsKeptWithoutFeed line
 kept_without_feed [] none = no_bytes
 kept_without_feed (x ∷ []) none = single x
@@ -93,20 +94,20 @@ kept_without_feed (x ∷ y ∷ ys) none =
     let is : (y == 10) ≡ false = grind (arith, nat_tests, other) in
     kept x (y ∷ ys) (before_none x (y ∷ ys) is) ∙ ap (λ ws. x ∷ ws) (kept_without_feed (y ∷ ys) rest)
 
+-- Law: a line that ends with CR LF loses this carriage return
 pub stripped_at_feed : (line rest : List ℕ) → IsStrippedAtFeed line rest
 stripped_at_feed line rest none =
     before_another line (13 ∷ 10 ∷ rest) refl
     ∙ (ap (λ ws. ws ++ without_returns (13 ∷ 10 ∷ rest)) (kept_without_feed line none)
     ∙ ap (λ ws. line ++ ws) (stripped 13 (10 ∷ rest) refl ∙ feed_kept rest))
 
+-- Law: a line that ends with LF alone stays as it is, also with carriage returns in it
 pub untouched_at_feed : (line rest : List ℕ) (last : ℕ) → IsUntouchedAtFeed line last rest
 untouched_at_feed line rest last none other =
     ap without_returns (sym (append_assoc line (last ∷ []) (10 ∷ rest)))
     ∙ (after_another line (10 ∷ rest) last other
     ∙ (ap (λ ws. ws ++ without_returns (10 ∷ rest)) (kept_without_feed (line ++ last ∷ []) none)
     ∙ (ap (λ ws. (line ++ last ∷ []) ++ ws) (feed_kept rest) ∙ append_assoc line (last ∷ []) (10 ∷ without_returns rest))))
-
-pub ruleset laws = (stripped_at_feed, untouched_at_feed, feed_kept, kept_without_feed)
 
 -- ---- what a reader gives
 

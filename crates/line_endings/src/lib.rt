@@ -3,8 +3,6 @@
 #![tactic(auto)]
 
 pub use crlf_reader::CrlfReader;
-pub use laws::strip_before_feeds;
 
 mod crlf_reader;
-mod laws;
 mod stripping;

@@ -17,7 +17,6 @@ use Rattle.set_run.specs.Closed.{AreBack, AreClosedOf, HasNoOthers, IsClosedOf, 
 use Rattle.set_run.specs.Events.{Event, answers_in}
 use Rattle.set_run.specs.Reports.{IsClosed}
 use Rattle.set_run.specs.Sources.{gives_line}
-use Rattle.set_run.specs.declared.collector.Refusal.{Refusal}
 use Rattle.set_run.specs.declared.run_end.ClosedLane.{ClosedLane}
 use Rattle.set_run.specs.declared.run_end.RunEnd.{RunEnd}
 use Rattle.set_run.specs.declared.run_fault.RunFault.{RunFault}
@@ -167,13 +166,7 @@ module _ {S : Type 0} (to_come : S → Option (List (List ℕ))) (failed : S →
       subst (All (λ lane. IsSome lane.end)) (sym lanes) (whole_unwrapped blocks.lanes.items (whole (sym refusal ∙ none))))
   whole_lines (Err fault) result same whole = subst (λ r. IfOk r IsWhole) (sym same) tt
 
-  -- what holds of the refusal, and of the error, holds of those of lines
-  pub refusal_lines : (P : Option Refusal → Type 0) (ran : Result (RunEnd (LineBlocks S)) RunFault) (result : Result (RunEnd S) RunFault)
-      → IsRunOfLines to_come failed ran result → IfOk ran (λ blocks. P blocks.refusal) → IfOk result (λ run. P run.refusal)
-  refusal_lines P (Ok blocks) result (run, same, lanes, refusal, lines) has =
-      subst (λ r. IfOk r (λ run. P run.refusal)) (sym same) (subst P (sym refusal) has)
-  refusal_lines P (Err fault) result same has = subst (λ r. IfOk r (λ run. P run.refusal)) (sym same) tt
-
+  -- what holds of the error holds of that of lines
   pub fault_lines : (P : RunFault → Type 0) (ran : Result (RunEnd (LineBlocks S)) RunFault) (result : Result (RunEnd S) RunFault)
       → IsRunOfLines to_come failed ran result → IfErr ran P → IfErr result P
   fault_lines P (Ok blocks) result (run, same, lanes, refusal, lines) has = subst (λ r. IfErr r P) (sym same) tt

@@ -1,5 +1,5 @@
 -- One event more: what came of a lane, its records and its lines.
-use Rattle.std.proofs.Common.{◌≡◌, inl, inr, ℕ, ◌+◌, ◌<◌, ◌^◌, Bool, true, false, if◌then◌else◌, ◌==◌, List, [], ◌∷◌, ◌++◌, length, Option, Some, None, arith, refl, ap, sym, ◌∙◌, append-nil, append_assoc, sum_by}
+use Rattle.std.proofs.Common.{◌≡◌, inl, inr, ℕ, ◌+◌, ◌<◌, ◌^◌, Bool, true, false, if◌then◌else◌, ◌==◌, List, [], ◌∷◌, ◌++◌, length, Some, arith, refl, ap, sym, ◌∙◌, append-nil, append_assoc, sum_by}
 use Rattle.std.specs.Prelude.{flat_map}
 use Rattle.std.specs.List.{concat}
 use Rattle.std.proofs.lemmas.Bool.{eq-eqb}
@@ -13,7 +13,7 @@ use Rattle.line_blocks.specs.BlockText.{BlockTextValue, RecordStyle}
 use Rattle.set_run.specs.Events.{Event, LaneEvent, Answered, Ended, answers_among, lane_events, of_lane}
 use Rattle.run_texts.specs.RunText.{end_text, lane_text, record_of, records_from, why_of}
 use Rattle.run_texts.specs.LaneText.{block_lines, event_lines, events_lines, records_of, refused_of}
-use Rattle.run_texts.specs.Streaming.{end_lines, lane_lines, record_lines}
+use Rattle.run_texts.specs.Streaming.{lane_lines, record_lines}
 use Rattle.run_texts.specs.BlockLanes.{AreRecordsOf}
 
 -- ---- events
@@ -83,27 +83,26 @@ lines_more source version before count (Ended e ∷ events) event is =
     ap (λ t. event_lines source version before (Ended e) ++ t) (lines_more source version before count events event is)
 
 -- the lines of a lane with these blocks
-lines_of_lane : (source : ℕ) (version : Version) (before count : ℕ) (texts : List BlockTextValue) (end : Option LaneEnd)
+lines_of_lane : (source : ℕ) (version : Version) (before count : ℕ) (texts : List BlockTextValue) (end : LaneEnd)
     → count ≡ before + records_of texts
-    → events_lines source version before (lane_events texts end) ≡ flat_map block_lines texts ++ end_lines source version end count
-lines_of_lane source version before count [] None is = refl
-lines_of_lane source version before count [] (Some end) is =
-    let same : before ≡ count = omega (arith, is) in ap (λ n. end_lines source version (Some end) n) same
+    → events_lines source version before (lane_events texts (Some end)) ≡ flat_map block_lines texts ++ end_text source version (why_of end) count ∷ []
+lines_of_lane source version before count [] end is =
+    let same : before ≡ count = omega (arith, is) in ap (λ n. end_text source version (why_of end) n ∷ []) same
 lines_of_lane source version before count (text ∷ texts) end is =
     let sum = sum_by-cons (λ (t : BlockTextValue). t.lines) text texts in
     let at : count ≡ before + text.lines + records_of texts = omega (arith, is, sum) in
     ap (λ t. block_lines text ++ t) (lines_of_lane source version (before + text.lines) count texts end at)
-    ∙ sym (append_assoc (block_lines text) (flat_map block_lines texts) (end_lines source version end count))
+    ∙ sym (append_assoc (block_lines text) (flat_map block_lines texts) (end_text source version (why_of end) count ∷ []))
 
 -- the lines of a lane are those of its results
-pub lane_lined : (source : ℕ) (style : RecordStyle) (events : List (LaneEvent BlockTextValue)) (answers : List AnswerValue) (end : Option LaneEnd)
-    → events ≡ lane_events (answers_among events) end → AreRecordsOf source style answers (answers_among events) → 1 + length answers < 2 ^ 64
+pub lane_lined : (source : ℕ) (style : RecordStyle) (events : List (LaneEvent BlockTextValue)) (answers : List AnswerValue) (end : LaneEnd)
+    → events ≡ lane_events (answers_among events) (Some end) → AreRecordsOf source style answers (answers_among events) → 1 + length answers < 2 ^ 64
     → events_lines source style.version 0 events ≡ lane_lines source style answers end
 lane_lined source style events answers end came are fits =
     ap (events_lines source style.version 0) came
     ∙ lines_of_lane source style.version 0 (records_of (answers_among events)) (answers_among events) end (omega arith)
-    ∙ ap (λ n. flat_map block_lines (answers_among events) ++ end_lines source style.version end n) are.0
-    ∙ ap (λ lines. lines ++ end_lines source style.version end (length answers)) (are.1 fits).1
+    ∙ ap (λ n. flat_map block_lines (answers_among events) ++ end_text source style.version (why_of end) n ∷ []) are.0
+    ∙ ap (λ lines. lines ++ end_text source style.version (why_of end) (length answers) ∷ []) (are.1 fits).1
 
 -- the output of one event more
 pub text_more : (source : ℕ) (version : Version) (events : List (LaneEvent BlockTextValue)) (event : LaneEvent BlockTextValue)
@@ -123,5 +122,5 @@ records_joined source place style (answer ∷ answers) last =
     ∙ sym (append_assoc (record_of style source place answer) (records_from source (place + 1) style answers) last)
 
 pub lane_joined : (source : ℕ) (style : RecordStyle) (answers : List AnswerValue) (end : LaneEnd)
-    → concat (lane_lines source style answers (Some end)) ≡ lane_text source style answers (why_of end)
+    → concat (lane_lines source style answers end) ≡ lane_text source style answers (why_of end)
 lane_joined source style answers end = records_joined source 1 style answers (end_text source style.version (why_of end) (length answers))

@@ -12,7 +12,7 @@ use Rattle.line_blocks.specs.BlockText.{RecordStyle}
 use Rattle.line_blocks.proofs.TextLemmas.{same_refusal}
 use Rattle.run_texts.specs.RunText.{is_refused, record_of, refused_lines, result_of, results_from}
 
--- the record of a line of bytes
+-- Law: the record of a line of bytes is that of the result in its answer, as `record_text` defines it
 pub record_of_bytes : (style : RecordStyle) (source place : ℕ) (answer : AnswerValue) → style.encoding ≡ Bytes
     → record_of style source place answer ≡ record_text source place answer.outcome style.version
 record_of_bytes style source place answer bytes =
@@ -28,7 +28,6 @@ refused_from place (answer ∷ answers) =
     ∙ ap (λ b. cond b 1 0 + count_by is_refused answers) (same_refusal answer.outcome)
     ∙ sym (sum_by-cons (λ a. cond (is_refused a) 1 0) answer answers)
 
+-- Law: of lines of bytes those are counted as refused whose results are refusals
 pub refused_of_bytes : (answers : List AnswerValue) → refused_lines Bytes answers ≡ count_by is_refused answers
 refused_of_bytes answers = refused_from 1 answers
-
-pub ruleset laws = (record_of_bytes, refused_of_bytes)

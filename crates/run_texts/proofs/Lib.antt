@@ -1,6 +1,5 @@
 pub mod SettingLemmas
 pub mod RunTextLemmas
-pub mod CutLemmas
 pub mod EventLemmas
 pub mod BlockLemmas
 pub mod BlockRunLemmas
@@ -11,6 +10,4 @@ pub mod StreamLemmas
 pub mod StreamEvents
 pub mod StreamSteps
 pub mod StreamReports
-pub mod StreamedSettingLemmas
 pub mod LawLemmas
-pub mod WorkedRows

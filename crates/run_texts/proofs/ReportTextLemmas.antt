@@ -17,12 +17,10 @@ use Rattle.set_run.specs.Closed.{AreBack, IsWhole}
 use Rattle.set_run.specs.declared.report.LaneReport.{LaneReport}
 use Rattle.set_run.specs.declared.run_end.ClosedLane.{ClosedLane}
 use Rattle.set_run.specs.declared.run_end.RunEnd.{RunEnd}
-use Rattle.run_texts.specs.CutOff.{IsCutOff}
 use Rattle.run_texts.specs.RunText.{head_text, lane_text, why_of}
 use Rattle.run_texts.specs.LaneText.{AreKept, LaneTextValue, events_lines, records_of}
-use Rattle.run_texts.specs.Streaming.{lane_lines}
 use Rattle.run_texts.specs.BlockLanes.{AreClosedIn, AreRecordsOf, IsCollectedIn}
-use Rattle.run_texts.specs.ReportText.{is_unread, is_wanting, lanes_text, run_text, summary_of_lanes, summary_of_run}
+use Rattle.run_texts.specs.ReportText.{is_unread, is_wanting, lanes_text, run_text, summary_of_lanes}
 use Rattle.run_texts.specs.Setting.{AreOwnReports, IsWritten}
 use Rattle.run_texts.specs.declared.summary.Summary.{Summary}
 use Rattle.run_texts.proofs.EventLemmas.{lane_joined, lane_lined}
@@ -36,8 +34,8 @@ kept_text : (source : ℕ) (style : RecordStyle) (events : List (LaneEvent Block
     → 1 + records_of (answers_among events) < 2 ^ 64 → IsSome end
     → concat (events_lines source style.version 0 events) ≡ lane_text source style answers (why_of (end_or end))
 kept_text source style events answers end came are fits ended =
-    ap concat (lane_lined source style events answers end came are (omega (arith, fits, are.0)))
-    ∙ ap (λ e. concat (lane_lines source style answers e)) (some_end end ended)
+    ap concat (lane_lined source style events answers (end_or end) (came ∙ ap (lane_events (answers_among events)) (some_end end ended)) are
+    (omega (arith, fits, are.0)))
     ∙ lane_joined source style answers (end_or end)
 
 -- the refused lines that are kept
@@ -68,35 +66,7 @@ module _ {S : Type 0} (to_come : S → Option (List (List ℕ))) (failed : S →
       ∙ kept_text (number + 1) style (of_lane number events) closed.1.0 l.end closed.0 closed.1.1 fits (All-head HasEnd l lanes whole))
 
 module _ {S O C : Type 0} (version_of : C → Version) (lanes_of : C → List LaneTextValue) (version : Version) where
-  -- the texts that were kept of a run are the output of its reports
-  kept_reports : (to_come : S → Option (List (List ℕ))) (failed : S → Option SourceFault) (origin : S → O) (sources : List (S × Arc TermsValue Global))
-      (run : RunEnd S) (before after : C) (style : RecordStyle) (count : ℕ) (summary : Summary)
-      → version ≡ style.version → count ≡ length sources → Given version_of lanes_of version count before [] → run.refusal ≡ None → IsWhole run
-      → IsCollectedIn to_come failed style (Given version_of lanes_of version count) sources run before after → AreBack origin sources (map (λ lane. lane.source) run.lanes.items)
-      → summary ≡ summary_of_lanes (sum_by (λ text. text.refused) (lanes_of after)) run.lanes.items
-      → (reports : List (LaneReport S)) × AreOwnReports to_come failed origin sources reports
-      × (head_text (version_of after) ++ flat_map (λ text. text.text) (lanes_of after) ≡ run_text style reports) × (summary ≡ summary_of_run style.encoding reports)
-  kept_reports to_come failed origin sources run before after style count summary asked many begun none whole collected back is =
-      let came = collected begun in
-      let events : List (Event BlockTextValue) = came.0 in
-      let closed : AreClosedIn to_come failed style events 0 sources run.lanes.items = came.2 in
-      let kept : AreKept style.version events 0 (lanes_of after) = subst (λ v. AreKept v events 0 (lanes_of after)) asked came.1.2 in
-      let reports : List (LaneReport S) = reports_of to_come failed style events 0 sources run.lanes.items closed in
-      let ended = whole none in
-      let long : length (lanes_of after) ≡ length sources = came.1.1 ∙ many in
-      let texts : flat_map (λ text. text.text) (lanes_of after) ≡ lanes_text 1 style reports =
-      texts_of to_come failed style events 0 sources run.lanes.items (lanes_of after) long closed ended kept in (
-        reports,
-        own_reports to_come failed style events origin sources run.lanes.items closed ended back,
-        ap (λ v. head_text v ++ flat_map (λ text. text.text) (lanes_of after)) (came.1.0 ∙ asked) ∙ ap (λ t. head_text style.version ++ t) texts,
-        is ∙ same_summary _ _ _ _ _ _
-            (ap (min (2 ^ 64 - 1)) (refusals_of to_come failed style events (λ (text : LaneTextValue). text.refused) 0 sources run.lanes.items (lanes_of after) closed
-            (kept_refused style.version events 0 (lanes_of after) kept) long))
-            (ends_of to_come failed style events is_unread 0 sources run.lanes.items closed ended)
-            (ends_of to_come failed style events is_wanting 0 sources run.lanes.items closed ended),
-      )
-
-  -- what was written is the output of these reports
+  -- what was written of the texts that were kept of a run is the output of its reports
   pub kept_run : (to_come : S → Option (List (List ℕ))) (failed : S → Option SourceFault) (origin : S → O) (sources : List (S × Arc TermsValue Global))
       (run : RunEnd S) (before after : C) (style : RecordStyle) (count : ℕ) (w w' : Option (List ℕ)) (summary : Summary)
       → version ≡ style.version → count ≡ length sources → Given version_of lanes_of version count before [] → run.refusal ≡ None → IsWhole run
@@ -105,17 +75,25 @@ module _ {S O C : Type 0} (version_of : C → Version) (lanes_of : C → List La
       → summary ≡ summary_of_lanes (sum_by (λ text. text.refused) (lanes_of after)) run.lanes.items
       → (reports : List (LaneReport S)) × AreOwnReports to_come failed origin sources reports × IsWritten style reports w w' summary
   kept_run to_come failed origin sources run before after style count w w' summary asked many begun none whole collected back written is =
-      let (reports, own, text, short) = kept_reports to_come failed origin sources run before after style count summary asked many begun none whole collected back is in
-      (reports, own, (subst (Appends w w') text written, short))
-
-  -- or a first part of it
-  pub kept_cut : (to_come : S → Option (List (List ℕ))) (failed : S → Option SourceFault) (origin : S → O) (sources : List (S × Arc TermsValue Global))
-      (run : RunEnd S) (before after : C) (style : RecordStyle) (count : ℕ) (w w' : Option (List ℕ)) (summary : Summary)
-      → version ≡ style.version → count ≡ length sources → Given version_of lanes_of version count before [] → run.refusal ≡ None → IsWhole run
-      → IsCollectedIn to_come failed style (Given version_of lanes_of version count) sources run before after → AreBack origin sources (map (λ lane. lane.source) run.lanes.items)
-      → IsCutOff w w' (head_text (version_of after) ++ flat_map (λ text. text.text) (lanes_of after))
-      → summary ≡ summary_of_lanes (sum_by (λ text. text.refused) (lanes_of after)) run.lanes.items
-      → (reports : List (LaneReport S)) × AreOwnReports to_come failed origin sources reports × IsCutOff w w' (run_text style reports)
-  kept_cut to_come failed origin sources run before after style count w w' summary asked many begun none whole collected back cut is =
-      let (reports, own, text, short) = kept_reports to_come failed origin sources run before after style count summary asked many begun none whole collected back is in
-      (reports, own, subst (IsCutOff w w') text cut)
+      let came = collected begun in
+      let events : List (Event BlockTextValue) = came.0 in
+      let closed : AreClosedIn to_come failed style events 0 sources run.lanes.items = came.2 in
+      let kept : AreKept style.version events 0 (lanes_of after) = subst (λ v. AreKept v events 0 (lanes_of after)) asked came.1.2 in
+      let reports : List (LaneReport S) = reports_of to_come failed style events 0 sources run.lanes.items closed in
+      let ended = whole none in
+      let long : length (lanes_of after) ≡ length sources = came.1.1 ∙ many in
+      let texts : flat_map (λ text. text.text) (lanes_of after) ≡ lanes_text 1 style reports =
+      texts_of to_come failed style events 0 sources run.lanes.items (lanes_of after) long closed ended kept in
+      let text : head_text (version_of after) ++ flat_map (λ text. text.text) (lanes_of after) ≡ run_text style reports =
+      ap (λ v. head_text v ++ flat_map (λ text. text.text) (lanes_of after)) (came.1.0 ∙ asked) ∙ ap (λ t. head_text style.version ++ t) texts in (
+        reports,
+        own_reports to_come failed style events origin sources run.lanes.items closed ended back,
+        (
+          subst (Appends w w') text written,
+          is ∙ same_summary _ _ _ _ _ _
+              (ap (min (2 ^ 64 - 1)) (refusals_of to_come failed style events (λ (text : LaneTextValue). text.refused) 0 sources run.lanes.items (lanes_of after) closed
+              (kept_refused style.version events 0 (lanes_of after) kept) long))
+              (ends_of to_come failed style events is_unread 0 sources run.lanes.items closed ended)
+              (ends_of to_come failed style events is_wanting 0 sources run.lanes.items closed ended),
+        ),
+      )

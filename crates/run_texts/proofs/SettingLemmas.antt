@@ -12,8 +12,6 @@ use Rattle.line_lane.specs.declared.fault.SourceFault.{SourceFault}
 use Rattle.set_run.specs.Reports.{IsReported, AreReported}
 use Rattle.set_run.specs.declared.report.LaneReport.{LaneReport}
 use Rattle.line_blocks.specs.BlockText.{RecordStyle}
-use Rattle.run_texts.specs.CutOff.{IsCutOff}
-use Rattle.run_texts.specs.ReportText.{run_text}
 use Rattle.run_texts.specs.Setting.{AreOwnReports, AreOwnReportsWith, AreReportedWith, HasTerms, IsWritten}
 use Rattle.run_texts.specs.declared.summary.Summary.{Summary}
 use Rattle.run_texts.specs.declared.fault.ToolFault.{ToolFault}
@@ -73,15 +71,3 @@ module _ {S : Type 0} where
   all_set to_come failed origin bytes size font limit policy style sources pairs before after (Ok summary) is have (reports, are, written) =
       (font, reports, is, own_with to_come failed origin (record { font = font; limit = limit; policy = policy }) sources pairs reports have are, written)
   all_set to_come failed origin bytes size font limit policy style sources pairs before after (Err fault) is have all = all
-
-  -- and one of whose output a first part was written
-  pub all_cut : {O : Type 0} (to_come : S → Option (List (List ℕ))) (failed : S → Option SourceFault) (origin : S → O) (bytes : List ℕ) (size : Option ℕ) (font : FontValue)
-      (limit : ℕ) (policy : Policy) (style : RecordStyle) (sources : List S) (pairs : List (S × Arc TermsValue Global))
-      (before after : Option (List ℕ)) → IsFontOf bytes size font
-      → AllZip (HasTerms (record { font = font; limit = limit; policy = policy })) sources pairs
-      → ((reports : List (LaneReport S)) × AreOwnReports to_come failed origin pairs reports × IsCutOff before after (run_text style reports))
-      → (f : FontValue) × (reports : List (LaneReport S)) × IsFontOf bytes size f
-      × AreOwnReportsWith to_come failed origin (record { font = f; limit = limit; policy = policy }) sources reports
-      × IsCutOff before after (run_text style reports)
-  all_cut to_come failed origin bytes size font limit policy style sources pairs before after is have (reports, are, cut) =
-      (font, reports, is, own_with to_come failed origin (record { font = font; limit = limit; policy = policy }) sources pairs reports have are, cut)

@@ -1,5 +1,5 @@
 -- The lines of a run, as they come.
-use Rattle.std.proofs.Common.{◌≡◌, ℕ, ◌+◌, ◌-◌, Bool, true, false, List, [], ◌++◌, length, take, drop, Option, Some, None, arith, ap, sym, ◌∙◌, append_assoc, append-nil, take-append-drop, length-drop}
+use Rattle.std.proofs.Common.{◌≡◌, ◌≤◌, ℕ, ◌+◌, ◌-◌, Bool, true, false, List, [], ◌++◌, length, take, drop, Option, Some, None, arith, ap, sym, subst, ◌∙◌, append_assoc, append-nil, take-append-drop, length-drop}
 use Rattle.std.specs.Io.KnownBytes.{Appends, Keeps}
 use Rattle.std.proofs.Math.Seq.{take-add}
 use Rattle.std.proofs.lemmas.List.{take_all}
@@ -9,6 +9,11 @@ use Rattle.run_texts.specs.StreamState.{MovesOut}
 -- the first bytes of the block were written
 pub moved : (w w' : Option (List ℕ)) (block left : List ℕ) (n : ℕ) → Appends w w' (take n block) → left ≡ drop n block → MovesOut w block w' left
 moved w w' block left n out is = (take n block, out, ap (λ b. take n block ++ b) is ∙ take-append-drop n block)
+
+-- the whole block was written
+pub moved_out : (w w' : Option (List ℕ)) (block left : List ℕ) → MovesOut w block w' left → left ≡ [] → Appends w w' block
+moved_out w w' block left (written, out, all) empty =
+    subst (Appends w w') (sym (append-nil written) ∙ ap (λ b. written ++ b) (sym empty) ∙ all) out
 
 -- nothing more
 pub appends_nothing : (w : Option (List ℕ)) → Appends w w []
@@ -38,6 +43,10 @@ nothing_more None w' w'' a h k = tt
 nothing_more (Some xs) None w'' a h k = absurd h
 nothing_more (Some xs) (Some ys) None a h k = k
 nothing_more (Some xs) (Some ys) (Some zs) a h k = k ∙ h
+
+-- all bytes were written
+pub all_appended : (w w' : Option (List ℕ)) (text : List ℕ) (n : ℕ) → length text ≤ n → Appends w w' (take n text) → Appends w w' text
+all_appended w w' text n all written = subst (Appends w w') (take_all n text all) written
 
 -- some more were written
 pub some_more : (w w' w'' : Option (List ℕ)) (xs : List ℕ) (i n : ℕ) → Appends w w' (take i xs) → Appends w' w'' (take n (drop i xs)) → Appends w w'' (take (i + n) xs)

@@ -1,12 +1,10 @@
 -- The reports of a run whose lines were written as they came.
-use Rattle.std.proofs.Common.{◌≡◌, ◌<◌, ℕ, zero, suc, ◌+◌, ◌-◌, ◌^◌, ◌≤◌, Bool, true, false, cond, ◌==◌, List, [], ◌∷◌, ◌++◌, length, map, min, sum_by, All, Option, Some, None, inl, inr, arith, ap, sym, subst, ◌∙◌, append-nil}
-use Rattle.std.proofs.lemmas.List.{length-map}
+use Rattle.std.proofs.Common.{◌≡◌, ◌<◌, ℕ, zero, suc, ◌+◌, ◌-◌, ◌^◌, ◌≤◌, Bool, true, false, cond, ◌==◌, List, [], ◌∷◌, length, map, min, sum_by, All, Option, Some, None, inl, inr, arith, ap, sym, subst, ◌∙◌}
 use Rattle.std.proofs.lemmas.List.Elements.{All-cons, All-head, All-nil, All-tail}
 use Rattle.std.proofs.lemmas.Bool.{eq-eqb}
 use Rattle.std.proofs.lemmas.Bool.Decides.{leb_tells}
 use Rattle.std.specs.Prelude.{IsSome, Result, Ok, Err, IfOk, OnOk}
 use Rattle.std.specs.List.{concat}
-use Rattle.std.specs.Arc.{arc_value}
 use Rattle.std.specs.declared.sync.Arc.{Arc}
 use Rattle.std.specs.declared.alloc.Global.{Global}
 use Rattle.std.specs.Io.KnownBytes.{Appends}
@@ -22,18 +20,17 @@ use Rattle.set_run.specs.declared.report.LaneReport.{LaneReport}
 use Rattle.set_run.specs.declared.run_end.ClosedLane.{ClosedLane}
 use Rattle.set_run.specs.declared.run_end.RunEnd.{RunEnd}
 use Rattle.run_texts.specs.declared.fault.ToolFault.{ToolFault}
-use Rattle.run_texts.specs.RunText.{head_text}
 use Rattle.run_texts.specs.ReportText.{is_unread, is_wanting, summary_of_lanes, summary_of_run}
 use Rattle.run_texts.specs.Setting.{AreOwnReports}
-use Rattle.run_texts.specs.Streaming.{AreOfSources, HaveCome, HaveLines, IsCutAtLine, IsCutShort, IsPartOfMerge, IsStreamed, SourceLine, lane_lines, merged_text, of_source, with_own_terms}
+use Rattle.run_texts.specs.Streaming.{AreOfSources, HaveLines, IsStreamed, SourceLine, lane_lines, of_source}
 use Rattle.run_texts.specs.BlockLanes.{AreClosedIn, AreRecordsOf}
-use Rattle.run_texts.specs.StreamState.{AreCounts, AreLinesOf, AreOut, IsCountOf, MovesOut, StreamStart}
+use Rattle.run_texts.specs.StreamState.{AreCounts, AreLinesOf, AreOut, IsCountOf, StreamStart}
 use Rattle.run_texts.specs.LaneText.{events_lines}
 use Rattle.run_texts.specs.declared.lane_count.LaneCount.{LaneCount}
 use Rattle.run_texts.specs.declared.summary.Summary.{Summary}
 use Rattle.run_texts.proofs.EventLemmas.{lane_joined, lane_lined}
 use Rattle.run_texts.proofs.ReportLemmas.{AreRefused, HasEnd, as_many, end_or, ends_of, own_reports, refusals_of, reports_of, same_summary, some_end}
-use Rattle.run_texts.proofs.StreamLemmas.{moves_more}
+use Rattle.run_texts.proofs.StreamLemmas.{appends_more}
 use Rattle.run_texts.proofs.StreamSteps.{StandsSo}
 
 -- ---- the lines of a lane
@@ -44,8 +41,8 @@ counts_refused events number [] are = tt
 counts_refused events number (c ∷ counts) are = (are.0.1, omega (arith, c.few, are.0.0), counts_refused events (number + 1) counts are.1)
 
 -- the lines of a source of which this came
-own_lines : (style : RecordStyle) (events : List (Event BlockTextValue)) (lines : List SourceLine) (number : ℕ) (answers : List AnswerValue) (end : Option LaneEnd) (count : LaneCount)
-    → AreLinesOf style.version events lines → of_lane number events ≡ lane_events (answers_in number events) end
+own_lines : (style : RecordStyle) (events : List (Event BlockTextValue)) (lines : List SourceLine) (number : ℕ) (answers : List AnswerValue) (end : LaneEnd) (count : LaneCount)
+    → AreLinesOf style.version events lines → of_lane number events ≡ lane_events (answers_in number events) (Some end)
     → AreRecordsOf (number + 1) style answers (answers_in number events) → IsCountOf count (answers_in number events)
     → of_source (number + 1) lines ≡ lane_lines (number + 1) style answers end
 own_lines style events lines number answers end count are came recorded counted =
@@ -96,9 +93,9 @@ module _ {S : Type 0} where
   have_lines to_come failed style events lines number next (s ∷ sources) (l ∷ lanes) [] at closed whole are long counted = absurd (omega (arith, long))
   have_lines to_come failed style events lines number next (s ∷ sources) (l ∷ lanes) (c ∷ counts) at closed whole are long counted =
       let answers = closed.1.0 in
-      let own : of_source next lines ≡ lane_lines next style answers (Some (end_or l.end)) =
-      subst (λ n. of_source n lines ≡ lane_lines n style answers (Some (end_or l.end))) (sym at)
-      (own_lines style events lines number answers (Some (end_or l.end)) c are
+      let own : of_source next lines ≡ lane_lines next style answers (end_or l.end) =
+      subst (λ n. of_source n lines ≡ lane_lines n style answers (end_or l.end)) (sym at)
+      (own_lines style events lines number answers (end_or l.end) c are
       (closed.0 ∙ ap (lane_events (answers_in number events)) (some_end l.end (All-head HasEnd l lanes whole))) closed.1.1 counted.0) in (
         own,
         ap concat own ∙ lane_joined next style answers (end_or l.end),
@@ -106,40 +103,18 @@ module _ {S : Type 0} where
             (omega (arith, long)) counted.1,
       )
 
-  -- the lines as far as they came
-  have_come : (to_come : S → Option (List (List ℕ))) (failed : S → Option SourceFault) (style : RecordStyle) (events : List (Event BlockTextValue)) (lines : List SourceLine)
-      (number next : ℕ) (sources : List (S × Arc TermsValue Global)) (lanes : List (ClosedLane S)) (counts : List LaneCount) → next ≡ number + 1
-      → AreClosedIn to_come failed style events number sources lanes → AreLinesOf style.version events lines
-      → length counts ≡ length sources → AreCounts events number counts
-      → HaveCome to_come failed style next (with_own_terms sources) lines
-  have_come to_come failed style events lines number next [] [] counts at closed are long counted = tt
-  have_come to_come failed style events lines number next [] (l ∷ lanes) counts at closed are long counted = absurd closed
-  have_come to_come failed style events lines number next (s ∷ sources) [] counts at closed are long counted = absurd closed
-  have_come to_come failed style events lines number next (s ∷ sources) (l ∷ lanes) [] at closed are long counted = absurd (omega (arith, long))
-  have_come to_come failed style events lines number next (s ∷ sources) (l ∷ lanes) (c ∷ counts) at closed are long counted = (
-    (
-      closed.1.0,
-      l,
-      closed.1.2,
-      subst (λ n. of_source n lines ≡ lane_lines n style closed.1.0 l.end) (sym at)
-          (own_lines style events lines number closed.1.0 l.end c are closed.0 closed.1.1 counted.0),
-    ),
-    have_come to_come failed style events lines (number + 1) (next + 1) sources lanes counts (omega arith) closed.2 are (omega (arith, long)) counted.1,
-  )
-
   module _ (to_come : S → Option (List (List ℕ))) (failed : S → Option SourceFault) (style : RecordStyle) (events : List (Event BlockTextValue))
-      (sources : List (S × Arc TermsValue Global)) (lanes : List (ClosedLane S)) (counts : List LaneCount) (before : Option (List ℕ)) (block : List ℕ)
+      (sources : List (S × Arc TermsValue Global)) (lanes : List (ClosedLane S)) (counts : List LaneCount) (before w : Option (List ℕ)) (block : List ℕ)
       (closed : AreClosedIn to_come failed style events 0 sources lanes) (none : HasNoOthers events (length sources))
       (long : length counts ≡ length sources) (are : AreCounts events 0 counts) where
     -- all was written
     pub all_streamed : {O : Type 0} (origin : S → O) (after : Option (List ℕ)) (summary : Summary)
         → All (λ lane. IsSome lane.end) lanes → AreBack origin sources (map (λ lane. lane.source) lanes)
-        → AreOut style.version events before after block → block ≡ []
+        → AreOut style.version events before w block → Appends w after block
         → summary ≡ summary_of_lanes (sum_by (λ count. count.refused) counts) lanes
         → (reports : List (LaneReport S)) × AreOwnReports to_come failed origin sources reports × IsStreamed style reports before after × (summary ≡ summary_of_run style.encoding reports)
-    all_streamed origin after summary whole back (lines, lined, (written, appends, all)) empty is =
-        let reports : List (LaneReport S) = reports_of to_come failed style events 0 sources lanes closed in
-        let text : written ≡ head_text style.version ++ merged_text lines = sym (append-nil written) ∙ ap (λ b. written ++ b) (sym empty) ∙ all in (
+    all_streamed origin after summary whole back (lines, lined, (written, appends, all)) rest is =
+        let reports : List (LaneReport S) = reports_of to_come failed style events 0 sources lanes closed in (
           reports,
           own_reports to_come failed style events origin sources lanes closed whole back,
           (
@@ -148,30 +123,13 @@ module _ {S : Type 0} where
               have_lines to_come failed style events lines 0 1 sources lanes counts (omega arith) closed whole lined long are,
               subst (λ n. AreOfSources n lines) (sym (as_many to_come failed style events 0 sources lanes closed)) (of_sources style.version events lines (length sources) lined none),
             ),
-            subst (Appends before after) text appends,
+            subst (Appends before after) all (appends_more before w after written block appends rest),
           ),
           is ∙ same_summary _ _ _ _ _ _
               (ap (min (2 ^ 64 - 1)) (refusals_of to_come failed style events (λ (count : LaneCount). count.refused) 0 sources lanes counts closed (counts_refused events 0 counts are) long))
               (ends_of to_come failed style events is_unread 0 sources lanes closed whole)
               (ends_of to_come failed style events is_wanting 0 sources lanes closed whole),
         )
-
-    come_so_far : (lines : List SourceLine) → AreLinesOf style.version events lines → IsPartOfMerge to_come failed style (with_own_terms sources) lines
-    come_so_far lines lined = (
-      have_come to_come failed style events lines 0 1 sources lanes counts (omega arith) closed lined long are,
-      subst (λ n. AreOfSources n lines) (sym (length-map sources (λ source. (arc_value source.1, source.0)))) (of_sources style.version events lines (length sources) lined none),
-    )
-
-    -- some was written
-    pub cut_short : (after : Option (List ℕ)) → AreOut style.version events before after block → IsCutShort to_come failed style (with_own_terms sources) before after
-    cut_short after (lines, lined, (written, appends, all)) =
-        (lines, written, block, come_so_far lines lined, all, appends)
-
-    -- whole lines were written
-    pub cut_at_line : (after : Option (List ℕ)) → AreOut style.version events before after block → block ≡ [] → IsCutAtLine to_come failed style (with_own_terms sources) before after
-    cut_at_line after (lines, lined, (written, appends, all)) empty =
-        let text : written ≡ head_text style.version ++ merged_text lines = sym (append-nil written) ∙ ap (λ b. written ++ b) (sym empty) ∙ all in
-        inr (lines, come_so_far lines lined, subst (Appends before after) text appends)
 
 -- what holds of what was answered
 pub of_ok : {A E : Type 0} (P : A → Type 0) (r : Result A E) (x : A) → r ≡ Ok x → IfOk r P → P x
@@ -180,13 +138,8 @@ of_ok P (Err e) x is h = absurd (cc)
 
 -- ---- how a run ends
 
-more_out : (version : Version) (events : List (Event BlockTextValue)) (before w w' : Option (List ℕ)) (block left : List ℕ) → MovesOut w block w' left
-    → AreOut version events before w block → AreOut version events before w' left
-more_out version events before w w' block left moves (lines, lined, out) =
-    (lines, lined, moves_more before w w' (head_text version ++ merged_text lines) block left out moves)
-
 module _ {S : Type 0} (to_come : S → Option (List (List ℕ))) (failed : S → Option SourceFault) (sources : List (S × Arc TermsValue Global))
-    (lanes : List (ClosedLane S)) (start : StreamStart) (name : ℕ) (version : Version) (counts : List LaneCount) (w w' : Option (List ℕ)) (block left : List ℕ) where
+    (lanes : List (ClosedLane S)) (start : StreamStart) (name : ℕ) (version : Version) (counts : List LaneCount) (w w' : Option (List ℕ)) (block : List ℕ) where
   -- what a stream was given in a run
   abbrev pub Came : Type 0
   Came =
@@ -198,24 +151,14 @@ module _ {S : Type 0} (to_come : S → Option (List (List ℕ))) (failed : S →
   pub same_name : Came → name ≡ start.name
   same_name (events, stands, closed, none) = stands.0
 
-  pub ends_short : Came → start.lanes ≡ length sources → MovesOut w block w' left → IsCutShort to_come failed start.style (with_own_terms sources) start.before w'
-  ends_short (events, stands, closed, none) long moves =
-      cut_short to_come failed start.style events sources lanes counts start.before left closed none (stands.2 ∙ long) stands.3 w'
-      (more_out start.style.version events start.before w w' block left moves stands.4)
-
-  pub ends_at_line : Came → start.lanes ≡ length sources → MovesOut w block w' left → left ≡ [] → IsCutAtLine to_come failed start.style (with_own_terms sources) start.before w'
-  ends_at_line (events, stands, closed, none) long moves empty =
-      cut_at_line to_come failed start.style events sources lanes counts start.before left closed none (stands.2 ∙ long) stands.3 w'
-      (more_out start.style.version events start.before w w' block left moves stands.4) empty
-
-  pub ends_whole : {O : Type 0} (origin : S → O) (r : Result Summary ToolFault) → AreBack origin sources (map (λ lane. lane.source) lanes) → Came → start.lanes ≡ length sources → MovesOut w block w' left → OnOk r (left ≡ [])
+  pub ends_whole : {O : Type 0} (origin : S → O) (r : Result Summary ToolFault) → AreBack origin sources (map (λ lane. lane.source) lanes) → Came → start.lanes ≡ length sources → OnOk r (Appends w w' block)
       → OnOk r (All (λ lane. IsSome lane.end) lanes) → IfOk r (λ summary. summary ≡ summary_of_lanes (sum_by (λ count. count.refused) counts) lanes)
       → IfOk r (λ summary. (reports : List (LaneReport S)) × AreOwnReports to_come failed origin sources reports
       × IsStreamed start.style reports start.before w' × (summary ≡ summary_of_run start.style.encoding reports))
-  ends_whole origin (Ok summary) back (events, stands, closed, none) long moves empty whole is =
-      all_streamed to_come failed start.style events sources lanes counts start.before left closed none (stands.2 ∙ long) stands.3 origin w' summary whole back
-      (more_out start.style.version events start.before w w' block left moves stands.4) empty is
-  ends_whole origin (Err fault) back came long moves empty whole is = empty
+  ends_whole origin (Ok summary) back (events, stands, closed, none) long rest whole is =
+      all_streamed to_come failed start.style events sources lanes counts start.before w block closed none (stands.2 ∙ long) stands.3 origin w' summary whole back
+      stands.4 rest is
+  ends_whole origin (Err fault) back came long rest whole is = is
 
 -- a run that was refused nothing
 pub whole_ends : {S : Type 0} (run : RunEnd S) (r : Result Summary ToolFault) → IsWhole run → OnOk r (run.refusal ≡ None)

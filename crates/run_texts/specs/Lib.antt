@@ -1,4 +1,3 @@
-pub mod CutOff
 pub mod RunText
 pub mod LaneText
 pub mod BlockLanes

@@ -1,19 +1,11 @@
 -- The output that is written as the results arrive: the lines of all sources, merged.
 -- This project's own.
-use Rattle.std.specs.Prelude.{◌≡◌, ℕ, ◌+◌, ◌≤◌, ◌==◌, ◌⊎◌, List, [], ◌∷◌, ◌++◌, length, map, All, Option, Some, None, if◌then◌else◌}
+use Rattle.std.specs.Prelude.{◌≡◌, ℕ, ◌+◌, ◌≤◌, ◌==◌, List, [], ◌∷◌, ◌++◌, length, All, Option, if◌then◌else◌}
 use Rattle.std.specs.List.{concat}
-use Rattle.std.specs.Arc.{arc_value}
-use Rattle.std.specs.declared.sync.Arc.{Arc}
-use Rattle.std.specs.declared.alloc.Global.{Global}
-use Rattle.std.specs.Io.KnownBytes.{Appends, Keeps}
-use Rattle.set_line.specs.Terms.{TermsValue}
+use Rattle.std.specs.Io.KnownBytes.{Appends}
 use Rattle.set_line.specs.Answer.{AnswerValue}
-use Rattle.set_line.specs.declared.version.Version.{Version}
 use Rattle.line_blocks.specs.BlockText.{RecordStyle}
 use Rattle.line_lane.specs.declared.ending.LaneEnd.{LaneEnd}
-use Rattle.line_lane.specs.declared.fault.SourceFault.{SourceFault}
-use Rattle.set_run.specs.Reports.{IsClosed}
-use Rattle.set_run.specs.declared.run_end.ClosedLane.{ClosedLane}
 use Rattle.set_run.specs.declared.report.LaneReport.{LaneReport}
 use Rattle.run_texts.specs.RunText.{end_text, head_text, lane_text, record_of, why_of}
 
@@ -23,15 +15,10 @@ record_lines source place style [] = []
 record_lines source place style (answer ∷ answers) =
     record_of style source place answer ∷ record_lines source (place + 1) style answers
 
--- the end line of a source with this many results, if the source has ended
-abbrev pub end_lines : ℕ → Version → Option LaneEnd → ℕ → List (List ℕ)
-end_lines source version None answers = []
-end_lines source version (Some end) answers = end_text source version (why_of end) answers ∷ []
-
--- the output lines of a source: the record of each of its results, and then its end line, if the source has
--- ended
-abbrev pub lane_lines : ℕ → RecordStyle → List AnswerValue → Option LaneEnd → List (List ℕ)
-lane_lines source style answers end = record_lines source 1 style answers ++ end_lines source style.version end (length answers)
+-- the output lines of a source: the record of each of its results, and then its end line
+abbrev pub lane_lines : ℕ → RecordStyle → List AnswerValue → LaneEnd → List (List ℕ)
+lane_lines source style answers end =
+    record_lines source 1 style answers ++ end_text source style.version (why_of end) (length answers) ∷ []
 
 -- a line of the output, with the number of its source
 abbrev pub SourceLine : Type 0
@@ -57,7 +44,7 @@ module _ {S : Type 0} where
   abbrev pub HaveLines : ℕ → RecordStyle → List (LaneReport S) → List SourceLine → Type 0
   HaveLines number style [] lines = Unit {0}
   HaveLines number style (report ∷ reports) lines =
-      (of_source number lines ≡ lane_lines number style report.answers (Some report.end))
+      (of_source number lines ≡ lane_lines number style report.answers report.end)
       × (concat (of_source number lines) ≡ lane_text number style report.answers (why_of report.end))
       × HaveLines (number + 1) style reports lines
 
@@ -70,55 +57,3 @@ module _ {S : Type 0} where
   abbrev pub IsStreamed : RecordStyle → List (LaneReport S) → Option (List ℕ) → Option (List ℕ) → Type 0
   IsStreamed style reports before after =
       (lines : List SourceLine) × IsMerge style reports lines × Appends before after (head_text style.version ++ merged_text lines)
-
-module _ {S : Type 0} where
-  -- each source with the settings that it is paired with
-  abbrev pub with_own_terms : List (S × Arc TermsValue Global) → List (TermsValue × S)
-  with_own_terms sources = map (λ source. (arc_value source.1, source.0)) sources
-
-  -- each source with these settings
-  abbrev pub with_these_terms : TermsValue → List S → List (TermsValue × S)
-  with_these_terms terms sources = map (λ source. (terms, source)) sources
-
-  -- the lines of a source, as far as they arrived: those of some closed lane of this source; it isn't stated
-  -- which source the lane returns
-  abbrev pub HasCome :
-      (S → Option (List (List ℕ))) → (S → Option SourceFault) → RecordStyle → ℕ → TermsValue × S → List SourceLine → Type 0
-  HasCome to_come failed style number source lines =
-      (answers : List AnswerValue)
-      × (lane : ClosedLane S)
-      × IsClosed to_come failed source.0 source.1 answers lane
-      × (of_source number lines ≡ lane_lines number style answers lane.end)
-
-  -- the same for all sources; the first source has this number
-  abbrev pub HaveCome :
-      (S → Option (List (List ℕ))) → (S → Option SourceFault) → RecordStyle → ℕ → List (TermsValue × S) → List SourceLine → Type 0
-  HaveCome to_come failed style number [] lines = Unit {0}
-  HaveCome to_come failed style number (source ∷ sources) lines =
-      HasCome to_come failed style number source lines × HaveCome to_come failed style (number + 1) sources lines
-
-  -- these are the lines of the sources, as far as they arrived, merged in some order, and no others
-  abbrev pub IsPartOfMerge :
-      (S → Option (List (List ℕ))) → (S → Option SourceFault) → RecordStyle → List (TermsValue × S) → List SourceLine → Type 0
-  IsPartOfMerge to_come failed style sources lines =
-      HaveCome to_come failed style 1 sources lines × AreOfSources (length sources) lines
-
-  -- a first part of such an output was written; it may end within a line
-  abbrev pub IsCutShort :
-      (S → Option (List (List ℕ))) → (S → Option SourceFault) → RecordStyle → List (TermsValue × S) → Option (List ℕ) → Option (List ℕ) → Type 0
-  IsCutShort to_come failed style sources before after =
-      (lines : List SourceLine)
-      × (written : List ℕ)
-      × (unwritten : List ℕ)
-      × IsPartOfMerge to_come failed style sources lines
-      × (written ++ unwritten ≡ head_text style.version ++ merged_text lines)
-      × Appends before after written
-
-  -- nothing was written, or all of such an output, which ends with a whole line
-  abbrev pub IsCutAtLine :
-      (S → Option (List (List ℕ))) → (S → Option SourceFault) → RecordStyle → List (TermsValue × S) → Option (List ℕ) → Option (List ℕ) → Type 0
-  IsCutAtLine to_come failed style sources before after =
-      Keeps before after
-      ⊎ ((lines : List SourceLine)
-      × IsPartOfMerge to_come failed style sources lines
-      × Appends before after (head_text style.version ++ merged_text lines))

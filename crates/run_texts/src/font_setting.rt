@@ -4,14 +4,14 @@ ghost use Rattle.std.specs.Arc.{arc_value};
 ghost use Rattle.std.specs.List.{AllZip};
 ghost use Rattle.tfm_tables.specs.declared.fault.FontFault.{FontFault as Refusal};
 ghost use Rattle.tfm_tables.specs.Acceptance.{font_fault_of};
-ghost use Rattle.tfm_tables.specs.Font.{FontValue, IsFontOf};
+ghost use Rattle.tfm_tables.specs.Font.{FontValue, IsFontOf, IsRefusalOf};
 ghost use Rattle.run_texts.specs.Setting.{HasTerms};
 
 use crate::ToolFault;
 use set_line::{Limit, Policy, Terms};
 use std::alloc::{AllocError, Global};
 use std::sync::Arc;
-use tfm_tables::Font;
+use tfm_tables::{Font, FontFault};
 use tfm_words::Size;
 
 /// The bytes and the size of a font, and the limit and the policy of its lines. [`terms_of`] makes settings
@@ -28,21 +28,18 @@ pub struct FontSetting<'a> {
     pub policy: Policy,
 }
 
-/// Reads a font, and returns settings that the lines of many sources may share. The error is `Font`, with the
-/// first font error, exactly if the font isn't accepted; otherwise it is `OutOfMemory`: an allocation failed.
-pub fn terms_of(alloc: Global, font: &FontSetting<'_>) -> Result<Arc<Terms>, ToolFault>
+/// Reads a font, and returns settings that the lines of many sources may share. The error is that of
+/// `Font::read`, or `OutOfMemory` if an allocation fails after it.
+pub fn terms_of(alloc: Global, font: &FontSetting<'_>) -> Result<Arc<Terms>, FontFault>
     ensures terms { IfOk result (λ terms. (f : FontValue) × IsFontOf font.now.bytes.now font.now.size f
         × (arc_value terms ≡ record { font = f; limit = font.now.limit; policy = font.now.policy })) }
-    ensures font { (f : Refusal) → result ≡ Err (ToolFault.Font f) → font_fault_of font.now.bytes.now ≡ Some f }
-    ensures refused { (f : Refusal) → font_fault_of font.now.bytes.now ≡ Some f
-        → result ≡ Err (ToolFault.Font f) }
-    ensures fault { IfErr result (λ fault. (fault ≡ ToolFault.OutOfMemory)
-        ⊎ ((f : Refusal) × (fault ≡ ToolFault.Font f))) }
+    ensures fault { IfErr result (IsRefusalOf font.now.bytes.now) }
 {
     let accepted = Font::read(alloc, font.bytes, font.size)?;
-    Arc::new(alloc, Terms::new(accepted, font.limit, font.policy)).map_err(
-        |_| ToolFault::OutOfMemory,
-    )
+    match Arc::new(alloc, Terms::new(accepted, font.limit, font.policy)) {
+        Ok(terms) => Ok(terms),
+        Err(_) => Err(FontFault::OutOfMemory),
+    }
 }
 
 /// Returns the sources, or their names, in order, each paired with these settings. Fails if an allocation
@@ -64,8 +61,8 @@ pub fn with_terms<S: Drop>(
     Ok(pairs)
 }
 
-/// Reads the font, and returns the sources in order, each paired with its settings. The errors are those of
-/// `terms_of`.
+/// Reads the font, and returns the sources in order, each paired with its settings. The error is `Font`,
+/// with the first font error, exactly if the font isn't accepted; otherwise it is `OutOfMemory`.
 pub(crate) fn with_font<S: Drop>(
     alloc: Global,
     font: &FontSetting<'_>,

@@ -3,7 +3,6 @@ ghost use Rattle.std.specs.Prelude.{◌≡◌, ◌+◌, ◌<◌, ◌^◌, ◌++�
 ghost use Rattle.std.specs.Io.KnownBytes.{Appends};
 ghost use Rattle.std.specs.List.{concat};
 ghost use Rattle.set_run.specs.declared.collector.Refusal.TheVariants.{OutOfMemory as NoMemory};
-ghost use Rattle.run_texts.specs.CutOff.{IsCutOff};
 ghost use Rattle.run_texts.specs.LaneText.{block_lines};
 ghost use Rattle.run_texts.specs.RunText.{end_text, why_of};
 
@@ -57,12 +56,9 @@ impl Counted for LaneText {
     }
 }
 
-/// Writes buffers in order, and frees each when it is written. After an error a first part of their bytes was
-/// written.
+/// Writes buffers in order, and frees each when it is written.
 fn write_blocks<W: Write>(blocks: Vec<TextBlock>, out: &mut W) -> Result<(), ToolFault>
     ensures written { OnOk result (Appends (W.contents out.old) (W.contents out.new)
-        (concat blocks.items)) }
-    ensures cut { OnErr result (IsCutOff (W.contents out.old) (W.contents out.new)
         (concat blocks.items)) }
     ensures fault { IfErr result (λ fault. fault ≡ ToolFault.Write) }
 {
@@ -144,10 +140,9 @@ impl LaneText {
         self.count.push_end(lane, end, version, &mut self.last)
     }
 
-    /// Writes the output, and frees its memory. After an error a first part of the output was written.
+    /// Writes the output, and frees its memory.
     pub fn write<W: Write>(self, out: &mut W) -> Result<(), ToolFault>
         ensures written { OnOk result (Appends (W.contents out.old) (W.contents out.new) self.text) }
-        ensures cut { OnErr result (IsCutOff (W.contents out.old) (W.contents out.new) self.text) }
         ensures fault { IfErr result (λ fault. fault ≡ ToolFault.Write) }
     {
         let LaneText {

@@ -4,10 +4,9 @@
 
 pub use fault::ToolFault;
 pub use font_setting::{FontSetting, terms_of, with_terms};
-pub use laws::lines_of_bytes;
 pub use options::OutputOptions;
 pub use setting::{set_each, set_text};
-pub use streaming::{stream_each, stream_text};
+pub use streaming::stream_each;
 pub use summary::{Summary, status};
 pub use writing::write_text;
 
@@ -17,7 +16,6 @@ mod fault;
 mod font_setting;
 mod lane_count;
 mod lane_text;
-mod laws;
 mod options;
 mod record;
 mod run_summary;

@@ -31,7 +31,6 @@ fn why(end: LaneEnd) -> &'static [u8]
 pub(crate) fn push_head(version: Version, text: &mut Vec<u8>) -> Result<(), Refusal>
     ensures text { OnOk result (text.new.items ≡ text.old.items ++ head_text version) }
     ensures as_before { OnErr result (text.new.items ≡ text.old.items) }
-    ensures refusal { IfErr result (λ refusal. refusal ≡ NoMemory) }
 {
     match version {
         Version::One | Version::Json => Ok(()),

@@ -1,10 +1,9 @@
 //! Collects the output of all lanes of a batch in memory, and writes it when the batch is done.
-ghost use Rattle.std.specs.Prelude.{◌≡◌, ℕ, true, ◌++◌, flat_map, length, [], ⊤, Err, IfErr, IfOk, IfSome, OnErr, OnOk};
+ghost use Rattle.std.specs.Prelude.{◌≡◌, ℕ, true, ◌++◌, flat_map, length, [], ⊤, IfErr, IfOk, IfSome, OnOk};
 ghost use Rattle.std.specs.Io.KnownBytes.{Appends};
 ghost use Rattle.set_line.specs.declared.version.Version.{Version as Form};
 ghost use Rattle.set_line.specs.declared.version.Version.TheVariants.{One};
 ghost use Rattle.set_run.specs.declared.collector.Refusal.TheVariants.{OutOfMemory as NoMemory};
-ghost use Rattle.run_texts.specs.CutOff.{IsCutOff};
 ghost use Rattle.run_texts.specs.Endings.{is_text_fault};
 ghost use Rattle.run_texts.specs.LaneText.{AreKept};
 ghost use Rattle.run_texts.specs.RunText.{head_text};
@@ -45,12 +44,9 @@ pub(crate) struct RunTexts<K: Kept> {
     of: PhantomData<K>,
 }
 
-/// Writes the output of lanes in order, and frees that of each lane when it is written. After an error a first
-/// part of the output was written.
+/// Writes the output of lanes in order, and frees that of each lane when it is written.
 fn write_lanes<W: Write>(lanes: Vec<LaneText>, out: &mut W) -> Result<(), ToolFault>
     ensures written { OnOk result (Appends (W.contents out.old) (W.contents out.new)
-        (flat_map (λ lane. lane.text) lanes.items)) }
-    ensures cut { OnErr result (IsCutOff (W.contents out.old) (W.contents out.new)
         (flat_map (λ lane. lane.text) lanes.items)) }
     ensures fault { IfErr result (λ fault. fault ≡ ToolFault.Write) }
 {
@@ -79,14 +75,10 @@ impl<K: Kept> RunTexts<K> {
     }
 
     /// Writes the first line of the record format, if it has one, and then the output of all lanes in order.
-    /// After `OutOfMemory` nothing was written, and after `Write` a first part of the output.
     #[tactic(auto, using(crate::proofs::RunTextLemmas::appends_more))]
     pub fn write<W: Write>(self, alloc: Global, out: &mut W) -> Result<(), ToolFault>
         ensures written { OnOk result (Appends (W.contents out.old) (W.contents out.new)
             (head_text self.version ++ flat_map (λ lane. lane.text) self.lanes.items)) }
-        ensures cut { result ≡ Err ToolFault.Write → IsCutOff (W.contents out.old) (W.contents out.new)
-            (head_text self.version ++ flat_map (λ lane. lane.text) self.lanes.items) }
-        ensures memory { result ≡ Err ToolFault.OutOfMemory → out.new ≡ out.old }
         ensures fault { IfErr result (λ fault. is_text_fault fault ≡ true) }
     {
         let mut head = Vec::new(alloc);

@@ -6,8 +6,6 @@ ghost use Rattle.set_run.specs.declared.run_fault.RunFault.TheVariants.{TooManyS
 ghost use Rattle.tfm_tables.specs.declared.fault.FontFault.{FontFault as Refusal};
 ghost use Rattle.tfm_tables.specs.Acceptance.{font_fault_of};
 ghost use Rattle.tfm_tables.specs.Font.{FontValue, IsFontOf};
-ghost use Rattle.run_texts.specs.CutOff.{IsCutOff};
-ghost use Rattle.run_texts.specs.ReportText.{run_text};
 ghost use Rattle.run_texts.specs.RunText.{style_of};
 ghost use Rattle.run_texts.specs.Setting.{AreOwnReports, AreOwnReportsWith, IsWritten};
 
@@ -47,10 +45,6 @@ where
         → (fault ≡ NoMemory) ⊎ (fault ≡ Thread) }
     ensures run { (fault : Fault) → result ≡ Err (ToolFault.Run fault) → out.new ≡ out.old }
     ensures font { (fault : Refusal) → result ≡ Err (ToolFault.Font fault) → ⊥ }
-    ensures memory { result ≡ Err ToolFault.OutOfMemory → out.new ≡ out.old }
-    ensures write { result ≡ Err ToolFault.Write → (reports : List (Lane S))
-        × AreOwnReports S.to_come S.failed S.origin sources.items reports
-        × IsCutOff (W.contents out.old) (W.contents out.new) (run_text (style_of options.now) reports) }
 {
     let texts = RunTexts::<K>::new(alloc, sources.len(), options.version).map_err(
         |_| ToolFault::Run(RunFault::OutOfMemory),
@@ -73,8 +67,8 @@ where
 ///
 /// The error is `Run` if the batch failed, with `TooManySources` exactly if there are more than 64 sources;
 /// `OutOfMemory` if an allocation fails after the batch; or `Write` if the writer fails. It is never `Font`.
-/// After `Write` a first part of the output was written, but not all of it; after any other error, `out` is
-/// unchanged.
+/// After `Run` nothing was written. After `Write` or `OutOfMemory` nothing is stated about how much was
+/// written.
 pub fn set_each<R, S, G, W>(
     rt: &R,
     alloc: Global,
@@ -95,10 +89,6 @@ where
         → (fault ≡ NoMemory) ⊎ (fault ≡ Thread) }
     ensures run { (fault : Fault) → result ≡ Err (ToolFault.Run fault) → out.new ≡ out.old }
     ensures font { (fault : Refusal) → result ≡ Err (ToolFault.Font fault) → ⊥ }
-    ensures memory { result ≡ Err ToolFault.OutOfMemory → out.new ≡ out.old }
-    ensures write { result ≡ Err ToolFault.Write → (reports : List (Lane S))
-        × AreOwnReports S.to_come S.failed S.origin sources.items reports
-        × IsCutOff (W.contents out.old) (W.contents out.new) (run_text (style_of options.now) reports) }
 {
     if sources.len() > MOST_SOURCES {
         return Err(ToolFault::Run(RunFault::TooManySources));
@@ -109,8 +99,8 @@ where
 /// Reads a font, sets the lines of all sources with it in one batch, and writes the output as `set_each`
 /// does. The error is `Font`, with the first font error, exactly if the font isn't accepted. Otherwise the
 /// errors are those of `set_each`; `OutOfMemory` is also returned if an allocation fails before the batch.
-/// After `Write` a first part of the output was written, but not all of it; after any other error, `out` is
-/// unchanged.
+/// After `Font` or `Run` nothing was written. After `Write` or `OutOfMemory` nothing is stated about how much
+/// was written.
 pub fn set_text<R, S, G, W>(
     rt: &R,
     font: &FontSetting<'_>,
@@ -138,12 +128,6 @@ where
     ensures few { vec_len sources ≤ 64 → (fault : Fault) → result ≡ Err (ToolFault.Run fault)
         → (fault ≡ NoMemory) ⊎ (fault ≡ Thread) }
     ensures run { (fault : Fault) → result ≡ Err (ToolFault.Run fault) → out.new ≡ out.old }
-    ensures memory { result ≡ Err ToolFault.OutOfMemory → out.new ≡ out.old }
-    ensures write { result ≡ Err ToolFault.Write → (f : FontValue) × (reports : List (Lane S))
-        × IsFontOf font.now.bytes.now font.now.size f
-        × AreOwnReportsWith S.to_come S.failed S.origin
-        (record { font = f; limit = font.now.limit; policy = font.now.policy }) sources.items reports
-        × IsCutOff (W.contents out.old) (W.contents out.new) (run_text (style_of options.now) reports) }
 {
     let sources = with_font(rt.alloc(), font, sources)?;
     set_each(rt, rt.alloc(), sources, options, out)

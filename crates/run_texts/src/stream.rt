@@ -1,6 +1,5 @@
 //! Collects the output of a batch in a buffer, and writes it as the results arrive.
-ghost use Rattle.std.specs.Prelude.{◌≡◌, ◌<◌, [], length, is_ok, IfErr, IfOk, OnOk};
-ghost use Rattle.set_run.specs.declared.collector.Refusal.TheVariants.{OutOfMemory as NoMemory};
+ghost use Rattle.std.specs.Prelude.{◌≡◌, ◌<◌, [], length, is_ok, IfOk, OnOk};
 ghost use Rattle.set_run.specs.Events.{Answered, Ended, Gets, Keeps as KeepsGiven};
 ghost use Rattle.run_texts.specs.RunText.{head_text};
 ghost use Rattle.run_texts.specs.StreamState.{AreCounts, IsStreamOf, MovesOut, StreamStart};
@@ -52,7 +51,6 @@ pub(crate) fn write_block<W: Write>(block: &mut Vec<u8>, out: &mut W) -> Result<
 /// Returns a buffer with the first line of the record format, if it has one.
 pub(crate) fn first_block(alloc: Global, version: Version) -> Result<Vec<u8>, Refusal>
     ensures head { IfOk result (λ block. block.items ≡ head_text version) }
-    ensures refusal { IfErr result (λ refusal. refusal ≡ NoMemory) }
 {
     let mut block = Vec::with_capacity(alloc, ROOM).map_err(|_| Refusal::OutOfMemory)?;
     push_head(version, &mut block)?;

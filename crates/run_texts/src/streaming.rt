@@ -1,26 +1,24 @@
 //! Batches whose output is written as the results arrive.
-ghost use Rattle.std.specs.Prelude.{◌≡◌, true, ◌<◌, ◌≤◌, ◌⊎◌, ⊤, List, [], Err, None, Some, length, map, sum_by, IfErr, IfOk, OnOk, vec_len};
+ghost use Rattle.std.specs.Prelude.{◌≡◌, true, ◌<◌, ◌≤◌, ◌⊎◌, ⊤, List, [], Err, None, length, map, sum_by, IfErr, IfOk, OnOk, vec_len};
+ghost use Rattle.std.specs.Io.KnownBytes.{Appends};
 ghost use Rattle.set_run.specs.declared.report.LaneReport.{LaneReport as Lane};
 ghost use Rattle.set_run.specs.declared.run_fault.RunFault.{RunFault as Fault};
 ghost use Rattle.set_run.specs.declared.run_fault.RunFault.TheVariants.{TooManySources, OutOfMemory as NoMemory, Thread};
 ghost use Rattle.set_run.specs.Closed.{AreBack, IsWhole};
 ghost use Rattle.run_texts.specs.BlockLanes.{IsCollectedIn};
 ghost use Rattle.tfm_tables.specs.declared.fault.FontFault.{FontFault as FontRefusal};
-ghost use Rattle.tfm_tables.specs.Acceptance.{font_fault_of};
-ghost use Rattle.tfm_tables.specs.Font.{FontValue, IsFontOf};
 ghost use Rattle.run_texts.specs.ReportText.{summary_of_lanes, summary_of_run};
 ghost use Rattle.run_texts.specs.RunText.{style_of};
 ghost use Rattle.run_texts.specs.Endings.{is_text_fault};
-ghost use Rattle.run_texts.specs.Setting.{AreOwnReports, AreOwnReportsWith};
-ghost use Rattle.run_texts.specs.Streaming.{IsCutAtLine, IsCutShort, IsStreamed, with_own_terms, with_these_terms};
-ghost use Rattle.run_texts.specs.StreamState.{IsStreamOf, MovesOut};
+ghost use Rattle.run_texts.specs.Setting.{AreOwnReports};
+ghost use Rattle.run_texts.specs.Streaming.{IsStreamed};
+ghost use Rattle.run_texts.specs.StreamState.{IsStreamOf};
 
 use crate::block_run::{unwrap_run, wrap_sources};
-use crate::font_setting::with_font;
 use crate::lane_count::LaneCount;
 use crate::run_summary::{all_refused, summary_of};
 use crate::stream::{Stream, first_block, no_answers, write_block};
-use crate::{FontSetting, OutputOptions, Summary, ToolFault};
+use crate::{OutputOptions, Summary, ToolFault};
 use line_blocks::BlockText;
 use line_lane::LaneEnd;
 use set_line::Terms;
@@ -125,21 +123,19 @@ where
 /// Writes the contents of the buffer, and returns the summary of a batch with this end. If an allocation
 /// failed, the lines before the failure are written first, and the error is `OutOfMemory`. If the writer
 /// fails, or failed before, the error is `Write`.
+#[tactic(auto, using(crate::proofs::StreamLemmas::moved_out))]
 fn finish<W: Write, S>(
     block: &mut Vec<u8>,
     counts: &[LaneCount],
     out: &mut W,
     run: &RunEnd<S>,
 ) -> Result<Summary, ToolFault>
-    ensures moves { MovesOut (W.contents out.old) block.old.items
-        (W.contents out.new) block.new.items }
+    ensures text { OnOk result (Appends (W.contents out.old) (W.contents out.new) block.old.items) }
     ensures whole { OnOk result (run.now.refusal ≡ None) }
     ensures summary { IfOk result (λ summary.
         summary ≡ summary_of_lanes (sum_by (λ count. count.refused) counts.now)
         run.now.lanes.items) }
-    ensures all { OnOk result (block.new.items ≡ []) }
     ensures fault { IfErr result (λ fault. is_text_fault fault ≡ true) }
-    ensures memory { result ≡ Err ToolFault.OutOfMemory → block.new.items ≡ [] }
 {
     if run.refusal == Some(Refusal::Output) {
         return Err(ToolFault::Write);
@@ -156,10 +152,9 @@ fn finish<W: Write, S>(
 /// records of a source are in the order of its lines, and its end line follows its last record; lines of
 /// other sources may be between them. Returns the summary.
 ///
-/// The error is `Run` if the batch failed, with `TooManySources` exactly if there are more than 64 sources:
-/// `out` is unchanged. It is `OutOfMemory` if an allocation fails: the output ends with a whole line, or
-/// nothing was written. It is `Write` if the writer fails: the output may end within a line. It is never
-/// `Font`.
+/// The error is `Run` if the batch failed, with `TooManySources` exactly if there are more than 64 sources;
+/// `OutOfMemory` if an allocation fails; or `Write` if the writer fails. It is never `Font`. After `Run`
+/// nothing was written. After `Write` or `OutOfMemory` nothing is stated about how much was written.
 pub fn stream_each<R, S, G, W>(
     rt: &R,
     alloc: Global,
@@ -181,10 +176,6 @@ where
         → (fault ≡ NoMemory) ⊎ (fault ≡ Thread) }
     ensures run { (fault : Fault) → result ≡ Err (ToolFault.Run fault) → out.new ≡ out.old }
     ensures font { (fault : FontRefusal) → result ≡ Err (ToolFault.Font fault) → ⊥ }
-    ensures write { result ≡ Err ToolFault.Write → IsCutShort S.to_come S.failed (style_of options.now)
-        (with_own_terms sources.items) (W.contents out.old) (W.contents out.new) }
-    ensures memory { result ≡ Err ToolFault.OutOfMemory → IsCutAtLine S.to_come S.failed (style_of options.now)
-        (with_own_terms sources.items) (W.contents out.old) (W.contents out.new) }
 {
     if sources.len() > MOST_SOURCES {
         return Err(ToolFault::Run(RunFault::TooManySources));
@@ -208,50 +199,4 @@ where
         Ok(run) => finish(&mut block, counts.as_slice(), writer, &run),
         Err(fault) => Err(ToolFault::Run(fault)),
     }
-}
-
-/// Reads a font, sets the lines of all sources with it in one batch, and writes the output as `stream_each`
-/// does. The error is `Font`, with the first font error, exactly if the font isn't accepted: `out` is
-/// unchanged. Otherwise the errors are those of `stream_each`; `OutOfMemory` is also returned if an
-/// allocation fails before the batch.
-pub fn stream_text<R, S, G, W>(
-    rt: &R,
-    font: &FontSetting<'_>,
-    sources: Vec<S>,
-    options: &OutputOptions<'_, G>,
-    out: &mut W,
-) -> Result<Summary, ToolFault>
-where
-    R: AllocGlobal + Threads + Wait + Sync,
-    S: LineSource + Send + Drop,
-    G: Gate + Sync,
-    W: Write,
-    ensures text { IfOk result (λ summary. (f : FontValue) × (reports : List (Lane S))
-        × IsFontOf font.now.bytes.now font.now.size f
-        × AreOwnReportsWith S.to_come S.failed S.origin
-        (record { font = f; limit = font.now.limit; policy = font.now.policy }) sources.items reports
-        × IsStreamed (style_of options.now) reports (W.contents out.old) (W.contents out.new)
-        × (summary ≡ summary_of_run options.now.encoding reports)) }
-    ensures font { (fault : FontRefusal) → result ≡ Err (ToolFault.Font fault)
-        → (font_fault_of font.now.bytes.now ≡ Some fault) × (out.new ≡ out.old) }
-    ensures refused { (fault : FontRefusal) → font_fault_of font.now.bytes.now ≡ Some fault
-        → result ≡ Err (ToolFault.Font fault) }
-    ensures many { 64 < vec_len sources → (result ≡ Err (ToolFault.Run TooManySources))
-        ⊎ (result ≡ Err ToolFault.OutOfMemory)
-        ⊎ ((fault : FontRefusal) × (result ≡ Err (ToolFault.Font fault))) }
-    ensures few { vec_len sources ≤ 64 → (fault : Fault) → result ≡ Err (ToolFault.Run fault)
-        → (fault ≡ NoMemory) ⊎ (fault ≡ Thread) }
-    ensures run { (fault : Fault) → result ≡ Err (ToolFault.Run fault) → out.new ≡ out.old }
-    ensures write { result ≡ Err ToolFault.Write → (f : FontValue) × IsFontOf font.now.bytes.now font.now.size f
-        × IsCutShort S.to_come S.failed (style_of options.now) (with_these_terms
-        (record { font = f; limit = font.now.limit; policy = font.now.policy }) sources.items)
-        (W.contents out.old) (W.contents out.new) }
-    ensures memory { result ≡ Err ToolFault.OutOfMemory → (out.new ≡ out.old)
-        ⊎ ((f : FontValue) × IsFontOf font.now.bytes.now font.now.size f
-        × IsCutAtLine S.to_come S.failed (style_of options.now) (with_these_terms
-        (record { font = f; limit = font.now.limit; policy = font.now.policy }) sources.items)
-        (W.contents out.old) (W.contents out.new)) }
-{
-    let sources = with_font(rt.alloc(), font, sources)?;
-    stream_each(rt, rt.alloc(), sources, options, out)
 }

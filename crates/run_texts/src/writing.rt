@@ -1,7 +1,6 @@
 //! Writes bytes to a writer that may fail, and states how many of them were written.
-ghost use Rattle.std.specs.Prelude.{◌≡◌, ◌≤◌, take, length, IfErr, IfSome, IsNone, OnErr, OnOk};
+ghost use Rattle.std.specs.Prelude.{◌≡◌, ◌≤◌, take, length, IfErr, IfSome, IsNone, OnOk};
 ghost use Rattle.std.specs.Io.KnownBytes.{Appends, Keeps};
-ghost use Rattle.run_texts.specs.CutOff.{IsCutOff};
 
 use crate::ToolFault;
 use std::io::{ErrorKind, Write};
@@ -43,11 +42,10 @@ pub(crate) fn write_some<W: Write>(bytes: &[u8], out: &mut W) -> usize
 }
 
 /// Writes all of these bytes. A write that is interrupted is made again. The error is `Write` if the writer
-/// fails or takes no bytes: the first bytes were then written, possibly none, and never all of them.
-#[tactic(auto, using(crate::proofs::CutLemmas::cuts))]
+/// fails or takes no bytes; nothing is stated about how much was then written.
+#[tactic(auto, using(crate::proofs::StreamLemmas::all_appended))]
 pub fn write_text<W: Write>(bytes: &[u8], out: &mut W) -> Result<(), ToolFault>
     ensures text { OnOk result (Appends (W.contents out.old) (W.contents out.new) bytes.now) }
-    ensures cut { OnErr result (IsCutOff (W.contents out.old) (W.contents out.new) bytes.now) }
     ensures fault { IfErr result (λ fault. fault ≡ ToolFault.Write) }
 {
     let done = write_some(bytes, out);

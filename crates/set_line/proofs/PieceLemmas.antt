@@ -59,6 +59,7 @@ pieces_joined policy font (piece ∷ next ∷ pieces) =
     ∙ ap (λ xs. xs ++ 32 ∷ joined (portions_of_pieces policy font (next ∷ pieces))) (piece_joined policy font piece)
     ∙ ap (λ xs. piece ++ 32 ∷ xs) (pieces_joined policy font (next ∷ pieces))
 
+-- Law: the bytes of the portions of a line, joined together, are the line
 pub line_joined : (policy : Policy) (font : FontValue) (line : List ℕ) → AreWhole policy font line
 unfolding portions_of pieces_of
 line_joined policy font line = pieces_joined policy font (slice_split is_space line) ∙ join_with_byte-slice_split 32 line
@@ -162,6 +163,7 @@ pieces_uncut policy font (piece ∷ next ∷ pieces) none =
     uncut_both policy font (portions_of_piece policy font piece) (space ∷ portions_of_pieces policy font (next ∷ pieces))
     (piece_uncut policy font piece none.0) (tt, pieces_uncut policy font (next ∷ pieces) none.1)
 
+-- Law: the portions of a line can't be cut further
 pub line_uncut : (policy : Policy) (font : FontValue) (line : List ℕ) → AreUncut policy font (portions_of policy font line)
 unfolding portions_of pieces_of
 line_uncut policy font line = pieces_uncut policy font (slice_split is_space line) (none_has is_space line)
@@ -199,6 +201,8 @@ pieces_bounded policy font (piece ∷ next ∷ pieces) =
     bounded_before_space (portions_of_piece policy font piece) (portions_of_pieces policy font (next ∷ pieces))
     (piece_bounded policy font piece) (pieces_bounded policy font (next ∷ pieces))
 
+-- Law: the right boundary may follow exactly those runs that are followed by a space or by the end of the
+-- line
 pub line_bounded : (policy : Policy) (font : FontValue) (line : List ℕ) → AreBounded (portions_of policy font line)
 unfolding portions_of
 line_bounded policy font line = pieces_bounded policy font (pieces_of line)
@@ -316,9 +320,8 @@ same policy font (skipped code ∷ xs) (skipped other ∷ ys) e u v b c =
     ap (λ byte. skipped byte ∷ xs) (first_same code other (joined xs) (joined ys) e)
     ∙ ap (λ portions. skipped other ∷ portions) (same policy font xs ys (others_same code other (joined xs) (joined ys) e) u.1 v.1 b c)
 
+-- Law: no other list of portions has these three properties
 pub line_only : (policy : Policy) (font : FontValue) (line : List ℕ) → AreTheOnly policy font line
 line_only policy font line = λ portions whole uncut bounded.
     same policy font portions (portions_of policy font line) (whole ∙ sym (line_joined policy font line))
     uncut (line_uncut policy font line) bounded (line_bounded policy font line)
-
-pub ruleset laws = (line_joined, line_uncut, line_bounded, line_only)

@@ -8,7 +8,7 @@
 pub use answer::Answer;
 pub use cutting::{first_line, lines};
 pub use items::Items;
-pub use laws::{cut_at_feeds, cut_into_portions};
+pub use laws::cut_at_feeds;
 pub use limit::Limit;
 pub use line::Line;
 pub use out_of_memory::OutOfMemory;

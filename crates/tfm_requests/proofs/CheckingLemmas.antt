@@ -8,12 +8,10 @@ use Rattle.std.specs.Io.KnownBytes.{Appends, Keeps}
 use Rattle.font_texts.specs.declared.finding.Finding.{Finding}
 use Rattle.font_texts.specs.declared.finding.Finding.TheVariants.{Accepted, Refused, NotRead}
 use Rattle.font_texts.specs.Findings.{finding_line, finding_of, finding_with, findings_text}
-use Rattle.run_texts.specs.CutOff.{IsCutOff}
-use Rattle.run_texts.proofs.CutLemmas.{cut_after}
-use Rattle.tfm_requests.specs.Checking.{AreChecked, AreCheckedInPart, IsFound, IsRowOf, dashes_in, finding_status}
-use Rattle.request_files.specs.Kept.{HaveSameFont}
-use Rattle.request_files.specs.Named.{font_bytes_of}
-use Rattle.request_files.proofs.JobLemmas.{place_more}
+use Rattle.tfm_requests.specs.Checking.{AreChecked, IsFound, IsRowOf, dashes_in, finding_status}
+use Rattle.tfm_requests.specs.Kept.{HaveSameFont}
+use Rattle.tfm_requests.specs.Known.{font_bytes_of}
+use Rattle.tfm_requests.proofs.JobLemmas.{place_more}
 
 appends_nothing : (w : Option (List ℕ)) → Appends w w []
 appends_nothing None = tt
@@ -60,20 +58,6 @@ module _ (known : List ℕ → Option (List ℕ)) (input : Option (List ℕ)) wh
             ∙ sym (fold-append (λ highest row. max highest (finding_status row.1)) 0 before.0 (row ∷ [])),
       )
 
-  -- one font more of whose line a first part was written
-  pub one_in_part : (names : List (Bor (List ℕ))) (i : ℕ) (d : Bor (List ℕ)) (finding : Finding) (w w' w'' : Option (List ℕ)) (status : ℕ)
-      → i < length names → AreChecked known input (take i names) w w' status
-      → IfSome (font_bytes_of known input (get_or names i d).now) (λ all. IsFound all finding)
-      → IsCutOff w' w'' (finding_line ((get_or names i d).now, finding))
-      → AreCheckedInPart known input (take (i + 1) names) w w''
-  one_in_part names i d finding w w' w'' status within before found cut =
-      let row : List ℕ × Finding = ((get_or names i d).now, finding) in (
-        before.0 ++ row ∷ [],
-        place_more (IsRowOf known input) names before.0 i (get_or names i d) row within (get_or_default names i d (get_or names i d) within) before.1 (refl, found),
-        subst (IsCutOff w w'') (flat_map_more finding_line [] before.0 row)
-            (cut_after w w' w'' (findings_text before.0) (finding_line row) before.2 cut),
-      )
-
 -- ---- standard input, which at most one name asks for
 
 not_dash : (name : List ℕ) → bytes_eq name (codes "-") ≡ false → name ≡ codes "-" → ⊥
@@ -83,12 +67,6 @@ by_dash : (dash : Bool) (start now other : Option (List ℕ)) (P : List ℕ → 
     → IfSome (if dash then now else other) P → IfSome (if dash then start else other) P
 by_dash true start now other P same found = subst (λ input. IfSome input P) (same refl) found
 by_dash false start now other P same found = found
-
--- without such a name there is none among the first
-pub none_among : (names : List (Bor (List ℕ))) (n : ℕ) → dashes_in names ≡ 0 → dashes_in (take n names) ≡ 0
-none_among names n none =
-    let some : dashes_in (take n names) ≤ dashes_in names = sum_by-take-le (λ name. cond (bytes_eq name.now (codes "-")) 1 0) names n in
-    omega (arith, some, none)
 
 module _ (names : List (Bor (List ℕ))) (i : ℕ) (d : Bor (List ℕ)) (within : i < length names) where
   -- before the only one there is none

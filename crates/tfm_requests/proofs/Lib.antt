@@ -1,7 +1,13 @@
+pub mod KeptLemmas
+pub mod KnownLemmas
+pub mod NamedLemmas
+pub mod ReaderLemmas
+pub mod FailureLemmas
+pub mod CauseLemmas
+pub mod VectorLemmas
+pub mod EachLemmas
+pub mod WordLemmas
+pub mod JobLemmas
 pub mod CheckingLemmas
 pub mod SourceLemmas
-pub mod StoppedLemmas
-pub mod RequestLemmas
-pub mod OrderLemmas
 pub mod WorkedRows
-pub mod FontErrorLemmas

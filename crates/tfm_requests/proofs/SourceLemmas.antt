@@ -1,7 +1,7 @@
 -- What is printed of sources is what is printed of what they tell.
-use Rattle.std.proofs.Common.{◌≡◌, ℕ, suc, ◌+◌, List, [], ◌∷◌, ◌++◌, fold, length, map, Option, refl, ap, sym, subst, ◌∙◌}
+use Rattle.std.proofs.Common.{◌≡◌, ◌⊎◌, inl, inr, ℕ, suc, ◌+◌, List, [], ◌∷◌, ◌++◌, fold, length, map, Option, refl, ap, sym, subst, ◌∙◌}
 use Rattle.std.specs.List.{AllZip, list_any}
-use Rattle.std.specs.Prelude.{◌||◌, IfOk, Result, Ok, Err}
+use Rattle.std.specs.Prelude.{◌||◌, IfErr, IfOk, Result, Ok, Err}
 use Rattle.std.specs.declared.alloc.Global.{Global}
 use Rattle.std.specs.declared.sync.Arc.{Arc}
 use Rattle.std.specs.Io.KnownBytes.{Appends, Keeps}
@@ -18,15 +18,17 @@ use Rattle.run_texts.specs.Streaming.{HaveLines, IsStreamed, SourceLine, merged_
 use Rattle.run_texts.specs.Setting.{AreOwnReports, IsWritten}
 use Rattle.run_texts.specs.declared.summary.Summary.{Summary}
 use Rattle.run_texts.specs.declared.fault.ToolFault.{ToolFault}
-use Rattle.request_files.specs.Jobs.{told_with_terms}
-use Rattle.request_files.specs.Status.{AfterText}
-use Rattle.tfm_requests.specs.declared.delivery.Delivery.{Delivery}
-use Rattle.tfm_requests.specs.declared.delivery.Delivery.TheVariants.{AtTheEnd, AsTheyCome}
-use Rattle.request_files.specs.declared.failure.Failure.{Failure}
+use Rattle.run_texts.specs.declared.fault.ToolFault.TheVariants.{Font, Run, OutOfMemory, Write}
+use Rattle.set_run.specs.declared.run_fault.RunFault.{RunFault}
+use Rattle.set_run.specs.declared.run_fault.RunFault.TheVariants.{OutOfMemory as NoMemory, Thread}
+use Rattle.tfm_tables.specs.declared.fault.FontFault.{FontFault}
+use Rattle.tfm_requests.specs.Status.{tool_status}
+use Rattle.tfm_requests.specs.Jobs.{told_with_terms}
+use Rattle.tfm_requests.specs.declared.batches.delivery.Delivery.{Delivery}
+use Rattle.tfm_requests.specs.declared.batches.delivery.Delivery.TheVariants.{AtTheEnd, AsTheyCome}
 use Rattle.tfm_requests.proofs.CheckingLemmas.{kept_text}
-use Rattle.request_files.proofs.KnownLemmas.{after_map}
-use Rattle.tfm_requests.specs.Runs.{IsDelivered, IsPrinted}
-use Rattle.request_files.specs.Told.{Told, told_by}
+use Rattle.tfm_requests.specs.Requests.{IsDelivered, IsPrinted}
+use Rattle.tfm_requests.specs.Told.{Told, told_by}
 
 module _ {S : Type 0} (to_come : S → Option (List (List ℕ))) (failed : S → Option SourceFault) where
   -- the report of a source as one of what the source tells
@@ -106,17 +108,6 @@ module _ {S : Type 0} (to_come : S → Option (List (List ℕ))) (failed : S →
     is ∙ (ap summary_status text.3 ∙ sym (same_status style.encoding text.0)),
   )
 
-  pub delivered_then_finished : {O : Type 0} (origin : S → O) (r : Result ℕ Failure) (delivery : Delivery) (style : RecordStyle)
-      (sources : List (S × Arc TermsValue Global)) (w w' w'' : Option (List ℕ)) (summary : Summary)
-      → ((reports : List (LaneReport S)) × AreOwnReports to_come failed origin sources reports
-      × IsDelivered delivery style reports w w' × (summary ≡ summary_of_run style.encoding reports))
-      → Keeps w' w'' → AfterText r (λ status. status ≡ summary_status summary)
-      → AfterText r (IsPrinted delivery (map (told_with_terms (told_by to_come failed)) sources) style w w'')
-  delivered_then_finished origin r delivery style sources w w' w'' summary text kept worst =
-      after_map r (λ status. status ≡ summary_status summary)
-      (IsPrinted delivery (map (told_with_terms (told_by to_come failed)) sources) style w w'')
-      (λ status is. printed_before origin delivery style sources w w' w'' summary status text kept is) worst
-
   -- output that was kept until the batch was done is delivered at its end
   pub kept_delivered : {O : Type 0} (origin : S → O) (delivery : Delivery) (style : RecordStyle) (sources : List (S × Arc TermsValue Global))
       (w w' : Option (List ℕ)) (r : Result Summary ToolFault) → delivery ≡ AtTheEnd
@@ -126,3 +117,12 @@ module _ {S : Type 0} (to_come : S → Option (List (List ℕ))) (failed : S →
   kept_delivered origin delivery style sources w w' (Ok summary) is text =
       (text.0, text.1, subst (λ d. IsDelivered d style text.0 w w') (sym is) text.2.0, text.2.1)
   kept_delivered origin delivery style sources w w' (Err fault) is text = text
+
+-- a batch of at most 64 sources fails only for want of memory, of a thread, or of the writer
+pub stops : {A : Type 0} (r : Result A ToolFault) → ((fault : FontFault) → r ≡ Err (Font fault) → ⊥)
+    → ((fault : RunFault) → r ≡ Err (Run fault) → (fault ≡ NoMemory) ⊎ (fault ≡ Thread)) → IfErr r (λ fault. tool_status fault ≡ 5)
+stops (Ok a) font few = tt
+stops (Err (Font fault)) font few = absurd (font fault refl)
+stops (Err (Run fault)) font few = elim (few fault refl) [ inl is ↦ ap (λ f. tool_status (Run f)) is | inr is ↦ ap (λ f. tool_status (Run f)) is ]
+stops (Err OutOfMemory) font few = refl
+stops (Err Write) font few = refl

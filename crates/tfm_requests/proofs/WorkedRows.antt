@@ -1,24 +1,19 @@
 -- Words, fonts and files, and what the definitions alone make of them.
-use Rattle.std.proofs.Common.{false, arith, ◌≡◌, ℕ, ◌<◌, ◌≤◌, List, [], ◌∷◌, length, Option, Some, None, inr, Bor, codes, refl, sym, subst}
+use Rattle.std.proofs.Common.{arith, ◌≡◌, ℕ, ◌<◌, ◌≤◌, List, [], ◌∷◌, length, Some, Bor, codes, refl, sym, subst}
 use Rattle.std.proofs.lemmas.Bool.{true≢false}
 use Rattle.tfm_words.specs.CountFaults.{faults_within}
 use Rattle.tfm_words.specs.declared.count_fault.CountFault.TheVariants.{Truncated}
 use Rattle.tfm_tables.specs.declared.fault.FontFault.TheVariants.{Counts as InCounts}
-use Rattle.font_texts.specs.Findings.{finding_line, finding_words}
-use Rattle.font_texts.specs.ListingWords.{escaped}
-use Rattle.font_texts.specs.declared.finding.Finding.TheVariants.{NotRead}
-use Rattle.run_texts.specs.declared.fault.ToolFault.TheVariants.{Font}
 use Rattle.command_line.specs.declared.request.Checking.{Checking}
 use Rattle.command_line.specs.declared.request.Layout.{Layout}
-use Rattle.command_line.specs.declared.request.Request.TheVariants.{Counts, Check, Set, Stream}
 use Rattle.command_line.specs.declared.request.Setting.{Setting}
 use Rattle.tfm_requests.specs.Checking.{dashes_in}
-use Rattle.tfm_requests.specs.Faults.{IsFaultOf, IsFontFaultOf}
-use Rattle.request_files.specs.FontFaults.{IsFirstRefused}
-use Rattle.request_files.specs.Jobs.{IsFaultOfWords, IsLimitOf, WritesLimit, jobs_in}
-use Rattle.tfm_requests.specs.Stopped.{HasBroken, IsCheckBroken}
-use Rattle.request_files.specs.declared.failure.Failure.TheVariants.{NotInThrees, TooManyFiles, LimitRange, TwoFonts, FontRefused, Tool}
-use Rattle.request_files.proofs.WordLemmas.{limit_of_one}
+use Rattle.tfm_requests.specs.Causes.{IsErrorOfCheck, IsErrorOfSetting, IsHeadError, IsJobError}
+use Rattle.tfm_requests.specs.Jobs.{IsErrorOfWords, IsLimitOf, WritesLimit, jobs_in}
+use Rattle.tfm_requests.specs.declared.failures.errors.FontError.TheVariants.{Refused}
+use Rattle.tfm_requests.specs.declared.failures.errors.JobError.TheVariants.{Refused as JobRefused}
+use Rattle.tfm_requests.specs.declared.failures.errors.RequestError.TheVariants.{NotInThrees, TooManyFiles, LimitRange, TwoFonts}
+use Rattle.tfm_requests.proofs.WordLemmas.{limit_of_one}
 
 -- the word of a text
 abbrev word : List ℕ → Bor (List ℕ)
@@ -45,49 +40,40 @@ none_written = (
 )
 
 -- of two jobs the second has no limit
-second_limit : IsFaultOfWords (word (codes "cmr10") ∷ word (codes "1") ∷ word (codes "a") ∷ word (codes "cmr10") ∷ word (codes "0") ∷ word (codes "b") ∷ []) (LimitRange 2)
+second_limit : IsErrorOfWords (word (codes "cmr10") ∷ word (codes "1") ∷ word (codes "a") ∷ word (codes "cmr10") ∷ word (codes "0") ∷ word (codes "b") ∷ []) (LimitRange 2)
 second_limit =
     ((refl, omega arith), (codes "1" ∷ [], codes "0", [], refl, refl, limit_of_one (codes "1") (1, limits_written.0), none_written.1))
 
 -- one word more than a job
-fourth_word : IsFaultOfWords (word (codes "cmr10") ∷ word (codes "1") ∷ word (codes "a") ∷ word (codes "cmr10") ∷ []) NotInThrees
+fourth_word : IsErrorOfWords (word (codes "cmr10") ∷ word (codes "1") ∷ word (codes "a") ∷ word (codes "cmr10") ∷ []) NotInThrees
 fourth_word = λ is. absurd (omega (arith, is))
 
 -- ---- requests
 
 -- of three fonts two are standard input
-two_dashes : (asked : Checking) → asked.fonts.items ≡ word (codes "-") ∷ word (codes "a") ∷ word (codes "-") ∷ [] → IsFaultOf (Check asked) TwoFonts
+two_dashes : (asked : Checking) → asked.fonts.items ≡ word (codes "-") ∷ word (codes "a") ∷ word (codes "-") ∷ [] → IsErrorOfCheck asked TwoFonts
 two_dashes asked is = subst (λ names. 1 < dashes_in names) (sym is) (omega arith)
 
 -- of two it is one
-one_dash : (asked : Checking) → asked.fonts.items ≡ word (codes "-") ∷ word (codes "--") ∷ [] → ¬ IsFaultOf (Check asked) TwoFonts
+one_dash : (asked : Checking) → asked.fonts.items ≡ word (codes "-") ∷ word (codes "--") ∷ [] → ¬ IsErrorOfCheck asked TwoFonts
 one_dash asked is two = let more : 1 < 1 = subst (λ names. 1 < dashes_in names) is two in absurd (omega (arith, more))
 
 -- 64 files are taken, and 65 aren't
-most_files : (setting : Setting) → length setting.files.items ≡ 64 → ¬ IsFaultOf (Set setting) TooManyFiles × ¬ IsFaultOf (Stream setting) TooManyFiles
-most_files setting is = (λ more. absurd (omega (arith, is, more)), λ more. absurd (omega (arith, is, more)))
+most_files : (setting : Setting) → length setting.files.items ≡ 64 → ¬ IsErrorOfSetting setting TooManyFiles
+most_files setting is = λ more. absurd (omega (arith, is, more))
 
-too_many_files : (setting : Setting) → length setting.files.items ≡ 65 → IsFaultOf (Set setting) TooManyFiles × IsFaultOf (Stream setting) TooManyFiles
-too_many_files setting is = (omega (arith, is), omega (arith, is))
+too_many_files : (setting : Setting) → length setting.files.items ≡ 65 → IsErrorOfSetting setting TooManyFiles
+too_many_files setting is = omega (arith, is)
 
 -- ---- fonts
 
--- nothing on standard input is a font without its 24 bytes of counts
-no_font : (known : List ℕ → Option (List ℕ)) → IsFontFaultOf known (Some []) (Counts (word (codes "-")) false) (Tool (Font (InCounts (Truncated 24))))
+-- no bytes are a font without its 24 bytes of counts
+no_font : IsHeadError (Some []) (Refused (InCounts (Truncated 24)))
 unfolding faults_within
-no_font known = refl
+no_font = refl
 
 -- of two jobs without such fonts the first one is told
-first_of_two : (layout : Layout) → IsFirstRefused (λ _. Some []) layout
-    (jobs_in (word (codes "a") ∷ word (codes "1") ∷ word (codes "b") ∷ word (codes "c") ∷ word (codes "1") ∷ word (codes "d") ∷ [])) (FontRefused 1 (InCounts (Truncated 24)))
+first_of_two : (layout : Layout) → IsJobError (λ _. Some []) layout
+    (jobs_in (word (codes "a") ∷ word (codes "1") ∷ word (codes "b") ∷ word (codes "c") ∷ word (codes "1") ∷ word (codes "d") ∷ [])) (JobRefused 1 (InCounts (Truncated 24)))
 unfolding faults_within
-first_of_two layout = ([], record { font = codes "a"; limit = 1; file = codes "b" }, record { font = codes "c"; limit = 1; file = codes "d" } ∷ [], refl, λ k d below. absurd (omega (arith, below)), (refl, refl))
-
--- ---- a failed write
-
--- of the line of a font that wasn't read, five bytes were written
-cut_line : (asked : Checking) → asked.fonts.items ≡ word (codes "a") ∷ [] → HasBroken (λ _. None) None (Some []) (Some (codes "a: no")) (Check asked)
-unfolding finding_line finding_words escaped
-cut_line asked is =
-    subst (IsCheckBroken (λ _. None) None (Some []) (Some (codes "a: no"))) (sym is)
-    (inr (1, ((codes "a", NotRead) ∷ [], ((refl, tt), tt), (5, omega arith, refl))))
+first_of_two layout = ([], record { font = codes "a"; limit = 1; file = codes "b" }, record { font = codes "c"; limit = 1; file = codes "d" } ∷ [], refl, refl, λ k d below. absurd (omega (arith, below)), refl)

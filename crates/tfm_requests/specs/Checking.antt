@@ -8,8 +8,7 @@ use Rattle.std.specs.Str.{bytes_eq}
 use Rattle.font_texts.specs.declared.finding.Finding.{Finding}
 use Rattle.font_texts.specs.declared.finding.Finding.TheVariants.{Accepted, Refused, NotRead}
 use Rattle.font_texts.specs.Findings.{finding_of, findings_text}
-use Rattle.run_texts.specs.CutOff.{IsCutOff}
-use Rattle.request_files.specs.Named.{font_bytes_of}
+use Rattle.tfm_requests.specs.Known.{font_bytes_of}
 
 -- the exit status for the finding of one font
 abbrev pub finding_status : Finding → ℕ
@@ -42,10 +41,3 @@ module _ (known : List ℕ → Option (List ℕ)) (input : Option (List ℕ)) wh
       × AllZip IsRowOf shown rows
       × Appends before after (findings_text rows)
       × (status ≡ highest_status rows)
-
-  -- a first part of the lines of these fonts was written, but not all of it; each line has a possible finding
-  abbrev pub AreCheckedInPart : List (Bor (List ℕ)) → Option (List ℕ) → Option (List ℕ) → Type 0
-  AreCheckedInPart shown before after =
-      (rows : List (List ℕ × Finding))
-      × AllZip IsRowOf shown rows
-      × IsCutOff before after (findings_text rows)

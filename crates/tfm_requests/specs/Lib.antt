@@ -1,5 +1,10 @@
-pub mod Runs
+pub mod Errors
+pub mod Status
+pub mod Known
+pub mod Kept
+pub mod Told
+pub mod Jobs
+pub mod Vectors
 pub mod Checking
 pub mod Requests
-pub mod Stopped
-pub mod Faults
+pub mod Causes

@@ -1,6 +1,7 @@
 -- The output and the exit status of the program for each kind of request.
 -- This project's own.
 use Rattle.std.specs.Prelude.{◌≡◌, ℕ, List, Bool, true, false, Option, None}
+use Rattle.std.specs.Borrow.{Bor}
 use Rattle.std.specs.Io.KnownBytes.{Appends}
 use Rattle.std.specs.List.{AllZip}
 use Rattle.font_texts.specs.AllListing.{all_listing_of}
@@ -10,23 +11,73 @@ use Rattle.font_texts.specs.PairCharacters.{pairs_text_with}
 use Rattle.font_texts.specs.declared.pairs_layout.PairsLayout.{PairsLayout}
 use Rattle.tfm_tables.specs.Font.{FontValue, IsFontOf}
 use Rattle.set_line.specs.Terms.{TermsValue}
-use Rattle.tfm_requests.specs.Checking.{AreChecked}
-use Rattle.request_files.specs.Named.{OfKnown, file_bytes_of, font_bytes_of, stream_bytes_of}
-use Rattle.request_files.specs.Jobs.{AreTermsFor, IsSourceOfJob, IsSourceWith, jobs_in}
-use Rattle.tfm_requests.specs.Runs.{IsPrinted, layout_style}
-use Rattle.request_files.specs.Told.{IsSourceOf, Told, text_in}
-use Rattle.tfm_requests.specs.declared.delivery.Delivery.{Delivery}
-use Rattle.tfm_requests.specs.declared.delivery.Delivery.TheVariants.{AtTheEnd, AsTheyCome}
-use Rattle.command_line.specs.declared.request.Layout.{Layout}
+use Rattle.encodings.specs.declared.encoding.Encoding.{Encoding}
+use Rattle.line_blocks.specs.BlockText.{RecordStyle}
+use Rattle.set_run.specs.Reports.{IsReported}
+use Rattle.set_run.specs.declared.report.LaneReport.{LaneReport}
+use Rattle.run_texts.specs.Endings.{summary_status}
+use Rattle.run_texts.specs.ReportText.{run_text, summary_of_run}
+use Rattle.run_texts.specs.Streaming.{IsStreamed}
 use Rattle.command_line.specs.declared.request.Request.{Request}
 use Rattle.command_line.specs.declared.request.Request.TheVariants.{Counts, List as ListFont, Pairs, Check, Set, Stream, Each}
+use Rattle.command_line.specs.declared.request.Requested.{Requested}
 use Rattle.command_line.specs.declared.request.Jobs.{Jobs}
 use Rattle.command_line.specs.declared.request.Setting.{Setting}
+use Rattle.tfm_requests.specs.Checking.{AreChecked}
+use Rattle.tfm_requests.specs.Known.{OfKnown, file_bytes_of, font_bytes_of, stream_bytes_of}
+use Rattle.tfm_requests.specs.Jobs.{AreTermsFor, IsSourceOfJob, IsSourceWith, jobs_in}
+use Rattle.tfm_requests.specs.Told.{Told}
+use Rattle.tfm_requests.specs.Vectors.{IsEncodingOf}
+use Rattle.tfm_requests.specs.declared.batches.delivery.Delivery.{Delivery}
+use Rattle.tfm_requests.specs.declared.batches.delivery.Output.{Output}
+use Rattle.tfm_requests.specs.declared.batches.delivery.Delivery.TheVariants.{AtTheEnd, AsTheyCome}
+
+-- ---- the text of a font
 
 -- the listing of a font, or its full listing if the flag is true
 abbrev pub list_text_of : Bool → FontValue → List ℕ
 list_text_of true font = all_listing_of font
 list_text_of false font = listing_of font
+
+-- the counts and the design size in these bytes have no error, and this is their text
+abbrev pub IsCountsText : Option (List ℕ) → List ℕ → Type 0
+IsCountsText bytes text = OfKnown bytes (λ all. (head_fault_of all ≡ None) × (text ≡ counts_text_of all))
+
+-- this is the listing of the font in these bytes at this size, or at its design size
+abbrev pub IsListText : Option (List ℕ) → Option ℕ → Bool → List ℕ → Type 0
+IsListText bytes size all_of_it text =
+    OfKnown bytes (λ all. (font : FontValue) × IsFontOf all size font × (text ≡ list_text_of all_of_it font))
+
+-- these are the pairs of the font in these bytes at this size, or at its design size, in the format of the layout,
+-- with the characters of this encoding
+abbrev pub IsPairsText : Option (List ℕ) → Option ℕ → PairsLayout → Encoding → List ℕ → Type 0
+IsPairsText bytes size layout encoding text =
+    OfKnown bytes (λ all. (font : FontValue) × IsFontOf all size font × (text ≡ pairs_text_with encoding layout.format font))
+
+-- this text was written, and the exit status is 0
+abbrev pub IsText : (List ℕ → Type 0) → Option (List ℕ) → Option (List ℕ) → ℕ → Type 0
+IsText Is before after status = (text : List ℕ) × Is text × Appends before after text × (status ≡ 0)
+
+-- ---- the output of a batch
+
+-- how lines are read and their records written: the encoding, and the record format
+abbrev pub style_of : Output → RecordStyle
+style_of output = record { encoding = output.encoding; version = output.layout.now.version }
+
+-- the output for these reports was written: in the order of the sources, or the lines of all sources as they
+-- arrived
+abbrev pub IsDelivered : {S : Type 0} → Delivery → RecordStyle → List (LaneReport S) → Option (List ℕ) → Option (List ℕ) → Type 0
+IsDelivered AtTheEnd style reports before after = Appends before after (run_text style reports)
+IsDelivered AsTheyCome style reports before after = IsStreamed style reports before after
+
+-- the output for some reports of these sources, each given by its known contents and its settings, was
+-- written, and the exit status is the one for their summary
+abbrev pub IsPrinted : Delivery → List (Told × TermsValue) → RecordStyle → Option (List ℕ) → Option (List ℕ) → ℕ → Type 0
+IsPrinted delivery sources style before after status =
+    (reports : List (LaneReport Told))
+    × AllZip (λ source report. IsReported (λ told. told.lines) (λ told. told.fault) source.1 source.0 report) sources reports
+    × IsDelivered delivery style reports before after
+    × (status ≡ summary_status (summary_of_run style.encoding reports))
 
 module _ (known : List ℕ → Option (List ℕ)) (input : Option (List ℕ)) where
   -- sources of the text in these bytes, in order, all with the settings of a request of `set` or `stream`
@@ -36,58 +87,44 @@ module _ (known : List ℕ → Option (List ℕ)) (input : Option (List ℕ)) wh
       × AreTermsFor (font_bytes_of known input setting.font.now) setting.layout setting.limit terms
       × AllZip (IsSourceWith setting.layout terms) bytes sources
 
--- ---- the cases
--- The parameters of each case: the known contents of a file, by its name, and of standard input; the contents
--- of the output before and after; and the exit status.
-
-module _ (known : List ℕ → Option (List ℕ)) (input before after : Option (List ℕ)) where
-  -- the counts and the design size of the font have no error, and their text was written
-  abbrev pub CountsAreTold : List ℕ → ℕ → Type 0
-  CountsAreTold name status =
-      OfKnown (font_bytes_of known input name) (λ all. (head_fault_of all ≡ None) × Appends before after (counts_text_of all))
-      × (status ≡ 0)
-
-  -- the listing of the font at this size, or at its design size, was written
-  abbrev pub IsListed : List ℕ → Option ℕ → Bool → ℕ → Type 0
-  IsListed name size all_of_it status =
-      OfKnown (font_bytes_of known input name) (λ all. (font : FontValue)
-      × IsFontOf all size font
-      × Appends before after (list_text_of all_of_it font))
-      × (status ≡ 0)
-
-  -- the pairs of the font at this size, or at its design size, were written in this format,
-  -- with the characters of this encoding
-  abbrev pub ArePairsTold : List ℕ → Option ℕ → PairsLayout → ℕ → Type 0
-  ArePairsTold name size layout status =
-      OfKnown (font_bytes_of known input name) (λ all. (font : FontValue)
-      × IsFontOf all size font
-      × Appends before after (pairs_text_with layout.encoding layout.format font))
-      × (status ≡ 0)
-
-  -- the output of a batch was written; its sources have these bytes, and the settings of the request
-  abbrev pub IsSetFrom : Delivery → List (Option (List ℕ)) → Setting → ℕ → Type 0
-  IsSetFrom delivery bytes setting status =
-      (sources : List (Told × TermsValue))
-      × AreSetSources known input setting bytes sources
-      × IsPrinted delivery sources (layout_style setting.layout) before after status
+-- ---- requests
+-- The parameters: the known contents of a file, by its name, and of standard input; and the contents of the
+-- output before and after.
 
 module _ (known : List ℕ → Option (List ℕ)) (before after : Option (List ℕ)) where
-  -- the output of a batch was written; its sources are the files of the jobs, in order, each with the
-  -- settings of its job
-  abbrev pub IsEachSet : Jobs → ℕ → Type 0
-  IsEachSet asked status =
-      (sources : List (Told × TermsValue))
-      × AllZip (IsSourceOfJob known asked.layout) (jobs_in asked.words.items) sources
-      × IsPrinted AtTheEnd sources (layout_style asked.layout) before after status
+  -- the output of a batch was written, in this encoding; its sources are the files of the jobs, in order, each with
+  -- the settings of its job
+  abbrev pub IsEachSet : Jobs → Option (Bor (List ℕ)) → ℕ → Type 0
+  IsEachSet jobs vector status =
+      (encoding : Encoding)
+      × IsEncodingOf known vector jobs.layout.encoding encoding
+      × ((sources : List (Told × TermsValue))
+      × AllZip (IsSourceOfJob known jobs.layout) (jobs_in jobs.words.items) sources
+      × IsPrinted AtTheEnd sources (record { encoding = encoding; version = jobs.layout.version }) before after status)
 
 module _ (known : List ℕ → Option (List ℕ)) (input before after : Option (List ℕ)) where
-  -- the output of a request was written, and this is its exit status
-  abbrev pub IsDone : Request → ℕ → Type 0
-  IsDone (Counts font _) status = CountsAreTold known input before after font.now status
-  IsDone (ListFont font size all_of_it _) status = IsListed known input before after font.now size all_of_it status
-  IsDone (Pairs font size layout _) status = ArePairsTold known input before after font.now size layout status
-  IsDone (Check asked) status = AreChecked known input asked.fonts.items before after status
-  IsDone (Set setting) status = IsSetFrom known input before after AtTheEnd (file_bytes_of known setting.files.items) setting status
-  IsDone (Stream setting) status =
-      IsSetFrom known input before after AsTheyCome (stream_bytes_of known input setting.files.items) setting status
-  IsDone (Each jobs) status = IsEachSet known before after jobs status
+  -- the output of a batch was written, in this encoding; its sources have these bytes, and the settings of the
+  -- request
+  abbrev pub IsSetFrom : Delivery → List (Option (List ℕ)) → Setting → Option (Bor (List ℕ)) → ℕ → Type 0
+  IsSetFrom delivery bytes setting vector status =
+      (encoding : Encoding)
+      × IsEncodingOf known vector setting.layout.encoding encoding
+      × ((sources : List (Told × TermsValue))
+      × AreSetSources known input setting bytes sources
+      × IsPrinted delivery sources (record { encoding = encoding; version = setting.layout.version }) before after status)
+
+  -- the output of a request, with the encoding vector that the arguments name, was written, and this is its exit status
+  abbrev pub IsDoneBy : Request → Option (Bor (List ℕ)) → ℕ → Type 0
+  IsDoneBy (Counts font _) vector = IsText (IsCountsText (font_bytes_of known input font.now)) before after
+  IsDoneBy (ListFont asked) vector = IsText (IsListText (font_bytes_of known input asked.font.now) asked.size asked.all) before after
+  IsDoneBy (Pairs asked) vector =
+      IsText (λ text. (encoding : Encoding) × IsEncodingOf known vector asked.layout.encoding encoding
+      × IsPairsText (font_bytes_of known input asked.font.now) asked.size asked.layout encoding text) before after
+  IsDoneBy (Check asked) vector = AreChecked known input asked.fonts.items before after
+  IsDoneBy (Set setting) vector = IsSetFrom AtTheEnd (file_bytes_of known setting.files.items) setting vector
+  IsDoneBy (Stream setting) vector = IsSetFrom AsTheyCome (stream_bytes_of known input setting.files.items) setting vector
+  IsDoneBy (Each jobs) vector = IsEachSet known before after jobs vector
+
+  -- the same for what arguments request
+  abbrev pub IsDone : Requested → ℕ → Type 0
+  IsDone asked = IsDoneBy asked.request asked.vector

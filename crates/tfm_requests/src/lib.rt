@@ -1,12 +1,18 @@
-//! Carries out requests: reads their fonts, opens their files, and writes their output.
+//! Carries out requests: reads their fonts and encoding vectors, opens their files, and writes their output.
 #![tactic(auto)]
 
-pub use font_errors::find_font_error;
+pub use failures::done::Done;
+pub use failures::errors::{EncodingError, FileError, FontError, JobError, RequestError};
+pub use failures::failure::Failure;
+pub use files::opening::{Disk, InMemory, Opens};
 pub use performing::perform;
+pub use stated::Stated;
+pub use texts::{counts_text, list_text};
 
+mod batches;
 mod checking;
-mod delivery;
-mod each;
-mod font_errors;
+mod failures;
+mod files;
 mod performing;
-mod runs;
+mod stated;
+mod texts;

@@ -1,4 +1,3 @@
-pub mod Vectors
 pub mod Served
 pub mod Verbose
 pub mod Warnings

@@ -4,27 +4,16 @@ use set_line::first_line;
 /// The number of bytes of a line that are kept. The result of a record begins within them, in every format.
 const HEAD: usize = 80;
 
-/// The result of a record.
-#[derive(Clone, Copy)]
-enum Kind {
-    Set,
-    TooLong,
-    NotUtf8,
-    Uncoded,
-    Missing,
-    Steps,
-}
+/// The words for the reasons of refused lines in a record, in the order in which a summary has them.
+const REASONS: [&str; 5] = ["too-long", "encoding", "uncoded", "missing", "steps"];
 
-/// The number of records of each kind in the output so far.
+/// The numbers of records in the output so far.
 #[derive(Clone, Copy)]
 pub(crate) struct Tally {
     /// The number of records of lines that were set.
     pub set: u64,
-    too_long: u64,
-    not_utf8: u64,
-    uncoded: u64,
-    missing: u64,
-    steps: u64,
+    /// The number of records of lines that were refused, for each of `REASONS`.
+    refused: [u64; 5],
     /// The first bytes of the line that isn't complete yet, and their number.
     head: [u8; HEAD],
     length: usize,
@@ -35,11 +24,7 @@ impl Tally {
     pub fn new() -> Self {
         Tally {
             set: 0,
-            too_long: 0,
-            not_utf8: 0,
-            uncoded: 0,
-            missing: 0,
-            steps: 0,
+            refused: [0; 5],
             head: [0; HEAD],
             length: 0,
         }
@@ -47,11 +32,11 @@ impl Tally {
 
     /// Returns the number of refused lines.
     pub fn refused(&self) -> u64 {
-        self.too_long
-            .saturating_add(self.not_utf8)
-            .saturating_add(self.uncoded)
-            .saturating_add(self.missing)
-            .saturating_add(self.steps)
+        let mut sum: u64 = 0;
+        for count in &self.refused {
+            sum = sum.saturating_add(*count);
+        }
+        sum
     }
 
     /// Returns the number of records.
@@ -59,14 +44,16 @@ impl Tally {
         self.set.saturating_add(self.refused())
     }
 
-    /// Returns the number of refused lines for each reason, with its word in a record.
+    /// Returns the number of refused lines for each reason, with its word.
     pub fn reasons(&self) -> [(u64, &'static str); 5] {
+        let [long, encoding, uncoded, missing, steps] = self.refused;
+        let [word_1, word_2, word_3, word_4, word_5] = REASONS;
         [
-            (self.too_long, "too-long"),
-            (self.not_utf8, "encoding"),
-            (self.uncoded, "uncoded"),
-            (self.missing, "missing"),
-            (self.steps, "steps"),
+            (long, word_1),
+            (encoding, word_2),
+            (uncoded, word_3),
+            (missing, word_4),
+            (steps, word_5),
         ]
     }
 
@@ -93,48 +80,47 @@ impl Tally {
 
     /// Counts the line that is complete, if it is a record.
     fn end_line(&mut self) {
-        let kind = match self.head.get(..self.length) {
-            Some(head) => kind_of(head),
+        let head = self.head;
+        let result = match head.get(..self.length) {
+            Some(head) => result_of(head),
             None => None,
         };
         self.length = 0;
-        match kind {
-            Some(Kind::Set) => self.set = self.set.saturating_add(1),
-            Some(Kind::TooLong) => self.too_long = self.too_long.saturating_add(1),
-            Some(Kind::NotUtf8) => self.not_utf8 = self.not_utf8.saturating_add(1),
-            Some(Kind::Uncoded) => self.uncoded = self.uncoded.saturating_add(1),
-            Some(Kind::Missing) => self.missing = self.missing.saturating_add(1),
-            Some(Kind::Steps) => self.steps = self.steps.saturating_add(1),
+        match result {
+            Some(result) if is_set(result) => self.set = self.set.saturating_add(1),
+            Some(result) => self.count_refused(result),
             None => (),
+        }
+    }
+
+    /// Counts a record with this result, if it is a refusal.
+    fn count_refused(&mut self, outcome: &[u8]) {
+        let reason = match outcome.strip_prefix(b"refused ") {
+            Some(reason) => reason,
+            None => outcome.strip_prefix(b"\"refused\":\"").unwrap_or(b""),
+        };
+        for at in 0..REASONS.len() {
+            if reason.starts_with(REASONS[at].as_bytes()) {
+                self.refused[at] = self.refused[at].saturating_add(1);
+            }
         }
     }
 }
 
-/// Returns the kind of the record that begins with these bytes, or `None` for any other line.
-fn kind_of(head: &[u8]) -> Option<Kind> {
+/// Returns the bytes from the result of a record on: `N:N set ..` or `N:N refused ..` in record format 1 or 2,
+/// and `{"source":N,"line":N,"width":..` or `{"source":N,"line":N,"refused":"..` in JSON. Returns the end of
+/// another line, or `None`.
+fn result_of(head: &[u8]) -> Option<&[u8]> {
     if head.starts_with(b"{") {
-        kind_of_json(head)
+        after(b',', after(b',', head)?)
     } else {
-        kind_of_text(head)
+        after(b' ', head)
     }
 }
 
-/// Returns the kind of a record in JSON, `{"source":N,"line":N,"width":..` or `{"source":N,"line":N,"refused":"..`.
-fn kind_of_json(head: &[u8]) -> Option<Kind> {
-    let result = after(b',', after(b',', head)?)?;
-    if result.starts_with(b"\"width\":") {
-        return Some(Kind::Set);
-    }
-    refused_for(result.strip_prefix(b"\"refused\":\"")?)
-}
-
-/// Returns the kind of a record in record format 1 or 2, `N:N set ..` or `N:N refused ..`.
-fn kind_of_text(head: &[u8]) -> Option<Kind> {
-    let result = after(b' ', head)?;
-    if result.starts_with(b"set ") {
-        return Some(Kind::Set);
-    }
-    refused_for(result.strip_prefix(b"refused ")?)
+/// Returns whether the result is that of a line that was set.
+fn is_set(outcome: &[u8]) -> bool {
+    outcome.starts_with(b"set ") || outcome.starts_with(b"\"width\":")
 }
 
 /// Returns the bytes after the first separator, or `None` if there is no separator.
@@ -145,21 +131,4 @@ fn after(separator: u8, bytes: &[u8]) -> Option<&[u8]> {
         }
     }
     None
-}
-
-/// Returns the kind of a refused line whose reason begins with these bytes.
-fn refused_for(reason: &[u8]) -> Option<Kind> {
-    if reason.starts_with(b"too-long") {
-        Some(Kind::TooLong)
-    } else if reason.starts_with(b"encoding") {
-        Some(Kind::NotUtf8)
-    } else if reason.starts_with(b"uncoded") {
-        Some(Kind::Uncoded)
-    } else if reason.starts_with(b"missing") {
-        Some(Kind::Missing)
-    } else if reason.starts_with(b"steps") {
-        Some(Kind::Steps)
-    } else {
-        None
-    }
 }

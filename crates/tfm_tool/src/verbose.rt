@@ -1,23 +1,21 @@
 //! Carries out a request with the files of the file system, and prints what `--verbose` adds.
-ghost use Rattle.std.specs.Prelude.{◌≡◌, true, false, [], ◌∷◌, Contains, None, IfErr, IfOk};
-ghost use Rattle.tfm_requests.specs.Faults.{IsFaultOf, IsRefused};
-ghost use Rattle.request_files.specs.Status.{AfterText, BeforeText, is_without_text, status_of};
-ghost use Rattle.tfm_tool.specs.Vectors.{HasFailedAs, IsCauseOfAsked, IsDoneAs};
+ghost use Rattle.std.specs.Prelude.{◌≡◌, false, None, IfErr, IfOk};
+ghost use Rattle.tfm_requests.specs.Causes.{IsCauseOf};
+ghost use Rattle.tfm_requests.specs.Requests.{IsDone};
+ghost use Rattle.tfm_requests.specs.Status.{done_status, is_stop};
 ghost use Rattle.tfm_tool.specs.Verbose.{is_verbose as is_verbose_request};
 
 use crate::notes::Notes;
-use crate::program::perform_requested;
-use crate::stated::Stated;
 use crate::summary::{say_causes, say_summary};
 use crate::tally::Tally;
 use crate::watched::{Called, WatchedFiles, WatchedReader, WatchedWriter, Written};
 use command_line::{Request, Requested};
-use request_files::{Disk, Failure};
 use std::io::{Read, Write};
 use std::marker::Brand;
 use std::rt::Files;
 use std::sync::Wait;
 use std::thread::Threads;
+use tfm_requests::{Disk, Done, Failure, Stated, perform};
 
 /// Returns whether a request has `--verbose`.
 fn is_verbose(request: &Request<'_>) -> bool
@@ -25,8 +23,8 @@ fn is_verbose(request: &Request<'_>) -> bool
 {
     match request {
         Request::Counts { verbose, .. } => *verbose,
-        Request::List { verbose, .. } => *verbose,
-        Request::Pairs { verbose, .. } => *verbose,
+        Request::List(asked) => asked.verbose,
+        Request::Pairs(asked) => asked.verbose,
         Request::Check(asked) => asked.verbose,
         Request::Set(setting) => setting.layout.verbose,
         Request::Stream(setting) => setting.layout.verbose,
@@ -45,12 +43,12 @@ fn crlf_of(request: &Request<'_>) -> Option<bool> {
 
 /// Returns the number of files that are opened before the files with lines: the file of the encoding vector
 /// if one is named, and the fonts of a request that sets lines.
-fn files_before_lines<Q: Stated>(requested: &Q) -> u64 {
-    let vectors = match requested.vector() {
+fn files_before_lines(requested: &Requested<'_>) -> u64 {
+    let vectors = match requested.vector {
         Some(_) => 1,
         None => 0,
     };
-    fonts_of(requested.request()).saturating_add(vectors)
+    fonts_of(&requested.request).saturating_add(vectors)
 }
 
 /// Returns the number of files that a request opens as fonts before its files with lines, 0 if it has none.
@@ -71,37 +69,34 @@ fn reads_lines(request: &Request<'_>) -> bool {
     }
 }
 
-/// Returns whether the whole output was written.
-fn is_whole(done: &Result<u8, Failure>) -> bool {
-    matches!(done, Ok(_) | Err(Failure::FileNotEnded))
+/// Returns whether the whole output was written, and no lane was abandoned.
+fn is_whole(done: &Result<Done, Failure>) -> bool {
+    match done {
+        Ok(Done::LaneAbandoned) | Err(_) => false,
+        Ok(_) => true,
+    }
 }
 
-/// Carries out what arguments state as `perform_requested` does, with the files of the file system. With
-/// `--verbose` it then prints on `err`, whose errors are ignored, the causes of errors and a summary.
+/// Carries out what arguments request as `perform` does, with the files of the file system. With `--verbose` it
+/// then prints on `err`, whose errors are ignored, the causes of errors and a summary.
 pub(crate) fn carry_out<R, I, O, E>(
     rt: &R,
-    requested: &mut Requested<'_>,
+    requested: &Requested<'_>,
     input: &mut I,
     out: &mut O,
     err: &mut E,
-) -> Result<u8, Failure>
+) -> Result<Done, Failure>
 where
     R: Files + AllocGlobal + Threads + Wait + Sync,
     R::File: Send,
     I: Read + Send,
     O: Write,
     E: Write,
-    ensures silent { is_verbose_request requested.old.request ≡ false → err.new ≡ err.old }
-    ensures text { AfterText result (IsDoneAs (λ _. None) (I.remaining input.old)
-        (O.contents out.old) (O.contents out.new) requested.old) }
-    ensures status { IfOk result (λ status. Contains (0 ∷ 1 ∷ []) status) }
-    ensures untouched { IfErr result (λ failure. is_without_text failure ≡ true → out.new ≡ out.old) }
-    ensures cause { BeforeText result (IsCauseOfAsked (λ _. None) (I.remaining input.old) requested.old) }
-    ensures stopped { IfErr result (λ failure. status_of failure ≡ 5
-        → HasFailedAs (λ _. None) (I.remaining input.old)
-        (O.contents out.old) (O.contents out.new) requested.old) }
-    ensures refused { (fault : Failure) → IsFaultOf requested.old.request fault
-        → IsRefused (IsFaultOf requested.old.request) result × (out.new ≡ out.old) }
+    ensures silent { is_verbose_request requested.now.request ≡ false → err.new ≡ err.old }
+    ensures text { IfOk result (λ done. IsDone (λ _. None) (I.remaining input.old)
+        (O.contents out.old) (O.contents out.new) requested.now (done_status done)) }
+    ensures untouched { IfErr result (λ failure. is_stop failure ≡ false → out.new ≡ out.old) }
+    ensures cause { IfErr result (IsCauseOf (λ _. None) (I.remaining input.old) requested.now) }
 {
     let verbose = is_verbose(&requested.request);
     let crlf = crlf_of(&requested.request);
@@ -131,15 +126,15 @@ where
     done
 }
 
-/// Carries out what arguments state as `perform_requested` does, with the files of the file system, and notes
-/// errors and counts.
+/// Carries out what arguments request as `perform` does, with the files of the file system, and notes errors and
+/// counts.
 fn perform_watched<'a, R, I, O, K, Q>(
     rt: &R,
     notes: &Notes,
-    requested: &mut Q,
+    stated: &Q,
     input: &mut I,
     written: Written<'a, O>,
-) -> (Written<'a, O>, Result<u8, Failure>)
+) -> (Written<'a, O>, Result<Done, Failure>)
 where
     R: Files + AllocGlobal + Threads + Wait + Sync,
     R::File: Send,
@@ -149,24 +144,20 @@ where
     Q: Stated,
     requires { written.out.ghost_name ≡ K.name }
     ensures same_reference { result.0.out.ghost_name ≡ written.entry.out.ghost_name }
-    ensures text { AfterText result.1 (IsDoneAs (λ _. None) (I.remaining input.old)
-        (O.contents written.entry.out.now) (O.contents result.0.out.now) (Q.requested requested.old)) }
-    ensures status { IfOk result.1 (λ status. Contains (0 ∷ 1 ∷ []) status) }
-    ensures untouched { IfErr result.1 (λ failure. is_without_text failure ≡ true
+    ensures text { IfOk result.1 (λ done. IsDone (λ _. None) (I.remaining input.old)
+        (O.contents written.entry.out.now) (O.contents result.0.out.now)
+        (Q.requested stated.now) (done_status done)) }
+    ensures untouched { IfErr result.1 (λ failure. is_stop failure ≡ false
         → result.0.out.now ≡ written.entry.out.now) }
-    ensures cause { BeforeText result.1
-        (IsCauseOfAsked (λ _. None) (I.remaining input.old) (Q.requested requested.old)) }
-    ensures stopped { IfErr result.1 (λ failure. status_of failure ≡ 5
-        → HasFailedAs (λ _. None) (I.remaining input.old)
-        (O.contents written.entry.out.now) (O.contents result.0.out.now) (Q.requested requested.old)) }
-    ensures refused { (fault : Failure) → IsFaultOf (Q.requested requested.old).request fault
-        → IsRefused (IsFaultOf (Q.requested requested.old).request) result.1
-        × (result.0.out.now ≡ written.entry.out.now) }
+    ensures cause { IfErr result.1
+        (IsCauseOf (λ _. None) (I.remaining input.old) (Q.requested stated.now)) }
 {
-    let files = WatchedFiles::new(rt, Disk::new(rt), notes, files_before_lines(requested));
-    let has_lines = reads_lines(requested.request());
+    let requested = stated.requested();
+    let others = files_before_lines(requested);
+    let has_lines = reads_lines(&requested.request);
+    let files = WatchedFiles::new(rt, Disk::new(rt), notes, others);
     let mut input = WatchedReader::new(rt, notes, input, "standard input", has_lines);
     let mut out: WatchedWriter<'a, O, K> = WatchedWriter::new(written, notes.is_on());
-    let done = perform_requested(rt, &files, requested, &mut input, &mut out);
+    let done = perform(rt, &files, stated, &mut input, &mut out);
     (out.into_written(), done)
 }

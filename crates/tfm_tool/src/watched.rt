@@ -3,12 +3,12 @@ ghost use Rattle.std.specs.Prelude.{◌≡◌};
 
 use crate::notes::Notes;
 use crate::tally::Tally;
-use request_files::Opens;
 use std::io;
 use std::io::{ErrorKind, Read, Write};
 use std::marker::{Brand, PhantomData};
 use std::sync::Wait;
 use std::sync::atomic::{AtomicU64, Ordering};
+use tfm_requests::Opens;
 
 /// Files whose errors are noted with their names.
 #[derive(Drop)]
@@ -49,8 +49,6 @@ impl<'r, 'n, R: Wait + Sync, F: Opens> Opens for WatchedFiles<'r, 'n, R, F> {
     type File = WatchedReader<'r, 'n, R, F::File>;
 
     ghost known = { λ watched name. F.known watched.files name };
-
-    ghost opens = { λ watched name. F.opens watched.files name };
 
     fn open(&self, name: &str) -> io::Result<WatchedReader<'r, 'n, R, F::File>> {
         let has_lines = self.has_lines();

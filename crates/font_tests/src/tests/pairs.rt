@@ -10,7 +10,7 @@ use test_support::fonts::{
     A, A_FROM_0, BACK, Info, LEFT_BOUNDARY, NO_CHARACTERS, PLAIN, RIGHT_BOUNDARY, Sample,
     kern_before, last, ligature_before,
 };
-use tfm_tables::Step;
+use tfm_tables::{Font, Step};
 
 /// The pairs of the font in this file have this text.
 fn has_text<R: Abort + AllocGlobal>(
@@ -20,7 +20,8 @@ fn has_text<R: Abort + AllocGlobal>(
     wanted: &str,
 ) -> Result<(), Fail> {
     let layout = PairsLayout { format, encoding };
-    let text = pairs_text(rt.alloc(), file, None, layout)?;
+    let font = Font::read(rt.alloc(), file, None)?;
+    let text = pairs_text(rt.alloc(), &font, layout)?;
     assert!(rt;
         text.as_slice() == wanted.as_bytes(),
         "{layout:?}: {wanted}"

@@ -2,12 +2,13 @@
 //! true: results don't depend on it, but the worker is woken before the next block is requested only if it is
 //! false. No clause states either how many lines a block has: a block needs memory, and its lines wait for each
 //! other.
-use super::*;
+use super::doubles::check;
 use line_blocks::LineBlocks;
 use line_lane::SourceFault;
 use set_line::Line;
 use set_run::{ItemSource, LineSource, ReaderSource};
-use std::test::Fail;
+use std::alloc::Global;
+use std::process::Abort;
 use test_support::{TricklingReader, line};
 
 /// Before each block, and after the last one: whether the block is ready, and its number of lines.
@@ -40,14 +41,14 @@ fn are_ready<R: Abort, S: LineSource>(
     wanted: Blocks<'_>,
 ) {
     for (number, (ready, lines)) in wanted.iter().enumerate() {
-        assert_eq!(rt; source.has_item(), *ready, "{case:?}, block {number}");
+        let has_item = source.has_item();
         let block = source.next_item();
         let count = match &block {
             Ok(Some(block)) => block.len(),
             Ok(None) => 0,
             Err(_) => usize::MAX,
         };
-        assert_eq!(rt; count, *lines, "{case:?}, block {number}");
+        check(rt, has_item == *ready && count == *lines, case, number);
     }
 }
 
@@ -63,57 +64,13 @@ fn a_block_is_ready_if_a_whole_line_was_read(rt: HostRuntime) {
     }
 }
 
-/// A source of one line, after which its end is ready, but only until it is returned.
-#[derive(Drop)]
-struct EndingSource {
-    line: Option<Line>,
-    ended: bool,
-}
-
-impl LineSource for EndingSource {
-    ghost use Rattle.std.specs.Prelude.{None};
-
-    ghost to_come = { λ _. None };
-
-    ghost failed = { λ _. None };
-
-    ghost Origin = { Unit {0} };
-
-    ghost origin = { λ _. tt };
-
-    fn next_line(&mut self) -> Result<Option<Line>, SourceFault> {
-        self.ended = self.line.is_none();
-        Ok(self.line.take())
-    }
-
-    fn is_ready(&self) -> bool {
-        !self.ended
-    }
-}
-
-/// The first block is returned with its line, and the end is held for the next call.
-// Mutant of `has_item`: what is held doesn't count.
-#[test]
-fn an_end_that_is_held_is_ready(rt: HostRuntime) -> Result<(), Fail> {
-    let source = EndingSource {
-        line: line(rt.alloc(), b"a"),
-        ended: false,
-    };
-    let mut blocks = LineBlocks::new(rt.alloc(), source, 8);
-    are_ready(
-        &rt,
-        "one line",
-        &mut blocks,
-        &[(true, 1), (true, 0), (false, 0)],
-    );
-    Ok(())
-}
-
-/// A source whose lines are all equal. The next line isn't ready at first, and after each `group` lines.
+/// A source of lines that are all equal. The next line, or the end, isn't ready after each `group` lines.
 #[derive(Drop)]
 struct GroupedSource<'a> {
     alloc: Global,
     line: &'a [u8],
+    /// The number of lines that weren't returned yet; `None` after the end was returned.
+    left: Option<usize>,
     group: usize,
     /// The number of lines of the group that were returned.
     returned: usize,
@@ -131,16 +88,25 @@ impl LineSource for GroupedSource<'_> {
     ghost origin = { λ _. tt };
 
     fn next_line(&mut self) -> Result<Option<Line>, SourceFault> {
-        self.returned = if self.returned < self.group {
-            self.returned.wrapping_add(1)
-        } else {
-            1
-        };
-        Ok(line(self.alloc, self.line))
+        match self.left {
+            None | Some(0) => {
+                self.left = None;
+                Ok(None)
+            }
+            Some(left) => {
+                self.left = Some(left.saturating_sub(1));
+                self.returned = if self.is_ready() {
+                    self.returned.wrapping_add(1)
+                } else {
+                    1
+                };
+                Ok(line(self.alloc, self.line))
+            }
+        }
     }
 
     fn is_ready(&self) -> bool {
-        self.returned < self.group
+        self.left.is_some() && self.returned < self.group
     }
 }
 
@@ -150,72 +116,78 @@ const MOST: usize = 200_000;
 /// Lines of this many bytes, in groups of this many lines, are in blocks that are ready and have lines as expected.
 fn are_gathered<R: Abort + AllocGlobal>(
     rt: &R,
-    length: usize,
-    group: usize,
+    (length, group): (usize, usize),
     wanted: Blocks<'_>,
-) -> Result<(), Fail> {
-    let text = vec![in rt.alloc(); b'a'; length]?;
+) {
+    let text = vec![in rt.alloc(); b'a'; length].expect(rt, "memory");
     let source = GroupedSource {
         alloc: rt.alloc(),
         line: &text,
+        left: Some(usize::MAX),
         group,
         returned: group,
     };
     let mut blocks = LineBlocks::new(rt.alloc(), source, MOST);
-    let case = format!(in rt.alloc(); "{length} bytes, {group} lines")?;
-    are_ready(rt, &case, &mut blocks, wanted);
-    Ok(())
+    are_ready(rt, "equal lines", &mut blocks, wanted);
 }
 
 /// The number of bytes of each line, and how many of these lines have 65,536 bytes or more with a line feed each,
 /// but fewer without the last line.
-static FULL: [(usize, usize); 11] = [
+static FULL: [(usize, usize); 8] = [
     (0, 65_536),
     (1, 32_768),
-    (30, 2_115),
-    (999, 66),
     (4_095, 16),
     (4_096, 16),
     (21_844, 4),
     (21_845, 3),
-    (32_767, 2),
     (65_534, 2),
     (65_535, 1),
 ];
 
-// Mutants of `is_full` in line_blocks: half or twice as many bytes are a full block, or one byte more; only the
-// bytes or only the lines count; of `fill`: a block ends after 1,000 lines.
-#[test]
-fn a_block_of_64_kb_is_full(rt: HostRuntime) -> Result<(), Fail> {
-    for (length, lines) in &FULL {
-        let wanted = [(false, *lines), (true, *lines)];
-        are_gathered(&rt, *length, MOST, &wanted)?;
-    }
-    Ok(())
-}
-
 /// The number of bytes of each line, and numbers of lines that don't fill a block. Of a line of more than 65,535
 /// bytes only the length is in a block.
-static GROUPS: [(usize, &[usize]); 10] = [
+static GROUPS: [(usize, &[usize]); 8] = [
     (0, &[1, 2, 7, 64, 1_000, 65_535]),
     (1, &[1, 3, 8, 500, 30_000]),
     (30, &[1, 2, 9, 100, 2_000]),
     (4_095, &[1, 2, 5, 10, 15]),
-    (8_192, &[1, 7]),
     (20_000, &[1, 2, 3]),
-    (40_000, &[1]),
     (50_000, &[1]),
     (65_534, &[1]),
     (65_536, &[1, 2, 40]),
 ];
 
-// Mutants of `fill`: after 40,000 bytes, or after a line that is too long, the next line is awaited.
+// Mutants of `is_full` in line_blocks: half or twice as many bytes are a full block, or one byte more; only the
+// bytes or only the lines count; of `fill`: a block ends after 1,000 lines; after 40,000 bytes, or after a line that
+// is too long, the next line is awaited.
 #[test]
-fn a_block_ends_if_the_next_line_is_not_ready(rt: HostRuntime) -> Result<(), Fail> {
+fn a_block_ends_if_it_has_64_kb_or_the_next_line_is_not_ready(rt: HostRuntime) {
+    for (length, lines) in &FULL {
+        are_gathered(&rt, (*length, MOST), &[(false, *lines), (true, *lines)]);
+    }
     for (length, groups) in &GROUPS {
         for group in *groups {
-            are_gathered(&rt, *length, *group, &[(false, *group), (false, *group)])?;
+            are_gathered(&rt, (*length, *group), &[(false, *group), (false, *group)]);
         }
     }
-    Ok(())
+}
+
+/// The first block is returned with its line, and the end, which was ready, is held for the next call.
+// Mutant of `has_item`: what is held doesn't count.
+#[test]
+fn an_end_that_is_held_is_ready(rt: HostRuntime) {
+    let source = GroupedSource {
+        alloc: rt.alloc(),
+        line: b"a",
+        left: Some(1),
+        group: 2,
+        returned: 0,
+    };
+    let mut blocks = LineBlocks::new(rt.alloc(), source, 8);
+    are_ready(
+        &rt,
+        "one line",
+        &mut blocks,
+        &[(true, 1), (true, 0), (false, 0)],
+    );
 }

@@ -1,4 +1,4 @@
-use Rattle.run_texts.proofs.SettingLemmas.{all_cut, all_set}
+use Rattle.run_texts.proofs.SettingLemmas.{all_set}
 use Rattle.run_texts.specs.RunText.{style_of}
 use Rattle.run_texts.proofs.setting.set_text.Goals as goal
 
@@ -7,9 +7,3 @@ returns-clause-text g c =
     all_set g.S.LineSource.to_come g.S.LineSource.failed g.S.LineSource.origin c.args.font.now.bytes.now c.args.font.now.size c.in_ok-sources.ensures.terms.0 c.args.font.now.limit c.args.font.now.policy (style_of c.args.options.now)
     c.args.sources.items c.in_ok-sources.sources.items (g.W.Write.contents c.args.out.now) (g.W.Write.contents c.set_each.new.out) c.set_each.result
     c.in_ok-sources.ensures.terms.1 c.in_ok-sources.ensures.terms.2 c.set_each.ensures.text
-
-pub returns-clause-write : goal.returns-clause-write
-returns-clause-write g c = λ is.
-    all_cut g.S.LineSource.to_come g.S.LineSource.failed g.S.LineSource.origin c.args.font.now.bytes.now c.args.font.now.size c.in_ok-sources.ensures.terms.0 c.args.font.now.limit c.args.font.now.policy (style_of c.args.options.now)
-    c.args.sources.items c.in_ok-sources.sources.items (g.W.Write.contents c.args.out.now) (g.W.Write.contents c.set_each.new.out)
-    c.in_ok-sources.ensures.terms.1 c.in_ok-sources.ensures.terms.2 (c.set_each.ensures.write is)

@@ -1,5 +1,4 @@
-use Rattle.std.proofs.Common.{rules, ◌≡◌, ◌∙◌}
-use Rattle.set_run.proofs.SameEnds.{back_item, dealer_trans}
+use Rattle.set_run.proofs.SameEnds.{dealer_trans}
 use Rattle.set_run.proofs.source_thread.offer_now.Goals as goal
 
 pub returns-clause-lanes : goal.returns-clause-lanes

@@ -1,8 +1,0 @@
--- the jobs so far have their terms
-use Rattle.std.proofs.Common.{take}
-use Rattle.std.specs.List.{AllZip}
-use Rattle.request_files.specs.Jobs.{HasTermsOf}
-use Rattle.request_files.proofs.jobs.all_terms.Given as goal
-
-abbrev pub invariant-loop-job : goal.invariant-loop-job
-invariant-loop-job g l = AllZip (HasTermsOf (g.F.Opens.known l.files) l.layout) (take l.job-index l.jobs) l.all.items

@@ -1,0 +1,4 @@
+pub mod delivery;
+pub mod each;
+pub mod jobs;
+pub mod setting;

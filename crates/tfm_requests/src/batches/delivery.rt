@@ -1,0 +1,123 @@
+//! Sets the lines of the sources of a request in one batch, and writes the output.
+ghost use Rattle.std.specs.Prelude.{◌≡◌, ◌≤◌, List, map, Err, IfErr, IfOk, OnOk, vec_len};
+ghost use Rattle.std.specs.Io.KnownBytes.{Keeps};
+ghost use Rattle.set_run.specs.declared.report.LaneReport.{LaneReport as Lane};
+ghost use Rattle.set_run.specs.declared.run_fault.RunFault.{RunFault as Fault};
+ghost use Rattle.run_texts.specs.Endings.{summary_status};
+ghost use Rattle.run_texts.specs.ReportText.{summary_of_run};
+ghost use Rattle.run_texts.specs.Setting.{AreOwnReports};
+ghost use Rattle.tfm_requests.specs.Jobs.{told_with_terms};
+ghost use Rattle.tfm_requests.specs.Requests.{IsDelivered, IsPrinted, style_of};
+ghost use Rattle.tfm_requests.specs.Status.{done_status, tool_status};
+ghost use Rattle.tfm_requests.specs.Told.{told_by};
+
+use crate::failures::done::Done;
+use command_line::Layout;
+use encodings::Encoding;
+use run_texts::{OutputOptions, Summary, ToolFault, set_each, status, stream_each};
+use set_line::Terms;
+use set_run::{LineSource, NoGate};
+use std::io::Write;
+use std::sync::{Arc, Wait};
+use std::thread::Threads;
+
+/// The time at which the output of a batch is written.
+#[derive(Clone, Copy)]
+pub(crate) enum Delivery {
+    /// The output is written when the batch is done, in the order of the sources.
+    AtTheEnd,
+    /// The output is written as the results arrive.
+    AsTheyCome,
+}
+
+/// How the lines of a batch are read, and its output is written.
+#[derive(Clone, Copy)]
+pub(crate) struct Output<'a> {
+    /// The options of the request, except for its encoding.
+    pub layout: &'a Layout,
+    /// The encoding.
+    pub encoding: Encoding,
+    /// When the output is written.
+    pub delivery: Delivery,
+}
+
+/// Sets the lines of all sources, each with its settings, in one batch, and writes the output. Returns the
+/// summary.
+fn deliver<R, S, O>(
+    rt: &R,
+    sources: Vec<(S, Arc<Terms>)>,
+    output: &Output<'_>,
+    out: &mut O,
+) -> Result<Summary, ToolFault>
+where
+    R: AllocGlobal + Threads + Wait + Sync,
+    S: LineSource + Send + Drop,
+    O: Write,
+    requires { vec_len sources ≤ 64 }
+    ensures text { IfOk result (λ summary. (reports : List (Lane S))
+        × AreOwnReports S.to_come S.failed S.origin sources.items reports
+        × IsDelivered output.now.delivery (style_of output.now) reports (O.contents out.old) (O.contents out.new)
+        × (summary ≡ summary_of_run output.now.encoding reports)) }
+    ensures run { (fault : Fault) → result ≡ Err (ToolFault.Run fault) → out.new ≡ out.old }
+    ensures status { IfErr result (λ fault. tool_status fault ≡ 5) }
+{
+    let layout = output.layout;
+    let options = OutputOptions {
+        plan: layout.plan,
+        version: layout.version,
+        encoding: output.encoding,
+        whole_reads: layout.whole_reads,
+        gate: &NoGate,
+    };
+    match output.delivery {
+        Delivery::AtTheEnd => set_each(rt, rt.alloc(), sources, &options, out),
+        Delivery::AsTheyCome => stream_each(rt, rt.alloc(), sources, &options, out),
+    }
+}
+
+/// Sets the lines of all sources, each with its settings, in one batch, writes the output, and flushes it.
+/// There must be at most 64 sources. After an error of the batch, nothing was written.
+pub(crate) fn set_sources<R, S, O>(
+    rt: &R,
+    sources: Vec<(S, Arc<Terms>)>,
+    output: &Output<'_>,
+    out: &mut O,
+) -> Result<Done, ToolFault>
+where
+    R: AllocGlobal + Threads + Wait + Sync,
+    S: LineSource + Send + Drop,
+    O: Write,
+    requires { vec_len sources ≤ 64 }
+    ensures text { IfOk result (λ done. IsPrinted output.now.delivery
+        (map (told_with_terms (told_by S.to_come S.failed)) sources.items)
+        (style_of output.now) (O.contents out.old) (O.contents out.new) (done_status done)) }
+    ensures run { (fault : Fault) → result ≡ Err (ToolFault.Run fault) → out.new ≡ out.old }
+    ensures status { IfErr result (λ fault. tool_status fault ≡ 5) }
+{
+    let summary = deliver(rt, sources, output, out)?;
+    flush(out)?;
+    Ok(done_of(&summary))
+}
+
+/// Flushes the output. The error is `Write` if the flush fails.
+pub(crate) fn flush<O: Write>(out: &mut O) -> Result<(), ToolFault>
+    ensures kept { Keeps (O.contents out.old) (O.contents out.new) }
+    ensures fault { IfErr result (λ fault. fault ≡ ToolFault.Write) }
+{
+    match out.flush() {
+        Ok(()) => Ok(()),
+        Err(_) => Err(ToolFault::Write),
+    }
+}
+
+/// Returns how a batch with this summary ended.
+fn done_of(summary: &Summary) -> Done
+    ensures { done_status result ≡ summary_status summary.now }
+{
+    match status(summary) {
+        0 => Done::AllSet,
+        1 => Done::SomeRefused,
+        4 => Done::FileNotEnded,
+        _ => Done::LaneAbandoned,
+    }
+}

@@ -1,0 +1,3 @@
+pub mod done;
+pub mod errors;
+pub mod failure;

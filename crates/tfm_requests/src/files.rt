@@ -1,0 +1,4 @@
+pub mod opening;
+pub mod reading;
+pub mod sources;
+pub mod vectors;

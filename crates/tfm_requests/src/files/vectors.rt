@@ -1,0 +1,53 @@
+//! The encoding of a request, which an encoding vector may define.
+ghost use Rattle.std.specs.Prelude.{IfErr, IfOk};
+ghost use Rattle.tfm_requests.specs.Known.{OfKnown};
+ghost use Rattle.tfm_requests.specs.Vectors.{IsEncodingError, IsEncodingOf, IsErrorOfText, IsVectorIn};
+
+use crate::failures::errors::EncodingError;
+use crate::files::opening::Opens;
+use crate::files::reading::font_file;
+use encoding_vectors::read_vector;
+use encodings::Encoding;
+use std::alloc::Global;
+
+/// Returns the encoding of a request: that of the vector in the file that the arguments name, which is read to
+/// its end, or `stated` if they name none.
+pub(crate) fn encoding_of<F: Opens>(
+    alloc: Global,
+    files: &F,
+    vector: Option<&str>,
+    stated: Encoding,
+) -> Result<Encoding, EncodingError>
+    ensures encoding { IfOk result (IsEncodingOf (F.known files.now) vector.entry stated) }
+    ensures cause { IfErr result (IsEncodingError (F.known files.now) vector.entry) }
+{
+    match vector {
+        Some(file) => read_encoding(alloc, files, file),
+        None => Ok(stated),
+    }
+}
+
+/// Reads the file of this name to its end, and returns the encoding of its vector.
+fn read_encoding<F: Opens>(alloc: Global, files: &F, file: &str) -> Result<Encoding, EncodingError>
+    ensures encoding { IfOk result (λ encoding. OfKnown (F.known files.now file.now)
+        (λ text. IsVectorIn text encoding)) }
+    ensures cause { IfErr result (λ error. OfKnown (F.known files.now file.now)
+        (λ text. IsErrorOfText text error)) }
+{
+    let text = font_file(alloc, files, file)?;
+    vector_encoding(alloc, text.as_slice())
+}
+
+/// Returns the encoding of the vector in this text.
+fn vector_encoding(alloc: Global, text: &[u8]) -> Result<Encoding, EncodingError>
+    ensures encoding { IfOk result (IsVectorIn text.now) }
+    ensures cause { IfErr result (IsErrorOfText text.now) }
+{
+    match read_vector(text) {
+        Ok(characters) => match Encoding::of_characters(alloc, &characters) {
+            Ok(encoding) => Ok(encoding),
+            Err(_) => Err(EncodingError::OutOfMemory),
+        },
+        Err(fault) => Err(EncodingError::Refused(fault.line)),
+    }
+}

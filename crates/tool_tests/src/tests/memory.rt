@@ -1,0 +1,170 @@
+//! Failed allocations of `set_text` and `perform`. If every allocation succeeds, the whole output is written. The
+//! toolchain's option `--fail-alloc` lets one allocation fail. The first allocations make the arguments of the call. If
+//! a later one fails, nothing is written; or a lane is abandoned, and the whole output has an end line that says so; or
+//! `stream` ends with a whole line; or the memory only saves time. The text that is printed states which case it was.
+use super::early_ends::{COMPLETE, Ends, ONE_EARLY, ends_of};
+use super::requests::{LINES, SKIPPED, vector};
+use batch_support::small_plan;
+use command_line::{Layout, Setting};
+use encodings::Encoding;
+use set_line::{Limit, Policy, Version};
+use set_run::{NoGate, ReaderSource};
+use std::alloc::Global;
+use std::process::Abort;
+use std::sync::Wait;
+use std::test::Fail;
+use std::thread::Threads;
+use test_support::fonts::files::PLAIN;
+use test_support::{FailingWriter, TricklingReader};
+use tfm_tool::{
+    Done, Failure, FontSetting, InMemory, OutputOptions, Request, Requested, Summary, ToolFault,
+    perform, set_text, status,
+};
+
+/// The output for two sources, each of them: for `ab` and `c`, and for `a`.
+static OF_TWO: [&str; 2] = [
+    "1:1 set 491520 c97=327680 c98=163840\n1:2 set 491520 c99=491520\n1 end complete 2\n",
+    "2:1 set 327680 c97=327680\n2 end complete 1\n",
+];
+
+/// Sets the lines of two sources. `None` means that an allocation of the arguments failed.
+fn set_two<R: Threads + Wait + Sync + AllocGlobal>(
+    rt: &R,
+    out: &mut Vec<u8>,
+) -> Option<Result<Summary, ToolFault>> {
+    out.reserve(256).ok()?;
+    let mut sources = Vec::new(rt.alloc());
+    for bytes in [b"ab\nc".as_slice(), b"a"] {
+        let reader = TricklingReader::new(bytes, 1, usize::MAX);
+        sources.push(ReaderSource::new(rt.alloc(), reader)).ok()?;
+    }
+    let font = FontSetting {
+        bytes: &PLAIN,
+        size: None,
+        limit: Limit::new(100)?,
+        policy: Policy::Refuse,
+    };
+    let options = OutputOptions {
+        plan: small_plan()?,
+        version: Version::One,
+        encoding: Encoding::Bytes,
+        whole_reads: false,
+        gate: &NoGate,
+    };
+    Some(set_text(rt, &font, sources, &options, out))
+}
+
+#[test]
+fn a_refused_request_of_a_text(rt: HostRuntime) -> Result<(), Fail> {
+    let mut out = Vec::new(rt.alloc());
+    let done = set_two(&rt, &mut out);
+    let ends = ends_of(str::from_utf8(out.as_slice()).unwrap_or(""), &OF_TWO);
+    let told = match done {
+        None => "no memory for the arguments",
+        Some(Ok(summary)) if summary.memory && ends == ONE_EARLY => "a lane ended early",
+        Some(Ok(summary)) if status(&summary) == 0 && ends == COMPLETE => "whole",
+        Some(Err(ToolFault::OutOfMemory)) if out.is_empty() => "out of memory",
+        Some(Err(ToolFault::Run(_))) if out.is_empty() => "the run is refused",
+        Some(_) => panic!(rt; "another outcome"),
+    };
+    Ok(println!(rt; "{told}")?)
+}
+
+/// Returns the request to stream two files, or to set the lines of a file with the encoding of a vector. `None` means
+/// that an allocation failed.
+fn requested_of(alloc: Global, streams: bool) -> Option<Requested<'static>> {
+    let files = if streams {
+        ["ab", "a"].as_slice()
+    } else {
+        &["lines"]
+    };
+    let layout = Layout {
+        size: None,
+        plain_size: false,
+        policy: Policy::Skip,
+        crlf: false,
+        encoding: Encoding::Bytes,
+        plan: small_plan()?,
+        whole_reads: false,
+        version: Version::One,
+        verbose: false,
+    };
+    let setting = Setting {
+        font: "plain",
+        limit: Limit::new(100)?,
+        files: Vec::from_slice(alloc, files).ok()?,
+        layout,
+    };
+    let (request, vector) = if streams {
+        (Request::Stream(setting), None)
+    } else {
+        (Request::Set(setting), Some("v.enc"))
+    };
+    Some(Requested { request, vector })
+}
+
+/// Carries out a request. `None` means that an allocation of the arguments failed.
+fn carry_out<R: Threads + Wait + Sync + AllocGlobal>(
+    rt: &R,
+    streams: bool,
+    out: &mut FailingWriter,
+) -> Option<Result<Done, Failure>> {
+    out.text.reserve(256).ok()?;
+    let vector = vector(rt.alloc()).ok()?;
+    let requested = requested_of(rt.alloc(), streams)?;
+    let files = [
+        ("plain", PLAIN.as_slice()),
+        ("v.enc", vector.as_slice()),
+        ("lines", LINES),
+        ("ab", b"ab\nc\n"),
+        ("a", b"a"),
+    ];
+    let mut input = b"".as_slice();
+    Some(perform(rt, &InMemory::new(&files), &requested, &mut input, out))
+}
+
+/// How a request ended with this output, if its sources have these whole outputs.
+fn told_of(done: &Option<Result<Done, Failure>>, text: &str, wholes: &[&str]) -> &'static str {
+    let ends = ends_of(text, wholes);
+    match done {
+        None => "no memory for the arguments",
+        Some(Ok(Done::AllSet)) if ends == COMPLETE => "whole",
+        Some(Ok(Done::LaneAbandoned)) if ends == ONE_EARLY => "a lane ended early",
+        Some(Err(Failure::Tool(ToolFault::Write))) if ends == COMPLETE => "output failed",
+        Some(Err(Failure::Tool(ToolFault::Write))) if ends == ONE_EARLY => {
+            "a lane ended early, and output failed"
+        }
+        Some(Err(Failure::Tool(ToolFault::Run(_)))) if text.is_empty() => "the run is refused",
+        Some(Err(failure)) if text.is_empty() && failure.status() == 5 => "out of memory",
+        Some(Err(Failure::Tool(ToolFault::OutOfMemory)))
+            if matches!(ends, Some(Ends { early: 0, .. })) => { "out of memory after whole lines" }
+        Some(_) => "another outcome",
+    }
+}
+
+/// Carries out a request, and returns how it ended. The output can be flushed if `streams` is true.
+fn outcome<R: Abort + Threads + Wait + Sync + AllocGlobal>(rt: &R, streams: bool) -> &'static str {
+    let mut out = FailingWriter::new(rt.alloc(), usize::MAX, usize::MAX, streams);
+    let done = carry_out(rt, streams, &mut out);
+    let text = str::from_utf8(out.text.as_slice()).unwrap_or("");
+    let wholes = if streams {
+        OF_TWO.as_slice()
+    } else {
+        &[SKIPPED]
+    };
+    let told = told_of(&done, text, wholes);
+    assert!(rt; told != "another outcome");
+    told
+}
+
+#[test]
+fn a_refused_request_of_a_stream(rt: HostRuntime) -> Result<(), Fail> {
+    Ok(println!(rt; "{}", outcome(&rt, true))?)
+}
+
+// Mutants of `tfm_requests`: `read_encoding` returns `NotRead` after a failed allocation; `set_sources` returns before
+// it flushes the output if a lane was abandoned.
+#[test]
+fn a_refused_request_of_a_set_that_is_not_flushed(rt: HostRuntime) -> Result<(), Fail> {
+    Ok(println!(rt; "{}", outcome(&rt, false))?)
+}
