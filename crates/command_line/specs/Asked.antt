@@ -1,7 +1,7 @@
 -- The request that the arguments after the program's name state, and the encoding vector that they name, by the
 -- values that a parse finds for them.
 -- This project's own.
-use Rattle.std.specs.Prelude.{◌≡◌, ◌⊎◌, ◌≤◌, ◌&&◌, ◌||◌, ◌==◌, ℕ, List, [], Bool, true, false, cond, Option, Some, None, IsSomeAnd, codes, is_none, map, option_and_then, option_map, unwrap_or}
+use Rattle.std.specs.Prelude.{◌≡◌, ◌⊎◌, ◌≤◌, ◌&&◌, ◌||◌, ◌==◌, ℕ, List, [], Bool, true, false, cond, Option, Some, None, IsSomeAnd, bytes_eq, codes, is_none, map, option_and_then, option_map, unwrap_or}
 use Rattle.std.specs.List.{list_any}
 use Rattle.std.specs.Option.{option_map_or, option_or}
 use Rattle.std.specs.Borrow.{Bor}
@@ -12,7 +12,6 @@ use Rattle.clap.specs.declared.error.kind.ErrorKind.{ErrorKind}
 use Rattle.clap.specs.declared.error.kind.ErrorKind.TheVariants.{InvalidValue, MissingSubcommand, OutOfMemory, ValueValidation}
 use Rattle.encodings.specs.Names.{encoding_named}
 use Rattle.encodings.specs.declared.encoding.Encoding.{Encoding}
-use Rattle.encodings.specs.declared.encoding.Encoding.TheVariants.{Bytes}
 use Rattle.tex_sizes.specs.Sizes.{is_plain, size_of}
 use Rattle.font_texts.specs.declared.pairs_format.PairsFormat.{PairsFormat}
 use Rattle.font_texts.specs.declared.pairs_layout.PairsLayout.{PairsLayout}
@@ -67,10 +66,12 @@ is_path value = list_any (λ byte. (byte == 47) || (byte == 46)) value
 abbrev pub vector_named : Text → Option Text
 vector_named value = cond (is_none (encoding_named value) && is_path value) (Some value) None
 
--- the encoding that a value of `--encoding` states: the encoding of this name; for a file with an encoding vector,
--- `Bytes`, until the vector is read; any other value states none
-abbrev pub encoding_stated : Text → Option Encoding
-encoding_stated value = option_or (encoding_named value) (option_map (λ _. Bytes) (vector_named value))
+-- what a value of `--encoding` states: that lines are bytes, and have no encoding; the encoding of this name; for a file
+-- with an encoding vector no encoding, until the vector is read; any other value states nothing
+abbrev pub encoding_stated : Text → Option (Option Encoding)
+encoding_stated value =
+    cond (bytes_eq value (codes "bytes")) (Some None)
+    (option_or (option_map Some (encoding_named value)) (option_map (λ _. None) (vector_named value)))
 
 -- the value of `--missing` for a policy
 abbrev pub policy_word : Policy → Text
@@ -120,8 +121,8 @@ module _ (rows : List Row) where
   abbrev pub IsVerbose : Bool → Type 0
   IsVerbose verbose = IsFlag (one_of (codes "verbose") rows) verbose
 
-  -- the value of `--encoding` states this encoding
-  abbrev pub IsEncoding : Encoding → Type 0
+  -- the value of `--encoding` states this encoding, or none
+  abbrev pub IsEncoding : Option Encoding → Type 0
   IsEncoding encoding = option_and_then encoding_stated (first_of (codes "encoding") rows) ≡ Some encoding
 
   -- the file with an encoding vector that the value of `--encoding` names, if it names one

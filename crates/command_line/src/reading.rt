@@ -342,8 +342,8 @@ fn asked_policy(matches: &ArgMatches<'_>) -> Option<Policy>
     }
 }
 
-/// Returns the encoding that `--encoding` states: `Bytes` if it names a file.
-fn asked_encoding(matches: &ArgMatches<'_>) -> Option<Encoding>
+/// Returns the encoding that `--encoding` states: none if the lines are bytes, or if it names a file.
+fn asked_encoding(matches: &ArgMatches<'_>) -> Option<Option<Encoding>>
     ensures { Finds (IsEncoding (rows_of (found_of matches.now))) result }
 {
     match value_of(matches, "encoding") {
@@ -352,13 +352,16 @@ fn asked_encoding(matches: &ArgMatches<'_>) -> Option<Encoding>
     }
 }
 
-/// Returns the encoding that a value of `--encoding` states: `Bytes` if it names a file.
-fn encoding_of(value: &str) -> Option<Encoding>
+/// Returns the encoding that a value of `--encoding` states: none for `bytes`, and if it names a file.
+fn encoding_of(value: &str) -> Option<Option<Encoding>>
     ensures { result ≡ encoding_stated value.now }
 {
+    if value == "bytes" {
+        return Some(None);
+    }
     match Encoding::from_name(value) {
-        Some(encoding) => Some(encoding),
-        None => vector_of(value).map(|_| Encoding::Bytes),
+        Some(encoding) => Some(Some(encoding)),
+        None => vector_of(value).map(|_| None),
     }
 }
 

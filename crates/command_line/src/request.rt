@@ -8,8 +8,7 @@ use tfm_words::Size;
 /// What the arguments state: a request, and the file with its encoding vector if `--encoding` names one.
 #[derive(Drop)]
 pub struct Requested<'a> {
-    /// The request. If `vector` names a file, the encoding in the request is `Bytes`, and that of the vector takes
-    /// its place.
+    /// The request. If `vector` names a file, the request has no encoding, and that of the vector takes its place.
     pub request: Request<'a>,
     /// The name of the file with the encoding vector; `None` if the encoding is one that has a name, or if
     /// the request has no encoding.
@@ -52,8 +51,9 @@ pub struct Layout {
     pub policy: Policy,
     /// Whether one carriage return before each line feed is stripped from the files with lines.
     pub crlf: bool,
-    /// What the lines are: bytes that are codes of the font, or text in UTF-8 for a font with this encoding.
-    pub encoding: Encoding,
+    /// The encoding of the font, if the lines are text in UTF-8; `None` if they are bytes, which are codes of the
+    /// font.
+    pub encoding: Option<Encoding>,
     /// The capacity and the block of each lane, and the largest number of workers.
     pub plan: Plan,
     /// Whether a block has the whole lines of one read, and not the plan's number of lines: `stream` without

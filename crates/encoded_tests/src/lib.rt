@@ -1,4 +1,4 @@
-//! The tests of `encodings`, `encoding_vectors` and `encoded_lines`, over their public calls alone.
+//! The tests of `encodings` and `encoding_vectors`, over their public calls alone.
 #![tactic(auto)]
 
 #[cfg(test)]

@@ -1,4 +1,3 @@
 mod codes;
-mod records;
 mod vector_files;
 mod vectors;

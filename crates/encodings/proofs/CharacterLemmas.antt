@@ -1,6 +1,6 @@
 -- The characters by code: the tables of the code are those of the definitions, and each of their numbers is a
 -- character or marks a code without one.
-use Rattle.std.proofs.Common.{◌≡◌, ℕ, ◌<◌, ◌≤◌, Bool, true, false, ◌||◌, if◌then◌else◌, Option, Some, None, length, get_or, refl, ap, sym, subst, ◌∙◌}
+use Rattle.std.proofs.Common.{◌≡◌, ℕ, ◌<◌, ◌≤◌, Bool, true, false, ◌||◌, if◌then◌else◌, Option, Some, None, length, get_or, Bor, arith, refl, ap, sym, subst, ◌∙◌}
 use lib.Utf8.{scalar}
 use Rattle.std.specs.Prelude.{nat_eq}
 use Rattle.std.specs.Char.{IsScalar}
@@ -11,19 +11,20 @@ use Rattle.std.proofs.lemmas.List.{get_or_past}
 use Rattle.std.proofs.lemmas.List.Folds.{list_all_at}
 use Rattle.std.proofs.lemmas.Grind.{get_or_default_zero}
 use Rattle.encodings.specs.declared.encoding.Encoding.{Encoding}
-use Rattle.encodings.specs.declared.encoding.Encoding.TheVariants.{Bytes, Ot1, T1, Ly1, Latin1, Vector}
+use Rattle.encodings.specs.declared.encoding.Encoding.TheVariants.{Ot1, T1, Ly1, Latin1, Vector}
 use Rattle.encodings.specs.Tables.{no, ot1_characters, t1_characters, ly1_characters}
 use Rattle.encodings.specs.Codes.{characters_of}
 use Rattle.encodings.specs.Characters.{character_of}
 use Rattle.encodings.specs.CharacterTables.{characters_in}
 use Rattle.encodings.specs.Laws.{character_at}
 use Rattle.encodings.specs.Lookup.{is_table}
-pub use Rattle.encodings.proofs.VectorLemmas.{vector_character}
+use Rattle.encodings.specs.declared.vector.Vector.{Vector as VectorValue}
+use Rattle.encodings.specs.Vectors.{vector_characters}
+use Rattle.encodings.proofs.VectorLemmas.{vector_length, vector_listed}
 
 -- the tables are those of the definitions
 tables_agree : (encoding : Encoding) → is_table encoding ≡ true → characters_in encoding ≡ characters_of encoding
 unfolding characters_in characters_of ot1_characters t1_characters ly1_characters
-tables_agree Bytes table = refl
 tables_agree Ot1 table = refl
 tables_agree T1 table = refl
 tables_agree Ly1 table = refl
@@ -38,7 +39,6 @@ is_listed number = nat_eq number no || scalar number
 
 all_listed : (encoding : Encoding) → is_table encoding ≡ true → list_all is_listed (characters_of encoding) ≡ true
 unfolding is_listed characters_of ot1_characters t1_characters ly1_characters
-all_listed Bytes table = refl
 all_listed Ot1 table = refl
 all_listed T1 table = refl
 all_listed Ly1 table = refl
@@ -91,4 +91,15 @@ made_at encoding code number made table within at is =
 
 pub ruleset found = (past_end, made_at)
 
-pub ruleset of_vector = (vector_character)
+-- the character at a code of a vector
+pub made_in_vector : (vector : Bor VectorValue) (code number : ℕ) (made : Option ℕ) → code < 256 → vector.now.characters ≡ vector_characters vector.now.characters
+    → number ≡ get_or vector.now.characters code 0 → SomeIff made (IsScalar number) number → made ≡ character_of (Vector vector) code
+unfolding character_of characters_of
+made_in_vector vector code number made below own at is =
+    let within : code < length vector.now.characters = omega (arith, ap length own, vector_length vector.now.characters) in
+    let same : number ≡ get_or (vector_characters vector.now.characters) code no =
+    at ∙ sym (get_or_default_zero vector.now.characters code no within) ∙ ap (λ l. get_or l code no) own in
+    subst (λ n. made ≡ (if nat_eq n no then None else Some n)) same
+    (made_of number made (subst (λ n. nat_eq n no || scalar n ≡ true) (sym same) (vector_listed vector.now.characters code below)) is)
+
+pub ruleset of_vector = (made_in_vector)

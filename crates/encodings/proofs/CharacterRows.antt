@@ -1,7 +1,7 @@
 -- Worked rows: the characters at codes, computed from the definitions alone. They are those of LaTeX's guide to
 -- encodings.
 use Rattle.std.proofs.Common.{◌≡◌, Some, None, refl}
-use Rattle.encodings.specs.declared.encoding.Encoding.TheVariants.{Bytes, Ot1, T1, Ly1, Latin1}
+use Rattle.encodings.specs.declared.encoding.Encoding.TheVariants.{Ot1, T1, Ly1, Latin1}
 use Rattle.encodings.specs.Tables.{ot1_characters, t1_characters, ly1_characters}
 use Rattle.encodings.specs.Codes.{characters_of}
 use Rattle.encodings.specs.Characters.{character_of}
@@ -35,7 +35,3 @@ ly1_euro = refl
 latin1_soft_hyphen : character_of Latin1 0xAD ≡ Some 0xAD
 unfolding character_of characters_of
 latin1_soft_hyphen = refl
-
-of_bytes : character_of Bytes 65 ≡ None
-unfolding character_of characters_of
-of_bytes = refl

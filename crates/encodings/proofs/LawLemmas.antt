@@ -1,30 +1,27 @@
 -- The laws of the tables. What they state of single characters is computed for every character that has codes.
-use Rattle.std.proofs.Common.{◌≡◌, ◌≢◌, ◌⊎◌, inl, inr, ℕ, suc, ◌+◌, ◌<◌, ◌≤◌, Bool, true, false, List, [], ◌∷◌, ◌++◌, ◌&&◌, ◌||◌, not, length, length-append, map, flat_map, Option, Some, None, Bor, arith, refl, ap, sym, ◌∙◌}
+use Rattle.std.proofs.Common.{◌≡◌, ◌⊎◌, inl, inr, ℕ, suc, ◌+◌, ◌<◌, ◌≤◌, Bool, true, false, List, [], ◌∷◌, ◌++◌, ◌&&◌, ◌||◌, not, length, length-append, map, flat_map, Option, Some, None, Bor, arith, refl, ap, sym, subst, ◌∙◌}
 use Rattle.std.specs.Prelude.{◌==◌, nat_eq, nat_le, cond}
 use Rattle.std.specs.Char.{encode_utf8, is_ascii_alphanumeric, len_utf8}
 use Rattle.std.specs.Str.{chars, encode_utf8_all, IsUtf8}
-use Rattle.std.specs.List.{list_all, list_any, range_with_len, position, position_or_len}
-use Rattle.std.specs.Option.{is_some, option_map_or}
+use Rattle.std.specs.List.{list_all, list_any, range_with_len, position_or_len}
+use Rattle.std.specs.Option.{is_some, option_map_or, unwrap_or}
 use Rattle.std.proofs.lemmas.Bool.Decides.{nat_tests}
-use Rattle.std.proofs.lemmas.Bool.{eqb-true, lt-ltb, leb-true}
-use Rattle.std.proofs.lemmas.List.{length-map}
+use Rattle.std.proofs.lemmas.Bool.{eqb-true, leb-true}
 use Rattle.std.proofs.lemmas.List.Folds.{list_any-append}
 use Rattle.std.proofs.lemmas.Str.{encodes-chars, len_utf8_bounds, length-encode}
-use Rattle.std.proofs.lemmas.List.Quantifiers.{position-Some}
+use Rattle.std.proofs.lemmas.List.Sums.{passes_at_first}
 use Rattle.encodings.specs.declared.encoding.Encoding.{Encoding}
-use Rattle.encodings.specs.declared.encoding.Encoding.TheVariants.{Bytes, Ot1, T1, Ly1, Latin1, Vector}
+use Rattle.encodings.specs.declared.encoding.Encoding.TheVariants.{Ot1, T1, Ly1, Latin1, Vector}
 use Rattle.encodings.specs.declared.vector.Vector.{Vector as VectorValue}
 use Rattle.encodings.specs.Tables.{no, ot1_characters, t1_characters, ly1_characters, shared_others, ot1_others, t1_others, ly1_others}
 use Rattle.encodings.specs.Codes.{codes_of, codes_beside, characters_of, others_of}
 use Rattle.encodings.specs.Lookup.{is_table}
 use Rattle.encodings.specs.Names.{encoding_named, name_of}
 use Rattle.encodings.specs.Vectors.{vector_characters}
-use Rattle.encodings.specs.declared.coded.Coded.TheVariants.{Code, Uncoded}
-use Rattle.encodings.specs.Lines.{coded_of, places_from, places_of, without_mark}
-use Rattle.encodings.specs.Decoding.{coded_text}
+use Rattle.encodings.specs.Lines.{numbers_of, places_from, places_of, without_mark}
 use Rattle.encodings.specs.Laws.{character_at, IsOwn, ComesFromItsCharacter, text_codes, characters_at, ComesBack, IsItself, KeepsFeed, KeepsSpace, HasFewCodes}
 use Rattle.encodings.proofs.PlaceLemmas.{characters_from, characters_in}
-use Rattle.encodings.proofs.TableLemmas.{at_member, by_table, in_range, no_row, no_own_code, neither, same, same_is}
+use Rattle.encodings.proofs.TableLemmas.{at_member, by_table, in_range, no_row, no_own_code, neither, of_table, same, same_is}
 use Rattle.encodings.proofs.VectorLemmas.{of_vector, vector_comes, vector_feed, vector_few, vector_space}
 
 -- ---- characters that have codes are in the tables
@@ -33,19 +30,18 @@ use Rattle.encodings.proofs.VectorLemmas.{of_vector, vector_comes, vector_feed, 
 abbrev keys : Encoding → List ℕ
 keys encoding = map (λ row. row.0) (others_of encoding) ++ characters_of encoding
 
-no_codes : (encoding : Encoding) (c : ℕ) → list_any (λ x. nat_eq x c) (keys encoding) ≡ false → codes_of encoding c ≡ None
-unfolding codes_of
-no_codes encoding c none =
+no_codes : (encoding : Encoding) (c : ℕ) → is_table encoding ≡ true → list_any (λ x. nat_eq x c) (keys encoding) ≡ false → codes_of encoding c ≡ None
+no_codes encoding c table none =
     let parts = neither _ _ (sym (list_any-append (λ x. nat_eq x c) (map (λ (row : ℕ × List ℕ). row.0) (others_of encoding)) (characters_of encoding)) ∙ none) in
-    rw (no_row (others_of encoding) c parts.0, no_own_code (characters_of encoding) c parts.1) refl
+    of_table encoding c table ∙ rw (no_row (others_of encoding) c parts.0, no_own_code (characters_of encoding) c parts.1) refl
 
 -- what holds of each character in the tables holds of each character that has codes
-of_keys : (encoding : Encoding) (p : ℕ → Bool) (c : ℕ) (codes : List ℕ) → list_all p (keys encoding) ≡ true → codes_of encoding c ≡ Some codes → p c ≡ true
-of_keys encoding p c codes all is = by (list_any (λ x. nat_eq x c) (keys encoding)) refl
+of_keys : (encoding : Encoding) (p : ℕ → Bool) (c : ℕ) (codes : List ℕ) → is_table encoding ≡ true → list_all p (keys encoding) ≡ true → codes_of encoding c ≡ Some codes → p c ≡ true
+of_keys encoding p c codes table all is = by (list_any (λ x. nat_eq x c) (keys encoding)) refl
   where
     by : (b : Bool) → list_any (λ x. nat_eq x c) (keys encoding) ≡ b → p c ≡ true
     by true member = at_member p c (keys encoding) all member
-    by false member = cc (no_codes encoding c member)
+    by false member = cc (no_codes encoding c table member)
 
 -- ---- few codes
 
@@ -54,7 +50,6 @@ few_at encoding c = option_map_or (λ codes. nat_le (length codes) (len_utf8 c))
 
 few : (encoding : Encoding) → is_table encoding ≡ true → list_all (few_at encoding) (keys encoding) ≡ true
 unfolding codes_of characters_of others_of ot1_characters t1_characters ly1_characters shared_others ot1_others t1_others ly1_others
-few Bytes table = refl
 few Ot1 table = refl
 few T1 table = refl
 few Ly1 table = refl
@@ -70,7 +65,7 @@ other_than c below b is = by (nat_eq c no) refl is
 
 few_in_table : (encoding : Encoding) (c : ℕ) (codes : List ℕ) → is_table encoding ≡ true → HasFewCodes encoding c codes
 few_in_table encoding c codes table is =
-    let at = of_keys encoding (few_at encoding) c codes (few encoding table) is in
+    let at = of_keys encoding (few_at encoding) c codes table (few encoding table) is in
     leb-true (length codes) (len_utf8 c) (rw is at at)
 
 few_in_vector : (vector : Bor VectorValue) (c : ℕ) (codes : List ℕ) → HasFewCodes (Vector vector) c codes
@@ -94,7 +89,6 @@ reserved_at encoding c = nat_eq c no || option_map_or (reserved_of c) (codes_of 
 
 reserved : (encoding : Encoding) → is_table encoding ≡ true → list_all (reserved_at encoding) (keys encoding) ≡ true
 unfolding codes_of characters_of others_of ot1_characters t1_characters ly1_characters shared_others ot1_others t1_others ly1_others
-reserved Bytes table = refl
 reserved Ot1 table = refl
 reserved T1 table = refl
 reserved Ly1 table = refl
@@ -115,7 +109,7 @@ space_kept false s n more is at = cc
 
 reserved_here : (encoding : Encoding) (c : ℕ) (codes : List ℕ) → is_table encoding ≡ true → c < no → codes_of encoding c ≡ Some codes → reserved_of c codes ≡ true
 reserved_here encoding c codes table below is =
-    let at = other_than c below _ (of_keys encoding (reserved_at encoding) c codes (reserved encoding table) is) in rw is at at
+    let at = other_than c below _ (of_keys encoding (reserved_at encoding) c codes table (reserved encoding table) is) in rw is at at
 
 feed_in_table : (encoding : Encoding) (c : ℕ) (codes : List ℕ) → is_table encoding ≡ true → KeepsFeed encoding c codes
 feed_in_table encoding c codes table below is ten = eqb-true c 10 (feed_kept _ _ _ (reserved_here encoding c codes table below is) ten)
@@ -146,19 +140,18 @@ alphanumeric_below c is = grind (arith, nat_tests)
 abbrev itself_at : Encoding → ℕ → Bool
 itself_at encoding c = not (is_ascii_alphanumeric c) || same (codes_of encoding c) (Some (c ∷ []))
 
-itself : (encoding : Encoding) → encoding_named (name_of encoding) ≡ Some encoding → encoding ≢ Bytes → list_all (itself_at encoding) (range_with_len 0 128) ≡ true
+itself : (encoding : Encoding) → encoding_named (name_of encoding) ≡ Some encoding → list_all (itself_at encoding) (range_with_len 0 128) ≡ true
 unfolding codes_of characters_of others_of ot1_characters t1_characters ly1_characters shared_others ot1_others t1_others ly1_others
-itself Bytes named other = absurd (other refl)
-itself Ot1 named other = refl
-itself T1 named other = refl
-itself Ly1 named other = refl
-itself Latin1 named other = refl
-itself (Vector vector) named other = cc
+itself Ot1 named = refl
+itself T1 named = refl
+itself Ly1 named = refl
+itself Latin1 named = refl
+itself (Vector vector) named = cc
 
 -- Law: in an encoding that has a name, an ASCII letter or digit is its own code
 pub is_itself : (encoding : Encoding) (c : ℕ) → IsItself encoding c
-is_itself encoding c named other is =
-    let at = at_member (itself_at encoding) c (range_with_len 0 128) (itself encoding named other) (in_range c 0 128 (omega arith) (alphanumeric_below c is)) in
+is_itself encoding c named is =
+    let at = at_member (itself_at encoding) c (range_with_len 0 128) (itself encoding named) (in_range c 0 128 (omega arith) (alphanumeric_below c is)) in
     same_is _ _ (rw is at at)
 
 -- ---- codes and their characters
@@ -169,7 +162,6 @@ own_at encoding c code = nat_eq c no || (is_some (codes_beside (others_of encodi
 
 owns : (encoding : Encoding) → is_table encoding ≡ true → list_all (λ code. own_at encoding (character_at encoding code) code) (range_with_len 0 (length (characters_of encoding))) ≡ true
 unfolding own_at codes_of characters_of others_of ot1_characters t1_characters ly1_characters shared_others ot1_others t1_others ly1_others
-owns Bytes table = refl
 owns Ot1 table = refl
 owns T1 table = refl
 owns Ly1 table = refl
@@ -206,13 +198,12 @@ found_before p (x ∷ xs) any = by (found_before p xs) (p x) any
 
 -- a character that is set by its own code, with this code
 own_code_is : (encoding : Encoding) (c : ℕ) → IsOwn encoding c → (code : ℕ) × (codes_of encoding c ≡ Some (code ∷ [])) × (character_at encoding code ≡ c)
-unfolding codes_of
 own_code_is encoding c own =
     let p = λ (each : ℕ). nat_eq each c in
     let at = position_or_len p (characters_of encoding) in
     let within : at < length (characters_of encoding) = found_before p (characters_of encoding) own.at_code in
-    let found : position p (characters_of encoding) ≡ Some at = rw (lt-ltb at (length (characters_of encoding)) within) refl in
-    (at, rw (own.not_other, found) refl, eqb-true _ _ (position-Some p (characters_of encoding) at no found).1)
+    let same : character_at encoding at ≡ c = eqb-true _ _ (passes_at_first p (characters_of encoding) no within) in
+    (at, subst (λ x. IsOwn encoding x → codes_of encoding x ≡ Some (at ∷ [])) same (comes_from encoding at within) own, same)
 
 one_back : (encoding : Encoding) (c code : ℕ) (text : List ℕ) → codes_of encoding c ≡ Some (code ∷ []) → character_at encoding code ≡ c
     → characters_at encoding (text_codes encoding text) ≡ text → characters_at encoding (text_codes encoding (c ∷ text)) ≡ c ∷ text
@@ -225,20 +216,20 @@ comes_back encoding (c ∷ text) all =
     let own = own_code_is encoding c (all 0 c (omega arith)) in
     one_back encoding c own.0 text own.1 own.2 (comes_back encoding text (λ k d h. all (suc k) d (omega arith)))
 
--- ---- the number of elements
+-- ---- the number of numbers
 
-coded_few : (encoding : Encoding) (c : ℕ) → length (coded_of encoding c) ≤ len_utf8 c
-unfolding coded_of
-coded_few encoding c = by (codes_of encoding c) refl
+numbers_few : (encoding : Encoding) (c : ℕ) → length (numbers_of encoding c) ≤ len_utf8 c
+unfolding numbers_of
+numbers_few encoding c = by (codes_of encoding c) refl
   where
-    by : (o : Option (List ℕ)) → codes_of encoding c ≡ o → length (option_map_or (map Code) o (Uncoded c ∷ [])) ≤ len_utf8 c
+    by : (o : Option (List ℕ)) → codes_of encoding c ≡ o → length (unwrap_or o ((256 + c) ∷ [])) ≤ len_utf8 c
     by None is = (len_utf8_bounds c).0
-    by (Some codes) is = omega (arith, length-map codes Code, few_codes encoding c codes is)
+    by (Some codes) is = few_codes encoding c codes is
 
-text_few : (encoding : Encoding) (cs : List ℕ) → length (flat_map (coded_of encoding) cs) ≤ length (encode_utf8_all cs)
+text_few : (encoding : Encoding) (cs : List ℕ) → length (flat_map (numbers_of encoding) cs) ≤ length (encode_utf8_all cs)
 text_few encoding [] = omega arith
 text_few encoding (c ∷ cs) =
-    omega (arith, length-append (coded_of encoding c) (flat_map (coded_of encoding) cs), length-append (encode_utf8 c) (encode_utf8_all cs), length-encode c, coded_few encoding c, text_few encoding cs)
+    omega (arith, length-append (numbers_of encoding c) (flat_map (numbers_of encoding) cs), length-append (encode_utf8 c) (encode_utf8_all cs), length-encode c, numbers_few encoding c, text_few encoding cs)
 
 unmarked_few : (first : Bool) (cs : List ℕ) → length (encode_utf8_all (characters_in (without_mark first (places_from 0 cs)))) ≤ length (encode_utf8_all cs)
 unmarked_few first [] = omega arith
@@ -248,17 +239,8 @@ unmarked_few first (c ∷ cs) = by (first && nat_eq c 0xFEFF)
     by true = omega (arith, ap (λ l. length (encode_utf8_all l)) (characters_from (0 + len_utf8 c) cs), length-append (encode_utf8 c) (encode_utf8_all cs))
     by false = omega (arith, ap (λ l. length (encode_utf8_all l)) (characters_from 0 (c ∷ cs)))
 
--- a line has at most as many elements as bytes
-pub elements_few : (encoding : Encoding) (first : Bool) (line unmarked : List ℕ) → IsUtf8 line → chars unmarked ≡ characters_in (places_of first line) → length (coded_text encoding unmarked) ≤ length line
-unfolding places_of
-elements_few encoding first line unmarked utf8 is =
-    let few_here : length (flat_map (coded_of encoding) (chars unmarked)) ≤ length (encode_utf8_all (chars unmarked)) = text_few encoding (chars unmarked) in
-    let shown : length (encode_utf8_all (chars unmarked)) ≤ length (encode_utf8_all (chars line)) = rw is (unmarked_few first (chars line)) in
-    let whole : length (encode_utf8_all (chars line)) ≡ length line = ap length (encodes-chars line utf8) in
-    omega arith
-
--- the same of its characters, with or without a byte order mark before them
-pub places_few : (encoding : Encoding) (first : Bool) (line : List ℕ) → IsUtf8 line → length (flat_map (coded_of encoding) (characters_in (places_of first line))) ≤ length line
+-- a line in UTF-8 has at most as many numbers as bytes
+pub places_few : (encoding : Encoding) (first : Bool) (line : List ℕ) → IsUtf8 line → length (flat_map (numbers_of encoding) (characters_in (places_of first line))) ≤ length line
 unfolding places_of
 places_few encoding first line utf8 =
     let whole : length (encode_utf8_all (chars line)) ≡ length line = ap length (encodes-chars line utf8) in

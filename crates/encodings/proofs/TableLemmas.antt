@@ -1,25 +1,23 @@
 -- The tables by character and the tables by code give the same codes, which is computed for every character in
 -- either of them.
-use Rattle.std.proofs.Common.{◌≡◌, ◌≢◌, ℕ, zero, suc, ◌<◌, ◌≤◌, ◌+◌, ◌-◌, ◌*◌, ◌/◌, Bool, true, false, List, [], ◌∷◌, ◌++◌, ◌||◌, ◌&&◌, Option, Some, None, Bor, length, get_or, take, drop, arith, refl, ap, sym, ◌∙◌}
+use Rattle.std.proofs.Common.{◌≡◌, ◌≢◌, ℕ, zero, suc, ◌<◌, ◌≤◌, ◌+◌, ◌-◌, Bool, true, false, List, [], ◌∷◌, ◌++◌, ◌||◌, ◌&&◌, Option, Some, None, Bor, length, get_or, take, drop, arith, refl, ap, sym, ◌∙◌}
 use Rattle.std.specs.Prelude.{not, nat_eq, nat_lt, map, bytes_eq, cond}
 use Rattle.std.specs.List.{list_all, list_any, range_with_len, position_or_len}
-use Rattle.std.specs.Option.{option_and_then, option_or}
+use Rattle.std.specs.Option.{option_or}
 use Rattle.std.proofs.lemmas.Bool.Decides.{nat_tests}
-use Rattle.std.proofs.lemmas.Bool.{and_parts, eqb-true, eq-eqb, ltb-true, ltb-false, lt-ltb, le-ltb}
+use Rattle.std.proofs.lemmas.Bool.{eqb-true, eq-eqb, ltb-true, ltb-false, lt-ltb, le-ltb}
 use Rattle.std.proofs.lemmas.Slice.Eq.{bytes_eq-Decides}
 use Rattle.std.proofs.lemmas.List.{get_or_past}
-use Rattle.std.proofs.lemmas.Nat.{div-mul-add, mod-mul-add}
-use Rattle.std.proofs.Math.Nat.{lt-mul-div-succ}
 use Rattle.std.proofs.lemmas.List.Folds.{list_any-append}
 use Rattle.std.proofs.lemmas.List.FromFn.{fill_by_all, get_or-map-range_with_len, length-map-range_with_len}
 use Rattle.encodings.specs.declared.encoding.Encoding.{Encoding}
-use Rattle.encodings.specs.declared.encoding.Encoding.TheVariants.{Bytes, Ot1, T1, Ly1, Latin1, Vector}
+use Rattle.encodings.specs.declared.encoding.Encoding.TheVariants.{Ot1, T1, Ly1, Latin1, Vector}
 use Rattle.encodings.specs.declared.lookup.TheConstants.{CODES}
 use Rattle.encodings.specs.declared.vector.Vector.{Vector as VectorValue}
 use Rattle.encodings.specs.Tables.{no, ot1_characters, t1_characters, ly1_characters, shared_others, ot1_others, t1_others, ly1_others}
 use Rattle.encodings.specs.Codes.{codes_of, codes_beside, listed_codes, own_code, characters_of, others_of}
 use Rattle.encodings.specs.Vectors.{vector_characters}
-use Rattle.encodings.specs.VectorTables.{character_indexed, is_lead, single_at, single_of, singles_of}
+use Rattle.encodings.specs.VectorTables.{character_indexed, single_at, single_of, singles_of}
 use Rattle.encodings.specs.Lookup.{is_punctuation, is_table, index_of, rows_of, looked_up, singles_in, others_in}
 pub use Rattle.encodings.proofs.VectorLemmas.{of_vector}
 
@@ -92,12 +90,20 @@ same_is (Some a) (Some b) is = ap Some ((bytes_eq-Decides a b).0 is)
 
 -- what holds of each table, and of each vector, holds of each encoding
 pub by_table : (P : Encoding → Type 0) → ((encoding : Encoding) → is_table encoding ≡ true → P encoding) → ((vector : Bor VectorValue) → P (Vector vector)) → (encoding : Encoding) → P encoding
-by_table P table vectors Bytes = table Bytes refl
 by_table P table vectors Ot1 = table Ot1 refl
 by_table P table vectors T1 = table T1 refl
 by_table P table vectors Ly1 = table Ly1 refl
 by_table P table vectors Latin1 = table Latin1 refl
 by_table P table vectors (Vector vector) = vectors vector
+
+-- the codes in a table
+pub of_table : (encoding : Encoding) (c : ℕ) → is_table encoding ≡ true → codes_of encoding c ≡ option_or (codes_beside (others_of encoding) c) (own_code (characters_of encoding) c)
+unfolding codes_of
+of_table Ot1 c table = refl
+of_table T1 c table = refl
+of_table Ly1 c table = refl
+of_table Latin1 c table = refl
+of_table (Vector vector) c table = cc
 
 -- whether both tables give a character the same codes
 abbrev agree_at : Encoding → ℕ → Bool
@@ -109,20 +115,18 @@ all_in encoding = range_with_len 0 384 ++ (range_with_len 0x2000 64 ++ (map (λ 
 
 agrees : (encoding : Encoding) → is_table encoding ≡ true → list_all (agree_at encoding) (all_in encoding) ≡ true
 unfolding codes_of characters_of others_of ot1_characters t1_characters ly1_characters shared_others ot1_others t1_others ly1_others singles_in others_in
-agrees Bytes table = refl
 agrees Ot1 table = refl
 agrees T1 table = refl
 agrees Ly1 table = refl
 agrees Latin1 table = refl
 agrees (Vector vector) table = cc
 
-singles_length : (xs : List ℕ) → length (singles_of xs) ≡ 1344
+singles_length : (xs : List ℕ) → length (singles_of xs) ≡ 448
 unfolding singles_of
-singles_length xs = length-map-range_with_len (single_at xs) 0 1344
+singles_length xs = length-map-range_with_len (single_at xs) 0 448
 
-pub singles_end : (encoding : Encoding) → length (singles_in encoding) ≡ 1344
+pub singles_end : (encoding : Encoding) → length (singles_in encoding) ≡ 448
 unfolding singles_in
-singles_end Bytes = refl
 singles_end Ot1 = refl
 singles_end T1 = refl
 singles_end Ly1 = refl
@@ -133,12 +137,9 @@ pub neither : (a b : Bool) → a || b ≡ false → (a ≡ false) × (b ≡ fals
 neither true b is = cc
 neither false b is = (refl, is)
 
--- the index of a character is its byte, or follows from the bits of its second byte and of those before them
-pub index_below : (c : ℕ) → c < 128 → index_of c ≡ c
-index_below c below = rw (lt-ltb c 128 below) refl
-
-before_punctuation : (c : ℕ) → c < 0x2000 → is_punctuation c ≡ false
-before_punctuation c below = grind (arith, nat_tests)
+-- the index of a character below U+0180, of one from U+2000 to U+203F, and of any other
+pub index_low : (c : ℕ) → c < 384 → index_of c ≡ c
+index_low c below = rw (lt-ltb c 384 below) refl
 
 in_punctuation : (c : ℕ) → 0x2000 ≤ c → c < 0x2040 → is_punctuation c ≡ true
 in_punctuation c above below = grind (arith, nat_tests)
@@ -146,17 +147,11 @@ in_punctuation c above below = grind (arith, nat_tests)
 punctuation_bounds : (c : ℕ) → is_punctuation c ≡ true → (0x2000 ≤ c) × (c < 0x2040)
 punctuation_bounds c is = grind (arith, nat_tests)
 
-pub index_of_two : (block low : ℕ) → 2 ≤ block → block < 6 → low < 64 → index_of (block * 64 + low) ≡ 256 * (block - 1) + 128 + low
-index_of_two block low above below small =
-    rw (le-ltb (block * 64 + low) 128 (omega arith), before_punctuation (block * 64 + low) (omega arith), div-mul-add block 64 low small, mod-mul-add block 64 low small) refl
+pub index_of_punctuation : (c : ℕ) → 0x2000 ≤ c → c < 0x2040 → index_of c ≡ 384 + (c - 0x2000)
+index_of_punctuation c above below = rw (le-ltb c 384 (omega arith), in_punctuation c above below) refl
 
-pub index_of_punctuation : (low : ℕ) → low < 64 → index_of (0x2000 + low) ≡ 1280 + low
-index_of_punctuation low small =
-    let same : 1280 + (0x2000 + low - 0x2000) ≡ 1280 + low = omega arith in
-    rw (le-ltb (0x2000 + low) 128 (omega arith), in_punctuation (0x2000 + low) (omega arith) (omega arith)) same
-
-pub index_outside : (c : ℕ) → 384 ≤ c → is_punctuation c ≡ false → 1344 ≤ index_of c
-index_outside c above other = rw (le-ltb c 128 (omega arith), other) (omega (arith, lt-mul-div-succ c {b = 64} (omega arith)))
+index_outside : (c : ℕ) → 384 ≤ c → is_punctuation c ≡ false → index_of c ≡ 448
+index_outside c above other = rw (le-ltb c 384 (omega arith), other) refl
 
 no_single : (encoding : Encoding) (c : ℕ) → list_any (λ x. nat_eq x c) (range_with_len 0 384) ≡ false → list_any (λ x. nat_eq x c) (range_with_len 0x2000 64) ≡ false
     → get_or (singles_in encoding) (index_of c) 256 ≡ 256
@@ -175,9 +170,8 @@ nothing : (singles : List ℕ) (rows others : List (ℕ × List ℕ)) (character
 nothing singles rows others characters c single row other own = rw (single, row, other, own)
 
 -- a character in neither table has no codes in either
-agree_outside : (encoding : Encoding) (c : ℕ) → list_any (λ x. nat_eq x c) (all_in encoding) ≡ false → looked_up (singles_in encoding) (rows_of (others_in encoding)) c ≡ codes_of encoding c
-unfolding codes_of
-agree_outside encoding c none =
+agree_outside : (encoding : Encoding) (c : ℕ) → is_table encoding ≡ true → list_any (λ x. nat_eq x c) (all_in encoding) ≡ false → looked_up (singles_in encoding) (rows_of (others_in encoding)) c ≡ codes_of encoding c
+agree_outside encoding c table none =
     let p = λ (x : ℕ). nat_eq x c in
     let rows = map (λ (r : ℕ × List ℕ). r.0) (rows_of (others_in encoding)) in
     let others = map (λ (r : ℕ × List ℕ). r.0) (others_of encoding) in
@@ -186,6 +180,7 @@ agree_outside encoding c none =
     let third = neither _ _ (sym (list_any-append p rows (others ++ characters_of encoding)) ∙ second.1) in
     let last = neither _ _ (sym (list_any-append p others (characters_of encoding)) ∙ third.1) in
     nothing _ _ _ _ c (no_single encoding c first.0 second.0) (no_row (rows_of (others_in encoding)) c third.0) (no_row (others_of encoding) c last.0) (no_own_code (characters_of encoding) c last.1)
+    ∙ sym (of_table encoding c table)
 
 -- both tables give each character the same codes
 tables_agree : (encoding : Encoding) (c : ℕ) → is_table encoding ≡ true → c ≢ no → looked_up (singles_in encoding) (rows_of (others_in encoding)) c ≡ codes_of encoding c
@@ -197,7 +192,7 @@ tables_agree encoding c table character = by (list_any (λ x. nat_eq x c) (all_i
         here : (b : Bool) → nat_eq c no ≡ b → b || same (looked_up (singles_in encoding) (rows_of (others_in encoding)) c) (codes_of encoding c) ≡ true → looked_up (singles_in encoding) (rows_of (others_in encoding)) c ≡ codes_of encoding c
         here true is it = absurd (character (eqb-true c no is))
         here false is it = same_is _ _ it
-    by false is = agree_outside encoding c is
+    by false is = agree_outside encoding c table is
 
 -- the codes of a character that has a single code in its table
 single_in_table : (encoding : Encoding) (c code : ℕ) → is_table encoding ≡ true → c < 0x110000 → get_or (singles_in encoding) (index_of c) 256 ≡ code → code < 256 → codes_of encoding c ≡ Some (code ∷ [])
@@ -206,43 +201,16 @@ single_in_table encoding c code table character is below =
 
 -- ---- the table of a vector
 
-pub table_filled : (xs singles : List ℕ) → length singles ≡ 1344 → ((k : ℕ) → k < 1344 → get_or singles k 0 ≡ single_at xs k) → singles ≡ singles_of xs
+pub table_filled : (xs singles : List ℕ) → length singles ≡ 448 → ((k : ℕ) → k < 448 → get_or singles k 0 ≡ single_at xs k) → singles ≡ singles_of xs
 unfolding singles_of
-table_filled xs singles long each = fill_by_all (single_at xs) singles 1344 0 long each
+table_filled xs singles long each = fill_by_all (single_at xs) singles 448 0 long each
 
-pub single_there : (xs : List ℕ) (index : ℕ) → index < 1344 → get_or (singles_of xs) index 256 ≡ single_at xs index
+pub single_there : (xs : List ℕ) (index : ℕ) → index < 448 → get_or (singles_of xs) index 256 ≡ single_at xs index
 unfolding singles_of
-single_there xs index below = get_or-map-range_with_len (single_at xs) 0 1344 index index 256 below (omega arith)
+single_there xs index below = get_or-map-range_with_len (single_at xs) 0 448 index index 256 below (omega arith)
 
-abbrev is_number : Option ℕ → ℕ → Bool
-is_number None number = false
-is_number (Some other) number = nat_eq other number
-
-number_is : (o : Option ℕ) (number : ℕ) → is_number o number ≡ true → o ≡ Some number
-number_is None number is = cc
-number_is (Some other) number is = ap Some (eqb-true other number is)
-
--- whether the entry with the index of a character is that of the character
-abbrev is_indexed : ℕ → Bool
-is_indexed c = nat_lt (index_of c) 1344 && (not (is_lead (index_of c)) && is_number (character_indexed (index_of c)) c)
-
-all_indexed : list_all is_indexed (range_with_len 0 384) ≡ true
-all_indexed = refl
-
-all_marks_indexed : list_all is_indexed (range_with_len 0x2000 64) ≡ true
-all_marks_indexed = refl
-
-not_is : (b : Bool) → not b ≡ true → b ≡ false
-not_is true is = cc
-not_is false is = refl
-
-entry_of : (xs : List ℕ) (c : ℕ) → is_indexed c ≡ true → get_or (singles_of xs) (index_of c) 256 ≡ single_of (listed_codes xs c)
-entry_of xs c is =
-    let within = and_parts _ _ is in
-    let here = and_parts _ _ within.1 in
-    single_there xs (index_of c) (ltb-true (index_of c) 1344 within.0)
-    ∙ ap (λ b. cond b 0 (single_of (option_and_then (listed_codes xs) (character_indexed (index_of c))))) (not_is (is_lead (index_of c)) here.0)
-    ∙ ap (λ o. single_of (option_and_then (listed_codes xs) o)) (number_is (character_indexed (index_of c)) c here.1)
+entry_of : (xs : List ℕ) (c : ℕ) → index_of c < 448 → character_indexed (index_of c) ≡ c → get_or (singles_of xs) (index_of c) 256 ≡ single_of (listed_codes xs c)
+entry_of xs c within is = single_there xs (index_of c) within ∙ ap (λ k. single_of (listed_codes xs k)) is
 
 alone : (o : Option (List ℕ)) (code : ℕ) → single_of o ≡ code → code < 256 → o ≡ Some (code ∷ [])
 alone None code is below = absurd (omega (arith, is))
@@ -253,14 +221,17 @@ alone (Some (first ∷ second ∷ codes)) code is below = absurd (omega (arith, 
 single_listed : (xs : List ℕ) (c code : ℕ) → get_or (singles_of xs) (index_of c) 256 ≡ code → code < 256 → listed_codes xs c ≡ Some (code ∷ [])
 single_listed xs c code single below = by (nat_lt c 384) refl (is_punctuation c) refl
   where
+    there : (index : ℕ) → index_of c ≡ index → index < 448 → character_indexed index ≡ c → listed_codes xs c ≡ Some (code ∷ [])
+    there index at within is = alone (listed_codes xs c) code (sym (entry_of xs c (omega (arith, at, within)) (ap character_indexed at ∙ is)) ∙ single) below
+
     by : (b : Bool) → nat_lt c 384 ≡ b → (p : Bool) → is_punctuation c ≡ p → listed_codes xs c ≡ Some (code ∷ [])
     by true is p _ =
-        let here = at_member is_indexed c (range_with_len 0 384) all_indexed (in_range c 0 384 (omega arith) (ltb-true c 384 is)) in
-        alone (listed_codes xs c) code (sym (entry_of xs c here) ∙ single) below
+        let low = ltb-true c 384 is in
+        there c (index_low c low) (omega (arith, low)) (rw (lt-ltb c 384 low) refl)
     by false is true inside =
         let bounds = punctuation_bounds c inside in
-        let here = at_member is_indexed c (range_with_len 0x2000 64) all_marks_indexed (in_range c 0x2000 64 bounds.0 bounds.1) in
-        alone (listed_codes xs c) code (sym (entry_of xs c here) ∙ single) below
+        let same : 0x2000 + (384 + (c - 0x2000) - 384) ≡ c = omega (arith, bounds.0) in
+        there (384 + (c - 0x2000)) (index_of_punctuation c bounds.0 bounds.1) (omega (arith, bounds.1)) (rw (le-ltb (384 + (c - 0x2000)) 384 (omega arith)) same)
     by false is false outside =
         let past = get_or_past (singles_of xs) (index_of c) 256 (omega (arith, singles_length xs, index_outside c (ltb-false c 384 is) outside)) in
         absurd (omega (arith, single, past, below))
@@ -282,7 +253,3 @@ other_is encoding c table character above =
     sym (tables_agree encoding c table (λ same. absurd (omega (arith, same)))) ∙ rw (le-ltb (get_or (singles_in encoding) (index_of c) 256) 256 above) refl
 
 pub ruleset found = (single_is, other_is, of_vector)
-
--- a character that isn't in ASCII has bits above its lowest six
-pub bits_above : (c : ℕ) → 128 ≤ c → 1 ≤ c / 64
-bits_above c above = omega (arith, lt-mul-div-succ c {b = 64} (omega arith))

@@ -1,27 +1,23 @@
 -- Vectors: the characters of a list by code, each at its lowest code, and the codes of a character among them.
-use Rattle.std.proofs.Common.{◌≡◌, ◌≢◌, ◌⊎◌, inl, inr, ℕ, suc, ◌+◌, ◌<◌, ◌≤◌, Bool, true, false, List, [], ◌∷◌, ◌++◌, ◌&&◌, ◌||◌, not, cond, if◌then◌else◌, Option, Some, None, length, get_or, map, flat_map, position, Bor, arith, refl, ap, sym, subst, ◌∙◌}
-use Rattle.std.specs.Prelude.{◌==◌, nat_eq, nat_lt, MatchOption}
+use Rattle.std.proofs.Common.{◌≡◌, ◌≢◌, ◌⊎◌, inl, inr, ℕ, suc, ◌+◌, ◌<◌, ◌≤◌, Bool, true, false, List, [], ◌∷◌, ◌&&◌, ◌||◌, not, cond, Option, Some, None, length, get_or, position, Bor, arith, refl, ap, sym, subst, ◌∙◌}
+use Rattle.std.specs.Prelude.{◌==◌, nat_eq, nat_lt, unwrap_or, MatchOption}
 use Rattle.std.specs.Char.{IsScalar}
-use Rattle.std.specs.List.{list_all, list_any, position_or_len}
-use Rattle.std.specs.Option.{SomeIff, option_and_then, option_map, option_map_or, option_or}
+use Rattle.std.specs.List.{list_all, list_any}
+use Rattle.std.specs.Option.{SomeIff, option_and_then, option_map, option_or}
 use lib.Utf8.{scalar}
 use Rattle.std.proofs.lemmas.Bool.Decides.{nat_tests}
 use Rattle.std.proofs.lemmas.Bool.{and_parts, eqb-true, eq-eqb, le-ltb, lt-ltb, ltb-true}
 use Rattle.std.proofs.lemmas.Option.{none-some, same_Some}
-use Rattle.std.proofs.lemmas.List.{get_or_default, length-map}
-use Rattle.std.proofs.lemmas.List.Folds.{list_any_at}
+use Rattle.std.proofs.lemmas.List.{get_or_default}
 use Rattle.std.proofs.lemmas.List.FromFn.{fill_by_all, get_or-map-range_with_len, length-map-range_with_len}
 use Rattle.std.proofs.lemmas.List.Quantifiers.{position-Some}
 use Rattle.std.proofs.lemmas.List.Sums.{fails_before_first, passes_at_first, position_or_len_is}
 use Rattle.encodings.specs.declared.encoding.Encoding.TheVariants.{Vector}
 use Rattle.encodings.specs.declared.vector.Vector.{Vector as VectorValue}
-use Rattle.encodings.specs.declared.coded.Coded.TheVariants.{Code, Uncoded}
 use Rattle.encodings.specs.Tables.{no}
-use Rattle.encodings.specs.Codes.{IsMadeOf, characters_of, codes_beside, codes_of, listed_codes, others_of, own_code}
-use Rattle.encodings.specs.Characters.{character_of, unmarked}
-use Rattle.encodings.specs.Lines.{coded_of}
-use Rattle.encodings.specs.Lookup.{character_beside, substitute_of}
-use Rattle.encodings.specs.Vectors.{given_at, given_characters, is_fixed, lowest, number_at, numbers_of, own_at, own_characters, substituted, substituted_in, substitutes, unbroken, unless_fixed, vector_characters}
+use Rattle.encodings.specs.Codes.{IsMadeOf, characters_of, codes_beside, codes_of, listed_codes, own_code}
+use Rattle.encodings.specs.Lines.{numbers_of as numbers_in}
+use Rattle.encodings.specs.Vectors.{character_beside, given_at, given_characters, is_fixed, lowest, number_at, numbers_of, own_at, own_characters, substitute_of, substitutes, unbroken, unless_fixed, vector_characters}
 
 abbrev is : ℕ → ℕ → Bool
 is c each = nat_eq each c
@@ -54,14 +50,6 @@ none_found xs c none = by (nat_lt (lowest xs c) (length xs)) refl none
     by true below none = absurd (none-some _ (sym none))
     by false above none = grind (arith, nat_tests)
 
-never : (p : ℕ → Bool) (xs : List ℕ) → length xs ≤ position_or_len p xs → list_any p xs ≡ false
-never p [] none = refl
-never p (x ∷ xs) none = by (never p xs) (p x) none
-  where
-    by : (length xs ≤ position_or_len p xs → list_any p xs ≡ false) → (b : Bool) → suc (length xs) ≤ cond (not b) (1 + position_or_len p xs) 0 → b || list_any p xs ≡ false
-    by rest true none = absurd (omega arith)
-    by rest false none = rest (omega arith)
-
 lowest_within : (xs : List ℕ) (c : ℕ) → lowest xs c ≤ length xs
 lowest_within [] c = omega arith
 lowest_within (x ∷ xs) c = by (nat_eq x c) (lowest_within xs c)
@@ -82,114 +70,15 @@ unfixed c other = by (nat_eq c 0x20) (nat_eq 0xA0 c) (nat_eq 0xAD c) other
     by false true h other = cc
     by false false true other = cc
 
-not_fixed : (c : ℕ) → c ≢ 0x20 → codes_beside unbroken c ≡ None → is_fixed c ≡ false
-not_fixed c space none = rw (other_than c 0x20 space) (by (nat_eq 0xA0 c) (nat_eq 0xAD c) none)
-  where
-    by : (n h : Bool) → ◌≡◌ {A = Option (List ℕ)} (cond n (Some (32 ∷ [])) (cond h (Some []) None)) None → n || (h || false) ≡ false
-    by false false none = refl
-    by true h none = absurd (none-some _ (sym none))
-    by false true none = absurd (none-some _ (sym none))
-
-or_none : (o : Option (List ℕ)) → option_or o None ≡ o
-or_none None = refl
-or_none (Some codes) = refl
-
-beside_append : (rows more : List (ℕ × List ℕ)) (c : ℕ) → codes_beside (rows ++ more) c ≡ option_or (codes_beside rows c) (codes_beside more c)
-beside_append [] more c = refl
-beside_append (row ∷ rows) more c = by (nat_eq row.0 c) (beside_append rows more c)
-  where
-    by : (b : Bool) → codes_beside (rows ++ more) c ≡ option_or (codes_beside rows c) (codes_beside more c)
-        → cond b (Some row.1) (codes_beside (rows ++ more) c) ≡ option_or (cond b (Some row.1) (codes_beside rows c)) (codes_beside more c)
-    by true rest = refl
-    by false rest = rest
-
--- the codes of a character that a list has, and of one that it doesn't, by one of the rows
-row_left : (xs : List ℕ) (row : ℕ × ℕ) (c : ℕ) → list_any (is c) xs ≡ true → codes_beside (substituted_in xs row) c ≡ None
-row_left xs row c any = by (list_any (is row.0) xs) refl (position (is row.1) xs) (nat_eq row.0 c) refl
-  where
-    by : (h : Bool) → list_any (is row.0) xs ≡ h → (o : Option ℕ) (q : Bool) → nat_eq row.0 c ≡ q
-        → codes_beside (cond h [] (option_map_or (λ code. (row.0, code ∷ []) ∷ []) o [])) c ≡ None
-    by true has o q same = refl
-    by false without None q same = refl
-    by false without (Some at) true same = cc (ap (λ x. list_any (is x) xs) (eqb-true row.0 c same), any, without)
-    by false without (Some at) false same = rw same refl
-
-row_kept : (xs : List ℕ) (row : ℕ × ℕ) (c : ℕ) → list_any (is c) xs ≡ false → codes_beside (substituted_in xs row) c ≡ cond (nat_eq row.0 c) (own_code xs row.1) None
-row_kept xs row c none = by (list_any (is row.0) xs) refl (position (is row.1) xs) (nat_eq row.0 c) refl
-  where
-    by : (h : Bool) → list_any (is row.0) xs ≡ h → (o : Option ℕ) (q : Bool) → nat_eq row.0 c ≡ q
-        → codes_beside (cond h [] (option_map_or (λ code. (row.0, code ∷ []) ∷ []) o [])) c ≡ cond q (option_map (λ code. code ∷ []) o) None
-    by true has o true same = cc (ap (λ x. list_any (is x) xs) (eqb-true row.0 c same), none, has)
-    by true has o false same = refl
-    by false without None true same = refl
-    by false without None false same = refl
-    by false without (Some at) true same = rw same refl
-    by false without (Some at) false same = rw same refl
-
--- the same by all rows, each of which is that of another character
-rows_left : (xs : List ℕ) (rows : List (ℕ × ℕ)) (c : ℕ) → list_any (is c) xs ≡ true → codes_beside (flat_map (substituted_in xs) rows) c ≡ None
-rows_left xs [] c any = refl
-rows_left xs (row ∷ rows) c any =
-    beside_append (substituted_in xs row) (flat_map (substituted_in xs) rows) c
-    ∙ ap (λ o. option_or o (codes_beside (flat_map (substituted_in xs) rows) c)) (row_left xs row c any)
-    ∙ rows_left xs rows c any
-
-abbrev apart : List (ℕ × ℕ) → Bool
-apart [] = true
-apart (row ∷ rows) = not (list_any (λ each. nat_eq each.0 row.0) rows) && apart rows
-
-absent : (rows : List (ℕ × ℕ)) (c : ℕ) → not (list_any (λ each. nat_eq each.0 c) rows) ≡ true → character_beside rows c ≡ None
-absent [] c none = refl
-absent (row ∷ rows) c none = by (absent rows c) (nat_eq row.0 c) none
-  where
-    by : (not (list_any (λ each. nat_eq each.0 c) rows) ≡ true → character_beside rows c ≡ None) → (b : Bool) → not (b || list_any (λ each. nat_eq each.0 c) rows) ≡ true
-        → cond b (Some row.1) (character_beside rows c) ≡ None
-    by rest true none = cc
-    by rest false none = rest none
-
-rows_kept : (xs : List ℕ) (rows : List (ℕ × ℕ)) (c : ℕ) → apart rows ≡ true → list_any (is c) xs ≡ false
-    → codes_beside (flat_map (substituted_in xs) rows) c ≡ option_and_then (own_code xs) (character_beside rows c)
-rows_kept xs [] c each none = refl
-rows_kept xs (row ∷ rows) c each none =
-    beside_append (substituted_in xs row) (flat_map (substituted_in xs) rows) c
-    ∙ ap (λ o. option_or o (codes_beside (flat_map (substituted_in xs) rows) c)) (row_kept xs row c none)
-    ∙ by (rows_kept xs rows c parts.1 none) (nat_eq row.0 c) refl
-  where
-    parts : (not (list_any (λ other. nat_eq other.0 row.0) rows) ≡ true) × (apart rows ≡ true)
-    parts = and_parts _ _ each
-
-    by : codes_beside (flat_map (substituted_in xs) rows) c ≡ option_and_then (own_code xs) (character_beside rows c)
-        → (b : Bool) → nat_eq row.0 c ≡ b → option_or (cond b (own_code xs row.1) None) (codes_beside (flat_map (substituted_in xs) rows) c)
-        ≡ option_and_then (own_code xs) (cond b (Some row.1) (character_beside rows c))
-    by rest true same =
-        let gone : character_beside rows c ≡ None =
-        absent rows c (subst (λ x. not (list_any (λ other. nat_eq other.0 x) rows) ≡ true) (eqb-true row.0 c same) parts.0) in
-        ap (option_or (own_code xs row.1)) (rest ∙ ap (option_and_then (own_code xs)) gone) ∙ or_none (own_code xs row.1)
-    by rest false other = rest
-
 -- the codes of a character: those that it always has, its own, or those of the one as which it is set
 abbrev as_other : List ℕ → ℕ → Option (List ℕ)
 as_other xs c = option_and_then (own_code xs) (substitute_of c)
 
-listed_is : (xs : List ℕ) (c : ℕ) → listed_codes xs c ≡ option_or (codes_beside unbroken c) (option_or (own_code xs c) (as_other xs c))
-listed_is xs c = ap (λ o. option_or o (own_code xs c)) (beside_append unbroken (substituted xs) c) ∙ by (codes_beside unbroken c)
-  where
-    last : (o : Option ℕ) → position (is c) xs ≡ o
-        → option_or (codes_beside (substituted xs) c) (option_map (λ code. code ∷ []) o) ≡ option_or (option_map (λ code. code ∷ []) o) (as_other xs c)
-    last (Some at) found =
-        let here = position-Some (is c) xs at no found in
-        ap (λ o. option_or o (Some (at ∷ []))) (rows_left xs substitutes c (list_any_at (is c) xs at no here.0 here.1))
-    last None none = or_none (codes_beside (substituted xs) c) ∙ rows_kept xs substitutes c refl (never (is c) xs (none_found xs c none))
-
-    by : (o : Option (List ℕ)) → option_or (option_or o (codes_beside (substituted xs) c)) (own_code xs c) ≡ option_or o (option_or (own_code xs c) (as_other xs c))
-    by (Some codes) = refl
-    by None = last (position (is c) xs) refl
-
-listed_fixed : (xs : List ℕ) (c : ℕ) (codes : List ℕ) → codes_beside unbroken c ≡ Some codes → listed_codes xs c ≡ Some codes
-listed_fixed xs c codes found = listed_is xs c ∙ ap (λ o. option_or o (option_or (own_code xs c) (as_other xs c))) found
+pub listed_fixed : (xs : List ℕ) (c : ℕ) (codes : List ℕ) → codes_beside unbroken c ≡ Some codes → listed_codes xs c ≡ Some codes
+listed_fixed xs c codes found = ap (λ o. option_or o (option_or (own_code xs c) (as_other xs c))) found
 
 listed_other : (xs : List ℕ) (c : ℕ) → codes_beside unbroken c ≡ None → listed_codes xs c ≡ option_or (own_code xs c) (as_other xs c)
-listed_other xs c fixed = listed_is xs c ∙ ap (λ o. option_or o (option_or (own_code xs c) (as_other xs c))) fixed
+listed_other xs c fixed = ap (λ o. option_or o (option_or (own_code xs c) (as_other xs c))) fixed
 
 listed_found : (xs : List ℕ) (c at : ℕ) → codes_beside unbroken c ≡ None → position (is c) xs ≡ Some at → listed_codes xs c ≡ Some (at ∷ [])
 listed_found xs c at fixed found = listed_other xs c fixed ∙ ap (λ (o : Option ℕ). option_or (option_map (λ code. code ∷ []) o) (as_other xs c)) found
@@ -279,10 +168,8 @@ own_alone xs code inside some = by (own_or_none xs code)
 -- the codes of a character don't change
 own_codes : (xs : List ℕ) (c : ℕ) → c ≢ no → listed_codes (own_characters xs) c ≡ listed_codes xs c
 own_codes xs c some =
-    listed_is (own_characters xs) c
-    ∙ ap (λ (o : Option ℕ). option_or (codes_beside unbroken c) (option_or (option_map (λ code. code ∷ []) o) (as_other (own_characters xs) c))) (own_position xs c some)
+    ap (λ (o : Option ℕ). option_or (codes_beside unbroken c) (option_or (option_map (λ code. code ∷ []) o) (as_other (own_characters xs) c))) (own_position xs c some)
     ∙ ap (λ o. option_or (codes_beside unbroken c) (option_or (own_code xs c) o)) (by (substitute_of c) refl)
-    ∙ sym (listed_is xs c)
   where
     by : (o : Option ℕ) → substitute_of c ≡ o → option_and_then (own_code (own_characters xs)) o ≡ option_and_then (own_code xs) o
     by None none = refl
@@ -334,16 +221,6 @@ unless_unbroken number = by (scalar number) (is_fixed number) refl
     by true false other = unfixed number other
     by false q other = refl
 
-unless_is : (number : ℕ) → (unless_fixed number ≡ number) ⊎ (unless_fixed number ≡ no)
-unless_is number = by (scalar number && not (is_fixed number))
-  where
-    by : (b : Bool) → (cond b number no ≡ number) ⊎ (cond b number no ≡ no)
-    by true = inl refl
-    by false = inr refl
-
-unless_same : (number : ℕ) → scalar number ≡ true → is_fixed number ≡ false → unless_fixed number ≡ number
-unless_same number character other = rw (character, other) refl
-
 -- the characters at code 10, at code 32, and at another code
 feed_or_other : (numbers : List ℕ) (code : ℕ) → ((code ≡ 10) × (given_at numbers code ≡ no)) ⊎ (((code ≡ 32) × (given_at numbers code ≡ 0x20)) ⊎ ((code ≢ 10) × (code ≢ 32) × (given_at numbers code ≡ unless_fixed (get_or numbers code no))))
 feed_or_other numbers code = by (nat_eq code 10) refl (nat_eq code 32) refl
@@ -383,7 +260,7 @@ space_lowest numbers =
 
 -- ---- the characters of a vector
 
-vector_length : (numbers : List ℕ) → length (vector_characters numbers) ≡ 256
+pub vector_length : (numbers : List ℕ) → length (vector_characters numbers) ≡ 256
 vector_length numbers = own_length (given_characters numbers) ∙ given_length numbers
 
 vector_there : (numbers : List ℕ) (code : ℕ) → code < 256 → get_or (vector_characters numbers) code no ≡ own_at (given_characters numbers) code
@@ -412,7 +289,7 @@ vector_unbroken numbers code below = ap (codes_beside unbroken) (vector_there nu
 
 -- the codes of a vector are those among its characters
 pub of_vector : (vector : Bor VectorValue) (c : ℕ) → codes_of (Vector vector) c ≡ listed_codes (vector_characters vector.now.characters) c
-unfolding codes_of characters_of others_of
+unfolding codes_of
 of_vector vector c = refl
 
 -- ---- the laws of a vector
@@ -451,7 +328,7 @@ own_case xs c codes found = by (position (is c) xs) refl found
     by None none one = absurd (none-some codes one)
 
 code_cases : (xs : List ℕ) (c : ℕ) (codes : List ℕ) → listed_codes xs c ≡ Some codes → Cases xs c codes
-code_cases xs c codes found = by (codes_beside unbroken c) refl (own_code xs c) refl (substitute_of c) refl (sym (listed_is xs c) ∙ found)
+code_cases xs c codes found = by (codes_beside unbroken c) refl (own_code xs c) refl (substitute_of c) refl found
   where
     by : (f : Option (List ℕ)) → codes_beside unbroken c ≡ f → (o : Option (List ℕ)) → own_code xs c ≡ o → (s : Option ℕ) → substitute_of c ≡ s
         → option_or f (option_or o (option_and_then (own_code xs) s)) ≡ Some codes → Cases xs c codes
@@ -510,9 +387,9 @@ vector_space numbers c codes found word = by (code_cases (vector_characters numb
         let space : via.other ≡ 0x20 = at_code (vector_characters numbers) via.other codes via.code 32 via.at word ∙ vector_at_space numbers in
         absurd (cc (ap is_fixed space, other_unfixed c via.other via.substitute))
 
--- a line feed is one code, or an element without codes
-pub feed_alone : (vector : Bor VectorValue) → length (coded_of (Vector vector) 10) ≡ 1
-unfolding coded_of
+-- a line feed is one number of a line
+pub feed_alone : (vector : Bor VectorValue) → length (numbers_in (Vector vector) 10) ≡ 1
+unfolding numbers_in
 feed_alone vector = by (codes_of (Vector vector) 10) refl
   where
     here : (c : ℕ) (codes : List ℕ) → c ≡ 10 → Cases (vector_characters vector.now.characters) c codes → length codes ≡ 1
@@ -521,9 +398,9 @@ feed_alone vector = by (codes_of (Vector vector) 10) refl
     here c codes ten (inr (inr (inl soft))) = absurd (omega (arith, ten, soft.0))
     here c codes ten (inr (inr (inr via))) = ap length via.at.alone
 
-    by : (o : Option (List ℕ)) → codes_of (Vector vector) 10 ≡ o → length (option_map_or (map Code) o (Uncoded 10 ∷ [])) ≡ 1
+    by : (o : Option (List ℕ)) → codes_of (Vector vector) 10 ≡ o → length (unwrap_or o ((256 + 10) ∷ [])) ≡ 1
     by None none = refl
-    by (Some codes) found = length-map codes Code ∙ here 10 codes refl (code_cases (vector_characters vector.now.characters) 10 codes (sym (of_vector vector 10) ∙ found))
+    by (Some codes) found = here 10 codes refl (code_cases (vector_characters vector.now.characters) 10 codes (sym (of_vector vector 10) ∙ found))
 
 pub vector_comes : (numbers : List ℕ) (code : ℕ) → code < length (vector_characters numbers) → get_or (vector_characters numbers) code no ≢ no
     → listed_codes (vector_characters numbers) (get_or (vector_characters numbers) code no) ≡ Some (code ∷ [])
@@ -608,243 +485,143 @@ hinted xs c code own character below same =
     subst (λ x. listed_codes (vector_characters xs) x ≡ Some (code ∷ [])) there
     (vector_comes xs code (omega (arith, below, vector_length xs)) (λ mark. absurd (omega (arith, sym there ∙ mark, character))))
 
+-- the codes in a vector are those among its characters
+pub kept_codes : (xs : List ℕ) (c : ℕ) → xs ≡ vector_characters xs → listed_codes (vector_characters xs) c ≡ listed_codes xs c
+kept_codes xs c own = ap (λ l. listed_codes l c) (sym own)
+
+pub ruleset hints = (hinted, kept_codes)
+
 -- ---- the lowest code of a character
 
--- a character is searched for in the numbers
-given_here : (numbers : List ℕ) (c code : ℕ) → scalar c ≡ true → is_fixed c ≡ false → code < length numbers → get_or numbers code 0 ≡ c → code ≢ 10 → code ≢ 32 → given_at numbers code ≡ c
-given_here numbers c code character other within same not_feed not_space =
-    given_else numbers code not_feed not_space ∙ ap unless_fixed (get_or_default numbers code no 0 within ∙ same) ∙ unless_same c character other
+-- no code before this one has the number
+pub record AreBefore (xs : List ℕ) (number code : ℕ) : Type 0 where
+  none : (k : ℕ) → k < code → nat_eq (get_or xs k no) number ≡ false
 
-given_elsewhere : (numbers : List ℕ) (c code : ℕ) → scalar c ≡ true → c ≢ 0x20 → code < length numbers → get_or numbers code 0 ≢ c → given_at numbers code ≢ c
-given_elsewhere numbers c code character other within differs = by (feed_or_other numbers code)
+pub none_before : (xs : List ℕ) (number : ℕ) → AreBefore xs number 0
+none_before xs number = record { none = λ k below. absurd (omega arith) }
+
+pub before_more : (xs : List ℕ) (number code : ℕ) → AreBefore xs number code → code < length xs → get_or xs code 0 ≢ number → AreBefore xs number (code + 1)
+before_more xs number code before within differs = record { none = λ k below. by k below (nat_eq k code) refl }
   where
-    not_mark : no ≢ c
-    not_mark = λ same. cc (subst (λ n. scalar n ≡ true) (sym same) character)
-
-    kept : (unless_fixed (get_or numbers code no) ≡ get_or numbers code no) ⊎ (unless_fixed (get_or numbers code no) ≡ no) → unless_fixed (get_or numbers code no) ≢ c
-    kept (inl here) = λ same. differs (sym (get_or_default numbers code no 0 within) ∙ sym here ∙ same)
-    kept (inr none) = λ same. not_mark (sym none ∙ same)
-
-    by : ((code ≡ 10) × (given_at numbers code ≡ no)) ⊎ (((code ≡ 32) × (given_at numbers code ≡ 0x20)) ⊎ ((code ≢ 10) × (code ≢ 32) × (given_at numbers code ≡ unless_fixed (get_or numbers code no)))) → given_at numbers code ≢ c
-    by (inl feed) = λ same. not_mark (sym feed.1 ∙ same)
-    by (inr (inl space)) = λ same. other (sym (sym space.1 ∙ same))
-    by (inr (inr there)) = λ same. kept (unless_is (get_or numbers code no)) (sym there.2 ∙ same)
-
--- no code before this one has the character
-pub record AreBefore (numbers : List ℕ) (c code : ℕ) : Type 0 where
-  none : (k : ℕ) → k < code → given_at numbers k ≢ c
-
-pub none_before : (numbers : List ℕ) (c : ℕ) → AreBefore numbers c 0
-none_before numbers c = record { none = λ k below. absurd (omega arith) }
-
-before_more : (numbers : List ℕ) (c code : ℕ) → AreBefore numbers c code → given_at numbers code ≢ c → AreBefore numbers c (code + 1)
-before_more numbers c code before here = record { none = λ k below. by k below (nat_eq k code) refl }
-  where
-    by : (k : ℕ) → k < code + 1 → (b : Bool) → nat_eq k code ≡ b → given_at numbers k ≢ c
-    by k below true same = subst (λ j. given_at numbers j ≢ c) (sym (eqb-true k code same)) here
+    by : (k : ℕ) → k < code + 1 → (b : Bool) → nat_eq k code ≡ b → nat_eq (get_or xs k no) number ≡ false
+    by k below true same = other_than _ number (λ equal. differs (sym (get_or_default xs code no 0 within) ∙ ap (λ j. get_or xs j no) (sym (eqb-true k code same)) ∙ equal))
     by k below false other = before.none k (grind (arith, nat_tests))
 
-pub goes_on : (numbers : List ℕ) (c code : ℕ) → IsScalar c → c ≢ 0x20 → code < length numbers → AreBefore numbers c code → get_or numbers code 0 ≢ c → AreBefore numbers c (code + 1)
-goes_on numbers c code character other within before differs =
-    before_more numbers c code before (given_elsewhere numbers c code character other within differs)
+pub number_found : (xs : List ℕ) (number code : ℕ) → AreBefore xs number code → code < length xs → get_or xs code 0 ≡ number → Some code ≡ position (is number) xs
+number_found xs number code before within same =
+    sym (found_at xs number code (first_at xs number code within before.none (get_or_default xs code no 0 within ∙ same)) within)
 
-pub goes_on_feed : (numbers : List ℕ) (c code : ℕ) → IsScalar c → AreBefore numbers c code → code ≡ 10 → AreBefore numbers c (code + 1)
-goes_on_feed numbers c code character before feed =
-    before_more numbers c code before (λ same. cc (subst (λ n. scalar n ≡ true) (sym same ∙ ap (given_at numbers) feed ∙ given_feed numbers) character))
+pub number_absent : (xs : List ℕ) (number code : ℕ) → AreBefore xs number code → length xs ≤ code → None ≡ position (is number) xs
+number_absent xs number code before past =
+    let last : lowest xs number ≡ length xs =
+    position_or_len_is (is number) xs (length xs) no (omega arith) (λ k lower. before.none k (omega arith)) (λ inside. absurd (omega arith)) in
+    sym (none_at xs number (omega (arith, last)))
 
-pub goes_on_space : (numbers : List ℕ) (c code : ℕ) → c ≢ 0x20 → AreBefore numbers c code → code ≡ 32 → AreBefore numbers c (code + 1)
-goes_on_space numbers c code other before space =
-    before_more numbers c code before (λ same. other (sym same ∙ ap (given_at numbers) space ∙ given_space numbers))
+pub ruleset searched = (none_before, before_more, number_found, number_absent)
 
-found_here : (numbers : List ℕ) (c code : ℕ) → code < 256 → AreBefore numbers c code → given_at numbers code ≡ c → Some code ≡ position (is c) (given_characters numbers)
-found_here numbers c code below before same =
-    let xs = given_characters numbers in
-    let within : code < length xs = omega (arith, given_length numbers) in
-    sym (found_at xs c code (first_at xs c code within (λ k lower. other_than _ c (λ equal. before.none k lower (sym (given_there numbers k (omega arith)) ∙ equal))) (given_there numbers code below ∙ same)) within)
+-- ---- the codes of a character
 
-pub is_lowest : (numbers : List ℕ) (c code : ℕ) → IsScalar c → c ≢ 0x20 → codes_beside unbroken c ≡ None → length numbers ≡ 256 → code < 256 → AreBefore numbers c code → get_or numbers code 0 ≡ c → code ≢ 10 → code ≢ 32
-    → Some code ≡ position (is c) (given_characters numbers)
-is_lowest numbers c code character space other long below before same not_feed not_space =
-    found_here numbers c code below before (given_here numbers c code character (not_fixed c space other) (omega (arith, long)) same not_feed not_space)
+pub code_found : (xs : List ℕ) (c code : ℕ) → codes_beside unbroken c ≡ None → Some code ≡ position (is c) xs → listed_codes xs c ≡ Some (code ∷ [])
+code_found xs c code fixed found = listed_found xs c code fixed (sym found)
 
-pub nowhere : (numbers : List ℕ) (c code : ℕ) → 256 ≤ code → AreBefore numbers c code → None ≡ position (is c) (given_characters numbers)
-nowhere numbers c code all before =
-    let xs = given_characters numbers in
-    let past : lowest xs c ≡ length xs =
-    position_or_len_is (is c) xs (length xs) no (omega arith)
-    (λ k lower. other_than _ c (λ equal. before.none k (omega (arith, given_length numbers)) (sym (given_there numbers k (omega (arith, given_length numbers))) ∙ equal)))
-    (λ inside. absurd (omega arith)) in
-    sym (none_at xs c (omega (arith, past)))
+pub as_none : (xs : List ℕ) (c : ℕ) → codes_beside unbroken c ≡ None → None ≡ position (is c) xs → None ≡ substitute_of c → listed_codes xs c ≡ None
+as_none xs c fixed none without = listed_as xs c fixed (sym none) ∙ ap (option_and_then (own_code xs)) (sym without)
 
-pub space_found : (numbers : List ℕ) (c : ℕ) → c ≡ 0x20 → Some 32 ≡ position (is c) (given_characters numbers)
-space_found numbers c same =
-    subst (λ x. Some 32 ≡ position (is x) (given_characters numbers)) (sym same)
-    (sym (found_at (given_characters numbers) 0x20 32 (space_lowest numbers) (omega (arith, given_length numbers))))
-
-pub ruleset searched = (none_before, goes_on, goes_on_feed, goes_on_space, is_lowest)
-
--- the codes of a character
-own_here : (numbers : List ℕ) (c : ℕ) (o : Option ℕ) → c < 0x110000 → o ≡ position (is c) (given_characters numbers) → position (is c) (vector_characters numbers) ≡ o
-own_here numbers c o character found = own_position (given_characters numbers) c (λ none. absurd (omega (arith, none))) ∙ sym found
-
-pub code_found : (numbers : List ℕ) (c code : ℕ) → c < 0x110000 → codes_beside unbroken c ≡ None → Some code ≡ position (is c) (given_characters numbers)
-    → listed_codes (vector_characters numbers) c ≡ Some (code ∷ [])
-code_found numbers c code character fixed found = listed_found (vector_characters numbers) c code fixed (own_here numbers c (Some code) character found)
-
--- a character as which another one is set
-pub other_unbroken : (c other : ℕ) → Some other ≡ substitute_of c → codes_beside unbroken other ≡ None
-other_unbroken c other found = unfixed other (other_unfixed c other (sym found))
-
-pub as_none : (numbers : List ℕ) (c : ℕ) → c < 0x110000 → codes_beside unbroken c ≡ None → None ≡ position (is c) (given_characters numbers) → None ≡ substitute_of c
-    → listed_codes (vector_characters numbers) c ≡ None
-as_none numbers c character fixed none without =
-    listed_as (vector_characters numbers) c fixed (own_here numbers c None character none) ∙ ap (option_and_then (own_code (vector_characters numbers))) (sym without)
-
-as_another : (numbers : List ℕ) (c other : ℕ) (o : Option ℕ) → c < 0x110000 → codes_beside unbroken c ≡ None → None ≡ position (is c) (given_characters numbers) → Some other ≡ substitute_of c
-    → o ≡ position (is other) (given_characters numbers) → listed_codes (vector_characters numbers) c ≡ option_map (λ code. code ∷ []) o
-as_another numbers c other o character fixed none found there =
-    listed_as (vector_characters numbers) c fixed (own_here numbers c None character none)
-    ∙ ap (option_and_then (own_code (vector_characters numbers))) (sym found)
-    ∙ ap (option_map (λ (code : ℕ). code ∷ [])) (own_here numbers other o (other_character c other (sym found)) there)
-
-pub as_result : (numbers : List ℕ) (c other : ℕ) (o : Option ℕ) → c < 0x110000 → codes_beside unbroken c ≡ None → None ≡ position (is c) (given_characters numbers) → Some other ≡ substitute_of c
-    → o ≡ position (is other) (given_characters numbers)
-    → MatchOption o (listed_codes (vector_characters numbers) c ≡ None) (λ code. listed_codes (vector_characters numbers) c ≡ Some (code ∷ []))
-as_result numbers c other (Some code) character fixed none found there = as_another numbers c other (Some code) character fixed none found there
-as_result numbers c other None character fixed none found there = as_another numbers c other None character fixed none found there
-
-pub ruleset coded = (other_unbroken, as_none)
-
-pub fixed_codes : (numbers : List ℕ) (c : ℕ) (codes : List ℕ) → codes_beside unbroken c ≡ Some codes → listed_codes (vector_characters numbers) c ≡ Some codes
-fixed_codes numbers c codes = listed_fixed (vector_characters numbers) c codes
-
-pub ruleset found = (fixed_codes)
-
--- ---- the character at a code
-
-unmarked_some : (number : ℕ) → number ≢ no → unmarked number ≡ Some number
-unmarked_some number some = rw (other_than number no some) refl
-
-pub at_feed : (numbers : List ℕ) (code : ℕ) → code ≡ 10 → None ≡ unmarked (given_at numbers code)
-at_feed numbers code feed = rw (ap (given_at numbers) feed ∙ given_feed numbers) refl
-
-pub at_space : (numbers : List ℕ) (code : ℕ) → code ≡ 32 → Some 32 ≡ unmarked (given_at numbers code)
-at_space numbers code space = rw (ap (given_at numbers) space ∙ given_space numbers) refl
-
--- a number that is made a character, if it is one
-pub at_other : (numbers : List ℕ) (code number made : ℕ) (o : Option ℕ) → code ≢ 10 → code ≢ 32 → code < length numbers → number ≡ get_or numbers code 0 → SomeIff o (IsScalar number) number → o ≡ Some made → is_fixed made ≡ false
-    → Some made ≡ unmarked (given_at numbers code)
-at_other numbers code number made (Some c) not_feed not_space within same is_made here other =
-    let made_is : made ≡ number = sym (same_Some _ _ here) ∙ is_made.1 in
-    let given : given_at numbers code ≡ made =
-    given_here numbers made code (subst (λ n. scalar n ≡ true) (sym made_is) is_made.0) other within (sym same ∙ sym made_is) not_feed not_space in
-    sym (ap unmarked given ∙ unmarked_some made (λ mark. cc (subst (λ n. scalar n ≡ true) (sym made_is ∙ mark) is_made.0)))
-at_other numbers code number made None not_feed not_space within same is_made here other = absurd (none-some made here)
-
-pub at_fixed : (numbers : List ℕ) (code number made : ℕ) (o : Option ℕ) → code ≢ 10 → code ≢ 32 → code < length numbers → number ≡ get_or numbers code 0 → SomeIff o (IsScalar number) number → o ≡ Some made → is_fixed made ≡ true
-    → None ≡ unmarked (given_at numbers code)
-at_fixed numbers code number made (Some c) not_feed not_space within same is_made here fixed =
-    let number_is : number ≡ made = sym is_made.1 ∙ same_Some _ _ here in
-    let default : get_or numbers code no ≡ made = get_or_default numbers code no 0 within ∙ sym same ∙ number_is in
-    rw (given_else numbers code not_feed not_space, default, fixed) (by (scalar made))
+-- a character that is set as another one
+pub as_another : (xs : List ℕ) (c other : ℕ) (o : Option ℕ) → codes_beside unbroken c ≡ None → None ≡ position (is c) xs → Some other ≡ substitute_of c → o ≡ position (is other) xs
+    → MatchOption o (listed_codes xs c ≡ None) (λ code. listed_codes xs c ≡ Some (code ∷ []))
+as_another xs c other o fixed none found there = by o (listed_as xs c fixed (sym none) ∙ ap (option_and_then (own_code xs)) (sym found) ∙ ap (option_map (λ (code : ℕ). code ∷ [])) (sym there))
   where
-    by : (b : Bool) → None ≡ unmarked (cond (b && false) made no)
-    by true = refl
-    by false = refl
-at_fixed numbers code number made None not_feed not_space within same is_made here fixed = absurd (none-some made here)
+    by : (p : Option ℕ) → listed_codes xs c ≡ option_map (λ code. code ∷ []) p → MatchOption p (listed_codes xs c ≡ None) (λ code. listed_codes xs c ≡ Some (code ∷ []))
+    by (Some code) are = are
+    by None are = are
 
-pub at_none : (numbers : List ℕ) (code number : ℕ) (o : Option ℕ) → code ≢ 10 → code ≢ 32 → code < length numbers → number ≡ get_or numbers code 0 → SomeIff o (IsScalar number) number → o ≡ None
-    → None ≡ unmarked (given_at numbers code)
-at_none numbers code number (Some c) not_feed not_space within same is_made here = absurd (none-some c (sym here))
-at_none numbers code number None not_feed not_space within same is_made here = by (scalar number) refl
-  where
-    default : get_or numbers code no ≡ number
-    default = get_or_default numbers code no 0 within ∙ sym same
-
-    by : (b : Bool) → scalar number ≡ b → None ≡ unmarked (given_at numbers code)
-    by true character = absurd (is_made character)
-    by false outside = rw (given_else numbers code not_feed not_space, default, outside) refl
-
-pub ruleset given = (at_feed, at_space, at_other, at_fixed, at_none)
-
--- the character at its lowest code
-given_some : (numbers : List ℕ) (code c : ℕ) → code < 256 → Some c ≡ unmarked (given_at numbers code) → (get_or (given_characters numbers) code no ≡ c) × (c ≢ no)
-given_some numbers code c below here = by (nat_eq (given_at numbers code) no) refl here
-  where
-    by : (b : Bool) → nat_eq (given_at numbers code) no ≡ b → Some c ≡ (if b then None else Some (given_at numbers code)) → (get_or (given_characters numbers) code no ≡ c) × (c ≢ no)
-    by true mark one = absurd (none-some c (sym one))
-    by false other one =
-        let same : given_at numbers code ≡ c = sym (same_Some _ _ one) in
-        (given_there numbers code below ∙ same, λ mark. cc (eq-eqb _ _ (same ∙ mark), other))
-
--- it is no no-break space and no soft hyphen
-pub own_unbroken : (numbers : List ℕ) (code c : ℕ) → code < 256 → Some c ≡ unmarked (given_at numbers code) → codes_beside unbroken c ≡ None
-own_unbroken numbers code c below here =
-    let same : given_at numbers code ≡ c = sym (given_there numbers code below) ∙ (given_some numbers code c below here).0 in
-    subst (λ x. codes_beside unbroken x ≡ None) same (given_unbroken numbers code)
-
-pub own_is : (numbers : List ℕ) (code c low : ℕ) → code < 256 → Some c ≡ unmarked (given_at numbers code) → Some low ≡ position (is c) (given_characters numbers) → low ≡ code
-    → Some c ≡ unmarked (own_at (given_characters numbers) code)
-own_is numbers code c low below here found same =
-    let xs = given_characters numbers in
-    let some = given_some numbers code c below here in
-    let at = found_is xs c low (sym found) in
-    sym (ap unmarked (own_if_lowest xs code (ap (lowest xs) some.0 ∙ at.2 ∙ same) ∙ some.0) ∙ unmarked_some c some.1)
-
-own_no : (xs : List ℕ) (code c : ℕ) → get_or xs code no ≡ c → lowest xs c ≢ code → own_at xs code ≡ no
-own_no xs code c here differs = rw (other_than (lowest xs (get_or xs code no)) code (λ same. differs (ap (lowest xs) (sym here) ∙ same))) refl
-
-pub own_lower : (numbers : List ℕ) (code c low : ℕ) → code < 256 → Some c ≡ unmarked (given_at numbers code) → Some low ≡ position (is c) (given_characters numbers) → low ≢ code
-    → None ≡ unmarked (own_at (given_characters numbers) code)
-own_lower numbers code c low below here found differs =
-    let some = given_some numbers code c below here in
-    let at = found_is (given_characters numbers) c low (sym found) in
-    rw (own_no (given_characters numbers) code c some.0 (λ same. differs (sym at.2 ∙ same))) refl
-
-pub own_nowhere : (numbers : List ℕ) (code c : ℕ) → code < 256 → Some c ≡ unmarked (given_at numbers code) → None ≡ position (is c) (given_characters numbers)
-    → None ≡ unmarked (own_at (given_characters numbers) code)
-own_nowhere numbers code c below here none =
-    let some = given_some numbers code c below here in
-    let past = none_found (given_characters numbers) c (sym none) in
-    rw (own_no (given_characters numbers) code c some.0 (λ same. absurd (omega (arith, past, same, given_length numbers)))) refl
-
-pub own_none : (numbers : List ℕ) (code : ℕ) → code < 256 → None ≡ unmarked (given_at numbers code) → None ≡ unmarked (own_at (given_characters numbers) code)
-own_none numbers code below here = by (nat_eq (given_at numbers code) no) refl here (own_or_none (given_characters numbers) code)
-  where
-    by : (b : Bool) → nat_eq (given_at numbers code) no ≡ b → None ≡ (if b then None else Some (given_at numbers code))
-        → ((own_at (given_characters numbers) code ≡ get_or (given_characters numbers) code no) × (lowest (given_characters numbers) (get_or (given_characters numbers) code no) ≡ code)) ⊎ (own_at (given_characters numbers) code ≡ no)
-        → None ≡ unmarked (own_at (given_characters numbers) code)
-    by true mark one (inl same) = rw (same.0 ∙ given_there numbers code below ∙ eqb-true _ no mark) refl
-    by true mark one (inr none) = rw none refl
-    by false other one which = absurd (none-some _ one)
-
-pub ruleset own = (own_unbroken, own_is, own_lower, own_nowhere, own_none)
-
--- the character at a code of a vector
-pub vector_character : (vector : Bor VectorValue) (code : ℕ) → code < 256 → character_of (Vector vector) code ≡ unmarked (own_at (given_characters vector.now.characters) code)
-unfolding character_of characters_of
-vector_character vector code below = ap unmarked (vector_there vector.now.characters code below)
+pub ruleset coded = (code_found, as_none)
 
 -- ---- the characters of a vector as they are made
 
-pub numbered_some : (number c : ℕ) → Some c ≡ unmarked number → c ≡ number
-numbered_some number c is = by (nat_eq number no) is
+-- a number that is made a character, if it is one
+pub unless_kept : (number made : ℕ) (o : Option ℕ) → SomeIff o (IsScalar number) number → o ≡ Some made → is_fixed made ≡ false → number ≡ unless_fixed number
+unless_kept number made (Some c) is_made here other =
+    let same : number ≡ made = sym is_made.1 ∙ same_Some _ _ here in
+    rw (is_made.0, ap is_fixed same ∙ other) refl
+unless_kept number made None is_made here other = absurd (none-some made here)
+
+pub unless_fixed_one : (number made : ℕ) (o : Option ℕ) → SomeIff o (IsScalar number) number → o ≡ Some made → is_fixed made ≡ true → no ≡ unless_fixed number
+unless_fixed_one number made (Some c) is_made here fixed =
+    let same : number ≡ made = sym is_made.1 ∙ same_Some _ _ here in
+    rw (is_made.0, ap is_fixed same ∙ fixed) refl
+unless_fixed_one number made None is_made here fixed = absurd (none-some made here)
+
+pub unless_none : (number : ℕ) (o : Option ℕ) → SomeIff o (IsScalar number) number → o ≡ None → no ≡ unless_fixed number
+unless_none number (Some c) is_made here = absurd (none-some c (sym here))
+unless_none number None is_made here = by (scalar number) refl
   where
-    by : (b : Bool) → Some c ≡ (if b then None else Some number) → c ≡ number
-    by true one = absurd (none-some c (sym one))
-    by false one = same_Some _ _ one
+    by : (b : Bool) → scalar number ≡ b → no ≡ unless_fixed number
+    by true character = absurd (is_made character)
+    by false outside = rw outside refl
 
-pub numbered_none : (number : ℕ) → None ≡ unmarked number → no ≡ number
-numbered_none number is = by (nat_eq number no) refl is
-  where
-    by : (b : Bool) → nat_eq number no ≡ b → None ≡ (if b then None else Some number) → no ≡ number
-    by true mark one = sym (eqb-true number no mark)
-    by false other one = absurd (none-some number one)
+pub ruleset unless = (unless_kept, unless_fixed_one, unless_none)
 
-pub ruleset numbered = (numbered_some, numbered_none)
+pub given_filled : (numbers given : List ℕ) → length given ≡ 256 → ((k : ℕ) → k < 256 → get_or given k 0 ≡ given_at numbers k) → given ≡ given_characters numbers
+unfolding given_characters
+given_filled numbers given long each = fill_by_all (given_at numbers) given 256 0 long each
 
-pub own_filled : (numbers own : List ℕ) → length own ≡ 256 → ((k : ℕ) → k < 256 → get_or own k 0 ≡ own_at (given_characters numbers) k) → own ≡ vector_characters numbers
+pub own_kept : (xs : List ℕ) (code low number : ℕ) → code < length xs → number ≡ get_or xs code 0 → Some low ≡ position (is number) xs → low ≡ code → number ≡ own_at xs code
+own_kept xs code low number within here found same =
+    let there : number ≡ get_or xs code no = here ∙ sym (get_or_default xs code no 0 within) in
+    let at = found_is xs number low (sym found) in
+    there ∙ sym (own_if_lowest xs code (ap (lowest xs) (sym there) ∙ at.2 ∙ same))
+
+own_no : (xs : List ℕ) (code : ℕ) → lowest xs (get_or xs code no) ≢ code → no ≡ own_at xs code
+own_no xs code differs = rw (other_than (lowest xs (get_or xs code no)) code differs) refl
+
+pub own_lower : (xs : List ℕ) (code low number : ℕ) → code < length xs → number ≡ get_or xs code 0 → Some low ≡ position (is number) xs → low ≢ code → no ≡ own_at xs code
+own_lower xs code low number within here found differs =
+    let there : number ≡ get_or xs code no = here ∙ sym (get_or_default xs code no 0 within) in
+    let at = found_is xs number low (sym found) in
+    own_no xs code (λ same. differs (sym at.2 ∙ ap (lowest xs) there ∙ same))
+
+pub own_nowhere : (xs : List ℕ) (code number : ℕ) → code < length xs → number ≡ get_or xs code 0 → None ≡ position (is number) xs → no ≡ own_at xs code
+own_nowhere xs code number within here none =
+    let there : number ≡ get_or xs code no = here ∙ sym (get_or_default xs code no 0 within) in
+    let past = none_found xs number (sym none) in
+    own_no xs code (λ same. absurd (omega (arith, past, ap (lowest xs) there ∙ same)))
+
+pub ruleset own = (own_kept, own_lower, own_nowhere)
+
+pub own_filled : (xs own : List ℕ) → length xs ≡ 256 → length own ≡ 256 → ((k : ℕ) → k < 256 → get_or own k 0 ≡ own_at xs k) → own ≡ own_characters xs
 unfolding own_characters
-own_filled numbers own long each =
-    let xs = given_characters numbers in
-    fill_by_all (own_at xs) own (length xs) 0 (long ∙ sym (given_length numbers)) (λ k below. each k (omega (arith, given_length numbers)))
+own_filled xs own long length_is each = fill_by_all (own_at xs) own (length xs) 0 (length_is ∙ sym long) (λ k below. each k (omega (arith, long)))
+
+-- ---- the character at a code
+
+unless_listed : (number : ℕ) → nat_eq (unless_fixed number) no || scalar (unless_fixed number) ≡ true
+unless_listed number = by (scalar number) refl (is_fixed number)
+  where
+    by : (s : Bool) → scalar number ≡ s → (q : Bool) → nat_eq (cond (s && not q) number no) no || scalar (cond (s && not q) number no) ≡ true
+    by true character true = refl
+    by true character false = either (nat_eq number no) character
+      where
+        either : (b : Bool) → scalar number ≡ true → b || scalar number ≡ true
+        either true character = refl
+        either false character = character
+    by false outside q = refl
+
+-- the number at a code of a vector is that of a character, or marks a code without one
+pub vector_listed : (numbers : List ℕ) (code : ℕ) → code < 256 → nat_eq (get_or (vector_characters numbers) code no) no || scalar (get_or (vector_characters numbers) code no) ≡ true
+vector_listed numbers code below = subst (λ n. nat_eq n no || scalar n ≡ true) (sym (vector_there numbers code below)) (by (own_or_none (given_characters numbers) code))
+  where
+    given : nat_eq (given_at numbers code) no || scalar (given_at numbers code) ≡ true
+    given = here (feed_or_other numbers code)
+      where
+        here : ((code ≡ 10) × (given_at numbers code ≡ no)) ⊎ (((code ≡ 32) × (given_at numbers code ≡ 0x20)) ⊎ ((code ≢ 10) × (code ≢ 32) × (given_at numbers code ≡ unless_fixed (get_or numbers code no))))
+            → nat_eq (given_at numbers code) no || scalar (given_at numbers code) ≡ true
+        here (inl feed) = rw feed.1 refl
+        here (inr (inl space)) = rw space.1 refl
+        here (inr (inr other)) = rw other.2 (unless_listed (get_or numbers code no))
+
+    by : ((own_at (given_characters numbers) code ≡ get_or (given_characters numbers) code no) × (lowest (given_characters numbers) (get_or (given_characters numbers) code no) ≡ code)) ⊎ (own_at (given_characters numbers) code ≡ no)
+        → nat_eq (own_at (given_characters numbers) code) no || scalar (own_at (given_characters numbers) code) ≡ true
+    by (inl same) = subst (λ n. nat_eq n no || scalar n ≡ true) (sym (same.0 ∙ given_there numbers code below)) given
+    by (inr none) = rw none refl

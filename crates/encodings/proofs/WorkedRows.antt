@@ -1,14 +1,13 @@
 -- Worked rows, computed from the definitions alone. The codes are those that LaTeX sets.
-use Rattle.std.proofs.Common.{◌≡◌, true, false, [], ◌∷◌, Some, None, refl}
+use Rattle.std.proofs.Common.{◌≡◌, ◌+◌, true, false, [], ◌∷◌, Some, None, refl}
 use lib.Utf8.{encode}
 use Rattle.std.specs.Str.{chars, is_utf8}
 use Rattle.std.specs.Str.Lossy.{utf8_valid_len}
-use Rattle.encodings.specs.declared.encoding.Encoding.TheVariants.{Bytes, Ot1, T1, Ly1, Latin1}
-use Rattle.encodings.specs.declared.coded.Coded.TheVariants.{Code, Uncoded}
+use Rattle.encodings.specs.declared.encoding.Encoding.TheVariants.{Ot1, T1, Ly1, Latin1}
 use Rattle.encodings.specs.Tables.{no, ot1_characters, t1_characters, ly1_characters, shared_others, ot1_others, t1_others, ly1_others}
 use Rattle.encodings.specs.Codes.{codes_of, characters_of, given_codes, others_of}
-use Rattle.encodings.specs.Vectors.{given_at, given_characters, numbers_of, own_at}
-use Rattle.encodings.specs.Lines.{coded_of, elements_of, encoded, fault_in, places_of}
+use Rattle.encodings.specs.Vectors.{given_at, given_characters, numbers_of as given_numbers, own_at}
+use Rattle.encodings.specs.Lines.{elements_of, encoded, fault_in, numbers_of, places_of}
 
 -- ---- single characters
 
@@ -50,131 +49,127 @@ ly1_euro = refl
 -- ---- lines
 
 -- é“
-t1_line : encoded T1 false (0xC3 ∷ 0xA9 ∷ 0xE2 ∷ 0x80 ∷ 0x9C ∷ []) ≡ Code 233 ∷ Code 16 ∷ []
-unfolding encoded elements_of places_of coded_of chars codes_of characters_of others_of t1_characters shared_others t1_others
+t1_line : encoded T1 false (0xC3 ∷ 0xA9 ∷ 0xE2 ∷ 0x80 ∷ 0x9C ∷ []) ≡ 233 ∷ 16 ∷ []
+unfolding encoded elements_of places_of numbers_of chars codes_of characters_of others_of t1_characters shared_others t1_others
 t1_line = refl
 
 -- the same, with the offsets of both characters
 ot1_elements : elements_of Ot1 false (0xC3 ∷ 0xA9 ∷ 0xE2 ∷ 0x80 ∷ 0x9C ∷ [])
-    ≡ record { offset = 0; coded = Uncoded 0xE9 } ∷ record { offset = 2; coded = Code 92 } ∷ []
-unfolding elements_of places_of coded_of chars codes_of characters_of others_of ot1_characters shared_others ot1_others
+    ≡ record { offset = 0; number = 256 + 0xE9 } ∷ record { offset = 2; number = 92 } ∷ []
+unfolding elements_of places_of numbers_of chars codes_of characters_of others_of ot1_characters shared_others ot1_others
 ot1_elements = refl
 
 -- a no-break space and a soft hyphen
-t1_vanishing : encoded T1 false (0x61 ∷ 0xC2 ∷ 0xA0 ∷ 0xC2 ∷ 0xAD ∷ 0x62 ∷ []) ≡ Code 97 ∷ Code 32 ∷ Code 98 ∷ []
-unfolding encoded elements_of places_of coded_of chars codes_of characters_of others_of t1_characters shared_others t1_others
+t1_vanishing : encoded T1 false (0x61 ∷ 0xC2 ∷ 0xA0 ∷ 0xC2 ∷ 0xAD ∷ 0x62 ∷ []) ≡ 97 ∷ 32 ∷ 98 ∷ []
+unfolding encoded elements_of places_of numbers_of chars codes_of characters_of others_of t1_characters shared_others t1_others
 t1_vanishing = refl
 
 -- a byte order mark in the first line, and in a later one
-first_line : elements_of Latin1 true (0xEF ∷ 0xBB ∷ 0xBF ∷ 0x61 ∷ []) ≡ record { offset = 3; coded = Code 97 } ∷ []
-unfolding elements_of places_of coded_of chars codes_of characters_of others_of
+first_line : elements_of Latin1 true (0xEF ∷ 0xBB ∷ 0xBF ∷ 0x61 ∷ []) ≡ record { offset = 3; number = 97 } ∷ []
+unfolding elements_of places_of numbers_of chars codes_of characters_of others_of
 first_line = refl
 
 later_line : elements_of Latin1 false (0xEF ∷ 0xBB ∷ 0xBF ∷ 0x61 ∷ [])
-    ≡ record { offset = 0; coded = Uncoded 0xFEFF } ∷ record { offset = 3; coded = Code 97 } ∷ []
-unfolding elements_of places_of coded_of chars codes_of characters_of others_of
+    ≡ record { offset = 0; number = 256 + 0xFEFF } ∷ record { offset = 3; number = 97 } ∷ []
+unfolding elements_of places_of numbers_of chars codes_of characters_of others_of
 later_line = refl
 
 -- a byte that begins no character, and a character that is cut
-no_character : fault_in T1 (0x61 ∷ 0xFF ∷ 0x62 ∷ []) ≡ Some 1
+no_character : fault_in (0x61 ∷ 0xFF ∷ 0x62 ∷ []) ≡ Some 1
 unfolding fault_in is_utf8 utf8_valid_len chars encode
 no_character = refl
 
-cut_character : fault_in T1 (0x61 ∷ 0x62 ∷ 0xE2 ∷ 0x80 ∷ []) ≡ Some 2
+cut_character : fault_in (0x61 ∷ 0x62 ∷ 0xE2 ∷ 0x80 ∷ []) ≡ Some 2
 unfolding fault_in is_utf8 utf8_valid_len chars encode
 cut_character = refl
-
-bytes_line : encoded Bytes true (0xEF ∷ 0xBB ∷ 0xBF ∷ []) ≡ Code 0xEF ∷ Code 0xBB ∷ Code 0xBF ∷ []
-unfolding encoded
-bytes_line = refl
 
 -- ---- encodings that are made of characters
 
 -- A at codes 1 and 2
 lowest_code : given_codes (None ∷ Some 0x41 ∷ Some 0x41 ∷ []) 0x41 ≡ Some (1 ∷ [])
-unfolding numbers_of given_characters given_at
+unfolding given_numbers given_characters given_at
 lowest_code = refl
 
-no_second_code : own_at (given_characters (numbers_of (None ∷ Some 0x41 ∷ Some 0x41 ∷ []))) 2 ≡ no
-unfolding numbers_of given_characters given_at
+no_second_code : own_at (given_characters (given_numbers (None ∷ Some 0x41 ∷ Some 0x41 ∷ []))) 2 ≡ no
+unfolding given_numbers given_characters given_at
 no_second_code = refl
 
 -- the space at code 0, and nothing at 32
 space_alone : given_codes (Some 0x20 ∷ []) 0x20 ≡ Some (32 ∷ [])
-unfolding numbers_of given_characters given_at
+unfolding given_numbers given_characters given_at
 space_alone = refl
 
-space_kept : own_at (given_characters (numbers_of (Some 0x20 ∷ []))) 32 ≡ 0x20
-unfolding numbers_of given_characters given_at
+space_kept : own_at (given_characters (given_numbers (Some 0x20 ∷ []))) 32 ≡ 0x20
+unfolding given_numbers given_characters given_at
 space_kept = refl
 
 -- the line feed at code 0, and A at code 10
 feed_listed : given_codes (Some 10 ∷ []) 10 ≡ Some (0 ∷ [])
-unfolding numbers_of given_characters given_at
+unfolding given_numbers given_characters given_at
 feed_listed = refl
 
 never_ten : given_codes (None ∷ None ∷ None ∷ None ∷ None ∷ None ∷ None ∷ None ∷ None ∷ None ∷ Some 0x41 ∷ []) 0x41 ≡ None
-unfolding numbers_of given_characters given_at
+unfolding given_numbers given_characters given_at
 never_ten = refl
 
 -- a no-break space and a soft hyphen, also if they are at codes 0 and 1
 no_break_space : given_codes [] 0xA0 ≡ Some (32 ∷ [])
-unfolding numbers_of given_characters given_at
+unfolding given_numbers given_characters given_at
 no_break_space = refl
 
 no_break_space_listed : given_codes (Some 0xA0 ∷ []) 0xA0 ≡ Some (32 ∷ [])
-unfolding numbers_of given_characters given_at
+unfolding given_numbers given_characters given_at
 no_break_space_listed = refl
 
-no_break_space_at_no_code : own_at (given_characters (numbers_of (Some 0xA0 ∷ []))) 0 ≡ no
-unfolding numbers_of given_characters given_at
+no_break_space_at_no_code : own_at (given_characters (given_numbers (Some 0xA0 ∷ []))) 0 ≡ no
+unfolding given_numbers given_characters given_at
 no_break_space_at_no_code = refl
 
 soft_hyphen : given_codes [] 0xAD ≡ Some []
-unfolding numbers_of given_characters given_at
+unfolding given_numbers given_characters given_at
 soft_hyphen = refl
 
 soft_hyphen_listed : given_codes (None ∷ Some 0xAD ∷ []) 0xAD ≡ Some []
-unfolding numbers_of given_characters given_at
+unfolding given_numbers given_characters given_at
 soft_hyphen_listed = refl
 
 -- ' where ’ is at code 1, and where ' itself is at code 2
 straight_mark : given_codes (None ∷ Some 0x2019 ∷ []) 0x27 ≡ Some (1 ∷ [])
-unfolding numbers_of given_characters given_at
+unfolding given_numbers given_characters given_at
 straight_mark = refl
 
 straight_mark_listed : given_codes (None ∷ Some 0x2019 ∷ Some 0x27 ∷ []) 0x27 ≡ Some (2 ∷ [])
-unfolding numbers_of given_characters given_at
+unfolding given_numbers given_characters given_at
 straight_mark_listed = refl
 
 -- ’ where only ' is at a code
 curved_mark : given_codes (Some 0x27 ∷ []) 0x2019 ≡ None
-unfolding numbers_of given_characters given_at
+unfolding given_numbers given_characters given_at
 curved_mark = refl
 
 -- ` where ‘ is at codes 1 and 2
 grave_accent : given_codes (None ∷ Some 0x2018 ∷ Some 0x2018 ∷ []) 0x60 ≡ Some (1 ∷ [])
-unfolding numbers_of given_characters given_at
+unfolding given_numbers given_characters given_at
 grave_accent = refl
 
 -- both hyphens where - is at code 0, the figure dash where – is, and the horizontal bar where — is
 hyphen : given_codes (Some 0x2D ∷ []) 0x2010 ≡ Some (0 ∷ [])
-unfolding numbers_of given_characters given_at
+unfolding given_numbers given_characters given_at
 hyphen = refl
 
 non_breaking_hyphen : given_codes (Some 0x2D ∷ []) 0x2011 ≡ Some (0 ∷ [])
-unfolding numbers_of given_characters given_at
+unfolding given_numbers given_characters given_at
 non_breaking_hyphen = refl
 
 figure_dash : given_codes (Some 0x2013 ∷ []) 0x2012 ≡ Some (0 ∷ [])
-unfolding numbers_of given_characters given_at
+unfolding given_numbers given_characters given_at
 figure_dash = refl
 
 horizontal_bar : given_codes (Some 0x2014 ∷ []) 0x2015 ≡ Some (0 ∷ [])
-unfolding numbers_of given_characters given_at
+unfolding given_numbers given_characters given_at
 horizontal_bar = refl
 
 -- a hyphen where neither is at a code
 no_hyphen : given_codes (Some 0x41 ∷ []) 0x2010 ≡ None
-unfolding numbers_of given_characters given_at
+unfolding given_numbers given_characters given_at
 no_hyphen = refl

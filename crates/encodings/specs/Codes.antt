@@ -5,31 +5,29 @@
 -- defined in Vectors.
 use Rattle.std.specs.Prelude.{◌≡◌, ℕ, ◌<◌, List, [], ◌∷◌, ◌++◌, Option, Some, None, cond, nat_eq}
 use Rattle.std.specs.List.{position, range_with_len}
-use Rattle.std.specs.Option.{option_map, option_or}
+use Rattle.std.specs.Option.{option_and_then, option_map, option_or}
 use Rattle.encodings.specs.declared.encoding.Encoding.{Encoding}
-use Rattle.encodings.specs.declared.encoding.Encoding.TheVariants.{Bytes, Ot1, T1, Ly1, Latin1, Vector}
+use Rattle.encodings.specs.declared.encoding.Encoding.TheVariants.{Ot1, T1, Ly1, Latin1, Vector}
 use Rattle.encodings.specs.Tables.{no, ot1_characters, t1_characters, ly1_characters}
 use Rattle.encodings.specs.Tables.{shared_others, ot1_others, t1_others, ly1_others}
-use Rattle.encodings.specs.Vectors.{given_characters, numbers_of, others_among, unbroken, vector_characters}
+use Rattle.encodings.specs.Vectors.{given_characters, numbers_of, substitute_of, unbroken, vector_characters}
 
--- the characters of an encoding by code; a line of bytes isn't decoded, and therefore `bytes` has none
+-- the characters of an encoding by code
 unfoldable pub characters_of : Encoding → List ℕ
-characters_of Bytes = []
 characters_of Ot1 = ot1_characters
 characters_of T1 = t1_characters
 characters_of Ly1 = ly1_characters
 characters_of Latin1 = range_with_len 0 256
 characters_of (Vector vector) = vector_characters vector.now.characters
 
--- the characters that have other codes than their own, with these codes: in Latin 1 the no-break space and
--- the soft hyphen, and in a vector also characters that are set as others that it has
+-- the characters that have other codes than their own, with these codes: in Latin 1 and in a vector the no-break
+-- space and the soft hyphen
 unfoldable pub others_of : Encoding → List (ℕ × List ℕ)
-others_of Bytes = []
 others_of Ot1 = shared_others ++ ot1_others
 others_of T1 = shared_others ++ t1_others
 others_of Ly1 = shared_others ++ ly1_others
 others_of Latin1 = unbroken
-others_of (Vector vector) = others_among (vector_characters vector.now.characters)
+others_of (Vector vector) = unbroken
 
 -- the codes beside a character in a list
 abbrev pub codes_beside : List (ℕ × List ℕ) → ℕ → Option (List ℕ)
@@ -41,17 +39,20 @@ abbrev pub own_code : List ℕ → ℕ → Option (List ℕ)
 own_code characters character =
     option_map (λ code. code ∷ []) (position (λ each. nat_eq each character) characters)
 
--- the codes of a character, if it has any: other ones, or its own
+-- the codes of a character where the characters by code are these: those that it always has, its own, or those of
+-- the character as which it is set
+abbrev pub listed_codes : List ℕ → ℕ → Option (List ℕ)
+listed_codes characters character =
+    option_or (codes_beside unbroken character)
+    (option_or (own_code characters character) (option_and_then (own_code characters) (substitute_of character)))
+
+-- the codes of a character, if it has any: in a vector those among its characters, and otherwise other ones, or its own
 unfoldable pub codes_of : Encoding → ℕ → Option (List ℕ)
+codes_of (Vector vector) character = listed_codes (vector_characters vector.now.characters) character
 codes_of encoding character =
     option_or (codes_beside (others_of encoding) character) (own_code (characters_of encoding) character)
 
 -- ---- encodings that are made of characters
-
--- the codes of a character where the characters by code are these: other ones, or its own
-abbrev pub listed_codes : List ℕ → ℕ → Option (List ℕ)
-listed_codes characters character =
-    option_or (codes_beside (others_among characters) character) (own_code characters character)
 
 -- the codes of a character where a list gives the codes their characters: the code of the space for a
 -- no-break space, and an empty list for a soft hyphen; for any other character the lowest code that has it,

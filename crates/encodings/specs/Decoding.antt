@@ -1,33 +1,51 @@
--- A text while it is decoded.
--- This project's own representation; Lines defines the elements.
-use Rattle.std.specs.Prelude.{◌≡◌, ℕ, ◌-◌, ◌*◌, ◌≤◌, Bool, ◌&&◌, nat_eq, nat_le, nat_lt, cond, List, length, take, get_or, map, flat_map}
+-- A text while it is encoded.
+-- This project's own representation; Lines defines the numbers.
+use Rattle.std.specs.Prelude.{◌≡◌, ℕ, ◌-◌, ◌≤◌, ◌<◌, Bool, ◌&&◌, nat_eq, nat_le, nat_lt, List, ◌++◌, length, take, get_or, flat_map}
+use Rattle.std.specs.Char.{encode_utf8}
 use Rattle.std.specs.Str.{chars, IsUtf8}
 use Rattle.encodings.specs.declared.encoding.Encoding.{Encoding}
-use Rattle.encodings.specs.declared.coded.Coded.{Coded}
-use Rattle.encodings.specs.declared.coded.Coded.TheVariants.{Code}
-use Rattle.encodings.specs.Lines.{coded_of}
+use Rattle.encodings.specs.Lines.{numbers_of, places_from, places_of}
+use Rattle.encodings.specs.Lookup.{index_of}
 
--- the elements of a text, without their places
-abbrev pub coded_text : Encoding → List ℕ → List Coded
-coded_text encoding text = flat_map (coded_of encoding) (chars text)
+-- whether a line begins with the three bytes of a byte order mark (U+FEFF)
+abbrev pub begins_with_mark : List ℕ → Bool
+begins_with_mark line =
+    nat_le 3 (length line)
+    && (nat_eq (get_or line 0 0) 0xEF && (nat_eq (get_or line 1 0) 0xBB && nat_eq (get_or line 2 0) 0xBF))
 
--- a text is UTF-8, and these are the codes of its characters, each of which has a code
-pub record IsFront (encoding : Encoding) (text codes : List ℕ) : Type 0 where
-  pub utf8 : IsUtf8 text
-  pub coded : coded_text encoding text ≡ map Code codes
+-- a text is that of a line, without the byte order mark at its front if it is the first line
+pub record IsTextOf (first : Bool) (line text : List ℕ) : Type 0 where
+  pub utf8 : IsUtf8 line → IsUtf8 text
+  pub whole : IsUtf8 text → IsUtf8 line
+  pub places : IsUtf8 text → places_from (length line - length text) (chars text) ≡ places_of first line
 
--- how far a text is decoded: this many of its bytes have this many codes, which are at the front of a room for as
--- many codes as the text has bytes
-pub record IsDecodedTo (encoding : Encoding) (text room : List ℕ) (bytes codes : ℕ) : Type 0 where
-  pub within : bytes ≤ length text
-  pub few : codes ≤ bytes
-  pub fits : length text ≤ length room
-  pub front : IsFront encoding (take bytes text) (take codes room)
+-- the numbers of a text
+abbrev pub text_numbers : Encoding → List ℕ → List ℕ
+text_numbers encoding text = flat_map (numbers_of encoding) (chars text)
 
--- where a table of single codes has the entries for the byte after this one
-abbrev pub offset_after : ℕ → ℕ
-offset_after byte = cond (nat_le 0xC2 byte && nat_le byte 0xC5) (256 * (byte - 0xC1)) 0
+-- the characters of a text before its rest are read, and their numbers are appended to a list
+pub record IsRead (encoding : Encoding) (text rest old new : List ℕ) : Type 0 where
+  pub front : List ℕ
+  pub whole : text ≡ front ++ rest
+  pub utf8 : IsUtf8 front
+  pub numbers : new ≡ old ++ text_numbers encoding front
 
 -- whether a byte is an ASCII character whose only code, in a table of single codes, is the byte itself
 abbrev pub is_plain : List ℕ → ℕ → Bool
 is_plain singles byte = nat_lt byte 128 && nat_eq (get_or singles byte 256) byte
+
+-- the character of so many bytes at the front of a text has this index in a table of single codes
+pub record IsIndexed (text : List ℕ) (index len : ℕ) : Type 0 where
+  pub character : ℕ
+  pub low : character < 0xD800
+  pub within : len ≤ length text
+  pub bytes : take len text ≡ encode_utf8 character
+  pub index_is : index_of character ≡ index
+  pub small : index < 448
+
+-- the same, and this is its entry, which is a code
+pub record IsSingle (singles text : List ℕ) (code len : ℕ) : Type 0 where
+  pub index : ℕ
+  pub indexed : IsIndexed text index len
+  pub entry : get_or singles index 256 ≡ code
+  pub small : code < 256

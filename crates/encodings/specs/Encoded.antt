@@ -1,16 +1,28 @@
--- The elements of an encoded line as they are kept: the codes before the first character without codes, and
--- the elements from there on.
--- This project's own representation; Lines defines the elements.
-use Rattle.std.specs.Prelude.{ℕ, Bool, true, List, [], ◌∷◌, ◌++◌, map}
-use Rattle.encodings.specs.declared.coded.Coded.{Coded}
-use Rattle.encodings.specs.declared.coded.Coded.TheVariants.{Code}
-use Rattle.encodings.specs.Lines.{is_uncoded}
+-- The numbers of an encoded line as they are kept: the codes, and the characters without codes, each with the number of
+-- codes before it. A gap is such a character.
+-- This project's own representation; Lines defines the numbers.
+use Rattle.std.specs.Prelude.{◌≡◌, ℕ, ◌+◌, ◌-◌, ◌≤◌, true, List, [], ◌∷◌, ◌++◌, Option, Some, None, length, take, drop}
+use Rattle.std.specs.Borrow.{Bor}
+use Rattle.std.specs.List.{list_all}
+use Rattle.encodings.specs.Lines.{is_code}
+use Rattle.encodings.specs.Parts.{PartValue, parts_of}
 
--- both parts in order
-abbrev pub joined : List ℕ → List Coded → List Coded
-joined codes rest = map Code codes ++ rest
+-- the numbers of codes and gaps, after `from` codes that are left out
+abbrev pub with_gaps : ℕ → List ℕ → List (ℕ × ℕ) → List ℕ
+with_gaps from codes [] = codes
+with_gaps from codes (gap ∷ gaps) =
+    take (gap.0 - from) codes ++ (256 + gap.1) ∷ with_gaps gap.0 (drop (gap.0 - from) codes) gaps
 
--- whether the second part is empty or begins with a character without codes
-abbrev pub begins_uncoded : List Coded → Bool
-begins_uncoded [] = true
-begins_uncoded (element ∷ elements) = is_uncoded element
+-- gaps are in order, and between these two numbers of codes
+abbrev pub AreBetween : ℕ → ℕ → List (ℕ × ℕ) → Type 0
+AreBetween from end [] = from ≤ end
+AreBetween from end (gap ∷ gaps) = (from ≤ gap.0) × AreBetween gap.0 end gaps
+
+-- these are codes, after `from` others, and the gaps are in order and among them
+abbrev pub AreLeft : ℕ → List (ℕ × ℕ) → Bor (List ℕ) → Type 0
+AreLeft from gaps codes = AreBetween from (from + length codes.now) gaps × (list_all is_code codes.now ≡ true)
+
+-- the parts that are still to come of these codes, after `from` others, and gaps; after the last part there are no codes
+abbrev pub parts_left : Option (Bor (List ℕ)) → ℕ → List (ℕ × ℕ) → List PartValue
+parts_left None from gaps = []
+parts_left (Some codes) from gaps = parts_of (with_gaps from codes.now gaps)

@@ -5,7 +5,6 @@ use Rattle.std.specs.Char.{is_ascii_alphanumeric, len_utf8}
 use Rattle.std.specs.List.{All, list_any}
 use Rattle.std.specs.Option.{unwrap_or}
 use Rattle.encodings.specs.declared.encoding.Encoding.{Encoding}
-use Rattle.encodings.specs.declared.encoding.Encoding.TheVariants.{Bytes}
 use Rattle.encodings.specs.Names.{encoding_named, name_of}
 use Rattle.encodings.specs.Tables.{no}
 use Rattle.encodings.specs.Codes.{codes_beside, codes_of, characters_of, others_of}
@@ -44,7 +43,7 @@ ComesBack encoding text = All (IsOwn encoding) text → characters_at encoding (
 -- in an encoding that has a name of its own, an ASCII letter or digit is its own code
 abbrev pub IsItself : Encoding → ℕ → Type 0
 IsItself encoding character =
-    encoding_named (name_of encoding) ≡ Some encoding → encoding ≢ Bytes → is_ascii_alphanumeric character ≡ true
+    encoding_named (name_of encoding) ≡ Some encoding → is_ascii_alphanumeric character ≡ true
     → codes_of encoding character ≡ Some (character ∷ [])
 
 -- only the line feed has code 10

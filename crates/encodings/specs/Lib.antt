@@ -6,7 +6,9 @@ pub mod VectorTables
 pub mod Codes
 pub mod Lookup
 pub mod Lines
+pub mod Parts
 pub mod Encoded
+pub mod Visited
 pub mod Decoding
 pub mod Laws
 pub mod Characters

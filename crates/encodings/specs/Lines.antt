@@ -1,18 +1,16 @@
--- An encoded line: the codes of its characters, in order, and the characters that have none.
+-- An encoded line: numbers, which are the codes of its characters, in order, and numbers from 256 on for the characters
+-- that have none.
 -- This project's own; UTF-8 is that of the Unicode Standard, in the words of the toolchain's library.
-use Rattle.std.specs.Prelude.{◌≡◌, ℕ, ◌+◌, Bool, true, false, cond, ◌&&◌, nat_eq, List, [], ◌∷◌, map, flat_map, Option, Some, None, if◌then◌else◌}
+use Rattle.std.specs.Prelude.{◌≡◌, ℕ, ◌+◌, Bool, cond, not, ◌&&◌, nat_eq, nat_lt, List, [], ◌∷◌, map, flat_map, Option, Some, None, if◌then◌else◌, unwrap_or}
 use Rattle.std.specs.Char.{len_utf8}
 use Rattle.std.specs.List.{find, list_any}
-use Rattle.std.specs.Option.{is_none, option_map_or}
+use Rattle.std.specs.Option.{is_none}
 use Rattle.std.specs.Str.{chars, is_utf8}
 use Rattle.std.specs.Str.Lossy.{utf8_valid_len}
 use Rattle.encodings.specs.declared.encoding.Encoding.{Encoding}
-use Rattle.encodings.specs.declared.encoding.Encoding.TheVariants.{Bytes}
 use Rattle.encodings.specs.declared.lines.EncodeFault.{EncodeFault}
 use Rattle.encodings.specs.declared.lines.EncodeFault.TheVariants.{NotUtf8, OutOfMemory}
 use Rattle.encodings.specs.declared.places.Place.{Place}
-use Rattle.encodings.specs.declared.coded.Coded.{Coded}
-use Rattle.encodings.specs.declared.coded.Coded.TheVariants.{Code, Uncoded}
 use Rattle.encodings.specs.Codes.{codes_of}
 
 -- ---- the characters of a line
@@ -36,52 +34,45 @@ places_of first line = without_mark first (places_from 0 (chars line))
 abbrev pub first_uncoded : Encoding → List Place → Option Place
 first_uncoded encoding places = find (λ place. is_none (codes_of encoding place.character)) places
 
--- ---- its elements
+-- ---- its numbers
 
--- an element of an encoded line, with the byte offset at which its character begins
+-- whether a number of a line is a code; that of a character without codes isn't
+abbrev pub is_code : ℕ → Bool
+is_code number = nat_lt number 256
+
+-- a character as numbers: its codes, or 256 and its own number, if it has none
+unfoldable pub numbers_of : Encoding → ℕ → List ℕ
+numbers_of encoding character = unwrap_or (codes_of encoding character) ((256 + character) ∷ [])
+
+-- a number of a line, with the byte offset at which its character begins
 pub record Element : Type 0 where
   pub offset : ℕ
-  pub coded : Coded
+  pub number : ℕ
 
--- a character as elements: its codes, or the character itself, if it has none
-unfoldable pub coded_of : Encoding → ℕ → List Coded
-coded_of encoding character = option_map_or (map Code) (codes_of encoding character) (Uncoded character ∷ [])
-
--- the same, with the place of the character
+-- the numbers of the character at a place
 abbrev pub elements_at : Encoding → Place → List Element
 elements_at encoding place =
-    map (λ coded. record { offset = place.offset; coded = coded }) (coded_of encoding place.character)
+    map (λ number. record { offset = place.offset; number = number }) (numbers_of encoding place.character)
 
--- the elements of a line in UTF-8, in order
+-- the numbers of a line in UTF-8, in order, with their offsets
 unfoldable pub elements_of : Encoding → Bool → List ℕ → List Element
 elements_of encoding first line = flat_map (elements_at encoding) (places_of first line)
 
--- ---- the whole line
-
--- the byte offset at which a line stops being UTF-8, if it does
-abbrev pub utf8_fault : List ℕ → Option ℕ
-utf8_fault line = if is_utf8 line then None else Some (utf8_valid_len line)
-
--- the byte offset at which a line can't be decoded; a line of bytes needn't be
-unfoldable pub fault_in : Encoding → List ℕ → Option ℕ
-fault_in Bytes line = None
-fault_in encoding line = utf8_fault line
-
--- the line as codes and characters without codes
-unfoldable pub encoded : Encoding → Bool → List ℕ → List Coded
-encoded Bytes first line = map Code line
-encoded encoding first line = map (λ element. element.coded) (elements_of encoding first line)
-
--- whether an element is a character without codes
-abbrev pub is_uncoded : Coded → Bool
-is_uncoded (Code code) = false
-is_uncoded (Uncoded character) = true
+-- the line as numbers
+unfoldable pub encoded : Encoding → Bool → List ℕ → List ℕ
+encoded encoding first line = map (λ element. element.number) (elements_of encoding first line)
 
 -- whether a line has a character without codes
-abbrev pub has_uncoded : List Coded → Bool
-has_uncoded line = list_any is_uncoded line
+abbrev pub has_gaps : List ℕ → Bool
+has_gaps line = list_any (λ number. not (is_code number)) line
 
--- what a failure to encode a line states: an offset if the line can't be decoded, and otherwise memory
-abbrev pub IsFaultOf : Encoding → List ℕ → EncodeFault → Type 0
-IsFaultOf encoding line (NotUtf8 offset) = fault_in encoding line ≡ Some offset
-IsFaultOf encoding line OutOfMemory = fault_in encoding line ≡ None
+-- ---- lines that aren't encoded
+
+-- the byte offset at which a line stops being UTF-8, if it does
+unfoldable pub fault_in : List ℕ → Option ℕ
+fault_in line = if is_utf8 line then None else Some (utf8_valid_len line)
+
+-- what a failure to encode a line states: an offset if the line isn't UTF-8, and otherwise memory
+abbrev pub IsFaultOf : List ℕ → EncodeFault → Type 0
+IsFaultOf line (NotUtf8 offset) = fault_in line ≡ Some offset
+IsFaultOf line OutOfMemory = fault_in line ≡ None

@@ -3,11 +3,10 @@
 use Rattle.std.specs.Prelude.{ℕ, List, [], ◌∷◌, Option, bytes_eq, codes}
 use Rattle.std.specs.List.{find}
 use Rattle.encodings.specs.declared.encoding.Encoding.{Encoding}
-use Rattle.encodings.specs.declared.encoding.Encoding.TheVariants.{Bytes, Ot1, T1, Ly1, Latin1, Vector}
+use Rattle.encodings.specs.declared.encoding.Encoding.TheVariants.{Ot1, T1, Ly1, Latin1, Vector}
 
 -- the name of an encoding; all vectors have one name, by which none is found
 abbrev pub name_of : Encoding → List ℕ
-name_of Bytes = codes "bytes"
 name_of Ot1 = codes "ot1"
 name_of T1 = codes "t1"
 name_of Ly1 = codes "ly1"
@@ -16,7 +15,7 @@ name_of (Vector vector) = codes "vector"
 
 -- the encodings that have a name of their own
 abbrev pub encodings : List Encoding
-encodings = Bytes ∷ Ot1 ∷ T1 ∷ Ly1 ∷ Latin1 ∷ []
+encodings = Ot1 ∷ T1 ∷ Ly1 ∷ Latin1 ∷ []
 
 -- the encoding of a name, if there is one
 abbrev pub encoding_named : List ℕ → Option Encoding

@@ -4,9 +4,8 @@
 -- the guide to LaTeX's encodings (encguide) and utf8enc.dfu for the characters that are set as others. Which
 -- characters codes 10 and 32 have, which code a character has that is listed twice, and that a listed
 -- character is set by its own code, is this project's own.
-use Rattle.std.specs.Prelude.{ℕ, Bool, List, [], ◌∷◌, ◌++◌, Option, None, cond, not, ◌&&◌, ◌||◌, nat_eq, length, map, flat_map, get_or, position, unwrap_or}
+use Rattle.std.specs.Prelude.{ℕ, Bool, List, [], ◌∷◌, Option, Some, None, cond, not, ◌&&◌, ◌||◌, nat_eq, length, map, get_or, unwrap_or}
 use Rattle.std.specs.List.{list_any, position_or_len, range_with_len}
-use Rattle.std.specs.Option.{option_map_or}
 use lib.Utf8.{scalar}
 use Rattle.encodings.specs.Tables.{no}
 
@@ -77,16 +76,11 @@ substitutes =
     ∷ (0x2015, 0x2014)  -- horizontal bar as —
     ∷ []
 
--- the first of two characters with the lowest code of the second, if a list has only the second
-abbrev pub substituted_in : List ℕ → ℕ × ℕ → List (ℕ × List ℕ)
-substituted_in characters row =
-    cond (list_any (λ each. nat_eq each row.0) characters) []
-    (option_map_or (λ code. (row.0, code ∷ []) ∷ []) (position (λ each. nat_eq each row.1) characters) [])
+-- the character beside another one in a list
+abbrev pub character_beside : List (ℕ × ℕ) → ℕ → Option ℕ
+character_beside [] character = None
+character_beside (row ∷ rows) character = cond (nat_eq row.0 character) (Some row.1) (character_beside rows character)
 
--- the characters that a list doesn't have and that are set as others that it has, with the codes of these
-abbrev pub substituted : List ℕ → List (ℕ × List ℕ)
-substituted characters = flat_map (substituted_in characters) substitutes
-
--- the characters that have other codes than their own where the characters by code are these
-abbrev pub others_among : List ℕ → List (ℕ × List ℕ)
-others_among characters = unbroken ++ substituted characters
+-- the character as which this one is set if a list doesn't have it, if there is one
+abbrev pub substitute_of : ℕ → Option ℕ
+substitute_of character = character_beside substitutes character

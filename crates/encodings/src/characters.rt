@@ -8,7 +8,6 @@ use crate::Encoding;
 use crate::characters::ly1::LY1_CHARACTERS;
 use crate::characters::ot1::OT1_CHARACTERS;
 use crate::characters::t1::T1_CHARACTERS;
-use crate::vector_characters::own_at;
 use std::char;
 
 mod ly1;
@@ -60,11 +59,11 @@ fn characters(encoding: Encoding) -> &'static [u32]
     ensures { result.now ≡ characters_in encoding }
 {
     match encoding {
-        Encoding::Bytes | Encoding::Vector(_) => &[],
         Encoding::Ot1 => &OT1_CHARACTERS,
         Encoding::T1 => &T1_CHARACTERS,
         Encoding::Ly1 => &LY1_CHARACTERS,
         Encoding::Latin1 => &LATIN1_CHARACTERS,
+        Encoding::Vector(_) => &[],
     }
 }
 
@@ -78,17 +77,16 @@ fn character_in_table(encoding: Encoding, code: u8) -> Option<char>
     char::from_u32(character)
 }
 
-/// Returns the character at a code of an encoding, or `None` if the code is no character's own. With
-/// [`Encoding::Bytes`] no code has a character. A vector may list a character for several codes: it is the
-/// lowest code's own character.
+/// Returns the character at a code of an encoding, or `None` if the code is no character's own. A vector may list
+/// a character for several codes: it is the lowest code's own character.
 #[tactic(auto, using(crate::proofs::CharacterLemmas::of_vector))]
 pub fn character_at(encoding: Encoding, code: u8) -> Option<char>
     ensures { result ≡ character_of encoding code }
 {
     match encoding {
-        Encoding::Bytes | Encoding::Ot1 | Encoding::T1 | Encoding::Ly1 | Encoding::Latin1 => {
+        Encoding::Ot1 | Encoding::T1 | Encoding::Ly1 | Encoding::Latin1 => {
             character_in_table(encoding, code)
         }
-        Encoding::Vector(vector) => own_at(&vector.characters, code),
+        Encoding::Vector(vector) => char::from_u32(vector.characters[usize::from(code)]),
     }
 }

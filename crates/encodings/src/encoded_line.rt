@@ -1,35 +1,33 @@
-ghost use Rattle.std.specs.Prelude.{◌≡◌, ◌<◌, ◌≤◌, true, false, ◌++◌, ◌∷◌, [], length, map, take, IfOk, OnOk};
-ghost use Rattle.std.specs.Str.{IsUtf8};
-ghost use Rattle.encodings.specs.declared.coded.Coded.TheVariants.{Code, Uncoded};
-ghost use Rattle.encodings.specs.Lines.{has_uncoded};
-ghost use Rattle.encodings.specs.Encoded.{begins_uncoded, joined};
-ghost use Rattle.encodings.specs.Decoding.{coded_text};
+ghost use Rattle.std.specs.Prelude.{◌≡◌, ◌+◌, ◌++◌, ◌∷◌, [], filter, OnOk};
+ghost use Rattle.encodings.specs.Lines.{has_gaps, is_code};
+ghost use Rattle.encodings.specs.Parts.{parts_of};
 
-use crate::decoding::push_front;
-use crate::{Coded, Encoding};
+use crate::Parts;
 use std::alloc::{AllocError, Global};
 use std::marker::Model;
 
 /// A line as the codes of a font, with the characters that have no codes. It can be used again for another
 /// line, and keeps its memory.
+///
+/// Contracts see it as numbers: a code as itself, and a character without codes as 256 and its own number.
 #[derive(Debug, Drop)]
 pub struct EncodedLine {
-    /// The codes before the first character that has no codes.
     codes: Vec<u8>,
-    /// The elements from this character on.
-    rest: Vec<Coded>,
+    /// The characters that have no codes, each after the number of codes before it.
+    gaps: Vec<(usize, char)>,
 }
 
 impl Model for EncodedLine {
-    ghost use Rattle.std.specs.Prelude.{◌≡◌, List, true};
-    ghost use Rattle.encodings.specs.declared.coded.Coded.{Coded};
-    ghost use Rattle.encodings.specs.Encoded.{begins_uncoded, joined};
+    ghost use Rattle.std.specs.Prelude.{◌≡◌, List, ℕ, length, true};
+    ghost use Rattle.std.specs.List.{list_all};
+    ghost use Rattle.encodings.specs.Encoded.{AreBetween, with_gaps};
+    ghost use Rattle.encodings.specs.Lines.{is_code};
 
-    ghost Value = { List Coded };
+    ghost Value = { List ℕ };
 
-    ghost view = { λ l. joined l.codes.items l.rest.items };
+    ghost view = { λ l. with_gaps 0 l.codes.items l.gaps.items };
 
-    ghost invariant = { λ l. begins_uncoded l.rest.items ≡ true };
+    ghost invariant = { λ l. AreBetween 0 (length l.codes.items) l.gaps.items × (list_all is_code l.codes.items ≡ true) };
 }
 
 impl EncodedLine {
@@ -39,93 +37,62 @@ impl EncodedLine {
     {
         EncodedLine {
             codes: Vec::new(alloc),
-            rest: Vec::new(alloc),
+            gaps: Vec::new(alloc),
         }
     }
 
     /// Makes the line empty, and keeps its memory.
-    pub fn clear(&mut self)
+    pub(crate) fn clear(&mut self)
         ensures { self.new ≡ [] }
     {
         self.codes.clear();
-        self.rest.clear();
+        self.gaps.clear();
     }
 
     /// Appends codes.
+    #[tactic(auto, using(crate::proofs::EncodedLemmas::pushed))]
     pub(crate) fn push_codes(&mut self, codes: &[u8]) -> Result<(), AllocError>
-        ensures { OnOk result (self.new ≡ self.old ++ map Code codes.now) }
+        ensures { OnOk result (self.new ≡ self.old ++ codes.now) }
     {
-        if self.rest.is_empty() {
-            return self.codes.extend_from_slice(codes);
-        }
-        push_each(&mut self.rest, codes)
+        self.codes.extend_from_slice(codes)
     }
 
-    /// Appends the codes of the characters at the front of a text that have single codes. Returns the number of
-    /// bytes of these characters. The text need not be UTF-8 after them.
-    #[tactic(auto, using(crate::proofs::EncodedLemmas::fronts))]
-    pub(crate) fn push_front(
-        &mut self,
-        encoding: Encoding,
-        text: &[u8],
-    ) -> Result<usize, AllocError>
-        ensures within { IfOk result (λ count. count ≤ length text.now) }
-        ensures utf8 { IfOk result (λ count. IsUtf8 (take count text.now)) }
-        ensures pushed { IfOk result (λ count.
-            self.new ≡ self.old ++ coded_text encoding (take count text.now)) }
+    /// Appends a code.
+    #[tactic(auto, using(crate::proofs::EncodedLemmas::pushed))]
+    pub(crate) fn push_code(&mut self, code: u8) -> Result<(), AllocError>
+        ensures { OnOk result (self.new ≡ self.old ++ code ∷ []) }
     {
-        let before = self.codes.len();
-        let count = push_front(encoding, text, &mut self.codes)?;
-        if !self.rest.is_empty() {
-            push_each(&mut self.rest, &self.codes[before..])?;
-            self.codes.truncate(before);
-        }
-        Ok(count)
+        self.codes.push(code)?;
+        Ok(())
     }
 
     /// Appends a character that has no codes.
-    pub(crate) fn push_uncoded(&mut self, character: char) -> Result<(), AllocError>
-        ensures { OnOk result (self.new ≡ self.old ++ Uncoded character ∷ []) }
+    #[tactic(auto, using(crate::proofs::EncodedLemmas::pushed))]
+    pub(crate) fn push_gap(&mut self, character: char) -> Result<(), AllocError>
+        ensures { OnOk result (self.new ≡ self.old ++ (256 + character) ∷ []) }
     {
-        self.rest.push(Coded::Uncoded(character))?;
+        self.gaps.push((self.codes.len(), character))?;
         Ok(())
     }
 
     /// Returns whether a character of the line has no codes.
-    #[tactic(auto, using(crate::proofs::EncodedLemmas::in_second))]
-    pub fn has_uncoded(&self) -> bool
-        ensures { result ≡ has_uncoded self.now }
+    pub fn has_gaps(&self) -> bool
+        ensures { result ≡ has_gaps self.now }
     {
-        !self.rest.is_empty()
+        !self.gaps.as_slice().is_empty()
     }
 
-    /// Returns the codes before the first character that has no codes.
+    /// Returns the codes of the line, in order.
     pub fn codes(&self) -> &[u8]
-        ensures { has_uncoded self.now ≡ false → map Code result.now ≡ self.now }
+        ensures { result.now ≡ filter is_code self.now }
     {
         self.codes.as_slice()
     }
 
-    /// Returns all elements as a list.
-    pub fn to_vec(&self, alloc: Global) -> Result<Vec<Coded>, AllocError>
-        ensures { IfOk result (λ elements. elements.items ≡ self.now) }
+    /// Returns the parts of the line, which end with its characters without codes.
+    pub fn parts(&self) -> Parts<'_>
+        ensures { result ≡ parts_of self.now }
     {
-        let mut elements = Vec::new(alloc);
-        push_each(&mut elements, &self.codes)?;
-        elements.extend_from_slice(&self.rest)?;
-        Ok(elements)
+        Parts::new(&self.codes, &self.gaps)
     }
-}
-
-/// Appends codes to a list of elements.
-#[tactic(auto, using(crate::proofs::EncodedLemmas::begins_more))]
-fn push_each(elements: &mut Vec<Coded>, codes: &[u8]) -> Result<(), AllocError>
-    ensures begins { 0 < length elements.old.items
-        → begins_uncoded elements.new.items ≡ begins_uncoded elements.old.items }
-    ensures pushed { OnOk result (elements.new.items ≡ elements.old.items ++ map Code codes.now) }
-{
-    for code in codes {
-        elements.push(Coded::Code(*code))?;
-    }
-    Ok(())
 }

@@ -5,12 +5,10 @@ ghost use Rattle.encodings.specs.Names.{encoding_named, encodings, name_of};
 use crate::Vector;
 use std::alloc::{AllocError, Global};
 
-/// What a line of text is: bytes that are codes of the font, or a text in UTF-8, whose characters become the
-/// codes of a font with this encoding.
+/// The encoding of a font: the codes that set the characters of a line in UTF-8. Where lines are bytes, each of
+/// them a code of the font, callers have an `Option<Encoding>` that is `None`.
 #[derive(Clone, Copy, Debug, PartialEq, Eq, Hash)]
 pub enum Encoding {
-    /// The line is bytes, and each byte is a code of the font.
-    Bytes,
     /// OT1, the encoding of cmr10.
     Ot1,
     /// T1, the Cork encoding, which is that of ecrm1000.
@@ -25,21 +23,13 @@ pub enum Encoding {
 
 impl Encoding {
     /// All encodings that have a name of their own.
-    pub const ALL: [Encoding; 5] = [
-        Encoding::Bytes,
-        Encoding::Ot1,
-        Encoding::T1,
-        Encoding::Ly1,
-        Encoding::Latin1,
-    ];
+    pub const ALL: [Encoding; 4] = [Encoding::Ot1, Encoding::T1, Encoding::Ly1, Encoding::Latin1];
 
-    /// Returns the encoding of this name: `bytes`, `ot1`, `t1`, `ly1` or `latin1`. Returns `None` for any
-    /// other name.
+    /// Returns the encoding of this name: `ot1`, `t1`, `ly1` or `latin1`. Returns `None` for any other name.
     pub fn from_name(name: &str) -> Option<Self>
         ensures { result ≡ encoding_named name.now }
     {
         match name {
-            "bytes" => Some(Encoding::Bytes),
             "ot1" => Some(Encoding::Ot1),
             "t1" => Some(Encoding::T1),
             "ly1" => Some(Encoding::Ly1),
@@ -61,7 +51,7 @@ impl Encoding {
     /// the grave accent (U+0060) as ‘, the hyphens U+2010 and U+2011 as `-`, the figure dash (U+2012) as –,
     /// and the horizontal bar (U+2015) as —.
     ///
-    /// Fails if an allocation fails. The memory of the encoding, 4.6 KB, is never freed, so that encodings
+    /// Fails if an allocation fails. The memory of the encoding, 2.9 KB, is never freed, so that encodings
     /// can be copied and kept anywhere. Most of it is tables by character, from which the codes of a text are
     /// looked up. Making them takes longer than setting a short text: make one encoding for a whole batch, not
     /// one for each line.
@@ -78,7 +68,6 @@ impl Encoding {
         ensures { result.now ≡ name_of self }
     {
         match self {
-            Encoding::Bytes => "bytes",
             Encoding::Ot1 => "ot1",
             Encoding::T1 => "t1",
             Encoding::Ly1 => "ly1",

@@ -2,22 +2,22 @@
 #![tactic(auto)]
 
 pub use characters::character_at;
-pub use coded::Coded;
 pub use encoded_line::EncodedLine;
 pub use encoding::Encoding;
-pub use lines::{EncodeFault, encode_line};
+pub use lines::{EncodeFault, encode_line, utf8_fault};
 pub use lookup::codes_of;
+pub use parts::{Part, Parts};
 pub use places::{Place, Places, first_uncoded};
 pub use vector::Vector;
 
 mod characters;
-mod coded;
 mod cutting;
 mod decoding;
 mod encoded_line;
 mod encoding;
 mod lines;
 mod lookup;
+mod parts;
 mod places;
 mod tables;
 mod vector;

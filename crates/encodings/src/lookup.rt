@@ -46,20 +46,19 @@ fn codes_in_row(rows: &[OtherCodes], character: char) -> Option<&[u8]>
     None
 }
 
-/// Returns the index of a character in a table of single codes. It is at or above the number of entries for
-/// a character that isn't in the table.
-#[tactic(auto, using(crate::proofs::TableLemmas::bits_above))]
+/// Returns the index of a character in a table of single codes, or the number of entries for a character that
+/// isn't in the table.
 fn index_of(character: char) -> usize
     ensures { result ≡ index_of character }
 {
     let number = character as usize;
-    if number < 128 {
+    if number < PUNCTUATION {
         return number;
     }
     if 0x2000 <= number && number < 0x2040 {
         return PUNCTUATION + (number - 0x2000);
     }
-    256 * (number / 64 - 1) + 128 + number % 64
+    448
 }
 
 /// Returns the code of a character that has a single code in the table.
@@ -79,7 +78,7 @@ fn other_codes_of(encoding: Encoding, character: char) -> Option<&'static [u8]>
         (λ codes. codes_of_character encoding character ≡ Some codes.now) }
 {
     match encoding {
-        Encoding::Bytes | Encoding::Ot1 | Encoding::T1 | Encoding::Ly1 | Encoding::Latin1 => {
+        Encoding::Ot1 | Encoding::T1 | Encoding::Ly1 | Encoding::Latin1 => {
             codes_in_row(other_codes(encoding), character)
         }
         Encoding::Vector(vector) => codes_by_hint(vector, character),
@@ -87,7 +86,7 @@ fn other_codes_of(encoding: Encoding, character: char) -> Option<&'static [u8]>
 }
 
 /// Returns the codes of a character in an encoding, or `None` if it has none. A character that vanishes, such
-/// as the soft hyphen, has an empty list of codes. With [`Encoding::Bytes`] no character has codes.
+/// as the soft hyphen, has an empty list of codes.
 #[tactic(auto, using(crate::proofs::TableLemmas::found))]
 pub fn codes_of(encoding: Encoding, character: char) -> Option<&'static [u8]>
     ensures { MatchOption result (codes_of_character encoding character ≡ None)

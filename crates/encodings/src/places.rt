@@ -1,8 +1,9 @@
 //! The characters of a line, with their places.
-ghost use Rattle.std.specs.Prelude.{◌≡◌, ◌&&◌, true, false, nat_eq, map, MatchOption};
+ghost use Rattle.std.specs.Prelude.{◌≡◌, ◌≤◌, true, false, length, MatchOption};
 ghost use Rattle.std.specs.Option.{is_none};
-ghost use Rattle.std.specs.Str.{chars, is_utf8};
+ghost use Rattle.std.specs.Str.{is_utf8};
 ghost use Rattle.encodings.specs.Codes.{codes_of as codes_in};
+ghost use Rattle.encodings.specs.Decoding.{IsTextOf, begins_with_mark};
 ghost use Rattle.encodings.specs.Lines.{first_uncoded as first_uncoded_in, places_of};
 
 use crate::cutting::split_first;
@@ -39,33 +40,27 @@ impl<'a> Model for Places<'a> {
     ghost invariant = { λ p. p.offset + length p.rest.now ≤ 2 ^ 63 };
 }
 
-/// Returns whether a character at the front of a line is a byte order mark, and not a part of the text.
-fn is_mark(first: bool, character: char) -> bool
-    ensures { result ≡ (first && nat_eq character 0xFEFF) }
+/// Returns whether a line begins with a byte order mark.
+fn has_mark(line: &[u8]) -> bool
+    ensures { result ≡ begins_with_mark line.now }
 {
-    first && character == '\u{FEFF}'
+    3 <= line.len() && line[0] == 0xEF && line[1] == 0xBB && line[2] == 0xBF
+}
+
+/// Returns a line without the byte order mark at its front, if it is the first line of its source.
+#[tactic(auto, using(crate::proofs::PlaceLemmas::marks))]
+pub(crate) fn after_mark(first: bool, line: &[u8]) -> &[u8]
+    ensures within { length result.now ≤ length line.now }
+    ensures text { IsTextOf first line.now result.now }
+{
+    if first && has_mark(line) {
+        let (_, text) = line.split_at(3);
+        return text;
+    }
+    line
 }
 
 impl<'a> Places<'a> {
-    /// Returns the characters of a line in UTF-8, as [`of_line`](Places::of_line) does.
-    #[tactic(auto, using(crate::proofs::PlaceLemmas::marks))]
-    pub(crate) fn of_text(first: bool, text: &'a str) -> Self
-        ensures { result ≡ places_of first text.now }
-    {
-        let whole = Places {
-            rest: text,
-            offset: 0,
-        };
-        let Some((character, rest)) = split_first(text) else {
-            return whole;
-        };
-        if is_mark(first, character) {
-            let offset = character.len_utf8();
-            return Places { rest, offset };
-        }
-        whole
-    }
-
     /// Returns the characters of a line. `first` states that it is the first line of its source: a byte order
     /// mark at its front is then left out. Returns `None` if the line isn't UTF-8.
     #[tactic(auto, using(crate::proofs::PlaceLemmas::decoded))]
@@ -73,18 +68,14 @@ impl<'a> Places<'a> {
         ensures { MatchOption result (is_utf8 line.now ≡ false)
             (λ places. (is_utf8 line.now ≡ true) × (places ≡ places_of first line.now)) }
     {
-        match str::from_utf8(line) {
-            Ok(text) => Some(Places::of_text(first, text)),
+        let text = after_mark(first, line);
+        match str::from_utf8(text) {
+            Ok(rest) => Some(Places {
+                rest,
+                offset: line.len() - text.len(),
+            }),
             Err(_) => None,
         }
-    }
-
-    /// Returns the characters as a text.
-    #[tactic(auto, using(crate::proofs::PlaceLemmas::characters_from))]
-    pub(crate) fn text(&self) -> &'a str
-        ensures { map (λ place. place.character) self.now ≡ chars result.now }
-    {
-        self.rest
     }
 }
 

@@ -2,8 +2,8 @@
 ghost use Rattle.std.specs.Prelude.{◌≡◌, IfOk};
 ghost use Rattle.encodings.specs.Vectors.{numbers_of, vector_characters};
 
-use crate::tables::SingleEntries;
-use crate::vector_characters::{hints, numbers, own_numbers};
+use crate::tables::SingleCodes;
+use crate::vector_characters::{given_numbers, hints, numbers, own_numbers};
 use crate::vector_tables::singles;
 use std::alloc::{AllocError, Global};
 use std::marker::Model;
@@ -16,7 +16,7 @@ pub struct Vector {
     /// The codes that are tried first for the characters whose numbers have these lowest ten bits.
     pub(crate) hints: [u8; 1024],
     /// The single codes of the characters, in the order of the tables of the named encodings.
-    pub(crate) singles: SingleEntries,
+    pub(crate) singles: SingleCodes,
 }
 
 impl Model for Vector {
@@ -54,7 +54,7 @@ impl Vector {
         ensures { IfOk result (λ vector.
             vector.now.characters ≡ vector_characters (numbers_of characters.now)) }
     {
-        let characters = own_numbers(&numbers(characters));
+        let characters = own_numbers(&given_numbers(&numbers(characters)));
         let hints = hints(&characters);
         let singles = singles(&characters);
         let vector = Vector {

@@ -1,8 +1,6 @@
 //! The characters of a vector by code.
-ghost use Rattle.std.specs.Prelude.{◌≡◌, None, position, nat_eq};
-ghost use Rattle.encodings.specs.Characters.{unmarked};
-ghost use Rattle.encodings.specs.Codes.{codes_beside};
-ghost use Rattle.encodings.specs.Vectors.{given_at as given_in, given_characters, is_fixed as is_fixed_in, number_at as number_in, numbers_of, own_at as own_in, unbroken, vector_characters};
+ghost use Rattle.std.specs.Prelude.{◌≡◌, ◌<◌, position, nat_eq};
+ghost use Rattle.encodings.specs.Vectors.{given_at as given_in, given_characters, is_fixed as is_fixed_in, number_at as number_in, numbers_of, own_at as own_in, own_characters, unless_fixed as unless_fixed_number};
 
 use crate::characters::X;
 use std::char;
@@ -37,75 +35,78 @@ fn is_fixed(character: char) -> bool
     character == ' ' || character == '\u{A0}' || character == '\u{AD}'
 }
 
-/// Returns the lowest code of a character other than the no-break space and the soft hyphen, which have none:
-/// 32 for the space, and never 10 or 32 for another character.
-#[tactic(auto, using(crate::proofs::VectorLemmas::searched))]
-pub(crate) fn lowest_code(numbers: &[u32; 256], character: char) -> Option<u8>
-    requires { codes_beside unbroken character ≡ None }
-    ensures { result ≡ position (λ each. nat_eq each character) (given_characters numbers.now) }
+/// Returns a number, or the mark if it isn't that of a character, or is that of a fixed one.
+#[tactic(auto, using(crate::proofs::VectorLemmas::unless))]
+fn unless_fixed(number: u32) -> u32
+    ensures { result ≡ unless_fixed_number number }
 {
-    if character == ' ' {
-        return Some(b' ');
+    match char::from_u32(number) {
+        Some(character) if !is_fixed(character) => number,
+        _ => X,
     }
-    let number = u32::from(character);
+}
+
+/// Returns the number of the character at a code, also if a lower code has it.
+#[tactic(auto, unfolding(crate::specs::Vectors::given_at))]
+fn given_at(numbers: &[u32; 256], code: usize) -> u32
+    requires { code < 256 }
+    ensures { result ≡ given_in numbers.now code }
+{
+    if code == 10 {
+        return X;
+    }
+    if code == 32 {
+        return 0x20;
+    }
+    unless_fixed(numbers[code])
+}
+
+/// Returns the numbers of the characters at the 256 codes where a list gives them these.
+#[tactic(auto, using(crate::proofs::VectorLemmas::given_filled))]
+pub(crate) fn given_numbers(numbers: &[u32; 256]) -> [u32; 256]
+    ensures { result ≡ given_characters numbers.now }
+{
+    let mut given = [X; 256];
     for code in 0..256 {
-        if numbers[code] == number && code != 10 && code != 32 {
+        given[code] = given_at(numbers, code);
+    }
+    given
+}
+
+/// Returns the lowest code of the character with a number.
+#[tactic(auto, using(crate::proofs::VectorLemmas::searched))]
+pub(crate) fn lowest_code(characters: &[u32; 256], number: u32) -> Option<u8>
+    ensures { result ≡ position (λ each. nat_eq each number) characters.now }
+{
+    for code in 0..256 {
+        if characters[code] == number {
             return Some(code as u8);
         }
     }
     None
 }
 
-/// Returns the character at a code, also if a lower code has it.
-#[tactic(auto, using(crate::proofs::VectorLemmas::given))]
-fn given_at(numbers: &[u32; 256], code: u8) -> Option<char>
-    ensures { result ≡ unmarked (given_in numbers.now code) }
-{
-    if code == b'\n' {
-        return None;
-    }
-    if code == b' ' {
-        return Some(' ');
-    }
-    let character = char::from_u32(numbers[usize::from(code)])?;
-    if is_fixed(character) {
-        return None;
-    }
-    Some(character)
-}
-
-/// Returns the character at a code, unless a lower code has it, too.
+/// Returns the number of the character at a code, or the mark if a lower code has it, too.
 #[tactic(auto, using(crate::proofs::VectorLemmas::own))]
-pub(crate) fn own_at(numbers: &[u32; 256], code: u8) -> Option<char>
-    ensures { result ≡ unmarked (own_in (given_characters numbers.now) code) }
+fn own_at(characters: &[u32; 256], code: usize) -> u32
+    requires { code < 256 }
+    ensures { result ≡ own_in characters.now code }
 {
-    let character = given_at(numbers, code)?;
-    match lowest_code(numbers, character) {
-        Some(lowest) if lowest == code => Some(character),
-        _ => None,
-    }
-}
-
-/// Returns the number of the character at a code, unless a lower code has it, too, or the mark of a code
-/// without a character.
-#[tactic(auto, using(crate::proofs::VectorLemmas::numbered))]
-fn own_number(numbers: &[u32; 256], code: u8) -> u32
-    ensures { result ≡ own_in (given_characters numbers.now) code }
-{
-    match own_at(numbers, code) {
-        Some(character) => u32::from(character),
-        None => X,
+    let number = characters[code];
+    match lowest_code(characters, number) {
+        Some(lowest) if usize::from(lowest) == code => number,
+        _ => X,
     }
 }
 
 /// Returns the numbers of the characters, each at its lowest code alone.
 #[tactic(auto, using(crate::proofs::VectorLemmas::own_filled))]
-pub(crate) fn own_numbers(numbers: &[u32; 256]) -> [u32; 256]
-    ensures { result ≡ vector_characters numbers.now }
+pub(crate) fn own_numbers(characters: &[u32; 256]) -> [u32; 256]
+    ensures { result ≡ own_characters characters.now }
 {
     let mut own = [X; 256];
     for code in 0..256 {
-        own[code] = own_number(numbers, code as u8);
+        own[code] = own_at(characters, code);
     }
     own
 }

@@ -1,8 +1,7 @@
 //! Looks up the codes of a character in a vector.
 ghost use Rattle.std.specs.Prelude.{◌≡◌, [], ◌∷◌, None, Some, MatchOption};
 ghost use Rattle.encodings.specs.Codes.{codes_beside, listed_codes};
-ghost use Rattle.encodings.specs.Lookup.{substitute_of};
-ghost use Rattle.encodings.specs.Vectors.{unbroken, vector_characters};
+ghost use Rattle.encodings.specs.Vectors.{substitute_of, unbroken, vector_characters};
 
 use crate::Vector;
 use crate::lookup::only;
@@ -36,31 +35,31 @@ fn substitute(character: char) -> Option<char>
 
 /// Returns the lowest code of a character, or if there is none, that of the character as which it is set.
 #[tactic(auto, using(crate::proofs::VectorLemmas::coded))]
-fn code_in_vector(numbers: &[u32; 256], character: char) -> Option<u8>
+fn code_in_vector(characters: &[u32; 256], character: char) -> Option<u8>
     requires { codes_beside unbroken character ≡ None }
-    ensures { MatchOption result (listed_codes (vector_characters numbers.now) character ≡ None)
-        (λ code. listed_codes (vector_characters numbers.now) character ≡ Some (code ∷ [])) }
+    ensures { MatchOption result (listed_codes characters.now character ≡ None)
+        (λ code. listed_codes characters.now character ≡ Some (code ∷ [])) }
 {
-    match lowest_code(numbers, character) {
+    match lowest_code(characters, u32::from(character)) {
         Some(code) => Some(code),
-        None => lowest_code(numbers, substitute(character)?),
+        None => lowest_code(characters, u32::from(substitute(character)?)),
     }
 }
 
-/// Returns the codes of a character in a vector with characters of these numbers.
-#[tactic(auto, using(crate::proofs::VectorLemmas::found))]
-pub(crate) fn codes_in_vector(numbers: &[u32; 256], character: char) -> Option<&'static [u8]>
-    ensures { MatchOption result (listed_codes (vector_characters numbers.now) character ≡ None)
-        (λ codes. listed_codes (vector_characters numbers.now) character ≡ Some codes.now) }
+/// Returns the codes of a character where the characters by code have these numbers.
+#[tactic(auto, using(crate::proofs::VectorLemmas::listed_fixed))]
+pub(crate) fn codes_in_vector(characters: &[u32; 256], character: char) -> Option<&'static [u8]>
+    ensures { MatchOption result (listed_codes characters.now character ≡ None)
+        (λ codes. listed_codes characters.now character ≡ Some codes.now) }
 {
     match unbroken_codes(character) {
         Some(codes) => Some(codes),
-        None => Some(only(code_in_vector(numbers, character)?)),
+        None => Some(only(code_in_vector(characters, character)?)),
     }
 }
 
 /// Returns the codes of a character in a vector. Most characters have the code that is tried first.
-#[tactic(auto, using(crate::proofs::VectorLemmas::hinted))]
+#[tactic(auto, using(crate::proofs::VectorLemmas::hints))]
 pub(crate) fn codes_by_hint(vector: &Vector, character: char) -> Option<&'static [u8]>
     ensures { MatchOption result
         (listed_codes (vector_characters vector.now.characters) character ≡ None)

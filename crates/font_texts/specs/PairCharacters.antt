@@ -8,7 +8,6 @@ use Rattle.std.specs.Fmt.{digit_glyph}
 use Rattle.std.specs.Option.{option_map_or}
 use Rattle.encodings.specs.Characters.{character_of}
 use Rattle.encodings.specs.declared.encoding.Encoding.{Encoding}
-use Rattle.encodings.specs.declared.encoding.Encoding.TheVariants.{Bytes}
 use Rattle.lig_kern.specs.declared.action.Action.{Action}
 use Rattle.lig_kern.specs.declared.action.Action.TheVariants.{Kern, Lig}
 use Rattle.lig_kern.specs.declared.symbol.Symbol.{Symbol}
@@ -121,29 +120,29 @@ json_members encoding pair =
     ++ value_member encoding pair.action
 
 -- in each format; without an encoding nothing is added
-unfoldable pub characters_beside : Encoding → PairsFormat → Pair → List ℕ
-characters_beside Bytes format pair = []
-characters_beside encoding Text pair = text_fields encoding pair
-characters_beside encoding Csv pair = csv_fields encoding pair
-characters_beside encoding Json pair = json_members encoding pair
+unfoldable pub characters_beside : Option Encoding → PairsFormat → Pair → List ℕ
+characters_beside None format pair = []
+characters_beside (Some encoding) Text pair = text_fields encoding pair
+characters_beside (Some encoding) Csv pair = csv_fields encoding pair
+characters_beside (Some encoding) Json pair = json_members encoding pair
 
 -- ---- the text
 
 -- the line of a pair: its four fields, and then its characters
-unfoldable pub pair_line_with : Encoding → PairsFormat → Pair → List ℕ
+unfoldable pub pair_line_with : Option Encoding → PairsFormat → Pair → List ℕ
 pair_line_with encoding format pair = pair_front format pair ++ characters_beside encoding format pair ++ line_end format
 
 -- the line before the pairs, which only CSV has
-unfoldable pub pairs_head_with : Encoding → PairsFormat → List ℕ
-pairs_head_with Bytes format = pairs_head format
-pairs_head_with encoding Text = []
-pairs_head_with encoding Csv = codes "left,right,action,value,left_character,right_character,value_character\n"
-pairs_head_with encoding Json = []
+unfoldable pub pairs_head_with : Option Encoding → PairsFormat → List ℕ
+pairs_head_with None format = pairs_head format
+pairs_head_with (Some encoding) Text = []
+pairs_head_with (Some encoding) Csv = codes "left,right,action,value,left_character,right_character,value_character\n"
+pairs_head_with (Some encoding) Json = []
 
 -- the text of the pairs of a font
-unfoldable pub pairs_text_with : Encoding → PairsFormat → FontValue → List ℕ
+unfoldable pub pairs_text_with : Option Encoding → PairsFormat → FontValue → List ℕ
 pairs_text_with encoding format font = pairs_head_with encoding format ++ flat_map (pair_line_with encoding format) (pairs_of font)
 
 -- without an encoding the text has codes only
 abbrev pub HasTextOfCodes : PairsFormat → FontValue → Type 0
-HasTextOfCodes format font = pairs_text_with Bytes format font ≡ pairs_text_of format font
+HasTextOfCodes format font = pairs_text_with None format font ≡ pairs_text_of format font

@@ -8,9 +8,9 @@ use encodings::{Encoding, character_at};
 use lig_kern::{Action, Symbol};
 use std::alloc::AllocError;
 
-/// Appends the characters of a pair, and before each of them what separates it from the field before; with
-/// [`Encoding::Bytes`], nothing.
-#[tactic(auto, using(crate::proofs::PairLemmas::beside))]
+/// Appends the characters of a pair, and before each of them what separates it from the field before; without an
+/// encoding, nothing.
+#[tactic(auto, unfolding(crate::specs::PairCharacters::characters_beside))]
 pub(crate) fn push_characters(
     text: &mut Vec<u8>,
     pair: &Pair,
@@ -19,13 +19,13 @@ pub(crate) fn push_characters(
     ensures { OnOk result (text.new.items ≡ text.old.items
         ++ characters_beside layout.encoding layout.format pair.now) }
 {
-    if layout.encoding == Encoding::Bytes {
+    let Some(encoding) = layout.encoding else {
         return Ok(());
-    }
+    };
     match layout.format {
-        PairsFormat::Text => push_fields(text, pair, layout.encoding),
-        PairsFormat::Csv => push_cells(text, pair, layout.encoding),
-        PairsFormat::Json => push_members(text, pair, layout.encoding),
+        PairsFormat::Text => push_fields(text, pair, encoding),
+        PairsFormat::Csv => push_cells(text, pair, encoding),
+        PairsFormat::Json => push_members(text, pair, encoding),
     }
 }
 

@@ -6,7 +6,6 @@ ghost use Rattle.font_texts.specs.PairsText.{action_name, action_value, json_sym
 use crate::pair_characters::push_characters;
 use crate::pairing::pairs;
 use crate::{Pair, PairsFormat, PairsLayout};
-use encodings::Encoding;
 use lig_kern::{Action, Symbol};
 use std::alloc::{AllocError, Global};
 use tfm_tables::Font;
@@ -32,13 +31,15 @@ pub fn pairs_text(alloc: Global, font: &Font, layout: PairsLayout) -> Result<Vec
     Ok(text)
 }
 
-#[tactic(auto, using(crate::proofs::PairLemmas::heads), unfolding(crate::specs::PairsText::pairs_head))]
+#[tactic(auto, using(crate::proofs::PairLemmas::heads), unfolding(crate::specs::PairCharacters::pairs_head_with, crate::specs::PairsText::pairs_head))]
 fn head(layout: PairsLayout) -> &'static [u8]
     ensures { result.now ≡ pairs_head_with layout.encoding layout.format }
 {
     match layout.format {
-        PairsFormat::Csv if layout.encoding == Encoding::Bytes => CODES_HEAD,
-        PairsFormat::Csv => CHARACTERS_HEAD,
+        PairsFormat::Csv => match layout.encoding {
+            Some(_) => CHARACTERS_HEAD,
+            None => CODES_HEAD,
+        },
         PairsFormat::Text | PairsFormat::Json => b"",
     }
 }

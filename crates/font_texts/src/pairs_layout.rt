@@ -6,7 +6,7 @@ use encodings::Encoding;
 pub struct PairsLayout {
     /// The format.
     pub format: PairsFormat,
-    /// The encoding of the font: the characters that it gives the codes are printed after the codes. With
-    /// [`Encoding::Bytes`] only codes are printed.
-    pub encoding: Encoding,
+    /// The encoding of the font: the characters that it gives the codes are printed after the codes. With `None`
+    /// only codes are printed.
+    pub encoding: Option<Encoding>,
 }

@@ -2,5 +2,4 @@ pub mod Blocks
 pub mod Stored
 pub mod Visited
 pub mod BlockText
-pub mod Coded
 pub mod Gathering

@@ -4,7 +4,6 @@
 pub use block_lines::{BlockLineRef, BlockLines};
 pub use block_text::BlockText;
 pub use gathering::LineBlocks;
-pub use laws::{kept_lines, lanes_of_lines};
 pub use line_block::LineBlock;
 pub use record_maker::RecordMaker;
 pub use stored::{BlockSlots, TextSlots};
@@ -12,7 +11,6 @@ pub use stored::{BlockSlots, TextSlots};
 mod block_lines;
 mod block_text;
 mod gathering;
-mod laws;
 mod line_block;
 mod record_maker;
 mod stored;

@@ -1,23 +1,24 @@
 -- The records of blocks, and the results of the lines in them.
-use Rattle.std.proofs.Common.{arith, ◌≡◌, ◌≤◌, ℕ, suc, ◌+◌, ◌==◌, List, [], ◌∷◌, ◌++◌, length, map, count_by, refl, ap, sym, ◌∙◌}
+use Rattle.std.proofs.Common.{arith, ◌≡◌, ◌≤◌, ℕ, suc, ◌+◌, ◌==◌, List, [], ◌∷◌, ◌++◌, length, map, Option, None, Some, refl, ap, sym, ◌∙◌}
 use Rattle.std.proofs.lemmas.List.{length-map, length-append, map-append}
 use Rattle.std.proofs.lemmas.List.Sums.{sum_by-cons, sum_by-append, count_by-le-length}
 use Rattle.std.proofs.Math.Bool.{cond}
 use Rattle.std.specs.Prelude.{flat_map}
 use Rattle.std.specs.List.{concat}
 use Rattle.set_line.specs.Terms.{TermsValue}
-use Rattle.set_line.specs.Answer.{answer_of, outcome_of}
+use Rattle.set_line.specs.Answer.{answer_of}
 use Rattle.encodings.specs.declared.encoding.Encoding.{Encoding}
-use Rattle.encodings.specs.declared.encoding.Encoding.TheVariants.{Bytes, Ot1, T1, Ly1, Latin1, Vector}
-use Rattle.encoded_lines.specs.declared.outcome.EncodedOutcome.TheVariants.{Plain}
-use Rattle.encoded_lines.specs.Answer.{encoded_outcome}
-use Rattle.encoded_lines.specs.Record.{encoded_record_text, is_refused as is_refused_with}
+use Rattle.set_line.specs.Record.{record_text, text_record}
+use Rattle.set_line.specs.declared.version.Version.{Version}
+use Rattle.line_records.specs.Results.{is_refused, result_text}
+use Rattle.line_records.proofs.ResultLemmas.{refused_bytes, text_of_bytes}
 use Rattle.line_lane.specs.Lane.{answers_of}
 use Rattle.set_run.specs.Cuts.{BlockLine, cut}
 use Rattle.line_blocks.specs.Blocks.{BlockValue, NumberedLine, lines_of_block, numbered, numbered_cuts}
-use Rattle.line_blocks.specs.BlockText.{BlockTextValue, IsBlockText, MakerValue, block_text, outcome_in, record_in, refused_in}
+use Rattle.line_blocks.specs.BlockText.{BlockTextValue, IsBlockText, MakerValue, block_text, record_in, refused_in, result_in}
+use Rattle.line_blocks.proofs.TextLemmas.{result_in-cut}
 use Rattle.line_blocks.specs.Gathering.{AreTextsOf}
-use Rattle.run_texts.specs.RunText.{record_of, result_of, results_from}
+use Rattle.run_texts.specs.RunText.{is_refused_with, record_of, record_with, refused_from}
 use Rattle.run_texts.specs.LaneText.{block_lines, records_of, refused_of}
 use Rattle.run_texts.specs.Streaming.{record_lines}
 use Rattle.run_texts.specs.BlockLanes.{AreRecordsOf}
@@ -46,58 +47,61 @@ refused_counted maker [] = refl
 refused_counted maker (block ∷ blocks) =
     sum_by-cons (λ (text : BlockTextValue). text.refused) (block_text maker block) (map (block_text maker) blocks)
     ∙ ap (λ n. refused_in maker.terms maker.style.encoding (lines_of_block block) + n) (refused_counted maker blocks)
-    ∙ sym (sum_by-append (λ (line : NumberedLine). cond (is_refused_with (outcome_in maker.terms maker.style.encoding line.0 line.1)) 1 0) (lines_of_block block) (flat_map lines_of_block blocks))
+    ∙ sym (sum_by-append (λ (line : NumberedLine). cond (is_refused (result_in maker.terms maker.style.encoding line.0 line.1)) 1 0) (lines_of_block block) (flat_map lines_of_block blocks))
 
 length-cuts : (lines : List (List ℕ)) → length (map cut lines) ≡ length lines
 length-cuts lines = length-map lines cut
 
-module _ (same : (terms : TermsValue) (encoding : Encoding) (number : ℕ) (line : List ℕ) → outcome_in terms encoding number (cut line) ≡ encoded_outcome terms encoding (number == 1) line)
-    (bytes : (terms : TermsValue) (number : ℕ) (line : List ℕ) → outcome_in terms Bytes number (cut line) ≡ Plain (outcome_of terms line)) where
-  -- the result of a line in a block
-  result_of_cut : (terms : TermsValue) (encoding : Encoding) (number : ℕ) (line : List ℕ)
-      → outcome_in terms encoding number (cut line) ≡ result_of encoding number (answer_of terms line)
-  result_of_cut terms Bytes number line = bytes terms number line
-  result_of_cut terms Ot1 number line = same terms Ot1 number line
-  result_of_cut terms T1 number line = same terms T1 number line
-  result_of_cut terms Ly1 number line = same terms Ly1 number line
-  result_of_cut terms Latin1 number line = same terms Latin1 number line
-  result_of_cut terms (Vector vector) number line = same terms (Vector vector) number line
+-- the record of a line in a block
+record_of_cut : (terms : TermsValue) (encoding : Option Encoding) (version : Version) (source number : ℕ) (line : List ℕ)
+    → text_record source number (result_text version (result_in terms encoding number (cut line))) version ≡ record_with encoding version source number (answer_of terms line)
+unfolding record_text
+record_of_cut terms None version source number line =
+    ap (λ r. text_record source number (result_text version r) version) (result_in-cut terms None number line)
+    ∙ ap (λ r. text_record source number r version) (text_of_bytes terms (number == 1) line version)
+record_of_cut terms (Some encoding) version source number line =
+    ap (λ r. text_record source number (result_text version r) version) (result_in-cut terms (Some encoding) number line)
 
-  -- the records of lines in blocks
-  records_of_cuts : (maker : MakerValue) (first : ℕ) (lines : List (List ℕ))
-      → map (record_in maker) (numbered_cuts first lines) ≡ record_lines maker.source first maker.style (answers_of maker.terms lines)
-  records_of_cuts maker first [] = refl
-  records_of_cuts maker first (line ∷ lines) =
-      ap (λ outcome. encoded_record_text maker.source first outcome maker.style.version ∷ map (record_in maker) (numbered_cuts (first + 1) lines))
-      (result_of_cut maker.terms maker.style.encoding first line)
-      ∙ ap (λ more. record_of maker.style maker.source first (answer_of maker.terms line) ∷ more) (records_of_cuts maker (first + 1) lines)
+-- and whether it is refused
+refused_of_cut : (terms : TermsValue) (encoding : Option Encoding) (number : ℕ) (line : List ℕ)
+    → is_refused (result_in terms encoding number (cut line)) ≡ is_refused_with encoding number (answer_of terms line)
+refused_of_cut terms None number line = ap is_refused (result_in-cut terms None number line) ∙ refused_bytes terms (number == 1) line
+refused_of_cut terms (Some encoding) number line = ap is_refused (result_in-cut terms (Some encoding) number line)
 
-  -- and the refused lines among them
-  refused_of_cuts : (terms : TermsValue) (encoding : Encoding) (first : ℕ) (lines : List (List ℕ))
-      → refused_in terms encoding (numbered_cuts first lines) ≡ count_by is_refused_with (results_from encoding first (answers_of terms lines))
-  refused_of_cuts terms encoding first [] = refl
-  refused_of_cuts terms encoding first (line ∷ lines) =
-      sum_by-cons (λ (l : NumberedLine). cond (is_refused_with (outcome_in terms encoding l.0 l.1)) 1 0) (first, cut line) (numbered_cuts (first + 1) lines)
-      ∙ ap (λ n. cond (is_refused_with (outcome_in terms encoding first (cut line))) 1 0 + n) (refused_of_cuts terms encoding (first + 1) lines)
-      ∙ ap (λ o. cond (is_refused_with o) 1 0 + count_by is_refused_with (results_from encoding (first + 1) (answers_of terms lines))) (result_of_cut terms encoding first line)
-      ∙ sym (sum_by-cons (λ o. cond (is_refused_with o) 1 0) (result_of encoding first (answer_of terms line)) (results_from encoding (first + 1) (answers_of terms lines)))
+-- the records of lines in blocks
+records_of_cuts : (maker : MakerValue) (first : ℕ) (lines : List (List ℕ))
+    → map (record_in maker) (numbered_cuts first lines) ≡ record_lines maker.source first maker.style (answers_of maker.terms lines)
+records_of_cuts maker first [] = refl
+records_of_cuts maker first (line ∷ lines) =
+    ap (λ record'. record' ∷ map (record_in maker) (numbered_cuts (first + 1) lines))
+    (record_of_cut maker.terms maker.style.encoding maker.style.version maker.source first line)
+    ∙ ap (λ more. record_of maker.style maker.source first (answer_of maker.terms line) ∷ more) (records_of_cuts maker (first + 1) lines)
 
-  -- the texts of blocks have the records of the results of their lines
-  pub texts_recorded : (maker : MakerValue) (lines : List (List ℕ)) (texts : List BlockTextValue) → AreTextsOf maker lines texts
-      → AreRecordsOf maker.source maker.style (answers_of maker.terms lines) texts
-  texts_recorded maker lines texts (blocks, are, cuts, numbers) =
-      let long : length (answers_of maker.terms lines) ≡ length lines = length-map lines (answer_of maker.terms) in (
-        ap records_of are ∙ records_counted maker blocks ∙ ap length cuts ∙ length-cuts lines ∙ sym long,
-        (λ fits.
-            let numbered = numbers (omega (arith, fits, long)) in (
-              ap refused_of are ∙ refused_counted maker blocks
-                  ∙ ap (refused_in maker.terms maker.style.encoding) numbered
-                  ∙ refused_of_cuts maker.terms maker.style.encoding 1 lines,
-              ap (flat_map block_lines) are ∙ lines_joined maker blocks
-                  ∙ ap (map (record_in maker)) numbered
-                  ∙ records_of_cuts maker 1 lines,
-            )),
-      )
+-- and the refused lines among them
+refused_of_cuts : (terms : TermsValue) (encoding : Option Encoding) (first : ℕ) (lines : List (List ℕ))
+    → refused_in terms encoding (numbered_cuts first lines) ≡ refused_from encoding first (answers_of terms lines)
+refused_of_cuts terms encoding first [] = refl
+refused_of_cuts terms encoding first (line ∷ lines) =
+    sum_by-cons (λ (l : NumberedLine). cond (is_refused (result_in terms encoding l.0 l.1)) 1 0) (first, cut line) (numbered_cuts (first + 1) lines)
+    ∙ ap (λ n. cond (is_refused (result_in terms encoding first (cut line))) 1 0 + n) (refused_of_cuts terms encoding (first + 1) lines)
+    ∙ ap (λ b. cond b 1 0 + refused_from encoding (first + 1) (answers_of terms lines)) (refused_of_cut terms encoding first line)
+
+-- the texts of blocks have the records of the results of their lines
+pub texts_recorded : (maker : MakerValue) (lines : List (List ℕ)) (texts : List BlockTextValue) → AreTextsOf maker lines texts
+    → AreRecordsOf maker.source maker.style (answers_of maker.terms lines) texts
+texts_recorded maker lines texts (blocks, are, cuts, numbers) =
+    let long : length (answers_of maker.terms lines) ≡ length lines = length-map lines (answer_of maker.terms) in (
+      ap records_of are ∙ records_counted maker blocks ∙ ap length cuts ∙ length-cuts lines ∙ sym long,
+      (λ fits.
+          let numbered = numbers (omega (arith, fits, long)) in (
+            ap refused_of are ∙ refused_counted maker blocks
+                ∙ ap (refused_in maker.terms maker.style.encoding) numbered
+                ∙ refused_of_cuts maker.terms maker.style.encoding 1 lines,
+            ap (flat_map block_lines) are ∙ lines_joined maker blocks
+                ∙ ap (map (record_in maker)) numbered
+                ∙ records_of_cuts maker 1 lines,
+          )),
+    )
 
 -- ---- a text that is right
 
@@ -116,7 +120,7 @@ length-numbered first (line ∷ lines) = ap suc (length-numbered (first + 1) lin
 -- there aren't more refused lines than lines
 pub refused_few : (text : BlockTextValue) → IsBlockText text → text.refused ≤ text.lines
 refused_few text right =
-    let few = count_by-le-length (λ (line : NumberedLine). is_refused_with (outcome_in text.maker.terms text.maker.style.encoding line.0 line.1)) (lines_of_block text.block) in
+    let few = count_by-le-length (λ (line : NumberedLine). is_refused (result_in text.maker.terms text.maker.style.encoding line.0 line.1)) (lines_of_block text.block) in
     let long = length-numbered text.block.first text.block.lines in
     omega (arith, few, long, ap (λ (t : BlockTextValue). t.lines) right, ap (λ (t : BlockTextValue). t.refused) right)
 

@@ -1,6 +1,6 @@
 -- The output for the report of a batch, and the summary of a batch.
 -- This project's own.
-use Rattle.std.specs.Prelude.{ℕ, ◌+◌, Bool, true, false, List, [], ◌∷◌, ◌++◌, sum_by, min, ◌-◌, ◌^◌}
+use Rattle.std.specs.Prelude.{ℕ, ◌+◌, Bool, true, false, List, [], ◌∷◌, ◌++◌, sum_by, min, ◌-◌, ◌^◌, Option}
 use Rattle.std.specs.List.{list_any}
 use Rattle.std.specs.Option.{option_map_or}
 use Rattle.encodings.specs.declared.encoding.Encoding.{Encoding}
@@ -42,11 +42,11 @@ module _ {S : Type 0} where
   run_text style lanes = head_text style.version ++ lanes_text 1 style lanes
 
   -- the number of refused lines of all lanes, or 2^64 - 1 if it is larger
-  abbrev pub refused_in : Encoding → List (LaneReport S) → ℕ
+  abbrev pub refused_in : Option Encoding → List (LaneReport S) → ℕ
   refused_in encoding lanes = min (2 ^ 64 - 1) (sum_by (λ lane. refused_lines encoding lane.answers) lanes)
 
   -- the summary of a batch with these reports of its lanes, whose lines have this encoding
-  abbrev pub summary_of_run : Encoding → List (LaneReport S) → Summary
+  abbrev pub summary_of_run : Option Encoding → List (LaneReport S) → Summary
   summary_of_run encoding lanes = record {
     refused = refused_in encoding lanes;
     read_failed = list_any (λ lane. is_unread lane.end) lanes;

@@ -1,35 +1,32 @@
 -- The parts of the output of a batch: the first line, the records of the results of a source, and its end
 -- line.
 -- This project's own.
-use Rattle.std.specs.Prelude.{ℕ, ◌+◌, ◌==◌, List, [], ◌∷◌, ◌++◌, length, count_by, codes, decimal, Bool}
+use Rattle.std.specs.Prelude.{ℕ, ◌+◌, ◌==◌, List, [], ◌∷◌, ◌++◌, length, codes, decimal, cond, Bool, Option, None, Some}
 use Rattle.set_line.specs.declared.version.Version.{Version}
 use Rattle.set_line.specs.declared.version.Version.TheVariants.{One, Two, Json}
 use Rattle.set_line.specs.Answer.{AnswerValue}
+use Rattle.set_line.specs.Record.{record_text}
 use Rattle.line_lane.specs.declared.fault.SourceFault.TheVariants.{Read, OutOfMemory, ReadBound}
 use Rattle.line_lane.specs.declared.ending.LaneEnd.{LaneEnd}
 use Rattle.line_lane.specs.declared.ending.LaneEnd.TheVariants.{Complete, SourceFailed, GaveUp}
 use Rattle.encodings.specs.declared.encoding.Encoding.{Encoding}
-use Rattle.encodings.specs.declared.encoding.Encoding.TheVariants.{Bytes}
-use Rattle.encoded_lines.specs.declared.outcome.EncodedOutcome.{EncodedOutcome}
-use Rattle.encoded_lines.specs.declared.outcome.EncodedOutcome.TheVariants.{Plain}
-use Rattle.encoded_lines.specs.Answer.{encoded_outcome}
-use Rattle.encoded_lines.specs.Record.{encoded_record_text, is_refused as is_refused_with}
-use Rattle.line_blocks.specs.BlockText.{RecordStyle, is_refusal}
+use Rattle.line_records.specs.Results.{is_refusal, is_refused, line_record, line_result}
+use Rattle.line_blocks.specs.BlockText.{RecordStyle}
 use Rattle.run_texts.specs.declared.options.OutputOptions.{OutputOptions}
 
 -- the encoding and the record format of an output with these options
 abbrev pub style_of : {G : Type 0} → OutputOptions G → RecordStyle
 style_of options = record { encoding = options.encoding; version = options.version }
 
--- the result of the line with this number, with an encoding: that of a line of bytes is the one of the answer,
--- and a line in UTF-8 is set with the settings of the answer
-abbrev pub result_of : Encoding → ℕ → AnswerValue → EncodedOutcome
-result_of Bytes place answer = Plain answer.outcome
-result_of encoding place answer = encoded_outcome answer.terms encoding (place == 1) answer.line
+-- the record of the line with this number: that of a line of bytes has the outcome of the answer, and a line in
+-- UTF-8 is set with the settings of the answer
+abbrev pub record_with : Option Encoding → Version → ℕ → ℕ → AnswerValue → List ℕ
+record_with None version source place answer = record_text source place answer.outcome version
+record_with (Some encoding) version source place answer = line_record answer.terms (Some encoding) (place == 1) answer.line source place version
 
--- the record of the line with this number
+-- the same for an output in this style
 abbrev pub record_of : RecordStyle → ℕ → ℕ → AnswerValue → List ℕ
-record_of style source place answer = encoded_record_text source place (result_of style.encoding place answer) style.version
+record_of style source place answer = record_with style.encoding style.version source place answer
 
 -- the records of lines; the first one has this line number
 abbrev pub records_from : ℕ → ℕ → RecordStyle → List AnswerValue → List ℕ
@@ -72,16 +69,16 @@ lane_text source style answers why = records_from source 1 style answers ++ end_
 
 -- ---- refused lines
 
--- the results of lines; the first one has this line number
-abbrev pub results_from : Encoding → ℕ → List AnswerValue → List EncodedOutcome
-results_from encoding place [] = []
-results_from encoding place (answer ∷ answers) =
-    result_of encoding place answer ∷ results_from encoding (place + 1) answers
+-- whether the line with this number was refused
+abbrev pub is_refused_with : Option Encoding → ℕ → AnswerValue → Bool
+is_refused_with None place answer = is_refusal answer.outcome
+is_refused_with (Some encoding) place answer = is_refused (line_result answer.terms (Some encoding) (place == 1) answer.line)
+
+-- the number of refused lines; the first line has this number
+abbrev pub refused_from : Option Encoding → ℕ → List AnswerValue → ℕ
+refused_from encoding place [] = 0
+refused_from encoding place (answer ∷ answers) = cond (is_refused_with encoding place answer) 1 0 + refused_from encoding (place + 1) answers
 
 -- the number of refused lines of a source
-abbrev pub refused_lines : Encoding → List AnswerValue → ℕ
-refused_lines encoding answers = count_by is_refused_with (results_from encoding 1 answers)
-
--- whether a line of bytes was refused
-abbrev pub is_refused : AnswerValue → Bool
-is_refused answer = is_refusal answer.outcome
+abbrev pub refused_lines : Option Encoding → List AnswerValue → ℕ
+refused_lines encoding answers = refused_from encoding 1 answers

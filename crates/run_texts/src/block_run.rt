@@ -7,7 +7,7 @@ ghost use Rattle.run_texts.specs.RunText.{style_of};
 
 use crate::OutputOptions;
 use encodings::Encoding;
-use line_blocks::{BlockText, LineBlocks, RecordMaker, kept_lines, lanes_of_lines};
+use line_blocks::{BlockText, LineBlocks, RecordMaker};
 use set_line::{Terms, Version};
 use set_run::{
     ClosedLane, Collector, Gate, LineSource, RunEnd, RunFault, lane_of_lines, run_items,
@@ -21,7 +21,7 @@ use std::thread::Threads;
 fn with_makers<S: LineSource + Drop>(
     alloc: Global,
     sources: Vec<(S, Arc<Terms>)>,
-    encoding: Encoding,
+    encoding: Option<Encoding>,
     version: Version,
     most: usize,
 ) -> Result<Vec<(LineBlocks<S>, RecordMaker)>, AllocError>
@@ -95,9 +95,7 @@ pub(crate) fn unwrap_run<S: LineSource + Drop>(
     requires room { IfOk ran (λ run. vec_len run.lanes ≤ vec_capacity closed) }
     ensures { IsRunOfLines S.to_come S.failed ran result }
 {
-    // For the proof: laws of lines in blocks, and of lanes of lines.
-    kept_lines();
-    lanes_of_lines::<S>();
+    // For the proof: a law of lanes of lines.
     lane_of_lines::<S>();
     match ran {
         Ok(RunEnd { lanes, refusal }) => {

@@ -15,9 +15,9 @@ pub struct OutputOptions<'a, G> {
     /// The record format.
     pub version: Version,
     /// The encoding of the font, if the lines are in UTF-8: they are set with the codes of their characters, and
-    /// offsets in records count bytes of the line before it is encoded. With [`Encoding::Bytes`] a line is
-    /// bytes, and each byte is a code of the font.
-    pub encoding: Encoding,
+    /// offsets in records count bytes of the line before it is encoded. Without an encoding each byte of a line
+    /// is a code of the font.
+    pub encoding: Option<Encoding>,
     /// Whether a block has all lines that one read of its source completes, up to 64 KB, and not at most as many
     /// lines as the plan states.
     pub whole_reads: bool,

@@ -40,13 +40,12 @@ pub(crate) trait Beginning {
 /// A placeholder: the proof of the caller chooses the start.
 impl Beginning for Brand {
     ghost use Rattle.std.specs.Prelude.{None};
-    ghost use Rattle.encodings.specs.declared.encoding.Encoding.TheVariants.{Bytes};
     ghost use Rattle.set_line.specs.declared.version.Version.TheVariants.{One};
 
     ghost start = { record {
       before = None;
       name = 0;
-      style = record { encoding = Bytes; version = One };
+      style = record { encoding = None; version = One };
       lanes = 0;
     } };
 }

@@ -2,10 +2,8 @@ pub mod AnswerLemmas
 pub mod LineLemmas
 pub mod OnwardLemmas
 pub mod PieceLemmas
-pub mod PlaceLemmas
-pub mod ReadyLemmas
 pub mod RecordLemmas
-pub mod StopLemmas
+pub mod RecordRows
 pub mod WidthLemmas
 pub mod WorkedRows
 pub mod WritingLemmas

@@ -1,22 +1,18 @@
 -- Portions, set one after the other.
-use Rattle.std.proofs.Common.{◌≡◌, ℕ, suc, zero, ◌+◌, ◌-◌, ◌*◌, ◌<◌, ◌≤◌, Bool, true, false, List, [], ◌∷◌, ◌++◌, length, map, take, drop, Option, Some, None, arith, refl, ap, sym, subst, ◌∙◌, append_assoc, append-nil, length-append, length-drop}
-use Rattle.std.specs.Prelude.{not, filter, nat_le, slice_index, if◌then◌else◌}
+use Rattle.std.proofs.Common.{◌≡◌, ℕ, ◌+◌, ◌-◌, ◌*◌, ◌<◌, ◌≤◌, Bool, true, false, List, [], ◌∷◌, ◌++◌, length, map, Option, Some, None, arith, refl, ap, sym, ◌∙◌, append_assoc, append-nil, length-append}
+use Rattle.std.specs.Prelude.{nat_le}
 use Rattle.std.specs.Option.{option_and_then, option_map}
-use Rattle.std.specs.List.{slice_split, position_or_len}
 use Rattle.std.proofs.lemmas.Int.{to_z-of_z}
-use Rattle.std.proofs.lemmas.List.{get_or-drop}
-use Rattle.std.proofs.lemmas.List.Splits.{slice_split_first, slice_split_none, length-slice_split}
-use Rattle.std.proofs.lemmas.List.Sums.{fails_before_first, sum_by-cons}
+use Rattle.std.proofs.lemmas.List.Sums.{sum_by-cons}
 use Rattle.std.proofs.lemmas.Bool.{leb-true, leb-false, le-leb}
 use Rattle.tfm_tables.specs.Font.{FontValue}
 use Rattle.lig_kern.specs.declared.item.Item.{Item}
 use Rattle.lig_kern.specs.Result.{Setting, IsAppendedResult, IsResultOf, HasNoResultWithin, result_of}
-use Rattle.lig_kern.specs.Laws.{FindsResult}
-use Rattle.set_line.specs.declared.policy.Policy.{Policy}
-use Rattle.set_line.specs.declared.policy.Policy.TheVariants.{Skip}
-use Rattle.set_line.specs.Pieces.{Portion, space, skipped, is_space, is_missing, run_of, portions_of, portions_of_piece, portions_of_pieces, pieces_of}
+use Rattle.lig_kern.proofs.LawLemmas.{few_items, finds_result}
+use Rattle.set_line.specs.Pieces.{Portion, is_space, portion_of, portions_in, run_of}
 use Rattle.set_line.specs.Answer.{setting_of, within_limit, all_of, together, setting_of_portions}
-use Rattle.set_line.specs.Onward.{setting, added, onward}
+use Rattle.set_line.specs.Onward.{IsFirstCut, setting, added, onward}
+use Rattle.set_line.proofs.PieceLemmas.{portions_cut}
 
 -- ---- one after the other
 
@@ -49,29 +45,29 @@ run_empty font limit so_far [] right e = refl
 run_empty font limit so_far (code ∷ codes) right e = absurd (omega arith)
 
 pub run_set : (font : FontValue) (limit used steps : ℕ) (before after : List Item) (codes : List ℕ) (right : Bool)
-    → 0 < length codes → FindsResult font codes right limit → used ≤ limit → IsAppendedResult font codes right (limit - used) before after steps
+    → 0 < length codes → used ≤ limit → IsAppendedResult font codes right (limit - used) before after steps
     → onward font limit (setting used before) (run_of codes right) ≡ Some (setting (used + steps) after)
 unfolding onward setting_of
-run_set font limit used steps before after [] right some laws kept is = absurd (omega arith)
-run_set font limit used steps before after (code ∷ codes) right some laws kept is =
-    let found : result_of font (code ∷ codes) right limit ≡ Some (setting steps is.items) = laws.found (setting steps is.items) is.result (omega (arith, is.within)) in
+run_set font limit used steps before after [] right some kept is = absurd (omega arith)
+run_set font limit used steps before after (code ∷ codes) right some kept is =
+    let found : result_of font (code ∷ codes) right limit ≡ Some (setting steps is.items) = (finds_result font (code ∷ codes) right limit).found (setting steps is.items) is.result (omega (arith, is.within)) in
     let whole : setting (used + steps) (before ++ is.items) ≡ setting (used + steps) after = ap (setting (used + steps)) (sym is.appended) in
     rw found
     (ap (option_and_then (λ next. Some next)) (within_limit-kept limit (setting (used + steps) (before ++ is.items)) (omega (arith, is.within)))
     ∙ ap Some whole)
 
 pub run_refused : (font : FontValue) (limit used : ℕ) (before : List Item) (codes : List ℕ) (right : Bool)
-    → 0 < length codes → FindsResult font codes right limit → used ≤ limit → HasNoResultWithin font codes right (limit - used)
+    → 0 < length codes → used ≤ limit → HasNoResultWithin font codes right (limit - used)
     → onward font limit (setting used before) (run_of codes right) ≡ None
 unfolding onward setting_of
-run_refused font limit used before [] right some laws kept never = absurd (omega arith)
-run_refused font limit used before (code ∷ codes) right some laws kept never = by (result_of font (code ∷ codes) right limit) refl
+run_refused font limit used before [] right some kept never = absurd (omega arith)
+run_refused font limit used before (code ∷ codes) right some kept never = by (result_of font (code ∷ codes) right limit) refl
   where
     by : (o : Option Setting) → result_of font (code ∷ codes) right limit ≡ o
         → option_and_then (λ next. Some next) (added limit (setting used before) o) ≡ None
     by None e = refl
     by (Some s) e =
-        let is : IsResultOf font (code ∷ codes) right s × (s.steps ≤ limit) = laws.is_result s e in
+        let is : IsResultOf font (code ∷ codes) right s × (s.steps ≤ limit) = (finds_result font (code ∷ codes) right limit).is_result s e in
         let past : limit < used + s.steps = beyond (nat_le (used + s.steps) limit) refl is.0 in
         ap (option_and_then (λ next. Some next)) (within_limit-past limit (setting (used + s.steps) (before ++ s.items)) past)
       where
@@ -94,119 +90,9 @@ item_added font limit steps items items' portion item portions kept is appended 
 -- ---- few items
 
 pub run_few : (used steps : ℕ) (before after : List Item) (font : FontValue) (codes : List ℕ) (right : Bool) (limit : ℕ)
-    → 0 < length codes → ((setting : Setting) → IsResultOf font codes right setting → length setting.items ≤ 2 * setting.steps + 1)
-    → IsAppendedResult font codes right limit before after steps → length after + 2 * used ≤ length before + 2 * (used + steps) + length codes
-run_few used steps before after font codes right limit some few is =
-    omega (arith, few (setting steps is.items) is.result, ap length is.appended, length-append before is.items)
-
--- ---- the parts of a piece
-
-pub get_or-drop-zero : (n : ℕ) (xs : List ℕ) → slice_index (drop n xs) 0 ≡ slice_index xs n
-get_or-drop-zero n xs = let same : n + 0 ≡ n = omega arith in get_or-drop n xs 0 0 ∙ ap (slice_index xs) same
-
-pub drop-more : (n : ℕ) (xs : List ℕ) → drop (n + 1) xs ≡ drop 1 (drop n xs)
-drop-more zero xs = refl
-drop-more (suc n) [] = let same : suc n + 1 ≡ suc (n + 1) = omega arith in rw same refl
-drop-more (suc n) (x ∷ xs) = let same : suc n + 1 ≡ suc (n + 1) = omega arith in rw same (drop-more n xs)
-
--- the bytes that pass a test, from the first one on
-filter-from_first : (p : ℕ → Bool) (xs : List ℕ) → position_or_len p xs < length xs
-    → filter p xs ≡ slice_index xs (position_or_len p xs) ∷ filter p (drop (position_or_len p xs + 1) xs)
-filter-from_first p [] within = absurd (omega arith)
-filter-from_first p (x ∷ xs) within = by (p x) refl (filter-from_first p xs)
-  where
-    by : (b : Bool) → p x ≡ b → (position_or_len p xs < length xs → filter p xs ≡ slice_index xs (position_or_len p xs) ∷ filter p (drop (position_or_len p xs + 1) xs))
-        → filter p (x ∷ xs) ≡ slice_index (x ∷ xs) (position_or_len p (x ∷ xs)) ∷ filter p (drop (position_or_len p (x ∷ xs) + 1) (x ∷ xs))
-    by true here rest = rw here refl
-    by false here rest =
-        let further : 1 + position_or_len p xs ≡ suc (position_or_len p xs) = omega arith in
-        let and_one : suc (position_or_len p xs) + 1 ≡ suc (position_or_len p xs + 1) = omega arith in
-        let shorter : position_or_len p xs < length xs = by_place (subst (λ b. (if not b then 1 + position_or_len p xs else 0) < suc (length xs)) here within) in
-        rw here (rw further (rw and_one (rest shorter)))
-      where
-        by_place : 1 + position_or_len p xs < suc (length xs) → position_or_len p xs < length xs
-        by_place h = omega (arith, h)
-
-filter_none_to_end : (p : ℕ → Bool) (xs : List ℕ) → position_or_len p xs ≡ length xs → filter p xs ≡ []
-filter_none_to_end p [] at = refl
-filter_none_to_end p (x ∷ xs) at = by (p x) refl (filter_none_to_end p xs)
-  where
-    by : (b : Bool) → p x ≡ b → (position_or_len p xs ≡ length xs → filter p xs ≡ []) → filter p (x ∷ xs) ≡ []
-    by true here rest = absurd (none (subst (λ b. (if not b then 1 + position_or_len p xs else 0) ≡ suc (length xs)) here at))
-      where
-        none : 0 ≡ suc (length xs) → ⊥
-        none h = omega (arith, h)
-    by false here rest =
-        let shorter : position_or_len p xs ≡ length xs = one_less (subst (λ b. (if not b then 1 + position_or_len p xs else 0) ≡ suc (length xs)) here at) in
-        rw here (rest shorter)
-      where
-        one_less : 1 + position_or_len p xs ≡ suc (length xs) → position_or_len p xs ≡ length xs
-        one_less h = omega (arith, h)
-
-pub slice_split_to_end : (p : ℕ → Bool) (xs : List ℕ) → position_or_len p xs ≡ length xs → slice_split p xs ≡ xs ∷ []
-slice_split_to_end p xs at = slice_split_none p xs (λ k d within. fails_before_first p xs k d (omega arith))
-
-pub last_part : (font : FontValue) (piece : List ℕ) (at : ℕ) → at ≡ position_or_len (is_missing font) piece → at ≡ length piece
-    → portions_of_piece Skip font piece ≡ run_of piece true
-unfolding portions_of_piece
-last_part font piece at is end =
-    let to_end : position_or_len (is_missing font) piece ≡ length piece = sym is ∙ end in
-    rw (slice_split_to_end (is_missing font) piece to_end) (rw (filter_none_to_end (is_missing font) piece to_end) refl)
-
-pub next_part : (font : FontValue) (piece : List ℕ) (at : ℕ) → at ≡ position_or_len (is_missing font) piece → at < length piece
-    → portions_of_piece Skip font piece
-    ≡ run_of (take at piece) false ++ skipped (slice_index piece at) ∷ portions_of_piece Skip font (drop (at + 1) piece)
-unfolding portions_of_piece
-next_part font piece at is within =
-    let before_end : position_or_len (is_missing font) piece < length piece = omega (arith, is, within) in
-    rw is (rw (slice_split_first (is_missing font) piece 0 before_end) (rw (filter-from_first (is_missing font) piece before_end) refl))
-
--- the same of a piece that was split
-pub cut_at_part : (font : FontValue) (piece part behind rest : List ℕ) (at code : ℕ)
-    → at ≡ position_or_len (is_missing font) piece → part ≡ take at piece → behind ≡ drop at piece → behind ≡ code ∷ rest
-    → portions_of_piece Skip font piece ≡ run_of part false ++ skipped code ∷ portions_of_piece Skip font rest
-cut_at_part font piece part behind rest at code is front back cut =
-    let whole : drop at piece ≡ code ∷ rest = sym back ∙ cut in
-    let within : at < length piece = omega (arith, length-drop at piece, ap length whole) in
-    let first : slice_index piece at ≡ code = sym (get_or-drop-zero at piece) ∙ ap (λ xs. slice_index xs 0) whole in
-    let after : drop (at + 1) piece ≡ rest = drop-more at piece ∙ ap (drop 1) whole in
-    next_part font piece at is within ∙ ap (λ xs. run_of xs false ++ skipped (slice_index piece at) ∷ portions_of_piece Skip font (drop (at + 1) piece)) (sym front)
-    ∙ ap (λ x. run_of part false ++ skipped x ∷ portions_of_piece Skip font (drop (at + 1) piece)) first
-    ∙ ap (λ xs. run_of part false ++ skipped code ∷ portions_of_piece Skip font xs) after
-
-pub no_cut : (piece behind : List ℕ) (at : ℕ) → at ≤ length piece → behind ≡ drop at piece → length behind ≡ 0 → at ≡ length piece
-no_cut piece behind at within back none = omega (arith, length-drop at piece, ap length back)
-
--- ---- the pieces of a line
-
-pub last_piece : (policy : Policy) (font : FontValue) (line : List ℕ) (at : ℕ) → at ≡ position_or_len is_space line → at ≡ length line
-    → portions_of policy font line ≡ portions_of_piece policy font line
-unfolding portions_of pieces_of
-last_piece policy font line at is end = rw (slice_split_to_end is_space line (sym is ∙ end)) refl
-
-more_pieces : (policy : Policy) (font : FontValue) (piece : List ℕ) (pieces : List (List ℕ)) → 0 < length pieces
-    → portions_of_pieces policy font (piece ∷ pieces) ≡ portions_of_piece policy font piece ++ space ∷ portions_of_pieces policy font pieces
-more_pieces policy font piece [] some = absurd (omega arith)
-more_pieces policy font piece (next ∷ pieces) some = refl
-
-pub next_piece : (policy : Policy) (font : FontValue) (line : List ℕ) (at : ℕ) → at ≡ position_or_len is_space line → at < length line
-    → portions_of policy font line ≡ portions_of_piece policy font (take at line) ++ space ∷ portions_of policy font (drop (at + 1) line)
-unfolding portions_of pieces_of
-next_piece policy font line at is within =
-    let before_end : position_or_len is_space line < length line = omega (arith, is, within) in
-    rw is (rw (slice_split_first is_space line 0 before_end)
-    (more_pieces policy font (take (position_or_len is_space line) line) (slice_split is_space (drop (position_or_len is_space line + 1) line))
-    (omega (arith, length-slice_split is_space (drop (position_or_len is_space line + 1) line)))))
-
-pub cut_at_piece : (policy : Policy) (font : FontValue) (line piece behind rest : List ℕ) (at code : ℕ)
-    → at ≡ position_or_len is_space line → piece ≡ take at line → behind ≡ drop at line → behind ≡ code ∷ rest
-    → portions_of policy font line ≡ portions_of_piece policy font piece ++ space ∷ portions_of policy font rest
-cut_at_piece policy font line piece behind rest at code is front back cut =
-    let whole : drop at line ≡ code ∷ rest = sym back ∙ cut in
-    let within : at < length line = omega (arith, length-drop at line, ap length whole) in
-    let after : drop (at + 1) line ≡ rest = drop-more at line ∙ ap (drop 1) whole in
-    next_piece policy font line at is within ∙ ap (λ xs. portions_of_piece policy font xs ++ space ∷ portions_of policy font (drop (at + 1) line)) (sym front)
-    ∙ ap (λ xs. portions_of_piece policy font piece ++ space ∷ portions_of policy font xs) after
+    → 0 < length codes → IsAppendedResult font codes right limit before after steps → length after + 2 * used ≤ length before + 2 * (used + steps) + length codes
+run_few used steps before after font codes right limit some is =
+    omega (arith, few_items font codes right (setting steps is.items) is.result, ap length is.appended, length-append before is.items)
 
 -- ---- a portion and what follows it
 
@@ -224,6 +110,15 @@ pub part_stops : (font : FontValue) (limit used : ℕ) (before : List Item) (who
     → whole ≡ front ++ rest → onward font limit (setting used before) front ≡ None → onward font limit (setting used before) whole ≡ None
 part_stops font limit used before whole front rest cut reached =
     rw cut (onward-append font limit (setting used before) front rest ∙ ap (option_and_then (λ next. onward font limit next rest)) reached)
+
+-- the same of a line that is cut
+pub cut_then : (font : FontValue) (limit used steps : ℕ) (before middle after : List Item) (right : Bool) (line codes : List ℕ) (cut : ℕ) (rest : List ℕ) (item : Item)
+    → IsFirstCut font line codes cut rest → onward font limit (setting used before) (run_of codes (is_space cut)) ≡ Some (setting steps middle) → steps ≤ limit
+    → setting_of font limit (portion_of cut) ≡ Some (setting 0 (item ∷ [])) → after ≡ middle ++ item ∷ []
+    → onward font limit (setting used before) (portions_in right font line) ≡ onward font limit (setting steps after) (portions_in right font rest)
+cut_then font limit used steps before middle after right line codes cut rest item first =
+    part_then font limit used steps before middle after (portions_in right font line) (run_of codes (is_space cut)) (portions_in right font rest) (portion_of cut) item
+    (portions_cut right font line codes cut rest first)
 
 -- ---- the whole line
 

@@ -1,327 +1,211 @@
--- The portions of a line: joined again, cut no further, and with the right boundary in its places.
-use Rattle.std.proofs.Common.{◌≡◌, ℕ, ◌<◌, Bool, true, false, List, [], ◌∷◌, ◌++◌, ◌||◌, length, drop, get_or, flat_map, arith, rules, refl, ap, sym, subst, ◌∙◌, append-nil, length-append}
-use Rattle.std.specs.Prelude.{⊤, cond, filter}
-use Rattle.std.specs.List.{list_any, slice_split, onto_first, join_with_byte}
-use Rattle.std.proofs.lemmas.Grind.{flat_map-append}
-use Rattle.std.proofs.lemmas.List.Splits.{join_with_byte-slice_split, length-slice_split}
+-- The portions of a line: at a cut, joined again, and cut no further.
+use Rattle.std.proofs.Common.{◌≡◌, ℕ, suc, ◌+◌, ◌<◌, ◌≤◌, Bool, true, false, List, [], ◌∷◌, ◌++◌, ◌||◌, length, take, drop, get_or, flat_map, Some, None, arith, rules, refl, ap, sym, subst, ◌∙◌, append-nil, append_assoc, drop-cons, length-append, length-take}
+use Rattle.std.specs.Prelude.{◌&&◌, cond, filter, not, if◌then◌else◌}
+use Rattle.std.specs.List.{All, slice_split, onto_first, position, position_or_len}
+use Rattle.std.proofs.lemmas.Bool.Decides.{nat_tests}
+use Rattle.std.proofs.lemmas.List.{get_or-take, take-append-drop}
+use Rattle.std.proofs.lemmas.List.Elements.{All-from_get_or, All-head, All-nil, All-push, All-tail, filter-append}
+use Rattle.std.proofs.lemmas.List.Quantifiers.{position-Some}
+use Rattle.std.proofs.lemmas.List.Splits.{length-slice_split, slice_split_none}
+use Rattle.std.proofs.lemmas.List.Sums.{fails_before_first, length-filter}
 use Rattle.tfm_tables.specs.Font.{FontValue}
-use Rattle.set_line.specs.declared.policy.Policy.{Policy}
-use Rattle.set_line.specs.declared.policy.Policy.TheVariants.{Refuse, Skip}
-use Rattle.set_line.specs.Pieces.{Portion, run, skipped, space, bytes_of, is_missing, is_skipped, is_space, parts_with, pieces_of, portions_of, portions_of_piece, portions_of_pieces, run_of, AreBounded, AreTheOnly, AreUncut, AreWhole, IsUncut}
+use Rattle.set_line.specs.Pieces.{Portion, run, skipped, space, bytes_of, cut_with, is_cut, is_missing, is_neither, is_space, pieces_of, portion_of, portions_in, portions_of, run_of, AreTheOnly, AreUncut, AreWhole, IsRun}
+use Rattle.set_line.specs.Onward.{IsFirstCut}
+
+-- ---- at a cut
+
+-- the pieces before and after a byte that passes the test
+split_apart : (p : ℕ → Bool) (xs : List ℕ) (cut : ℕ) (ys : List ℕ) → p cut ≡ true → slice_split p (xs ++ cut ∷ ys) ≡ slice_split p xs ++ slice_split p ys
+split_apart p [] cut ys here = rw here refl
+split_apart p (x ∷ xs) cut ys here =
+    ap (λ parts. cond (p x) ([] ∷ parts) (onto_first x parts)) (split_apart p xs cut ys here)
+    ∙ by (p x) (slice_split p xs) (omega (arith, length-slice_split p xs))
+  where
+    by : (b : Bool) (parts : List (List ℕ)) → 0 < length parts
+        → cond b ([] ∷ (parts ++ slice_split p ys)) (onto_first x (parts ++ slice_split p ys)) ≡ cond b ([] ∷ parts) (onto_first x parts) ++ slice_split p ys
+    by true parts some = refl
+    by false [] some = absurd (omega arith)
+    by false (part ∷ parts) some = refl
+
+-- the portions before and after a cut
+cut_apart : (right : Bool) (pieces more : List (List ℕ)) (cuts : List ℕ) (cut : ℕ) (others : List ℕ) → length pieces ≡ suc (length cuts)
+    → cut_with right (pieces ++ more) (cuts ++ cut ∷ others) ≡ cut_with (is_space cut) pieces cuts ++ portion_of cut ∷ cut_with right more others
+cut_apart right [] more cuts cut others same = absurd (omega arith)
+cut_apart right (piece ∷ []) more [] cut others same = refl
+cut_apart right (piece ∷ next ∷ pieces) more [] cut others same = absurd (omega arith)
+cut_apart right (piece ∷ pieces) more (first ∷ cuts) cut others same =
+    ap (λ ps. run_of piece (is_space first) ++ portion_of first ∷ ps) (cut_apart right pieces more cuts cut others (omega arith))
+    ∙ sym (append_assoc (run_of piece (is_space first)) (portion_of first ∷ cut_with (is_space cut) pieces cuts) (portion_of cut ∷ cut_with right more others))
+
+pub portions_at : (right : Bool) (font : FontValue) (codes : List ℕ) (cut : ℕ) (rest : List ℕ) → is_cut font cut ≡ true
+    → portions_in right font (codes ++ cut ∷ rest) ≡ portions_in (is_space cut) font codes ++ portion_of cut ∷ portions_in right font rest
+unfolding portions_in pieces_of
+portions_at right font codes cut rest here =
+    ap (λ ps. cut_with right ps (filter (is_cut font) (codes ++ cut ∷ rest))) (split_apart (is_cut font) codes cut rest here)
+    ∙ ap (λ cs. cut_with right (slice_split (is_cut font) codes ++ slice_split (is_cut font) rest) cs)
+    (filter-append (is_cut font) codes (cut ∷ rest) ∙ ap (λ b. filter (is_cut font) codes ++ cond b (cut ∷ filter (is_cut font) rest) (filter (is_cut font) rest)) here)
+    ∙ cut_apart right (slice_split (is_cut font) codes) (slice_split (is_cut font) rest) (filter (is_cut font) codes) cut (filter (is_cut font) rest)
+    (omega (arith, length-slice_split (is_cut font) codes, length-filter (is_cut font) codes))
+
+of_neither : (a b : Bool) → (not a && b) ≡ true → (a ≡ false) × ((a || b) ≡ true)
+of_neither true b neither = absurd (search rules)
+of_neither false b neither = (refl, neither)
+
+-- Law: a number that is neither a space nor a character divides a line, and the right boundary doesn't follow the run before it
+pub portions_at_gap : (right : Bool) (font : FontValue) (codes : List ℕ) (gap : ℕ) (rest : List ℕ) → is_neither font gap ≡ true
+    → portions_in right font (codes ++ gap ∷ rest) ≡ portions_in false font codes ++ skipped gap ∷ portions_in right font rest
+portions_at_gap right font codes gap rest neither =
+    let is = of_neither (is_space gap) (is_missing font gap) neither in
+    portions_at right font codes gap rest is.1
+    ∙ ap (λ b. portions_in b font codes ++ (if b then space else skipped gap) ∷ portions_in right font rest) is.0
+
+filter_none : (p : ℕ → Bool) (xs : List ℕ) → All (λ x. p x ≡ false) xs → filter p xs ≡ []
+filter_none p [] none = refl
+filter_none p (x ∷ xs) none =
+    let here : p x ≡ false = All-head (λ x. p x ≡ false) x xs none in
+    rw here (filter_none p xs (All-tail (λ x. p x ≡ false) x xs none))
+
+pub portions_run : (right : Bool) (font : FontValue) (codes : List ℕ) → IsRun font codes → portions_in right font codes ≡ run_of codes right
+unfolding portions_in pieces_of
+portions_run right font codes none =
+    ap (λ ps. cut_with right ps (filter (is_cut font) codes)) (slice_split_none (is_cut font) codes none)
+    ∙ ap (cut_with right (codes ∷ [])) (filter_none (is_cut font) codes none)
+
+pub portions_cut : (right : Bool) (font : FontValue) (line codes : List ℕ) (cut : ℕ) (rest : List ℕ) → IsFirstCut font line codes cut rest
+    → portions_in right font line ≡ run_of codes (is_space cut) ++ portion_of cut ∷ portions_in right font rest
+portions_cut right font line codes cut rest first =
+    ap (portions_in right font) first.whole ∙ portions_at right font codes cut rest first.here
+    ∙ ap (λ ps. ps ++ portion_of cut ∷ portions_in right font rest) (portions_run (is_space cut) font codes first.before)
+
+-- ---- the first cut
+
+pub none_passes : (p : ℕ → Bool) (xs : List ℕ) → position p xs ≡ None → All (λ x. p x ≡ false) xs
+none_passes p xs none = λ k d within. fails_before_first p xs k d (omega (arith, within, to_end none))
+  where
+    to_end : position p xs ≡ None → length xs ≤ position_or_len p xs
+    to_end none = grind (arith, none)
+
+-- what a search finds
+pub first_is : (font : FontValue) (line codes behind rest : List ℕ) (at cut : ℕ) → position (is_cut font) line ≡ Some at → codes ≡ take at line → behind ≡ drop at line
+    → behind ≡ cut ∷ rest → IsFirstCut font line codes cut rest
+first_is font line codes behind rest at cut is front back split =
+    let found = position-Some (is_cut font) line at 0 is in
+    let from : get_or line at 0 ∷ drop (suc at) line ≡ cut ∷ rest = sym (drop-cons line at 0 found.0) ∙ sym back ∙ split in
+    let same : get_or line at 0 ≡ cut = cc in
+    record {
+      whole = sym (take-append-drop at line) ∙ ap (λ xs. xs ++ drop at line) (sym front) ∙ ap (λ xs. codes ++ xs) (sym back ∙ split);
+      before = subst (IsRun font) (sym front) (All-from_get_or (λ x. is_cut font x ≡ false) (take at line) 0 (λ k within.
+          let below : k < at = omega (arith, length-take at line, within) in
+          ap (is_cut font) (get_or-take at line k 0 below) ∙ found.2 k below));
+      here = ap (is_cut font) (sym same) ∙ found.1;
+    }
+
+pub ruleset cuts = (first_is, none_passes)
+
+pub cut_length : (font : FontValue) (line codes : List ℕ) (cut : ℕ) (rest : List ℕ) → IsFirstCut font line codes cut rest → length codes + length rest + 1 ≡ length line
+cut_length font line codes cut rest first = omega (arith, ap length first.whole, length-append codes (cut ∷ rest))
+
+-- ---- joined again, and cut no further
 
 -- portions as the bytes that they stand for
 abbrev joined : List Portion → List ℕ
 joined portions = flat_map bytes_of portions
 
-run_joined : (codes : List ℕ) (right : Bool) → joined (run_of codes right) ≡ codes
-run_joined [] right = refl
-run_joined (code ∷ codes) right = append-nil (code ∷ codes)
-
--- a run, one portion of one byte, and more
-pub joined_with : (codes : List ℕ) (right : Bool) (portion : Portion) (byte : ℕ) (more : List Portion) → bytes_of portion ≡ byte ∷ []
-    → joined (run_of codes right ++ portion ∷ more) ≡ codes ++ byte ∷ joined more
-joined_with codes right portion byte more one =
-    flat_map-append bytes_of (run_of codes right) (portion ∷ more)
-    ∙ ap (λ xs. xs ++ joined (portion ∷ more)) (run_joined codes right)
-    ∙ ap (λ xs. codes ++ (xs ++ joined more)) one
-
--- a byte more at the front of the first part
-onto_part : (byte : ℕ) (parts : List (List ℕ)) (gaps : List ℕ) → 0 < length parts
-    → joined (parts_with (onto_first byte parts) gaps) ≡ byte ∷ joined (parts_with parts gaps)
-onto_part byte [] gaps some = absurd (omega arith)
-onto_part byte (part ∷ parts) [] some = run_joined (byte ∷ part) true ∙ ap (λ xs. byte ∷ xs) (sym (run_joined part true))
-onto_part byte (part ∷ parts) (gap ∷ gaps) some =
-    joined_with (byte ∷ part) false (skipped gap) gap (parts_with parts gaps) refl
-    ∙ ap (λ xs. byte ∷ xs) (sym (joined_with part false (skipped gap) gap (parts_with parts gaps) refl))
-
--- the parts between the bytes that pass a test, with these in their places
-parts_joined : (p : ℕ → Bool) (bytes : List ℕ) → joined (parts_with (slice_split p bytes) (filter p bytes)) ≡ bytes
-parts_joined p [] = refl
-parts_joined p (byte ∷ bytes) = by (p byte) refl (parts_joined p bytes)
+-- one portion of one byte, and more
+one_joined : (byte : ℕ) → bytes_of (portion_of byte) ≡ byte ∷ []
+one_joined byte = by (is_space byte) refl
   where
-    by : (b : Bool) → p byte ≡ b → joined (parts_with (slice_split p bytes) (filter p bytes)) ≡ bytes
-        → joined (parts_with (slice_split p (byte ∷ bytes)) (filter p (byte ∷ bytes))) ≡ byte ∷ bytes
-    by true passes rest = rw passes (ap (λ xs. byte ∷ xs) rest)
-    by false fails rest =
-        rw fails (onto_part byte (slice_split p bytes) (filter p bytes) (omega (arith, length-slice_split p bytes)) ∙ ap (λ xs. byte ∷ xs) rest)
+    by : (b : Bool) → is_space byte ≡ b → bytes_of (if b then space else skipped byte) ≡ byte ∷ []
+    by true is = let same : 32 ≡ byte = grind (arith, nat_tests, is) in ap (λ first. first ∷ []) same
+    by false is = refl
 
-piece_joined : (policy : Policy) (font : FontValue) (piece : List ℕ) → joined (portions_of_piece policy font piece) ≡ piece
-unfolding portions_of_piece
-piece_joined Refuse font piece = run_joined piece true
-piece_joined Skip font piece = parts_joined (is_missing font) piece
+-- a run, a byte at which the line is cut, and more
+joined_at : (codes : List ℕ) (right : Bool) (byte : ℕ) (more : List Portion) → joined (run_of codes right ++ portion_of byte ∷ more) ≡ codes ++ byte ∷ joined more
+joined_at [] right byte more = ap (λ bytes. bytes ++ joined more) (one_joined byte)
+joined_at (code ∷ codes) right byte more = ap (λ bytes. (code ∷ codes) ++ (bytes ++ joined more)) (one_joined byte)
 
--- pieces come to their bytes, with one space between neighbours
-pieces_joined : (policy : Policy) (font : FontValue) (pieces : List (List ℕ)) → joined (portions_of_pieces policy font pieces) ≡ join_with_byte 32 pieces
-pieces_joined policy font [] = refl
-pieces_joined policy font (last ∷ []) = piece_joined policy font last
-pieces_joined policy font (piece ∷ next ∷ pieces) =
-    flat_map-append bytes_of (portions_of_piece policy font piece) (space ∷ portions_of_pieces policy font (next ∷ pieces))
-    ∙ ap (λ xs. xs ++ 32 ∷ joined (portions_of_pieces policy font (next ∷ pieces))) (piece_joined policy font piece)
-    ∙ ap (λ xs. piece ++ 32 ∷ xs) (pieces_joined policy font (next ∷ pieces))
+uncut_at : (font : FontValue) (codes : List ℕ) (byte : ℕ) (more : List Portion) → IsRun font codes → is_cut font byte ≡ true → AreUncut font more
+    → AreUncut font (run_of codes (is_space byte) ++ portion_of byte ∷ more)
+uncut_at font codes byte more none here uncut = by (is_space byte) codes refl none here
+  where
+    by : (b : Bool) (codes : List ℕ) → is_space byte ≡ b → IsRun font codes → (b || is_missing font byte) ≡ true
+        → AreUncut font (run_of codes b ++ (if b then space else skipped byte) ∷ more)
+    by true [] is none here = uncut
+    by true (code ∷ codes) is none here = (omega arith, none, refl, uncut)
+    by false [] is none here = (rw is here, uncut)
+    by false (code ∷ codes) is none here = (omega arith, none, refl, (rw is here, uncut))
+
+-- these portions are the line, and can't be cut further
+record AreOf (font : FontValue) (line : List ℕ) (portions : List Portion) : Type 0 where
+  whole : joined portions ≡ line
+  uncut : AreUncut font portions
+
+whole_run : (font : FontValue) (codes : List ℕ) → IsRun font codes → AreOf font codes (run_of codes true)
+whole_run font [] none = record { whole = refl; uncut = tt }
+whole_run font (code ∷ codes) none = record { whole = append-nil (code ∷ codes); uncut = (omega arith, none, refl, tt) }
+
+-- a run, and what follows it
+are_of : (font : FontValue) (codes line : List ℕ) → IsRun font codes → AreOf font (codes ++ line) (portions_of font (codes ++ line))
+are_of font codes [] none = rw (append-nil codes) (rw (portions_run true font codes none) (whole_run font codes none))
+are_of font codes (byte ∷ bytes) none =
+    by (is_cut font byte) refl (are_of font [] bytes (All-nil (λ x. is_cut font x ≡ false))) (are_of font (codes ++ byte ∷ []) bytes)
+  where
+    by : (b : Bool) → is_cut font byte ≡ b → AreOf font bytes (portions_of font bytes)
+        → (IsRun font (codes ++ byte ∷ []) → AreOf font ((codes ++ byte ∷ []) ++ bytes) (portions_of font ((codes ++ byte ∷ []) ++ bytes)))
+        → AreOf font (codes ++ byte ∷ bytes) (portions_of font (codes ++ byte ∷ bytes))
+    by true here rest longer =
+        rw (portions_at true font codes byte bytes here) (rw (portions_run (is_space byte) font codes none) (record {
+          whole = joined_at codes (is_space byte) byte (portions_of font bytes) ∙ ap (λ more. codes ++ byte ∷ more) rest.whole;
+          uncut = uncut_at font codes byte (portions_of font bytes) none here rest.uncut;
+        }))
+    by false other rest longer =
+        subst (λ l. AreOf font l (portions_of font l)) (append_assoc codes (byte ∷ []) bytes)
+        (longer (All-push (λ x. is_cut font x ≡ false) codes byte none other))
 
 -- Law: the bytes of the portions of a line, joined together, are the line
-pub line_joined : (policy : Policy) (font : FontValue) (line : List ℕ) → AreWhole policy font line
-unfolding portions_of pieces_of
-line_joined policy font line = pieces_joined policy font (slice_split is_space line) ∙ join_with_byte-slice_split 32 line
+pub line_joined : (font : FontValue) (line : List ℕ) → AreWhole font line
+line_joined font line = (are_of font [] line (All-nil (λ x. is_cut font x ≡ false))).whole
 
--- ---- cut no further
-
--- whether a line is cut at a byte
-abbrev is_cut : Policy → FontValue → ℕ → Bool
-is_cut policy font byte = is_space byte || is_skipped policy font byte
-
--- none of some lists has a byte that passes
-abbrev NoneHas : (ℕ → Bool) → List (List ℕ) → Type 0
-NoneHas p [] = ⊤
-NoneHas p (part ∷ parts) = (list_any p part ≡ false) × NoneHas p parts
-
-neither : (a b : Bool) → a ≡ false → b ≡ false → (a || b) ≡ false
-neither true b no_a no_b = absurd (search rules)
-neither false b no_a no_b = no_b
-
-first_of_both : (a b : Bool) → (a || b) ≡ false → a ≡ false
-first_of_both true b none = none
-first_of_both false b none = refl
-
-second_of_both : (a b : Bool) → (a || b) ≡ false → b ≡ false
-second_of_both true b none = absurd (search rules)
-second_of_both false b none = none
-
--- the parts have none of the bytes at which they were cut
-none_has : (p : ℕ → Bool) (bytes : List ℕ) → NoneHas p (slice_split p bytes)
-none_has p [] = (refl, tt)
-none_has p (byte ∷ bytes) = by (p byte) refl (slice_split p bytes) (none_has p bytes)
-  where
-    by : (b : Bool) → p byte ≡ b → (parts : List (List ℕ)) → NoneHas p parts → NoneHas p (cond b ([] ∷ parts) (onto_first byte parts))
-    by true passes parts none = (refl, none)
-    by false fails [] none = (neither (p byte) false fails refl, tt)
-    by false fails (part ∷ parts) none = (neither (p byte) (list_any p part) fails none.0, none.1)
-
-uncut_both : (policy : Policy) (font : FontValue) (xs ys : List Portion) → AreUncut policy font xs → AreUncut policy font ys → AreUncut policy font (xs ++ ys)
-uncut_both policy font [] ys a b = b
-uncut_both policy font (x ∷ xs) ys a b = (a.0, uncut_both policy font xs ys a.1 b)
-
-run_uncut : (policy : Policy) (font : FontValue) (codes : List ℕ) (right : Bool) → list_any (is_cut policy font) codes ≡ false
-    → AreUncut policy font (run_of codes right)
-run_uncut policy font [] right none = tt
-run_uncut policy font (code ∷ codes) right none = ((omega arith, none), tt)
-
--- bytes that are no spaces, if none is skipped
-nowhere_cut : (font : FontValue) (codes : List ℕ) → list_any is_space codes ≡ false → list_any (is_cut Refuse font) codes ≡ false
-nowhere_cut font [] none = refl
-nowhere_cut font (code ∷ codes) none =
-    neither (is_cut Refuse font code) (list_any (is_cut Refuse font) codes)
-    (neither (is_space code) false (first_of_both (is_space code) (list_any is_space codes) none) refl)
-    (nowhere_cut font codes (second_of_both (is_space code) (list_any is_space codes) none))
-
--- a part with one byte more at its front, and what follows it
-longer : (font : FontValue) (byte : ℕ) (part : List ℕ) (right : Bool) (more : List Portion) → is_cut Skip font byte ≡ false
-    → AreUncut Skip font (run_of part right ++ more) → AreUncut Skip font (run_of (byte ∷ part) right ++ more)
-longer font byte [] right more kept uncut = ((omega arith, neither (is_cut Skip font byte) false kept refl), uncut)
-longer font byte (code ∷ codes) right more kept uncut =
-    ((omega arith, neither (is_cut Skip font byte) (list_any (is_cut Skip font) (code ∷ codes)) kept uncut.0.1), uncut.1)
-
-onto_uncut : (font : FontValue) (byte : ℕ) (parts : List (List ℕ)) (gaps : List ℕ) → 0 < length parts → is_cut Skip font byte ≡ false
-    → AreUncut Skip font (parts_with parts gaps) → AreUncut Skip font (parts_with (onto_first byte parts) gaps)
-onto_uncut font byte [] gaps some kept uncut = absurd (omega arith)
-onto_uncut font byte ([] ∷ parts) [] some kept uncut = longer font byte [] true [] kept uncut
-onto_uncut font byte ((code ∷ codes) ∷ parts) [] some kept uncut = longer font byte (code ∷ codes) true [] kept uncut
-onto_uncut font byte (part ∷ parts) (gap ∷ gaps) some kept uncut = longer font byte part false (skipped gap ∷ parts_with parts gaps) kept uncut
-
--- the parts of a piece without a space
-parts_uncut : (font : FontValue) (piece : List ℕ) → list_any is_space piece ≡ false
-    → AreUncut Skip font (parts_with (slice_split (is_missing font) piece) (filter (is_missing font) piece))
-parts_uncut font [] none = tt
-parts_uncut font (byte ∷ bytes) none =
-    by (is_missing font byte) refl (first_of_both (is_space byte) (list_any is_space bytes) none)
-    (parts_uncut font bytes (second_of_both (is_space byte) (list_any is_space bytes) none))
-  where
-    parts : List (List ℕ)
-    parts = slice_split (is_missing font) bytes
-
-    gaps : List ℕ
-    gaps = filter (is_missing font) bytes
-
-    by : (b : Bool) → is_missing font byte ≡ b → is_space byte ≡ false → AreUncut Skip font (parts_with parts gaps)
-        → AreUncut Skip font (parts_with (cond b ([] ∷ parts) (onto_first byte parts)) (cond b (byte ∷ gaps) gaps))
-    by true missing no_space uncut = (rw no_space missing, uncut)
-    by false there no_space uncut =
-        onto_uncut font byte parts gaps (omega (arith, length-slice_split (is_missing font) bytes))
-        (neither (is_space byte) (is_skipped Skip font byte) no_space (rw no_space there)) uncut
-
-piece_uncut : (policy : Policy) (font : FontValue) (piece : List ℕ) → list_any is_space piece ≡ false
-    → AreUncut policy font (portions_of_piece policy font piece)
-unfolding portions_of_piece
-piece_uncut Refuse font piece none = run_uncut Refuse font piece true (nowhere_cut font piece none)
-piece_uncut Skip font piece none = parts_uncut font piece none
-
-pieces_uncut : (policy : Policy) (font : FontValue) (pieces : List (List ℕ)) → NoneHas is_space pieces
-    → AreUncut policy font (portions_of_pieces policy font pieces)
-pieces_uncut policy font [] none = tt
-pieces_uncut policy font (last ∷ []) none = piece_uncut policy font last none.0
-pieces_uncut policy font (piece ∷ next ∷ pieces) none =
-    uncut_both policy font (portions_of_piece policy font piece) (space ∷ portions_of_pieces policy font (next ∷ pieces))
-    (piece_uncut policy font piece none.0) (tt, pieces_uncut policy font (next ∷ pieces) none.1)
-
--- Law: the portions of a line can't be cut further
-pub line_uncut : (policy : Policy) (font : FontValue) (line : List ℕ) → AreUncut policy font (portions_of policy font line)
-unfolding portions_of pieces_of
-line_uncut policy font line = pieces_uncut policy font (slice_split is_space line) (none_has is_space line)
-
--- ---- the right boundary
-
-run_bounded : (codes : List ℕ) → AreBounded (run_of codes true)
-run_bounded [] = tt
-run_bounded (code ∷ codes) = refl
-
-parts_bounded : (parts : List (List ℕ)) (gaps : List ℕ) → AreBounded (parts_with parts gaps)
-parts_bounded [] gaps = tt
-parts_bounded (part ∷ parts) [] = run_bounded part
-parts_bounded ([] ∷ parts) (gap ∷ gaps) = parts_bounded parts gaps
-parts_bounded ((code ∷ codes) ∷ parts) (gap ∷ gaps) = (refl, parts_bounded parts gaps)
-
-bounded_before_space : (xs ys : List Portion) → AreBounded xs → AreBounded ys → AreBounded (xs ++ space ∷ ys)
-bounded_before_space [] ys a b = b
-bounded_before_space (run codes right ∷ []) ys a b = (a, b)
-bounded_before_space (run codes right ∷ run more also ∷ xs) ys a b = a
-bounded_before_space (run codes right ∷ space ∷ xs) ys a b = (a.0, bounded_before_space xs ys a.1 b)
-bounded_before_space (run codes right ∷ skipped code ∷ xs) ys a b = (a.0, bounded_before_space xs ys a.1 b)
-bounded_before_space (space ∷ xs) ys a b = bounded_before_space xs ys a b
-bounded_before_space (skipped code ∷ xs) ys a b = bounded_before_space xs ys a b
-
-piece_bounded : (policy : Policy) (font : FontValue) (piece : List ℕ) → AreBounded (portions_of_piece policy font piece)
-unfolding portions_of_piece
-piece_bounded Refuse font piece = run_bounded piece
-piece_bounded Skip font piece = parts_bounded (slice_split (is_missing font) piece) (filter (is_missing font) piece)
-
-pieces_bounded : (policy : Policy) (font : FontValue) (pieces : List (List ℕ)) → AreBounded (portions_of_pieces policy font pieces)
-pieces_bounded policy font [] = tt
-pieces_bounded policy font (last ∷ []) = piece_bounded policy font last
-pieces_bounded policy font (piece ∷ next ∷ pieces) =
-    bounded_before_space (portions_of_piece policy font piece) (portions_of_pieces policy font (next ∷ pieces))
-    (piece_bounded policy font piece) (pieces_bounded policy font (next ∷ pieces))
-
--- Law: the right boundary may follow exactly those runs that are followed by a space or by the end of the
--- line
-pub line_bounded : (policy : Policy) (font : FontValue) (line : List ℕ) → AreBounded (portions_of policy font line)
-unfolding portions_of
-line_bounded policy font line = pieces_bounded policy font (pieces_of line)
+-- Law: the portions of a line can't be cut further, and the right boundary may follow exactly those runs that
+-- are followed by a space or by the end of the line
+pub line_uncut : (font : FontValue) (line : List ℕ) → AreUncut font (portions_of font line)
+line_uncut font line = (are_of font [] line (All-nil (λ x. is_cut font x ≡ false))).uncut
 
 -- ---- no other portions
 
--- nothing, or a byte that passes and more
-abbrev StartsWith : (ℕ → Bool) → List ℕ → Type 0
-StartsWith p [] = ⊤
-StartsWith p (byte ∷ bytes) = p byte ≡ true
+-- a run with a byte, and what follows it
+some_run : (codes : List ℕ) (right : Bool) (more : List Portion) → 0 < length codes → run_of codes right ++ more ≡ run codes right ∷ more
+some_run [] right more some = absurd (omega arith)
+some_run (code ∷ codes) right more some = refl
 
-first_same : (x y : ℕ) (xs ys : List ℕ) → x ∷ xs ≡ y ∷ ys → x ≡ y
-first_same x y xs ys e = ap (λ bytes. get_or bytes 0 0) e
+run_then : (font : FontValue) (codes : List ℕ) (byte : ℕ) (portions : List Portion) → 0 < length codes → IsRun font codes → is_cut font byte ≡ true
+    → portions ≡ portions_of font (joined portions)
+    → run codes (is_space byte) ∷ portion_of byte ∷ portions ≡ portions_of font (codes ++ byte ∷ joined portions)
+run_then font codes byte portions some none here rest =
+    ap (λ ps. run codes (is_space byte) ∷ portion_of byte ∷ ps) rest
+    ∙ sym (portions_at true font codes byte (joined portions) here
+    ∙ ap (λ ps. ps ++ portion_of byte ∷ portions_of font (joined portions)) (portions_run (is_space byte) font codes none)
+    ∙ some_run codes (is_space byte) (portion_of byte ∷ portions_of font (joined portions)) some)
 
-others_same : (x y : ℕ) (xs ys : List ℕ) → x ∷ xs ≡ y ∷ ys → xs ≡ ys
-others_same x y xs ys e = ap (drop 1) e
+same : (font : FontValue) (portions : List Portion) → AreUncut font portions → portions ≡ portions_of font (joined portions)
+unfolding portions_in pieces_of
+same font [] uncut = refl
+same font (space ∷ portions) uncut = ap (λ ps. space ∷ ps) (same font portions uncut) ∙ sym (portions_at true font [] 32 (joined portions) refl)
+same font (skipped code ∷ portions) uncut =
+    ap (λ ps. skipped code ∷ ps) (same font portions uncut.1) ∙ sym (portions_at_gap true font [] code (joined portions) uncut.0)
+same font (run codes right ∷ []) uncut =
+    ap (λ b. run codes b ∷ []) uncut.2 ∙ sym (some_run codes true [] uncut.0) ∙ append-nil (run_of codes true)
+    ∙ sym (ap (portions_of font) (append-nil codes) ∙ portions_run true font codes uncut.1)
+same font (run codes right ∷ run more also ∷ portions) uncut = absurd (uncut.2)
+same font (run codes right ∷ space ∷ portions) uncut =
+    ap (λ b. run codes b ∷ space ∷ portions) uncut.2
+    ∙ run_then font codes 32 portions uncut.0 uncut.1 refl (same font portions uncut.3)
+same font (run codes right ∷ skipped code ∷ portions) uncut =
+    let is = of_neither (is_space code) (is_missing font code) uncut.3.0 in
+    ap (λ b. run codes b ∷ skipped code ∷ portions) (uncut.2 ∙ sym is.0)
+    ∙ ap (λ b. run codes (is_space code) ∷ (if b then space else skipped code) ∷ portions) (sym is.0)
+    ∙ run_then font codes code portions uncut.0 uncut.1 is.1 (same font portions uncut.3.1)
 
-never_both : (b : Bool) → b ≡ true → b ≡ false → ⊥
-never_both true is isnt = absurd (search rules)
-never_both false is isnt = absurd (search rules)
-
--- the bytes before the first one that passes are the same, and so are those from it on
-longest : (p : ℕ → Bool) (a b xs ys : List ℕ) → list_any p a ≡ false → list_any p b ≡ false → StartsWith p xs → StartsWith p ys
-    → a ++ xs ≡ b ++ ys → (a ≡ b) × (xs ≡ ys)
-longest p [] [] xs ys none_a none_b starts_x starts_y e = (refl, e)
-longest p [] (y ∷ b) xs ys none_a none_b starts_x starts_y e =
-    let starts : StartsWith p (y ∷ b ++ ys) = subst (StartsWith p) e starts_x in
-    absurd (never_both (p y) starts (first_of_both (p y) (list_any p b) none_b))
-longest p (x ∷ a) [] xs ys none_a none_b starts_x starts_y e =
-    let starts : StartsWith p (x ∷ a ++ xs) = subst (StartsWith p) (sym e) starts_y in
-    absurd (never_both (p x) starts (first_of_both (p x) (list_any p a) none_a))
-longest p (x ∷ a) (y ∷ b) xs ys none_a none_b starts_x starts_y e =
-    let rest : (a ≡ b) × (xs ≡ ys) =
-    longest p a b xs ys (second_of_both (p x) (list_any p a) none_a) (second_of_both (p y) (list_any p b) none_b) starts_x starts_y
-    (others_same x y (a ++ xs) (b ++ ys) e) in
-    (ap (λ byte. byte ∷ a) (first_same x y (a ++ xs) (b ++ ys) e) ∙ ap (λ bytes. y ∷ bytes) rest.0, rest.1)
-
-either : (a b : Bool) → b ≡ true → (a || b) ≡ true
-either true b is = refl
-either false b is = is
-
--- after a run nothing follows, or a byte at which the line is cut
-starts_cut : (policy : Policy) (font : FontValue) (codes : List ℕ) (right : Bool) (portions : List Portion)
-    → AreBounded (run codes right ∷ portions) → AreUncut policy font portions → StartsWith (is_cut policy font) (joined portions)
-starts_cut policy font codes right [] bounded uncut = tt
-starts_cut policy font codes right (run more also ∷ portions) bounded uncut = absurd bounded
-starts_cut policy font codes right (space ∷ portions) bounded uncut = refl
-starts_cut policy font codes right (skipped code ∷ portions) bounded uncut = either (is_space code) (is_skipped policy font code) uncut.0
-
-after_run : (codes : List ℕ) (right : Bool) (portions : List Portion) → AreBounded (run codes right ∷ portions) → AreBounded portions
-after_run codes right [] bounded = tt
-after_run codes right (run more also ∷ portions) bounded = absurd bounded
-after_run codes right (space ∷ portions) bounded = bounded.1
-after_run codes right (skipped code ∷ portions) bounded = bounded.1
-
--- whether the right boundary may stand before some portions
-abbrev may_stand : List Portion → Bool
-may_stand (skipped code ∷ portions) = false
-may_stand portions = true
-
-stands : (codes : List ℕ) (right : Bool) (portions : List Portion) → AreBounded (run codes right ∷ portions) → right ≡ may_stand portions
-stands codes right [] bounded = bounded
-stands codes right (run more also ∷ portions) bounded = absurd bounded
-stands codes right (space ∷ portions) bounded = bounded.0
-stands codes right (skipped code ∷ portions) bounded = bounded.0
-
--- a space isn't skipped
-space_not_skipped : (policy : Policy) (font : FontValue) → is_skipped policy font 32 ≡ false
-space_not_skipped Refuse font = refl
-space_not_skipped Skip font = refl
-
--- a run has a first byte, at which the line isn't cut
-not_nothing : (policy : Policy) (font : FontValue) (codes : List ℕ) (right : Bool) (bytes : List ℕ) → IsUncut policy font (run codes right)
-    → codes ++ bytes ≡ [] → ⊥
-not_nothing policy font codes right bytes uncut e = absurd (omega (arith, uncut.0, ap length e, length-append codes bytes))
-
-not_cut : (policy : Policy) (font : FontValue) (codes : List ℕ) (right : Bool) (byte : ℕ) (bytes more : List ℕ) → IsUncut policy font (run codes right)
-    → codes ++ bytes ≡ byte ∷ more → is_cut policy font byte ≡ true → ⊥
-not_cut policy font [] right byte bytes more uncut e cut = absurd (omega (arith, uncut.0))
-not_cut policy font (code ∷ codes) right byte bytes more uncut e cut =
-    never_both (is_cut policy font code) (ap (is_cut policy font) (first_same code byte (codes ++ bytes) more e) ∙ cut)
-    (first_of_both (is_cut policy font code) (list_any (is_cut policy font) codes) uncut.1)
-
-not_space : (policy : Policy) (font : FontValue) (code : ℕ) (bytes more : List ℕ) → IsUncut policy font (skipped code) → 32 ∷ bytes ≡ code ∷ more → ⊥
-not_space policy font code bytes more uncut e =
-    never_both (is_skipped policy font code) uncut (ap (is_skipped policy font) (sym (first_same 32 code bytes more e)) ∙ space_not_skipped policy font)
-
-same : (policy : Policy) (font : FontValue) (xs ys : List Portion) → joined xs ≡ joined ys → AreUncut policy font xs → AreUncut policy font ys
-    → AreBounded xs → AreBounded ys → xs ≡ ys
-same policy font [] [] e u v b c = refl
-same policy font [] (run codes right ∷ ys) e u v b c = absurd (not_nothing policy font codes right (joined ys) v.0 (sym e))
-same policy font [] (space ∷ ys) e u v b c = absurd (omega (arith, ap length e))
-same policy font [] (skipped code ∷ ys) e u v b c = absurd (omega (arith, ap length e))
-same policy font (run codes right ∷ xs) [] e u v b c = absurd (not_nothing policy font codes right (joined xs) u.0 e)
-same policy font (run codes right ∷ xs) (run more also ∷ ys) e u v b c =
-    let cut : (codes ≡ more) × (joined xs ≡ joined ys) =
-    longest (is_cut policy font) codes more (joined xs) (joined ys) u.0.1 v.0.1
-    (starts_cut policy font codes right xs b u.1) (starts_cut policy font more also ys c v.1) e in
-    let rest : xs ≡ ys = same policy font xs ys cut.1 u.1 v.1 (after_run codes right xs b) (after_run more also ys c) in
-    let ends : right ≡ also = stands codes right xs b ∙ ap may_stand rest ∙ sym (stands more also ys c) in
-    ap (λ bytes. run bytes right ∷ xs) cut.0 ∙ ap (λ end. run more end ∷ xs) ends ∙ ap (λ portions. run more also ∷ portions) rest
-same policy font (run codes right ∷ xs) (space ∷ ys) e u v b c = absurd (not_cut policy font codes right 32 (joined xs) (joined ys) u.0 e refl)
-same policy font (run codes right ∷ xs) (skipped code ∷ ys) e u v b c =
-    absurd (not_cut policy font codes right code (joined xs) (joined ys) u.0 e (either (is_space code) (is_skipped policy font code) v.0))
-same policy font (space ∷ xs) [] e u v b c = absurd (omega (arith, ap length e))
-same policy font (space ∷ xs) (run codes right ∷ ys) e u v b c = absurd (not_cut policy font codes right 32 (joined ys) (joined xs) v.0 (sym e) refl)
-same policy font (space ∷ xs) (space ∷ ys) e u v b c =
-    ap (λ portions. space ∷ portions) (same policy font xs ys (others_same 32 32 (joined xs) (joined ys) e) u.1 v.1 b c)
-same policy font (space ∷ xs) (skipped code ∷ ys) e u v b c = absurd (not_space policy font code (joined xs) (joined ys) v.0 e)
-same policy font (skipped code ∷ xs) [] e u v b c = absurd (omega (arith, ap length e))
-same policy font (skipped code ∷ xs) (run codes right ∷ ys) e u v b c =
-    absurd (not_cut policy font codes right code (joined ys) (joined xs) v.0 (sym e) (either (is_space code) (is_skipped policy font code) u.0))
-same policy font (skipped code ∷ xs) (space ∷ ys) e u v b c = absurd (not_space policy font code (joined ys) (joined xs) u.0 (sym e))
-same policy font (skipped code ∷ xs) (skipped other ∷ ys) e u v b c =
-    ap (λ byte. skipped byte ∷ xs) (first_same code other (joined xs) (joined ys) e)
-    ∙ ap (λ portions. skipped other ∷ portions) (same policy font xs ys (others_same code other (joined xs) (joined ys) e) u.1 v.1 b c)
-
--- Law: no other list of portions has these three properties
-pub line_only : (policy : Policy) (font : FontValue) (line : List ℕ) → AreTheOnly policy font line
-line_only policy font line = λ portions whole uncut bounded.
-    same policy font portions (portions_of policy font line) (whole ∙ sym (line_joined policy font line))
-    uncut (line_uncut policy font line) bounded (line_bounded policy font line)
+-- Law: no other list of portions has these bytes and can't be cut further
+pub line_only : (font : FontValue) (line : List ℕ) → AreTheOnly font line
+line_only font line = λ portions whole uncut. same font portions uncut ∙ ap (portions_of font) whole

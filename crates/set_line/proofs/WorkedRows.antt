@@ -1,6 +1,5 @@
 -- Worked examples, computed on the definitions alone: lines, what they come to, and their records.
 use Rattle.std.proofs.Common.{◌≡◌, ℕ, pos, negsuc, List, [], ◌∷◌, ◌++◌, refl}
-use Rattle.std.specs.Prelude.{codes}
 use Rattle.std.specs.Fmt.{digits}
 use Rattle.tfm_words.specs.Counts.{counts_of}
 use Rattle.tfm_tables.specs.Table.{table_of, entry_at}
@@ -15,14 +14,11 @@ use Rattle.lig_kern.specs.Rewriting.{opening, right_end, step_from, after_steps,
 use Rattle.lig_kern.specs.Result.{result_after, result_of}
 use Rattle.set_line.specs.declared.policy.Policy.{Policy}
 use Rattle.set_line.specs.declared.policy.Policy.TheVariants.{Refuse, Skip}
-use Rattle.set_line.specs.declared.outcome.LineRefusal.TheVariants.{TooLong, Missing, Steps}
+use Rattle.set_line.specs.declared.outcome.LineRefusal.TheVariants.{Missing, Steps}
 use Rattle.set_line.specs.declared.outcome.Outcome.TheVariants.{Set, Refused}
-use Rattle.set_line.specs.declared.version.Version.TheVariants.{One, Two, Json}
 use Rattle.set_line.specs.Terms.{TermsValue}
-use Rattle.set_line.specs.Pieces.{pieces_of, portions_of_piece, portions_of}
+use Rattle.set_line.specs.Pieces.{pieces_of, portions_in}
 use Rattle.set_line.specs.Answer.{refusal_of, setting_of, setting_of_portions, outcome_of}
-use Rattle.set_line.specs.JsonRecord.{json_item, json_refusal, json_outcome, json_record}
-use Rattle.set_line.specs.Record.{item_text, refusal_text, outcome_text, words_record, record_text}
 use Rattle.set_line.specs.Lines.{lines_of}
 
 -- ---- the fonts: of 10 points, with the characters a, b and c and a space of a third of the size
@@ -83,105 +79,59 @@ kern_ahead = Kern (pos 20480)
 
 -- the steps of both words together are just the limit
 two_words : outcome_of (terms_of plain_font 5 Refuse) (97 ∷ 98 ∷ 32 ∷ 97 ∷ 98 ∷ 99 ∷ []) ≡ Set (a ∷ b ∷ space ∷ a ∷ b ∷ c ∷ []) (pos 1693013) 5
-unfolding counts_of table_of entry_at is_coded char_info_of exists measure_of kern_at parameter_of kern_index_of step_at program_of right_code_of left_start_of begin_at start_of chain_from address_of address_between match_of operation_of action_of action_between opening right_end step_from after_steps items_of result_after result_of pieces_of portions_of_piece portions_of refusal_of setting_of setting_of_portions outcome_of item_text refusal_text outcome_text words_record record_text lines_of digits
+unfolding counts_of table_of entry_at is_coded char_info_of exists measure_of kern_at parameter_of kern_index_of step_at program_of right_code_of left_start_of begin_at start_of chain_from address_of address_between match_of operation_of action_of action_between opening right_end step_from after_steps items_of result_after result_of pieces_of portions_in refusal_of setting_of setting_of_portions outcome_of lines_of digits
 two_words = refl
 
 -- and one more than the limit
 one_step_more : outcome_of (terms_of plain_font 4 Refuse) (97 ∷ 98 ∷ 32 ∷ 97 ∷ 98 ∷ 99 ∷ []) ≡ Refused (Steps 4)
-unfolding counts_of table_of entry_at is_coded char_info_of exists measure_of kern_at parameter_of kern_index_of step_at program_of right_code_of left_start_of begin_at start_of chain_from address_of address_between match_of operation_of action_of action_between opening right_end step_from after_steps items_of result_after result_of pieces_of portions_of_piece portions_of refusal_of setting_of setting_of_portions outcome_of item_text refusal_text outcome_text words_record record_text lines_of digits
+unfolding counts_of table_of entry_at is_coded char_info_of exists measure_of kern_at parameter_of kern_index_of step_at program_of right_code_of left_start_of begin_at start_of chain_from address_of address_between match_of operation_of action_of action_between opening right_end step_from after_steps items_of result_after result_of pieces_of portions_in refusal_of setting_of setting_of_portions outcome_of lines_of digits
 one_step_more = refl
 
 -- an empty line has no items
 empty_line : outcome_of (terms_of plain_font 3 Refuse) ([]) ≡ Set [] (pos 0) 0
-unfolding counts_of table_of entry_at is_coded char_info_of exists measure_of kern_at parameter_of kern_index_of step_at program_of right_code_of left_start_of begin_at start_of chain_from address_of address_between match_of operation_of action_of action_between opening right_end step_from after_steps items_of result_after result_of pieces_of portions_of_piece portions_of refusal_of setting_of setting_of_portions outcome_of item_text refusal_text outcome_text words_record record_text lines_of digits
+unfolding counts_of table_of entry_at is_coded char_info_of exists measure_of kern_at parameter_of kern_index_of step_at program_of right_code_of left_start_of begin_at start_of chain_from address_of address_between match_of operation_of action_of action_between opening right_end step_from after_steps items_of result_after result_of pieces_of portions_in refusal_of setting_of setting_of_portions outcome_of lines_of digits
 empty_line = refl
 
--- two spaces part three empty pieces
+-- two spaces separate three empty pieces
 two_spaces : outcome_of (terms_of plain_font 3 Refuse) (32 ∷ 32 ∷ []) ≡ Set (space ∷ space ∷ []) (pos 436906) 0
-unfolding counts_of table_of entry_at is_coded char_info_of exists measure_of kern_at parameter_of kern_index_of step_at program_of right_code_of left_start_of begin_at start_of chain_from address_of address_between match_of operation_of action_of action_between opening right_end step_from after_steps items_of result_after result_of pieces_of portions_of_piece portions_of refusal_of setting_of setting_of_portions outcome_of item_text refusal_text outcome_text words_record record_text lines_of digits
+unfolding counts_of table_of entry_at is_coded char_info_of exists measure_of kern_at parameter_of kern_index_of step_at program_of right_code_of left_start_of begin_at start_of chain_from address_of address_between match_of operation_of action_of action_between opening right_end step_from after_steps items_of result_after result_of pieces_of portions_in refusal_of setting_of setting_of_portions outcome_of lines_of digits
 two_spaces = refl
 
 -- the first byte that is no character
 missing : outcome_of (terms_of plain_font 3 Refuse) (97 ∷ 100 ∷ 100 ∷ []) ≡ Refused (Missing 1 100)
-unfolding counts_of table_of entry_at is_coded char_info_of exists measure_of kern_at parameter_of kern_index_of step_at program_of right_code_of left_start_of begin_at start_of chain_from address_of address_between match_of operation_of action_of action_between opening right_end step_from after_steps items_of result_after result_of pieces_of portions_of_piece portions_of refusal_of setting_of setting_of_portions outcome_of item_text refusal_text outcome_text words_record record_text lines_of digits
+unfolding counts_of table_of entry_at is_coded char_info_of exists measure_of kern_at parameter_of kern_index_of step_at program_of right_code_of left_start_of begin_at start_of chain_from address_of address_between match_of operation_of action_of action_between opening right_end step_from after_steps items_of result_after result_of pieces_of portions_in refusal_of setting_of setting_of_portions outcome_of lines_of digits
 missing = refl
 
--- a skipped byte parts a piece: its first part has no right boundary
+-- a skipped byte divides a line: no right boundary follows the run before it
 skipped_in_the_middle : outcome_of (terms_of right_boundary_font 5 Skip) (97 ∷ 100 ∷ 98 ∷ []) ≡ Set (a ∷ Skipped 100 ∷ b ∷ kern_ahead ∷ []) (pos 512000) 3
-unfolding counts_of table_of entry_at is_coded char_info_of exists measure_of kern_at parameter_of kern_index_of step_at program_of right_code_of left_start_of begin_at start_of chain_from address_of address_between match_of operation_of action_of action_between opening right_end step_from after_steps items_of result_after result_of pieces_of portions_of_piece portions_of refusal_of setting_of setting_of_portions outcome_of item_text refusal_text outcome_text words_record record_text lines_of digits
+unfolding counts_of table_of entry_at is_coded char_info_of exists measure_of kern_at parameter_of kern_index_of step_at program_of right_code_of left_start_of begin_at start_of chain_from address_of address_between match_of operation_of action_of action_between opening right_end step_from after_steps items_of result_after result_of pieces_of portions_in refusal_of setting_of setting_of_portions outcome_of lines_of digits
 skipped_in_the_middle = refl
 
--- the last part is empty, and the right boundary belongs to it
+-- the right boundary doesn't follow the run at the end either, since the last piece is empty
 skipped_at_the_end : outcome_of (terms_of right_boundary_font 5 Skip) (97 ∷ 100 ∷ []) ≡ Set (a ∷ Skipped 100 ∷ []) (pos 327680) 1
-unfolding counts_of table_of entry_at is_coded char_info_of exists measure_of kern_at parameter_of kern_index_of step_at program_of right_code_of left_start_of begin_at start_of chain_from address_of address_between match_of operation_of action_of action_between opening right_end step_from after_steps items_of result_after result_of pieces_of portions_of_piece portions_of refusal_of setting_of setting_of_portions outcome_of item_text refusal_text outcome_text words_record record_text lines_of digits
+unfolding counts_of table_of entry_at is_coded char_info_of exists measure_of kern_at parameter_of kern_index_of step_at program_of right_code_of left_start_of begin_at start_of chain_from address_of address_between match_of operation_of action_of action_between opening right_end step_from after_steps items_of result_after result_of pieces_of portions_in refusal_of setting_of setting_of_portions outcome_of lines_of digits
 skipped_at_the_end = refl
 
 -- a piece of one skipped byte, a space, and a run whose boundary is replaced
 skipped_alone : outcome_of (terms_of right_boundary_font 5 Skip) (100 ∷ 32 ∷ 97 ∷ []) ≡ Set (Skipped 100 ∷ space ∷ a ∷ kern_back ∷ b ∷ []) (pos 669013) 3
-unfolding counts_of table_of entry_at is_coded char_info_of exists measure_of kern_at parameter_of kern_index_of step_at program_of right_code_of left_start_of begin_at start_of chain_from address_of address_between match_of operation_of action_of action_between opening right_end step_from after_steps items_of result_after result_of pieces_of portions_of_piece portions_of refusal_of setting_of setting_of_portions outcome_of item_text refusal_text outcome_text words_record record_text lines_of digits
+unfolding counts_of table_of entry_at is_coded char_info_of exists measure_of kern_at parameter_of kern_index_of step_at program_of right_code_of left_start_of begin_at start_of chain_from address_of address_between match_of operation_of action_of action_between opening right_end step_from after_steps items_of result_after result_of pieces_of portions_in refusal_of setting_of setting_of_portions outcome_of lines_of digits
 skipped_alone = refl
 
 -- a byte that is the right boundary's code is skipped like any other
 skipped_boundary_code : outcome_of (terms_of right_boundary_font 5 Skip) (97 ∷ 124 ∷ 98 ∷ []) ≡ Set (a ∷ Skipped 124 ∷ b ∷ kern_ahead ∷ []) (pos 512000) 3
-unfolding counts_of table_of entry_at is_coded char_info_of exists measure_of kern_at parameter_of kern_index_of step_at program_of right_code_of left_start_of begin_at start_of chain_from address_of address_between match_of operation_of action_of action_between opening right_end step_from after_steps items_of result_after result_of pieces_of portions_of_piece portions_of refusal_of setting_of setting_of_portions outcome_of item_text refusal_text outcome_text words_record record_text lines_of digits
+unfolding counts_of table_of entry_at is_coded char_info_of exists measure_of kern_at parameter_of kern_index_of step_at program_of right_code_of left_start_of begin_at start_of chain_from address_of address_between match_of operation_of action_of action_between opening right_end step_from after_steps items_of result_after result_of pieces_of portions_in refusal_of setting_of setting_of_portions outcome_of lines_of digits
 skipped_boundary_code = refl
-
--- ---- records
-
-a_record : record_text 1 1 (Set (a ∷ Skipped 100 ∷ space ∷ kern_back ∷ []) (pos 505173) 3) One ≡ codes "1:1 set 505173 c97=327680 m100 s218453 k-40960\n"
-unfolding counts_of table_of entry_at is_coded char_info_of exists measure_of kern_at parameter_of kern_index_of step_at program_of right_code_of left_start_of begin_at start_of chain_from address_of address_between match_of operation_of action_of action_between opening right_end step_from after_steps items_of result_after result_of pieces_of portions_of_piece portions_of refusal_of setting_of setting_of_portions outcome_of item_text refusal_text outcome_text words_record record_text lines_of digits
-a_record = refl
-
-a_record_with_steps : record_text 2 10 (Set [] (pos 0) 0) Two ≡ codes "2:10 set 0 steps 0\n"
-unfolding counts_of table_of entry_at is_coded char_info_of exists measure_of kern_at parameter_of kern_index_of step_at program_of right_code_of left_start_of begin_at start_of chain_from address_of address_between match_of operation_of action_of action_between opening right_end step_from after_steps items_of result_after result_of pieces_of portions_of_piece portions_of refusal_of setting_of setting_of_portions outcome_of item_text refusal_text outcome_text words_record record_text lines_of digits
-a_record_with_steps = refl
-
-a_refusal : record_text 1 2 (Refused (Missing 1 100)) Two ≡ codes "1:2 refused missing 1 100\n"
-unfolding counts_of table_of entry_at is_coded char_info_of exists measure_of kern_at parameter_of kern_index_of step_at program_of right_code_of left_start_of begin_at start_of chain_from address_of address_between match_of operation_of action_of action_between opening right_end step_from after_steps items_of result_after result_of pieces_of portions_of_piece portions_of refusal_of setting_of setting_of_portions outcome_of item_text refusal_text outcome_text words_record record_text lines_of digits
-a_refusal = refl
-
--- ---- records as JSON objects
-
-an_object : record_text 1 1 (Set (Char 111 (pos 327681) ∷ Kern (negsuc 72818) ∷ space ∷ Skipped 100 ∷ []) (pos 473315) 10) Json
-    ≡ codes "{\"source\":1,\"line\":1,\"width\":473315,\"steps\":10,\"items\":[[\"c\",111,327681],[\"k\",-72819],[\"s\",218453],[\"m\",100]]}\n"
-unfolding json_item json_refusal json_outcome json_record record_text digits
-an_object = refl
-
-an_object_without_items : record_text 18446744073709551615 10 (Set [] (pos 0) 0) Json
-    ≡ codes "{\"source\":18446744073709551615,\"line\":10,\"width\":0,\"steps\":0,\"items\":[]}\n"
-unfolding json_item json_refusal json_outcome json_record record_text digits
-an_object_without_items = refl
-
-an_object_with_one_item : record_text 2 1 (Set (kern_back ∷ []) (negsuc 40959) 1) Json
-    ≡ codes "{\"source\":2,\"line\":1,\"width\":-40960,\"steps\":1,\"items\":[[\"k\",-40960]]}\n"
-unfolding json_item json_refusal json_outcome json_record record_text digits
-an_object_with_one_item = refl
-
-missing_in_an_object : record_text 1 2 (Refused (Missing 1 100)) Json
-    ≡ codes "{\"source\":1,\"line\":2,\"refused\":\"missing\",\"offset\":1,\"code\":100}\n"
-unfolding json_item json_refusal json_outcome json_record record_text digits
-missing_in_an_object = refl
-
-too_long_in_an_object : record_text 1 3 (Refused (TooLong 65536)) Json
-    ≡ codes "{\"source\":1,\"line\":3,\"refused\":\"too-long\",\"bytes\":65536}\n"
-unfolding json_item json_refusal json_outcome json_record record_text digits
-too_long_in_an_object = refl
-
-steps_in_an_object : record_text 1 4 (Refused (Steps 100)) Json
-    ≡ codes "{\"source\":1,\"line\":4,\"refused\":\"steps\",\"limit\":100}\n"
-unfolding json_item json_refusal json_outcome json_record record_text digits
-steps_in_an_object = refl
 
 -- ---- lines of a text
 
 three_lines : lines_of (97 ∷ 98 ∷ 10 ∷ 10 ∷ 99 ∷ []) ≡ (97 ∷ 98 ∷ []) ∷ [] ∷ (99 ∷ []) ∷ []
-unfolding counts_of table_of entry_at is_coded char_info_of exists measure_of kern_at parameter_of kern_index_of step_at program_of right_code_of left_start_of begin_at start_of chain_from address_of address_between match_of operation_of action_of action_between opening right_end step_from after_steps items_of result_after result_of pieces_of portions_of_piece portions_of refusal_of setting_of setting_of_portions outcome_of item_text refusal_text outcome_text words_record record_text lines_of digits
+unfolding counts_of table_of entry_at is_coded char_info_of exists measure_of kern_at parameter_of kern_index_of step_at program_of right_code_of left_start_of begin_at start_of chain_from address_of address_between match_of operation_of action_of action_between opening right_end step_from after_steps items_of result_after result_of pieces_of portions_in refusal_of setting_of setting_of_portions outcome_of lines_of digits
 three_lines = refl
 
 one_line : lines_of (97 ∷ 98 ∷ 10 ∷ []) ≡ (97 ∷ 98 ∷ []) ∷ []
-unfolding counts_of table_of entry_at is_coded char_info_of exists measure_of kern_at parameter_of kern_index_of step_at program_of right_code_of left_start_of begin_at start_of chain_from address_of address_between match_of operation_of action_of action_between opening right_end step_from after_steps items_of result_after result_of pieces_of portions_of_piece portions_of refusal_of setting_of setting_of_portions outcome_of item_text refusal_text outcome_text words_record record_text lines_of digits
+unfolding counts_of table_of entry_at is_coded char_info_of exists measure_of kern_at parameter_of kern_index_of step_at program_of right_code_of left_start_of begin_at start_of chain_from address_of address_between match_of operation_of action_of action_between opening right_end step_from after_steps items_of result_after result_of pieces_of portions_in refusal_of setting_of setting_of_portions outcome_of lines_of digits
 one_line = refl
 
 no_line : lines_of [] ≡ []
-unfolding counts_of table_of entry_at is_coded char_info_of exists measure_of kern_at parameter_of kern_index_of step_at program_of right_code_of left_start_of begin_at start_of chain_from address_of address_between match_of operation_of action_of action_between opening right_end step_from after_steps items_of result_after result_of pieces_of portions_of_piece portions_of refusal_of setting_of setting_of_portions outcome_of item_text refusal_text outcome_text words_record record_text lines_of digits
+unfolding counts_of table_of entry_at is_coded char_info_of exists measure_of kern_at parameter_of kern_index_of step_at program_of right_code_of left_start_of begin_at start_of chain_from address_of address_between match_of operation_of action_of action_between opening right_end step_from after_steps items_of result_after result_of pieces_of portions_in refusal_of setting_of setting_of_portions outcome_of lines_of digits
 no_line = refl

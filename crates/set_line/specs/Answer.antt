@@ -1,7 +1,7 @@
 -- The result of a line: the first that applies of too long, missing character, set and too many steps.
 -- This project's own; the result of a run is that of The METAFONTbook, Appendix F.
-use Rattle.std.specs.Prelude.{◌≡◌, ℕ, ◌&&◌, not, nat_lt, nat_le, Bool, List, [], ◌∷◌, length, map, flat_map, sum_by, slice_index, Option, Some, None, if◌then◌else◌}
-use Rattle.std.specs.List.{position}
+use Rattle.std.specs.Prelude.{◌≡◌, ℕ, nat_lt, nat_le, Bool, false, List, [], ◌∷◌, length, map, flat_map, sum_by, slice_index, Option, Some, None, if◌then◌else◌}
+use Rattle.std.specs.List.{list_any, position}
 use Rattle.std.specs.Option.{option_and_then, option_map, option_map_or}
 use Rattle.tfm_tables.specs.Font.{FontValue}
 use Rattle.tfm_tables.specs.Measure.{parameter_of}
@@ -15,7 +15,7 @@ use Rattle.set_line.specs.declared.outcome.LineRefusal.TheVariants.{TooLong, Mis
 use Rattle.set_line.specs.declared.outcome.Outcome.{Outcome}
 use Rattle.set_line.specs.declared.outcome.Outcome.TheVariants.{Set, Refused}
 use Rattle.set_line.specs.Terms.{TermsValue}
-use Rattle.set_line.specs.Pieces.{Portion, run, space, skipped, is_space, is_missing, portions_of}
+use Rattle.set_line.specs.Pieces.{Portion, run, space, skipped, is_neither, portions_of}
 use Rattle.set_line.specs.Width.{total_width}
 
 -- an answer: the settings, the line and its result
@@ -26,18 +26,18 @@ pub record AnswerValue : Type 0 where
 
 -- ---- the refusals that come first
 
--- whether a byte is neither a space nor a character
-abbrev pub is_neither : FontValue → ℕ → Bool
-is_neither font byte = not (is_space byte) && is_missing font byte
+-- whether a byte is refused: it is neither a space nor a character, and missing characters are refused
+abbrev pub is_refused : Policy → FontValue → ℕ → Bool
+is_refused Refuse font byte = is_neither font byte
+is_refused Skip font byte = false
 
--- the byte offset of the first such byte
-abbrev pub first_missing : FontValue → List ℕ → Option ℕ
-first_missing font line = position (is_neither font) line
+-- whether a line has a byte that is refused
+abbrev pub has_refused : Policy → FontValue → List ℕ → Bool
+has_refused policy font line = list_any (is_refused policy font) line
 
--- the refusal for the first missing character, if missing characters are refused
+-- the refusal for the first byte that is refused
 abbrev pub missing_in : Policy → FontValue → List ℕ → Option LineRefusal
-missing_in Refuse font line = option_map (λ i. Missing i (slice_index line i)) (first_missing font line)
-missing_in Skip font line = None
+missing_in policy font line = option_map (λ i. Missing i (slice_index line i)) (position (is_refused policy font) line)
 
 -- the refusal that is known before the line is set: for more than 65,535 bytes, whatever they are;
 -- otherwise for a missing character
@@ -85,7 +85,7 @@ set_as setting = Set setting.items (total_width setting.items) setting.steps
 -- the result of a line that isn't refused before it is set: it is set, or takes too many steps
 abbrev pub set_or_refused : TermsValue → List ℕ → Outcome
 set_or_refused terms line =
-    option_map_or set_as (setting_of_portions terms.font terms.limit (portions_of terms.policy terms.font line)) (Refused (Steps terms.limit))
+    option_map_or set_as (setting_of_portions terms.font terms.limit (portions_of terms.font line)) (Refused (Steps terms.limit))
 
 -- the result of a line
 unfoldable pub outcome_of : TermsValue → List ℕ → Outcome

@@ -2,9 +2,6 @@ pub mod Terms
 pub mod Pieces
 pub mod Width
 pub mod Answer
-pub mod Stops
 pub mod Onward
-pub mod Ready
-pub mod JsonRecord
 pub mod Record
 pub mod Lines

@@ -1,11 +1,10 @@
--- How a line is cut: into pieces at each space, and a piece into parts at each byte that is no character.
+-- How a line is cut: at each space, and at each byte that is no character of the font. If such bytes are
+-- refused, a line with one is refused before it is set (defined in Answer).
 -- This project's own.
-use Rattle.std.specs.Prelude.{⊤, ◌≡◌, ℕ, ◌==◌, ◌<◌, ◌&&◌, ◌||◌, not, Bool, true, false, List, [], ◌∷◌, ◌++◌, filter, flat_map, length}
-use Rattle.std.specs.List.{list_any, slice_split}
+use Rattle.std.specs.Prelude.{⊤, ◌≡◌, ℕ, ◌==◌, ◌<◌, ◌&&◌, ◌||◌, not, Bool, true, false, List, [], ◌∷◌, ◌++◌, filter, flat_map, length, if◌then◌else◌}
+use Rattle.std.specs.List.{All, slice_split}
 use Rattle.tfm_tables.specs.Font.{FontValue}
 use Rattle.tfm_tables.specs.Character.{exists}
-use Rattle.set_line.specs.declared.policy.Policy.{Policy}
-use Rattle.set_line.specs.declared.policy.Policy.TheVariants.{Refuse, Skip}
 
 -- a portion of a line: a run, and whether the right boundary may follow it; a space; or a byte that is no
 -- character and is skipped
@@ -22,37 +21,46 @@ is_space byte = byte == 32
 abbrev pub is_missing : FontValue → ℕ → Bool
 is_missing font byte = not (exists font.words byte)
 
--- a line cut at each space
-unfoldable pub pieces_of : List ℕ → List (List ℕ)
-pieces_of line = slice_split is_space line
+-- whether a byte is neither a space nor a character
+abbrev pub is_neither : FontValue → ℕ → Bool
+is_neither font byte = not (is_space byte) && is_missing font byte
+
+-- whether a line is cut at a byte
+abbrev pub is_cut : FontValue → ℕ → Bool
+is_cut font byte = is_space byte || is_missing font byte
+
+-- a line is cut at none of these bytes
+abbrev pub IsRun : FontValue → List ℕ → Type 0
+IsRun font codes = All (λ byte. is_cut font byte ≡ false) codes
+
+-- the portion of a byte at which a line is cut
+abbrev pub portion_of : ℕ → Portion
+portion_of byte = if is_space byte then space else skipped byte
 
 -- the portion of a run; an empty run has none
 abbrev pub run_of : List ℕ → Bool → List Portion
 run_of [] right = []
 run_of (code ∷ codes) right = run (code ∷ codes) right ∷ []
 
--- the parts of a piece with the skipped bytes between them, of which there is one less: the right boundary
--- may follow only the last part
-abbrev pub parts_with : List (List ℕ) → List ℕ → List Portion
-parts_with [] gaps = []
-parts_with (part ∷ parts) [] = run_of part true
-parts_with (part ∷ parts) (gap ∷ gaps) = run_of part false ++ skipped gap ∷ parts_with parts gaps
+-- pieces with the bytes at which they are cut, of which there is one less: the right boundary may follow a
+-- piece before a space, and also the last piece if `right` says so
+abbrev pub cut_with : Bool → List (List ℕ) → List ℕ → List Portion
+cut_with right [] cuts = []
+cut_with right (piece ∷ pieces) [] = run_of piece right
+cut_with right (piece ∷ pieces) (cut ∷ cuts) = run_of piece (is_space cut) ++ portion_of cut ∷ cut_with right pieces cuts
 
--- a piece: one run; or, if bytes are skipped, its parts with the bytes between them that are no characters
-unfoldable pub portions_of_piece : Policy → FontValue → List ℕ → List Portion
-portions_of_piece Refuse font piece = run_of piece true
-portions_of_piece Skip font piece = parts_with (slice_split (is_missing font) piece) (filter (is_missing font) piece)
+-- the pieces of a line: what is between the bytes at which it is cut
+unfoldable pub pieces_of : FontValue → List ℕ → List (List ℕ)
+pieces_of font line = slice_split (is_cut font) line
 
--- pieces, with one space between neighbours
-abbrev pub portions_of_pieces : Policy → FontValue → List (List ℕ) → List Portion
-portions_of_pieces policy font [] = []
-portions_of_pieces policy font (last ∷ []) = portions_of_piece policy font last
-portions_of_pieces policy font (piece ∷ next ∷ pieces) =
-    portions_of_piece policy font piece ++ space ∷ portions_of_pieces policy font (next ∷ pieces)
+-- the portions of a stretch of a line, in order; `right` says whether the right boundary may follow its last
+-- run
+unfoldable pub portions_in : Bool → FontValue → List ℕ → List Portion
+portions_in right font codes = cut_with right (pieces_of font codes) (filter (is_cut font) codes)
 
 -- the portions of a line, in order
-unfoldable pub portions_of : Policy → FontValue → List ℕ → List Portion
-portions_of policy font line = portions_of_pieces policy font (pieces_of line)
+abbrev pub portions_of : FontValue → List ℕ → List Portion
+portions_of font line = portions_in true font line
 
 -- ---- laws of the cutting
 
@@ -63,40 +71,26 @@ bytes_of space = 32 ∷ []
 bytes_of (skipped code) = code ∷ []
 
 -- the bytes of all portions in order are the line: no byte is lost, swapped or doubled
-abbrev pub AreWhole : Policy → FontValue → List ℕ → Type 0
-AreWhole policy font line = flat_map bytes_of (portions_of policy font line) ≡ line
+abbrev pub AreWhole : FontValue → List ℕ → Type 0
+AreWhole font line = flat_map bytes_of (portions_of font line) ≡ line
 
--- whether a byte is skipped: it is neither a space nor a character, and such bytes are skipped
-abbrev pub is_skipped : Policy → FontValue → ℕ → Bool
-is_skipped Refuse font byte = false
-is_skipped Skip font byte = not (is_space byte) && is_missing font byte
+-- what follows a run: the end of the line or a space, if the right boundary may follow the run, or a skipped
+-- byte, if it may not; and never a run
+abbrev pub AreAfterRun : Bool → List Portion → Type 0
+AreAfterRun right [] = right ≡ true
+AreAfterRun right (run codes also ∷ portions) = ⊥
+AreAfterRun right (space ∷ portions) = right ≡ true
+AreAfterRun right (skipped code ∷ portions) = right ≡ false
 
--- a portion can't be cut further: a run has at least one byte, and none of its bytes is a space or is
--- skipped; the byte of a `skipped` portion is one that the policy skips
-abbrev pub IsUncut : Policy → FontValue → Portion → Type 0
-IsUncut policy font (run codes right) = (0 < length codes) × (list_any (λ byte. is_space byte || is_skipped policy font byte) codes ≡ false)
-IsUncut policy font space = ⊤
-IsUncut policy font (skipped code) = is_skipped policy font code ≡ true
+-- portions that can't be cut further: each run has at least one byte and none at which a line is cut, and
+-- ends where the right boundary says; a skipped byte is neither a space nor a character
+abbrev pub AreUncut : FontValue → List Portion → Type 0
+AreUncut font [] = ⊤
+AreUncut font (run codes right ∷ portions) =
+    (0 < length codes) × IsRun font codes × AreAfterRun right portions × AreUncut font portions
+AreUncut font (space ∷ portions) = AreUncut font portions
+AreUncut font (skipped code ∷ portions) = (is_neither font code ≡ true) × AreUncut font portions
 
--- no portion of a list can be cut further
-abbrev pub AreUncut : Policy → FontValue → List Portion → Type 0
-AreUncut policy font [] = ⊤
-AreUncut policy font (portion ∷ portions) = IsUncut policy font portion × AreUncut policy font portions
-
--- the right boundary may follow a run if a space or the end of the line follows the run, and not if a
--- skipped byte does; no run follows a run
-abbrev pub AreBounded : List Portion → Type 0
-AreBounded [] = ⊤
-AreBounded (run codes right ∷ []) = right ≡ true
-AreBounded (run codes right ∷ space ∷ portions) = (right ≡ true) × AreBounded portions
-AreBounded (run codes right ∷ skipped code ∷ portions) = (right ≡ false) × AreBounded portions
-AreBounded (run codes right ∷ run more also ∷ portions) = ⊥
-AreBounded (space ∷ portions) = AreBounded portions
-AreBounded (skipped code ∷ portions) = AreBounded portions
-
--- no other list of portions has these bytes, can't be cut further, and has the right boundary after the
--- same runs
-abbrev pub AreTheOnly : Policy → FontValue → List ℕ → Type 0
-AreTheOnly policy font line =
-    (portions : List Portion) → flat_map bytes_of portions ≡ line → AreUncut policy font portions → AreBounded portions
-    → portions ≡ portions_of policy font line
+-- no other list of portions has these bytes and can't be cut further
+abbrev pub AreTheOnly : FontValue → List ℕ → Type 0
+AreTheOnly font line = (portions : List Portion) → flat_map bytes_of portions ≡ line → AreUncut font portions → portions ≡ portions_of font line

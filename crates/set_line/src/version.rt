@@ -1,3 +1,6 @@
+ghost use Rattle.std.specs.Prelude.{◌≡◌};
+ghost use Rattle.set_line.specs.Record.{is_json, label as label_of};
+
 /// The format of records.
 #[derive(Clone, Copy, Debug, PartialEq, Eq, Hash)]
 pub enum Version {
@@ -7,4 +10,20 @@ pub enum Version {
     Two,
     /// The contents of format 2 as a JSON object.
     Json,
+}
+
+impl Version {
+    /// Returns whether this is JSON.
+    pub fn is_json(self) -> bool
+        ensures { result ≡ is_json self }
+    {
+        matches!(self, Version::Json)
+    }
+
+    /// Returns `words` in formats 1 and 2, and `object` in JSON.
+    pub(crate) fn label<'a>(self, words: &'a [u8], object: &'a [u8]) -> &'a [u8]
+        ensures { result.now ≡ label_of self words.now object.now }
+    {
+        if self.is_json() { object } else { words }
+    }
 }

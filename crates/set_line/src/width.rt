@@ -1,5 +1,5 @@
 ghost use Rattle.std.specs.Prelude.{◌≡◌, ◌≤◌, ◌^◌, pos, ◌+ℤ◌, ◌≤ℤ◌, length};
-ghost use Rattle.set_line.specs.Width.{amount_of, total_width};
+ghost use Rattle.set_line.specs.Width.{amount_of, total_width as total_width_of};
 
 use lig_kern::Item;
 
@@ -27,10 +27,11 @@ fn with_item(width: i64, item: Item) -> i64
     width + i64::from(amount(item))
 }
 
-/// Returns the sum of the amounts. At most 2^31 amounts of 32 bits have a sum that fits in 64 bits.
-pub(crate) fn total(items: &[Item]) -> i64
+/// Returns the width of items: the sum of the amounts that they add, in sp. At most 2^31 amounts of 32 bits
+/// have a sum that fits in 64 bits.
+pub fn total_width(items: &[Item]) -> i64
     requires { length items.now ≤ 2 ^ 31 }
-    ensures { result ≡ total_width items.now }
+    ensures { result ≡ total_width_of items.now }
 {
     let mut width: i64 = 0;
     for item in items {

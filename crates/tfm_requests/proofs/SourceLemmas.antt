@@ -44,7 +44,7 @@ module _ {S : Type 0} (to_come : S → Option (List (List ℕ))) (failed : S →
   pub same_text : (style : RecordStyle) (reports : List (LaneReport S)) → run_text style (map told_report reports) ≡ run_text style reports
   same_text style reports = ap (λ text. head_text style.version ++ text) (same_lanes 1 style reports)
 
-  same_refused : (encoding : Encoding) (before : ℕ) (reports : List (LaneReport S)) → fold (λ a lane. a + refused_lines encoding lane.answers) before (map told_report reports) ≡ fold (λ a lane. a + refused_lines encoding lane.answers) before reports
+  same_refused : (encoding : Option Encoding) (before : ℕ) (reports : List (LaneReport S)) → fold (λ a lane. a + refused_lines encoding lane.answers) before (map told_report reports) ≡ fold (λ a lane. a + refused_lines encoding lane.answers) before reports
   same_refused encoding before [] = refl
   same_refused encoding before (r ∷ reports) = same_refused encoding (before + refused_lines encoding r.answers) reports
 
@@ -56,7 +56,7 @@ module _ {S : Type 0} (to_come : S → Option (List (List ℕ))) (failed : S →
   same_wanting [] = refl
   same_wanting (r ∷ reports) = ap (λ any. is_wanting r.end || any) (same_wanting reports)
 
-  pub same_status : (encoding : Encoding) (reports : List (LaneReport S)) → summary_status (summary_of_run encoding (map told_report reports)) ≡ summary_status (summary_of_run encoding reports)
+  pub same_status : (encoding : Option Encoding) (reports : List (LaneReport S)) → summary_status (summary_of_run encoding (map told_report reports)) ≡ summary_status (summary_of_run encoding reports)
   same_status encoding reports = rw (same_refused encoding 0 reports, same_unread reports, same_wanting reports) refl
 
   -- ---- and so are lines as they came

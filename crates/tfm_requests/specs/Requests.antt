@@ -50,7 +50,7 @@ IsListText bytes size all_of_it text =
 
 -- these are the pairs of the font in these bytes at this size, or at its design size, in the format of the layout,
 -- with the characters of this encoding
-abbrev pub IsPairsText : Option (List ℕ) → Option ℕ → PairsLayout → Encoding → List ℕ → Type 0
+abbrev pub IsPairsText : Option (List ℕ) → Option ℕ → PairsLayout → Option Encoding → List ℕ → Type 0
 IsPairsText bytes size layout encoding text =
     OfKnown bytes (λ all. (font : FontValue) × IsFontOf all size font × (text ≡ pairs_text_with encoding layout.format font))
 
@@ -96,7 +96,7 @@ module _ (known : List ℕ → Option (List ℕ)) (before after : Option (List �
   -- the settings of its job
   abbrev pub IsEachSet : Jobs → Option (Bor (List ℕ)) → ℕ → Type 0
   IsEachSet jobs vector status =
-      (encoding : Encoding)
+      (encoding : Option Encoding)
       × IsEncodingOf known vector jobs.layout.encoding encoding
       × ((sources : List (Told × TermsValue))
       × AllZip (IsSourceOfJob known jobs.layout) (jobs_in jobs.words.items) sources
@@ -107,7 +107,7 @@ module _ (known : List ℕ → Option (List ℕ)) (input before after : Option (
   -- request
   abbrev pub IsSetFrom : Delivery → List (Option (List ℕ)) → Setting → Option (Bor (List ℕ)) → ℕ → Type 0
   IsSetFrom delivery bytes setting vector status =
-      (encoding : Encoding)
+      (encoding : Option Encoding)
       × IsEncodingOf known vector setting.layout.encoding encoding
       × ((sources : List (Told × TermsValue))
       × AreSetSources known input setting bytes sources
@@ -118,7 +118,7 @@ module _ (known : List ℕ → Option (List ℕ)) (input before after : Option (
   IsDoneBy (Counts font _) vector = IsText (IsCountsText (font_bytes_of known input font.now)) before after
   IsDoneBy (ListFont asked) vector = IsText (IsListText (font_bytes_of known input asked.font.now) asked.size asked.all) before after
   IsDoneBy (Pairs asked) vector =
-      IsText (λ text. (encoding : Encoding) × IsEncodingOf known vector asked.layout.encoding encoding
+      IsText (λ text. (encoding : Option Encoding) × IsEncodingOf known vector asked.layout.encoding encoding
       × IsPairsText (font_bytes_of known input asked.font.now) asked.size asked.layout encoding text) before after
   IsDoneBy (Check asked) vector = AreChecked known input asked.fonts.items before after
   IsDoneBy (Set setting) vector = IsSetFrom AtTheEnd (file_bytes_of known setting.files.items) setting vector

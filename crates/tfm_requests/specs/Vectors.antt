@@ -20,10 +20,10 @@ IsErrorOfText text _ = Unit {0}
 
 module _ (known : List ℕ → Option (List ℕ)) where
   -- the encoding of a request: that of the vector in the file that the arguments name, or, if they name none, the one
-  -- that they state
-  abbrev pub IsEncodingOf : Option (Bor (List ℕ)) → Encoding → Encoding → Type 0
+  -- that they state, if they state one
+  abbrev pub IsEncodingOf : Option (Bor (List ℕ)) → Option Encoding → Option Encoding → Type 0
   IsEncodingOf None stated encoding = encoding ≡ stated
-  IsEncodingOf (Some file) stated encoding = OfKnown (known file.now) (λ text. IsVectorIn text encoding)
+  IsEncodingOf (Some file) stated encoding = OfKnown (known file.now) (λ text. (made : Encoding) × (encoding ≡ Some made) × IsVectorIn text made)
 
   -- an error of the encoding vector in this file
   abbrev pub IsEncodingError : Option (Bor (List ℕ)) → EncodingError → Type 0

@@ -1,5 +1,5 @@
 //! The output about a font: its counts, its listing and its pairs.
-ghost use Rattle.std.specs.Prelude.{◌≡◌, ◌≢◌, ◌↔◌, ◌⊎◌, List, Some, Err, IfErr, IfOk, OnOk};
+ghost use Rattle.std.specs.Prelude.{Option, ◌≡◌, ◌≢◌, ◌↔◌, ◌⊎◌, List, Some, Err, IfErr, IfOk, OnOk};
 ghost use Rattle.std.specs.Io.KnownBytes.{Appends};
 ghost use Rattle.encodings.specs.declared.encoding.Encoding.{Encoding as EncodingValue};
 ghost use Rattle.font_texts.specs.CountsText.{counts_text_of, head_fault_of};
@@ -136,7 +136,7 @@ pub(crate) fn pairs<F, I>(
 where
     F: Opens,
     I: Read,
-    ensures text { IfOk result (λ text. (encoding : EncodingValue)
+    ensures text { IfOk result (λ text. (encoding : Option EncodingValue)
         × IsEncodingOf (F.known files.now) vector.entry asked.now.layout.encoding encoding
         × IsPairsText (font_bytes_of (F.known files.now) (I.remaining input.old) asked.now.font.now)
         asked.now.size asked.now.layout encoding text.items) }

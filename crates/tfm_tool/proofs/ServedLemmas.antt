@@ -1,14 +1,13 @@
 -- The exit statuses of the program, and what follows from the clauses of a request.
-use Rattle.std.proofs.Common.{arith, ◌≡◌, ◌⊎◌, inl, inr, ◌≤◌, ◌<◌, ℕ, true, [], ◌∷◌, Contains, lit<, ap, refl, subst, sym, ◌∙◌}
+use Rattle.std.proofs.Common.{arith, ◌≡◌, ◌⊎◌, inl, inr, ◌≤◌, ℕ, true, [], ◌∷◌, Contains, lit<, ap, refl, subst, sym, ◌∙◌}
 use Rattle.std.specs.Prelude.{◌==◌, ◌||◌, IfErr, IfOk, Result, Ok, Err}
 use Rattle.run_texts.specs.declared.fault.ToolFault.TheVariants.{Font, Run, OutOfMemory, Write}
 use Rattle.set_run.specs.declared.run_fault.RunFault.TheVariants.{TooManySources, OutOfMemory as RunOutOfMemory, Thread}
-use Rattle.tfm_requests.specs.Status.{done_status, is_stop, status_of}
+use Rattle.tfm_requests.specs.Status.{done_status, status_of}
 use Rattle.tfm_requests.specs.declared.failures.done.Done.{Done}
 use Rattle.tfm_requests.specs.declared.failures.done.Done.TheVariants.{AllSet, SomeRefused, FontNotRead, FileNotEnded, LaneAbandoned}
 use Rattle.tfm_requests.specs.declared.failures.errors.EncodingError.TheVariants.{NotRead as EncodingUnread, Refused as EncodingRefused, OutOfMemory as EncodingMemory}
 use Rattle.tfm_requests.specs.declared.failures.errors.FileError.TheVariants.{NotOpened, OutOfMemory as FileMemory}
-use Rattle.tfm_requests.specs.declared.failures.errors.FontError.{FontError}
 use Rattle.tfm_requests.specs.declared.failures.errors.FontError.TheVariants.{NotRead, Refused, OutOfMemory as FontMemory}
 use Rattle.tfm_requests.specs.declared.failures.errors.JobError.TheVariants.{NotRead as JobUnread, Refused as JobRefused, OutOfMemory as JobMemory}
 use Rattle.tfm_requests.specs.declared.failures.errors.RequestError.TheVariants.{OutOfMemory as RequestMemory}

@@ -1,8 +1,10 @@
 -- An array is filled from its front.
-use Rattle.std.proofs.Common.{◌≡◌, ℕ, suc, ◌+◌, ◌-◌, ◌^◌, ◌<◌, ◌≤◌, List, [], ◌∷◌, ◌++◌, length, take, drop, min, arith, refl, ap, sym, ◌∙◌, append_assoc, append-nil, length-append, get_or, set, subst}
-use Rattle.std.proofs.Math.Seq.{drop-cons, set-append_seam}
+use Rattle.std.proofs.Common.{◌≡◌, add-one, map, ℕ, suc, ◌+◌, ◌-◌, ◌^◌, ◌<◌, ◌≤◌, List, [], ◌∷◌, ◌++◌, length, take, drop, min, arith, refl, ap, sym, ◌∙◌, append_assoc, append-nil, length-append, get_or, set, subst}
+use Rattle.std.proofs.Math.Seq.{drop-cons, set-append_seam, take-suc}
+use Rattle.std.proofs.lemmas.Slice.{drop-put_mid, take-put_mid}
+use borrow.Rule.Slice.PartMut.{put_mid}
 use Rattle.std.proofs.lemmas.Grind.{take-set_at}
-use Rattle.std.proofs.lemmas.List.{drop-drop, drop-set-lt, length-set, take-append-drop}
+use Rattle.std.proofs.lemmas.List.{drop-drop, drop-set-lt, length-map, length-set, length-take-le, map-append, take-append-drop}
 use Rattle.tfmset_c.specs.Arrays.{ArePut, HasRoom, IsFilled, IsPartly}
 use Rattle.tfmset_c.specs.Texts.{held}
 
@@ -13,27 +15,38 @@ pub put_many : {T : Type 0} (xs now after : List T) (at at' : ℕ) → at' ≡ m
     → (at + length xs ≤ length now → drop (at + length xs) after ≡ drop (at + length xs) now)
     → ArePut xs at at' now after
 unfolding HasRoom
-put_many {T} xs now after at at' next same put kept = λ told to_come before partly.
-    let count : partly.place + (length xs + length to_come) ≡ length told = ap (λ n. partly.place + n) (sym (length-append xs to_come)) ∙ partly.counted in
-    let here : partly.place + length xs < 2 ^ 64 - 1 → at ≡ partly.place = λ below. omega (arith, partly.at_place, below) in
-    record {
-      place = partly.place + length xs;
-      at_place = omega (arith, partly.at_place, next);
-      counted = omega (arith, count);
-      same_length = same ∙ partly.same_length;
-      front = λ room.
-          let is : at ≡ partly.place = here room.1 in
-          let fits : at + length xs ≤ length now = omega (arith, is, room.0, partly.same_length) in
-          let before_front : told ≡ take partly.place now ++ (xs ++ to_come) = partly.front (omega (arith, room.0), omega (arith, room.1)) in
-          before_front ∙ ap (λ n. take n now ++ (xs ++ to_come)) (sym is) ∙ sym (append_assoc (take at now) xs to_come)
-          ∙ ap (λ ys. ys ++ to_come) (sym (put fits)) ∙ ap (λ n. take (n + length xs) after ++ to_come) is;
-      rest = λ room.
-          let is : at ≡ partly.place = here room.1 in
-          let fits : at + length xs ≤ length now = omega (arith, is, room.0, partly.same_length) in
-          let before_rest : drop partly.place now ≡ drop partly.place before = partly.rest (omega (arith, room.0), omega (arith, room.1)) in
-          ap (λ n. drop (n + length xs) after) (sym is) ∙ kept fits ∙ ap (λ n. drop (n + length xs) now) is
-          ∙ sym (drop-drop (length xs) partly.place now) ∙ ap (λ ys. drop (length xs) ys) before_rest ∙ drop-drop (length xs) partly.place before;
-    }
+put_many {T} xs now after at at' next same put kept = record {
+  further = λ told to_come before partly.
+      let count : partly.place + (length xs + length to_come) ≡ length told = ap (λ n. partly.place + n) (sym (length-append xs to_come)) ∙ partly.counted in
+      let here : partly.place + length xs < 2 ^ 64 - 1 → at ≡ partly.place = λ below. omega (arith, partly.at_place, below) in
+      record {
+        place = partly.place + length xs;
+        at_place = omega (arith, partly.at_place, next);
+        counted = omega (arith, count);
+        same_length = same ∙ partly.same_length;
+        front = λ room.
+            let is : at ≡ partly.place = here room.1 in
+            let fits : at + length xs ≤ length now = omega (arith, is, room.0, partly.same_length) in
+            let before_front : told ≡ take partly.place now ++ (xs ++ to_come) = partly.front (omega (arith, room.0), omega (arith, room.1)) in
+            before_front ∙ ap (λ n. take n now ++ (xs ++ to_come)) (sym is) ∙ sym (append_assoc (take at now) xs to_come)
+            ∙ ap (λ ys. ys ++ to_come) (sym (put fits)) ∙ ap (λ n. take (n + length xs) after ++ to_come) is;
+        rest = λ room.
+            let is : at ≡ partly.place = here room.1 in
+            let fits : at + length xs ≤ length now = omega (arith, is, room.0, partly.same_length) in
+            let before_rest : drop partly.place now ≡ drop partly.place before = partly.rest (omega (arith, room.0), omega (arith, room.1)) in
+            ap (λ n. drop (n + length xs) after) (sym is) ∙ kept fits ∙ ap (λ n. drop (n + length xs) now) is
+            ∙ sym (drop-drop (length xs) partly.place now) ∙ ap (λ ys. drop (length xs) ys) before_rest ∙ drop-drop (length xs) partly.place before;
+      };
+}
+
+-- elements that were copied to their place are put
+pub put_part : {T : Type 0} (xs now after made : List T) (at at' k : ℕ) → at' ≡ min (at + length xs) (2 ^ 64 - 1) → after ≡ put_mid at k now made → made ≡ xs
+    → k ≡ length xs → at + length xs ≤ length now → length after ≡ length now → ArePut xs at at' now after
+put_part xs now after made at at' k next is same many fits long =
+    let length_made : length made ≡ length xs = ap length same in
+    put_many xs now after at at' next long
+    (λ _. ap (take (at + length xs)) is ∙ take-put_mid at k now made _ (omega arith) (omega arith) ∙ ap (λ ys. take at now ++ ys) same)
+    (λ _. ap (drop (at + length xs)) is ∙ drop-put_mid at k now made _ (omega arith) (omega arith) (omega arith))
 
 -- a thing that was set at its place is put
 pub put_set : {T : Type 0} (x : T) (now after : List T) (at at' : ℕ) → at' ≡ min (at + 1) (2 ^ 64 - 1) → at < length now
@@ -49,16 +62,16 @@ pub put_past : {T : Type 0} (xs now after : List T) (at at' : ℕ) → at' ≡ m
 put_past xs now after at at' next past is =
     put_many xs now after at at' next (ap length is) (λ fits. absurd (omega (arith, fits, past))) (λ fits. absurd (omega (arith, fits, past)))
 
--- nothing is put
-pub put_none : {T : Type 0} (at : ℕ) (now : List T) → ArePut [] at at now now
-put_none at now = λ told to_come before partly. partly
+pub ruleset puts = (put_set, put_part, put_past)
 
 -- some things are put, and then others
 pub put_both : {T : Type 0} (xs ys all first second third : List T) (at at' at'' : ℕ) → ArePut xs at at' first second → ArePut ys at' at'' second third
     → all ≡ xs ++ ys → ArePut all at at'' first third
-put_both {T} xs ys all first second third at at' at'' one two is = λ told to_come before partly.
-    two told to_come before (one told (ys ++ to_come) before
-    (subst (λ (zs : List T). IsPartly told zs at before first) (ap (λ zs. zs ++ to_come) is ∙ append_assoc xs ys to_come) partly))
+put_both {T} xs ys all first second third at at' at'' one two is = record {
+  further = λ told to_come before partly.
+      two.further told to_come before (one.further told (ys ++ to_come) before
+      (subst (λ (zs : List T). IsPartly told zs at before first) (ap (λ zs. zs ++ to_come) is ∙ append_assoc xs ys to_come) partly));
+}
 
 -- at first all is to come
 pub nothing_put : {T : Type 0} (told before : List T) → IsPartly told told 0 before before
@@ -71,35 +84,41 @@ nothing_put told before = record {
   rest = λ _. refl;
 }
 
--- at last nothing is to come
-pub all_put : {T : Type 0} (told to_come before now : List T) (at : ℕ) → IsPartly told to_come at before now → to_come ≡ [] → IsFilled told before now
-unfolding HasRoom
-all_put told to_come before now at partly none =
-    let whole : partly.place ≡ length told = omega (arith, partly.counted, ap length none) in
-    record {
-      same_length = partly.same_length;
-      filled = λ room.
-          let fits : (partly.place ≤ length before) × (partly.place < 2 ^ 64 - 1) = (omega (arith, whole, room.0), omega (arith, whole, room.1)) in
-          let front : told ≡ take partly.place now = partly.front fits ∙ ap (λ ys. take partly.place now ++ ys) none ∙ append-nil (take partly.place now) in
-          sym (take-append-drop partly.place now) ∙ ap (λ ys. ys ++ drop partly.place now) (sym front)
-          ∙ ap (λ ys. told ++ ys) (partly.rest fits) ∙ ap (λ n. told ++ drop n before) whole;
-    }
+-- elements that are put at the front of an array
+pub whole_put : {T : Type 0} (told before after : List T) (count : ℕ) → ArePut told 0 count before after → IsFilled told count before after
+whole_put told before after count put = put.further told [] before (rw append-nil (nothing_put told before))
 
--- at last the place is how many there are
-pub place_at_last : {T : Type 0} (told to_come before now : List T) (at : ℕ) → IsPartly told to_come at before now → to_come ≡ [] → at ≡ held (length told)
-place_at_last told to_come before now at partly none = omega (arith, partly.at_place, partly.counted, ap length none)
+-- at last this is how many there are
+pub all_counted : {T : Type 0} {told before now : List T} {count : ℕ} → IsFilled told count before now → count ≡ held (length told)
+all_counted filled = omega (arith, filled.at_place, filled.counted)
+
+-- and all are there
+pub all_put : {T : Type 0} {told before now : List T} {count : ℕ} → IsFilled told count before now → HasRoom (length told) (length before)
+    → now ≡ told ++ drop (length told) before
+unfolding HasRoom
+all_put {told = told} {before = before} {now = now} filled room =
+    let whole : filled.place ≡ length told = omega (arith, filled.counted) in
+    let fits : (filled.place ≤ length before) × (filled.place < 2 ^ 64 - 1) = (omega (arith, whole, room.0), omega (arith, whole, room.1)) in
+    let front : told ≡ take filled.place now = filled.front fits ∙ append-nil (take filled.place now) in
+    sym (take-append-drop filled.place now) ∙ ap (λ ys. ys ++ drop filled.place now) (sym front)
+    ∙ ap (λ ys. told ++ ys) (filled.rest fits) ∙ ap (λ n. told ++ drop n before) whole
+
+pub ruleset filled = (all_counted, all_put)
 
 -- ---- elements that all fit, written one by one
 
--- if the array has the elements told at its front, and its former contents after them, it has one more element
+-- if an array has the images of the first elements at its front, and its former contents after them, it has one more
 -- at its front once that is written after them
-pub overlaid_more : {T : Type 0} (told before now : List T) (i : ℕ) (x : T) → length told ≡ i → i < length before → now ≡ told ++ drop i before
-    → set now i x ≡ (told ++ x ∷ []) ++ drop (i + 1) before
-overlaid_more told before now i x long within is =
-    let more : suc i ≡ i + 1 = omega arith in
+pub overlaid_more : {A B : Type 0} (f : A → B) (found : List A) (before : List B) (i : ℕ) (d : A) → i < length found → length found ≤ length before
+    → set (map f (take i found) ++ drop i before) i (f (get_or found i d)) ≡ map f (take (i + 1) found) ++ drop (i + 1) before
+overlaid_more f found before i d within fits =
+    let x = f (get_or found i d) in
+    let told = map f (take i found) in
     let rest = drop (suc i) before in
-    let here : drop i before ≡ get_or before i x ∷ rest = drop-cons before i x within in
-    ap (λ l. set l i x) (is ∙ ap (λ l. told ++ l) here)
+    let long : length told ≡ i = length-map (take i found) f ∙ length-take-le i found (omega arith) in
+    ap (λ l. set (told ++ l) i x) (drop-cons before i x (omega arith))
     ∙ subst (λ n. set (told ++ get_or before i x ∷ rest) n x ≡ told ++ x ∷ rest) long (set-append_seam told (get_or before i x) rest x)
     ∙ sym (append_assoc told (x ∷ []) rest)
-    ∙ ap (λ n. (told ++ x ∷ []) ++ drop n before) more
+    ∙ ap (λ l. l ++ rest) (sym (map-append f (take i found) (get_or found i d ∷ [])))
+    ∙ ap (λ l. map f l ++ rest) (sym (take-suc found i d within))
+    ∙ rw add-one refl

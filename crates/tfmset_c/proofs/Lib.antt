@@ -2,4 +2,3 @@ pub mod ReadingLemmas
 pub mod ArrayLemmas
 pub mod TextLemmas
 pub mod EncodedLemmas
-pub mod WidthLemmas

@@ -1,18 +1,30 @@
 -- The lines of a text are told one after the other.
-use Rattle.std.proofs.Common.{◌≡◌, ◌⊎◌, inl, inr, ℕ, ◌+◌, suc, List, [], ◌∷◌, ◌++◌, length, map, flat_map, arith, refl, ap, sym, ◌∙◌, subst, length-append}
+use Rattle.std.proofs.Common.{◌≡◌, ℕ, ◌+◌, Bool, false, List, [], ◌∷◌, ◌++◌, length, map, flat_map, Option, Some, None, arith, refl, ap, sym, ◌∙◌, subst, length-append}
+use Rattle.std.specs.Prelude.{Ok, Err}
+use Rattle.std.specs.Option.{option_map, option_map_or}
 use Rattle.std.proofs.lemmas.List.{length-map, map-append}
+use Rattle.encodings.specs.declared.encoding.Encoding.{Encoding}
+use Rattle.lig_kern.specs.Result.{Setting}
+use Rattle.set_line.specs.declared.outcome.LineRefusal.{LineRefusal}
+use Rattle.set_line.specs.declared.outcome.LineRefusal.TheVariants.{Missing, Steps, TooLong}
 use Rattle.set_line.specs.declared.outcome.Outcome.{Outcome}
+use Rattle.set_line.specs.declared.outcome.Outcome.TheVariants.{Set, Refused}
+use Rattle.set_line.specs.declared.records.text_refusal.TextRefusal.{TextRefusal}
+use Rattle.set_line.specs.declared.records.text_refusal.TextRefusal.TheVariants.{Line}
 use Rattle.set_line.specs.declared.version.Version.{Version}
-use Rattle.set_line.specs.Answer.{outcome_of}
+use Rattle.set_line.specs.Answer.{outcome_of, refusal_of, set_as, set_or_refused, setting_of_portions}
 use Rattle.set_line.specs.Lines.{lines_of}
-use Rattle.set_line.specs.Record.{record_text}
+use Rattle.set_line.specs.Pieces.{portions_of}
 use Rattle.set_line.specs.Terms.{TermsValue}
-use Rattle.tfmset_c.specs.Arrays.{AreLinesTold, ArePut, AreTold, HasRoom, IsFilled, IsPartly, IsUnderWay}
-use Rattle.tfmset_c.specs.Texts.{counts_told, held, item_told, items_in, items_told, line_told, lines_told, outcomes_of, records_told}
+use Rattle.line_records.specs.declared.result.LineResult.{LineResult}
+use Rattle.line_records.specs.declared.result.LineResult.TheVariants.{Set as SetResult, Refused as RefusedResult}
+use Rattle.line_records.specs.Results.{IsResult, line_record, line_result, refusal_in, set_within}
+use Rattle.tfmset_c.specs.Arrays.{ArePut, IsFilled, IsPartly, IsUnderWay}
+use Rattle.tfmset_c.specs.Texts.{IsOf, held, item_told, items_in, items_told, line_told, lines_told, outcomes_of, records_told}
 use Rattle.tfmset_c.specs.declared.lines.TfmsetCounts.{TfmsetCounts}
 use Rattle.tfmset_c.specs.declared.lines.TfmsetItem.{TfmsetItem}
 use Rattle.tfmset_c.specs.declared.lines.TfmsetLine.{TfmsetLine}
-use Rattle.tfmset_c.proofs.ArrayLemmas.{nothing_put, place_at_last}
+use Rattle.tfmset_c.proofs.ArrayLemmas.{nothing_put}
 
 -- a text's first line, and the others
 pub outcomes_first : (terms : TermsValue) (text line more : List ℕ) → lines_of text ≡ line ∷ lines_of more
@@ -25,53 +37,65 @@ pub no_outcomes : (terms : TermsValue) (text : List ℕ) → lines_of text ≡ [
 unfolding outcomes_of
 no_outcomes terms text none = ap (map (outcome_of terms)) none
 
+-- ---- lines and items
+
 -- at first all lines are to come
-pub at_first : (all : List Outcome) (lines : List TfmsetLine) (items : List TfmsetItem)
-    → IsUnderWay all all (record { lines = 0; items = 0 }) lines lines items items
-at_first all lines items =
-    let item : IsPartly (items_told all) (items_told all) 0 items items = nothing_put (items_told all) items in
-    let none : 0 ≡ item.place = omega (arith, item.counted) in
-    record { item = item; line = subst (λ n. IsPartly (lines_told 0 all) (lines_told n all) 0 lines lines) none (nothing_put (lines_told 0 all) lines) }
+pub at_first : (all : List Outcome) (lines : List TfmsetLine) → IsUnderWay all all (record { lines = 0; items = 0 }) lines lines
+at_first all lines = record { items = 0; held_items = refl; counted = omega arith; line = nothing_put (lines_told 0 all) lines }
+
+-- the items of the first line, and of the others
+items_first : (to_come more : List Outcome) (outcome : Outcome) → to_come ≡ outcome ∷ more
+    → items_told to_come ≡ map item_told (items_in outcome) ++ items_told more
+unfolding items_told
+items_first to_come more outcome first = ap items_told first ∙ map-append item_told (items_in outcome) (flat_map items_in more)
+
+count_first : (to_come more : List Outcome) (outcome : Outcome) → to_come ≡ outcome ∷ more
+    → length (items_told to_come) ≡ length (items_in outcome) + length (items_told more)
+count_first to_come more outcome first =
+    ap length (items_first to_come more outcome first) ∙ length-append (map item_told (items_in outcome)) (items_told more)
+    ∙ ap (λ n. n + length (items_told more)) (length-map (items_in outcome) item_told)
 
 -- one line more
-pub one_more : (all to_come more : List Outcome) (outcome : Outcome) (places next : TfmsetCounts)
-    (lines_before lines lines' : List TfmsetLine) (items_before items items' : List TfmsetItem)
-    → to_come ≡ outcome ∷ more
-    → ((before : ℕ) → places.items ≡ held before → ArePut (line_told before outcome ∷ []) places.lines next.lines lines lines')
-    → ArePut (map item_told (items_in outcome)) places.items next.items items items'
-    → IsUnderWay all to_come places lines_before lines items_before items
-    → IsUnderWay all more next lines_before lines' items_before items'
-unfolding lines_told items_told
-one_more all to_come more outcome places next lines_before lines lines' items_before items items' first line_put items_put under =
-    let told_first : items_told to_come ≡ map item_told (items_in outcome) ++ items_told more =
-    ap items_told first ∙ map-append item_told (items_in outcome) (flat_map items_in more) in
-    let item : IsPartly (items_told all) (items_told more) next.items items_before items' =
-    items_put (items_told all) (items_told more) items_before
-    (subst (λ (xs : List TfmsetItem). IsPartly (items_told all) xs places.items items_before items) told_first under.item) in
-    let count : length (items_told to_come) ≡ length (items_in outcome) + length (items_told more) =
-    ap length told_first ∙ length-append (map item_told (items_in outcome)) (items_told more)
-    ∙ ap (λ n. n + length (items_told more)) (length-map (items_in outcome) item_told) in
-    let place : under.item.place + length (items_in outcome) ≡ item.place = omega (arith, under.item.counted, item.counted, count) in
-    let line : IsPartly (lines_told 0 all) (lines_told (under.item.place + length (items_in outcome)) more) next.lines lines_before lines' =
-    line_put under.item.place under.item.at_place (lines_told 0 all) _ lines_before
-    (subst (λ (xs : List Outcome). IsPartly (lines_told 0 all) (lines_told under.item.place xs) places.lines lines_before lines) first under.line) in
-    record { item = item; line = subst (λ n. IsPartly (lines_told 0 all) (lines_told n more) next.lines lines_before lines') place line }
-
--- lines are told one by one
-pub count_lines : (before : ℕ) (outcomes : List Outcome) → length (lines_told before outcomes) ≡ length outcomes
+pub line_more : {all to_come more : List Outcome} {outcome : Outcome} {at next : TfmsetCounts} {before lines lines' : List TfmsetLine}
+    → to_come ≡ outcome ∷ more → ArePut (line_told at.items outcome ∷ []) at.lines next.lines lines lines'
+    → next.items ≡ held (at.items + length (items_in outcome)) → IsUnderWay all to_come at before lines → IsUnderWay all more next before lines'
 unfolding lines_told
-count_lines before [] = refl
-count_lines before (outcome ∷ outcomes) = ap suc (count_lines (before + length (items_in outcome)) outcomes)
+line_more {all} {to_come} {more} {outcome} {at} {next} {before} {lines} {lines'} first put counted under =
+    let items : ℕ = under.items + length (items_in outcome) in
+    let told : lines_told under.items to_come ≡ line_told at.items outcome ∷ lines_told items more =
+    ap (lines_told under.items) first ∙ ap (λ n. line_told n outcome ∷ lines_told items more) (sym under.held_items) in
+    record {
+      items = items;
+      held_items = omega (arith, counted, under.held_items);
+      counted = omega (arith, under.counted, count_first to_come more outcome first);
+      line =
+          put.further (lines_told 0 all) (lines_told items more) before (rw told at under.line);
+    }
 
--- one record more
-pub record_more : (source place at next : ℕ) (version : Version) (to_come more : List Outcome) (outcome : Outcome) (told before now now' : List ℕ)
-    → to_come ≡ outcome ∷ more → ArePut (record_text source place outcome version) at next now now'
-    → IsPartly told (records_told source place version to_come) at before now
-    → IsPartly told (records_told source (place + 1) version more) next before now'
-unfolding records_told
-record_more source place at next version to_come more outcome told before now now' first put partly =
-    put told (records_told source (place + 1) version more) before
-    (subst (λ (xs : List Outcome). IsPartly told (records_told source place version xs) at before now) first partly)
+-- its items more
+pub items_more : (all : List Outcome) {to_come more : List Outcome} {outcome : Outcome} {at next : ℕ} {before items items' : List TfmsetItem}
+    → to_come ≡ outcome ∷ more → ArePut (map item_told (items_in outcome)) at next items items'
+    → IsPartly (items_told all) (items_told to_come) at before items → IsPartly (items_told all) (items_told more) next before items'
+items_more all {to_come} {more} {outcome} {before = before} first put partly =
+    put.further (items_told all) (items_told more) before (rw (items_first to_come more outcome first) at partly)
+
+-- the index after them
+pub items_counted : (all : List Outcome) {to_come more : List Outcome} {outcome : Outcome} {at next : ℕ} {before items items' : List TfmsetItem}
+    → to_come ≡ outcome ∷ more → IsPartly (items_told all) (items_told to_come) at before items
+    → IsPartly (items_told all) (items_told more) next before items' → next ≡ held (at + length (items_in outcome))
+items_counted all {to_come} {more} {outcome} first partly then =
+    omega (arith, partly.at_place, partly.counted, then.at_place, then.counted, count_first to_come more outcome first)
+
+-- the number of items in a line
+pub count_told : (first : ℕ) (outcome : Outcome) (told : TfmsetLine) → told ≡ line_told first outcome → told.count ≡ length (items_in outcome)
+unfolding line_told items_in
+count_told first (Set items width steps) told is = ap (λ (line : TfmsetLine). line.count) is
+count_told first (Refused refusal) told is = ap (λ (line : TfmsetLine). line.count) is ∙ by refusal
+  where
+    by : (refusal : LineRefusal) → (line_told first (Refused refusal)).count ≡ 0
+    by (TooLong bytes) = refl
+    by (Missing offset code) = refl
+    by (Steps limit) = refl
 
 -- without lines there is nothing to tell
 pub no_lines : (before : ℕ) (outcomes : List Outcome) → outcomes ≡ [] → lines_told before outcomes ≡ []
@@ -82,88 +106,57 @@ pub no_items : (outcomes : List Outcome) → outcomes ≡ [] → items_told outc
 unfolding items_told
 no_items outcomes none = ap items_told none
 
-pub no_records : (source place : ℕ) (version : Version) (outcomes : List Outcome) → outcomes ≡ [] → records_told source place version outcomes ≡ []
+-- at last all lines are there, and all items are counted
+pub all_there : {all to_come : List Outcome} {counts : TfmsetCounts} {before lines : List TfmsetLine} → to_come ≡ [] → IsUnderWay all to_come counts before lines
+    → IsFilled (lines_told 0 all) counts.lines before lines × (counts.items ≡ held (length (items_told all)))
+all_there {to_come = to_come} none under =
+    (rw (no_lines under.items to_come none) at under.line, omega (arith, under.held_items, under.counted, ap length (no_items to_come none)))
+
+-- ---- a line of bytes that is set without its items
+
+-- a refusal, and a setting
+refused_is : (refusal : LineRefusal) (set : LineResult) → IsResult (Err (Line refusal)) set → IsOf (Refused refusal) set
+refused_is refusal (SetResult sums) is = let bad : Err (Line refusal) ≡ Ok is.0 = is.1 in absurd (cc)
+refused_is refusal (RefusedResult other) is =
+    let same : Line refusal ≡ other = cc in subst (λ (r : TextRefusal). IsOf (Refused refusal) (RefusedResult r)) same refl
+
+set_is : (setting : Setting) (set : LineResult) → IsResult (Ok setting) set → IsOf (set_as setting) set
+set_is setting (RefusedResult refusal) is = absurd (cc)
+set_is setting (SetResult sums) is =
+    let ok : Ok setting ≡ Ok is.0 = is.1 in
+    let same : setting ≡ is.0 = cc in
+    (is.0.items, ap set_as same ∙ rw (is.2.width, is.2.steps) refl, is.2.items)
+
+-- the result without items is that of the outcome
+pub bytes_result : (terms : TermsValue) (first : Bool) (line : List ℕ) (set : LineResult) → IsResult (line_result terms None first line) set → IsOf (outcome_of terms line) set
+unfolding line_result refusal_in outcome_of
+bytes_result terms first line = by (refusal_of terms line)
+  where
+    within : (o : Option Setting) (set : LineResult) → IsResult (option_map_or Ok o (Err (Line (Steps terms.limit)))) set
+        → IsOf (option_map_or set_as o (Refused (Steps terms.limit))) set
+    within None set is = refused_is (Steps terms.limit) set is
+    within (Some setting) set is = set_is setting set is
+
+    by : (o : Option LineRefusal) (set : LineResult) → IsResult (option_map_or Err (option_map Line o) (set_within terms line)) set
+        → IsOf (option_map_or Refused o (set_or_refused terms line)) set
+    by (Some refusal) set is = refused_is refusal set is
+    by None set is = within (setting_of_portions terms.font terms.limit (portions_of terms.font line)) set is
+
+-- ---- records
+
+-- one record more
+pub record_more : (terms : TermsValue) (encoding : Option Encoding) (version : Version) (source place : ℕ) (first : Bool) (to_come more : List (List ℕ)) (line told before now now' : List ℕ) (at next : ℕ)
+    → to_come ≡ line ∷ more → ArePut (line_record terms encoding first line source place version) at next now now'
+    → IsPartly told (records_told terms encoding version source place first to_come) at before now
+    → IsPartly told (records_told terms encoding version source (place + 1) false more) next before now'
 unfolding records_told
-no_records source place version outcomes none = ap (records_told source place version) none
+record_more terms encoding version source place first to_come more line told before now now' at next cut put partly =
+    put.further told (records_told terms encoding version source (place + 1) false more) before (rw cut at partly)
 
--- at last all lines and items are counted
-pub all_counted : (all to_come : List Outcome) (counts : TfmsetCounts) (lines_before lines : List TfmsetLine) (items_before items : List TfmsetItem)
-    → to_come ≡ [] → IsUnderWay all to_come counts lines_before lines items_before items → counts ≡ counts_told all
-unfolding counts_told
-all_counted all to_come counts lines_before lines items_before items none under =
-    let line : counts.lines ≡ held (length all) =
-    place_at_last (lines_told 0 all) (lines_told under.item.place to_come) lines_before lines counts.lines under.line (no_lines under.item.place to_come none)
-    ∙ ap held (count_lines 0 all) in
-    let item : counts.items ≡ held (length (items_told all)) =
-    place_at_last (items_told all) (items_told to_come) items_before items counts.items under.item (no_items to_come none) in
-    ap (λ (n : ℕ). let told : TfmsetCounts = record { lines = n; items = counts.items } in told) line
-    ∙ ap (λ (n : ℕ). let told : TfmsetCounts = record { lines = held (length all); items = n } in told) item
+-- without lines there is nothing to tell
+pub no_records : (terms : TermsValue) (encoding : Option Encoding) (version : Version) (source place : ℕ) (first : Bool) (lines : List (List ℕ))
+    → lines ≡ [] → records_told terms encoding version source place first lines ≡ []
+unfolding records_told
+no_records terms encoding version source place first lines none = ap (records_told terms encoding version source place first) none
 
--- an answer that tells something is no refusal
-no_refusal : (answer : ℕ) → (answer ≡ 0) ⊎ (answer ≡ 3) → (answer ≡ 1) ⊎ (answer ≡ 4) → ⊥
-no_refusal answer (inl told) (inl is) = omega (arith, told, is)
-no_refusal answer (inl told) (inr is) = omega (arith, told, is)
-no_refusal answer (inr told) (inl is) = omega (arith, told, is)
-no_refusal answer (inr told) (inr is) = omega (arith, told, is)
-
--- all was told, if there was room
-pub told_whole : (outcomes : List Outcome) (counts_before counts : TfmsetCounts) (lines_before lines : List TfmsetLine) (items_before items : List TfmsetItem)
-    → counts ≡ counts_told outcomes → IsFilled (lines_told 0 outcomes) lines_before lines → IsFilled (items_told outcomes) items_before items
-    → HasRoom (length outcomes) (length lines_before) → HasRoom (length (items_told outcomes)) (length items_before)
-    → AreTold outcomes 0 counts_before counts lines_before lines items_before items
-told_whole outcomes counts_before counts lines_before lines items_before items counted line item line_room item_room = record {
-  counted = λ _. counted;
-  room = λ _. (line_room, item_room);
-  no_room = λ is. absurd (omega (arith, is));
-  lines = λ _. line.filled (subst (λ n. HasRoom n (length lines_before)) (sym (count_lines 0 outcomes)) line_room);
-  items = λ _. item.filled item_room;
-  kept = λ other. absurd (other refl);
-  untouched = λ refused. absurd (no_refusal 0 (inl refl) refused);
-}
-
-pub told_counts : (outcomes : List Outcome) (counts_before counts : TfmsetCounts) (lines_before lines : List TfmsetLine) (items_before items : List TfmsetItem)
-    → counts ≡ counts_told outcomes
-    → (HasRoom (length outcomes) (length lines_before) → HasRoom (length (items_told outcomes)) (length items_before) → ⊥)
-    → AreTold outcomes 3 counts_before counts lines_before lines items_before items
-told_counts outcomes counts_before counts lines_before lines items_before items counted no_room = record {
-  counted = λ _. counted;
-  room = λ is. absurd (omega (arith, is));
-  no_room = λ _. no_room;
-  lines = λ is. absurd (omega (arith, is));
-  items = λ is. absurd (omega (arith, is));
-  kept = λ _ other. absurd (other refl);
-  untouched = λ refused. absurd (no_refusal 3 (inr refl) refused);
-}
-
--- the same of lines alone
-pub told_lines : (outcomes : List Outcome) (counts_before counts : TfmsetCounts) (lines_before lines : List TfmsetLine)
-    → counts ≡ counts_told outcomes → IsFilled (lines_told 0 outcomes) lines_before lines → HasRoom (length outcomes) (length lines_before)
-    → AreLinesTold outcomes 0 counts_before counts lines_before lines
-told_lines outcomes counts_before counts lines_before lines counted line room = record {
-  counted = λ _. counted;
-  room = λ _. room;
-  no_room = λ is. absurd (omega (arith, is));
-  lines = λ _. line.filled (subst (λ n. HasRoom n (length lines_before)) (sym (count_lines 0 outcomes)) room);
-  kept = λ other. absurd (other refl);
-  untouched = λ refused. absurd (no_refusal 0 (inl refl) refused);
-}
-
-pub told_line_counts : (outcomes : List Outcome) (counts_before counts : TfmsetCounts) (lines_before lines : List TfmsetLine)
-    → counts ≡ counts_told outcomes → (HasRoom (length outcomes) (length lines_before) → ⊥) → AreLinesTold outcomes 3 counts_before counts lines_before lines
-told_line_counts outcomes counts_before counts lines_before lines counted no_room = record {
-  counted = λ _. counted;
-  room = λ is. absurd (omega (arith, is));
-  no_room = λ _. no_room;
-  lines = λ is. absurd (omega (arith, is));
-  kept = λ _ other. absurd (other refl);
-  untouched = λ refused. absurd (no_refusal 3 (inr refl) refused);
-}
-
--- the counts of lines and of items
-pub lines_held : (outcomes : List Outcome) (counts : TfmsetCounts) → counts ≡ counts_told outcomes → counts.lines ≡ held (length outcomes)
-unfolding counts_told
-lines_held outcomes counts is = ap (λ (told : TfmsetCounts). told.lines) is
-
-pub items_held : (outcomes : List Outcome) (counts : TfmsetCounts) → counts ≡ counts_told outcomes → counts.items ≡ held (length (items_told outcomes))
-unfolding counts_told
-items_held outcomes counts is = ap (λ (told : TfmsetCounts). told.items) is
+pub ruleset recorded = (record_more, no_records)

@@ -1,6 +1,7 @@
 -- The results of the lines of a text, as C gets them.
--- This project's own; the results are defined in Answer of `set_line`, and their records in Record.
-use Rattle.std.specs.Prelude.{◌≡◌, ℕ, None, pos, ◌+◌, ◌-◌, ◌^◌, ◌<◌, ◌==◌, ◌⊎◌, List, [], ◌∷◌, ◌++◌, length, map, flat_map, min, if◌then◌else◌}
+-- This project's own; the results are defined in Answer of `set_line`, and the records in Results of `line_records`.
+use Rattle.std.specs.Prelude.{◌≡◌, ℕ, Bool, false, Option, None, pos, ◌+◌, ◌-◌, ◌^◌, ◌<◌, ◌==◌, ◌⊎◌, List, [], ◌∷◌, ◌++◌, length, map, flat_map, min, if◌then◌else◌}
+use Rattle.encodings.specs.declared.encoding.Encoding.{Encoding}
 use Rattle.lig_kern.specs.declared.item.Item.{Item}
 use Rattle.lig_kern.specs.declared.item.Item.TheVariants.{Char, Kern, Space, Skipped}
 use Rattle.set_line.specs.declared.policy.Policy.{Policy}
@@ -12,8 +13,11 @@ use Rattle.set_line.specs.declared.version.Version.{Version}
 use Rattle.set_line.specs.declared.version.Version.TheVariants.{One, Two, Json}
 use Rattle.set_line.specs.Answer.{outcome_of}
 use Rattle.set_line.specs.Lines.{lines_of}
-use Rattle.set_line.specs.Record.{record_text}
+use Rattle.set_line.specs.declared.records.text_refusal.TextRefusal.TheVariants.{Line, NotUtf8, Uncoded}
 use Rattle.set_line.specs.Terms.{TermsValue}
+use Rattle.line_records.specs.declared.result.LineResult.{LineResult}
+use Rattle.line_records.specs.declared.result.LineResult.TheVariants.{Set as SetResult, Refused as RefusedResult}
+use Rattle.line_records.specs.Results.{line_record}
 use Rattle.tfm_tables.specs.Acceptance.{font_fault_of}
 use Rattle.tfmset_c.specs.Reading.{IsNoSize, font_at}
 use Rattle.tfmset_c.specs.declared.lines.TfmsetCounts.{TfmsetCounts}
@@ -69,32 +73,40 @@ unfoldable pub items_in : Outcome → List Item
 items_in (Set items width steps) = items
 items_in (Refused refusal) = []
 
--- the result of a line; this many items precede the items of the line
+-- the result of a line; its first item has this index
 unfoldable pub line_told : ℕ → Outcome → TfmsetLine
-line_told before (Set items width steps) =
-    record { width = width; first = held before; count = length items; place = 0; steps = steps; refusal = 0; code = 0 }
-line_told before (Refused (Missing offset code)) =
-    record { width = pos 0; first = held before; count = 0; place = offset; steps = 0; refusal = 1; code = code }
-line_told before (Refused (TooLong bytes)) =
-    record { width = pos 0; first = held before; count = 0; place = bytes; steps = 0; refusal = 2; code = 0 }
-line_told before (Refused (Steps limit)) =
-    record { width = pos 0; first = held before; count = 0; place = 0; steps = limit; refusal = 3; code = 0 }
+line_told first (Set items width steps) =
+    record { width = width; first = first; count = length items; place = 0; steps = steps; refusal = 0; code = 0 }
+line_told first (Refused (Missing offset code)) =
+    record { width = pos 0; first = first; count = 0; place = offset; steps = 0; refusal = 1; code = code }
+line_told first (Refused (TooLong bytes)) =
+    record { width = pos 0; first = first; count = 0; place = bytes; steps = 0; refusal = 2; code = 0 }
+line_told first (Refused (Steps limit)) =
+    record { width = pos 0; first = first; count = 0; place = 0; steps = limit; refusal = 3; code = 0 }
+
+-- a result without items is that of a line of bytes with this outcome
+abbrev pub IsOf : Outcome → LineResult → Type 0
+IsOf outcome (SetResult sums) = (items : List Item) × (outcome ≡ Set items sums.width sums.steps) × (sums.items ≡ length items)
+IsOf outcome (RefusedResult (Line refusal)) = outcome ≡ Refused refusal
+IsOf outcome (RefusedResult (NotUtf8 offset)) = ⊥
+IsOf outcome (RefusedResult (Uncoded offset character)) = ⊥
 
 -- the results of lines; this many items precede the items of the first line
 unfoldable pub lines_told : ℕ → List Outcome → List TfmsetLine
 lines_told before [] = []
-lines_told before (outcome ∷ outcomes) = line_told before outcome ∷ lines_told (before + length (items_in outcome)) outcomes
+lines_told before (outcome ∷ outcomes) = line_told (held before) outcome ∷ lines_told (before + length (items_in outcome)) outcomes
 
 -- the items of all lines, in order
 unfoldable pub items_told : List Outcome → List TfmsetItem
 items_told outcomes = map item_told (flat_map items_in outcomes)
 
 -- the numbers of lines and items
-unfoldable pub counts_told : List Outcome → TfmsetCounts
-counts_told outcomes = record { lines = held (length outcomes); items = held (length (items_told outcomes)) }
+abbrev pub counts_told : List Outcome → TfmsetCounts
+counts_told outcomes = record { lines = held (length (lines_told 0 outcomes)); items = held (length (items_told outcomes)) }
 
--- the records of lines; the first one has this line number
-unfoldable pub records_told : ℕ → ℕ → Version → List Outcome → List ℕ
-records_told source place version [] = []
-records_told source place version (outcome ∷ outcomes) =
-    record_text source place outcome version ++ records_told source (place + 1) version outcomes
+-- the records of lines; the first one has this line number, and `first` states whether it is the first line of its
+-- text
+unfoldable pub records_told : TermsValue → Option Encoding → Version → ℕ → ℕ → Bool → List (List ℕ) → List ℕ
+records_told terms encoding version source place first [] = []
+records_told terms encoding version source place first (line ∷ lines) =
+    line_record terms encoding first line source place version ++ records_told terms encoding version source (place + 1) false lines

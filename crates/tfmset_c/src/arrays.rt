@@ -17,6 +17,7 @@ pub fn has_room(count: usize, room: usize) -> bool
 }
 
 /// Writes an item at index `at`, if the array has this index, and returns the next index, at most 2^64 - 1.
+#[tactic(auto, using(crate::proofs::ArrayLemmas::puts))]
 pub fn put_item(items: &mut [TfmsetItem], at: usize, item: TfmsetItem) -> usize
     ensures { ArePut (item ∷ []) at result items.old items.new }
 {
@@ -27,6 +28,7 @@ pub fn put_item(items: &mut [TfmsetItem], at: usize, item: TfmsetItem) -> usize
 }
 
 /// Writes a line at index `at`, if the array has this index, and returns the next index, at most 2^64 - 1.
+#[tactic(auto, using(crate::proofs::ArrayLemmas::puts))]
 pub fn put_line(lines: &mut [TfmsetLine], at: usize, line: TfmsetLine) -> usize
     ensures { ArePut (line ∷ []) at result lines.old lines.new }
 {
@@ -38,6 +40,7 @@ pub fn put_line(lines: &mut [TfmsetLine], at: usize, line: TfmsetLine) -> usize
 
 /// Writes bytes, starting at index `at`, if the array has room for all of them, and returns the index after
 /// them, at most 2^64 - 1.
+#[tactic(auto, using(crate::proofs::ArrayLemmas::puts))]
 pub fn put_bytes(bytes: &mut [u8], at: usize, made: &[u8]) -> usize
     ensures { ArePut made.now at result bytes.old bytes.new }
 {

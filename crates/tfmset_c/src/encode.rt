@@ -1,19 +1,15 @@
 //! `tfmset_encode`: turns a text in UTF-8 into the codes of a font.
-ghost use Rattle.std.specs.Prelude.{◌≡◌, ◌≢◌, ◌≤◌, ◌<◌, ◌-◌, ◌^◌, ◌↔◌, ◌⊎◌, ℕ, None, Some, true, false, MatchOption, length};
+ghost use Rattle.std.specs.Prelude.{◌≡◌, ◌≢◌, ◌≤◌, ◌<◌, ◌-◌, ◌^◌, ◌↔◌, ◌⊎◌, ℕ, List, None, Option, Some, MatchOption, length, true};
 ghost use Rattle.std.specs.Option.{is_none};
-ghost use Rattle.std.specs.Str.{is_utf8};
-ghost use Rattle.std.specs.Str.Lossy.{utf8_valid_len};
-ghost use Rattle.encodings.specs.Lines.{places_of};
-ghost use Rattle.encodings.specs.Names.{encoding_named};
 ghost use Rattle.encodings.specs.declared.encoding.Encoding.{Encoding as EncodingValue};
-ghost use Rattle.encodings.specs.declared.encoding.Encoding.TheVariants.{Bytes};
-ghost use Rattle.tfmset_c.specs.Arrays.{HasRoom, IsFilled};
-ghost use Rattle.tfmset_c.specs.Encoded.{AreCodesTold, codes_at, first_without as first_without_in, report_of, text_codes};
-ghost use Rattle.tfmset_c.specs.Texts.{held};
+ghost use Rattle.encodings.specs.Lines.{fault_in, places_of};
+ghost use Rattle.tfmset_c.specs.Arrays.{IsFilled};
+ghost use Rattle.tfmset_c.specs.Encoded.{AreCodesTold, codes_at, encoded_as, encoding_told, first_without as first_without_in, text_codes};
+ghost use Rattle.tfmset_c.specs.Encoded.EncodedText.{codes};
 
 use crate::arrays::{has_room, put_bytes};
 use crate::reading::{DONE, NO_ROOM, RANGE};
-use encodings::{Encoding, Place, Places, codes_of};
+use encodings::{Encoding, Place, Places, codes_of, utf8_fault};
 use std::str;
 
 /// The text isn't UTF-8.
@@ -34,13 +30,15 @@ pub struct TfmsetEncoded {
     pub character: u32,
 }
 
-/// Returns the encoding of this name, if there is one.
+/// Returns the encoding of this name: `None` within `Some` is that of bytes, each of which is a code. Returns
+/// `None` if no encoding has this name.
 #[tactic(auto, using(crate::proofs::EncodedLemmas::names))]
-pub fn encoding_of(name: &[u8]) -> Option<Encoding>
-    ensures { result ≡ encoding_named name.now }
+pub fn encoding_of(name: &[u8]) -> Option<Option<Encoding>>
+    ensures { result ≡ encoding_told name.now }
 {
     match str::from_utf8(name) {
-        Ok(name) => Encoding::from_name(name),
+        Ok("bytes") => Some(None),
+        Ok(name) => Some(Some(Encoding::from_name(name)?)),
         Err(_) => None,
     }
 }
@@ -78,8 +76,7 @@ fn first_without(encoding: Encoding, places: Places<'_>) -> Option<Place>
 /// Writes the codes of characters into the array while there is room. Characters without codes are left out.
 /// Returns the number of codes, or 2^64 - 1 if it is larger.
 fn fill_codes(encoding: Encoding, places: Places<'_>, codes: &mut [u8]) -> usize
-    ensures count { result ≡ held (length (codes_at encoding places.entry)) }
-    ensures codes { IsFilled (codes_at encoding places.entry) codes.old codes.new }
+    ensures { IsFilled (codes_at encoding places.entry) result codes.old codes.new }
 {
     let mut at = 0;
     for place in places {
@@ -92,11 +89,10 @@ fn fill_codes(encoding: Encoding, places: Places<'_>, codes: &mut [u8]) -> usize
 
 /// Reports the number of codes that were written. Returns 0, or 3 if the array, which has `room` elements, is
 /// too short for them.
+#[tactic(auto, using(crate::proofs::ArrayLemmas::filled))]
 fn report_count(count: usize, room: usize, report: &mut TfmsetEncoded) -> u32
-    ensures answers { (result ≡ 0) ⊎ (result ≡ 3) }
-    ensures report { report.new ≡ report_of count 0 0 }
-    ensures fits { (n : ℕ) → count ≡ held n → result ≡ 0 → HasRoom n room }
-    ensures lacks { (n : ℕ) → count ≡ held n → result ≡ 3 → HasRoom n room → ⊥ }
+    ensures { (told before after : List ℕ) → room ≡ length before → IsFilled told count before after
+        → AreCodesTold (codes told) result report.new before after }
 {
     *report = TfmsetEncoded {
         count,
@@ -106,50 +102,10 @@ fn report_count(count: usize, room: usize, report: &mut TfmsetEncoded) -> u32
     if has_room(count, room) { DONE } else { NO_ROOM }
 }
 
-/// Copies bytes, which are codes, into the array. Returns 0, or 3 if the array is too short.
-fn copy_bytes(text: &[u8], codes: &mut [u8], report: &mut TfmsetEncoded) -> u32
-    ensures answers { (result ≡ 0) ⊎ (result ≡ 3) }
-    ensures told { AreCodesTold Bytes text.now result report.new codes.old codes.new }
-{
-    let count = put_bytes(codes, 0, text);
-    report_count(count, codes.len(), report)
-}
-
-/// Reports the byte offset at which a text isn't UTF-8. Returns 5.
-#[tactic(auto, using(crate::proofs::EncodedLemmas::faults))]
-fn report_fault(text: &[u8], report: &mut TfmsetEncoded) -> u32
-    requires { is_utf8 text.now ≡ false }
-    ensures answers { result ≡ 5 }
-    ensures report { report.new ≡ report_of 0 (utf8_valid_len text.now) 0 }
-{
-    let offset = match str::from_utf8(text) {
-        Ok(_) => unreachable!(),
-        Err(fault) => fault.valid_up_to(),
-    };
-    *report = TfmsetEncoded {
-        count: 0,
-        offset,
-        character: 0,
-    };
-    NOT_UTF8
-}
-
-/// Reports a character that has no codes. Returns 6.
-fn report_uncoded(place: Place, report: &mut TfmsetEncoded) -> u32
-    ensures answers { result ≡ 6 }
-    ensures report { report.new ≡ report_of 0 place.offset place.character }
-{
-    *report = TfmsetEncoded {
-        count: 0,
-        offset: place.offset,
-        character: u32::from(place.character),
-    };
-    UNCODED
-}
-
 /// Returns the characters of a text in UTF-8.
+#[tactic(auto, unfolding(encodings::specs::Lines::fault_in))]
 fn places_in(text: &[u8]) -> Places<'_>
-    requires { is_utf8 text.now ≡ true }
+    requires { fault_in text.now ≡ None }
     ensures { result ≡ places_of true text.now }
 {
     match Places::of_line(true, text) {
@@ -158,17 +114,36 @@ fn places_in(text: &[u8]) -> Places<'_>
     }
 }
 
-/// Writes the codes of a text in UTF-8 into the array. Returns the code of the call.
-fn encode_text(encoding: Encoding, text: &[u8], codes: &mut [u8], report: &mut TfmsetEncoded) -> u32
-    requires { encoding ≢ Bytes }
-    ensures answers { (result ≡ 0) ⊎ ((result ≡ 3) ⊎ ((result ≡ 5) ⊎ (result ≡ 6))) }
-    ensures told { AreCodesTold encoding text.now result report.new codes.old codes.new }
+/// Writes the codes of a text into the array, or reports why it has none. Without an encoding its bytes are
+/// the codes. Returns the code of the call.
+#[tactic(auto, using(crate::proofs::EncodedLemmas::texts))]
+fn encode_text(
+    encoding: Option<Encoding>,
+    text: &[u8],
+    codes: &mut [u8],
+    report: &mut TfmsetEncoded,
+) -> u32
+    ensures { AreCodesTold (encoded_as encoding text.now) result report.new codes.old codes.new }
 {
-    let Some(places) = Places::of_line(true, text) else {
-        return report_fault(text, report);
+    let Some(encoding) = encoding else {
+        let count = put_bytes(codes, 0, text);
+        return report_count(count, codes.len(), report);
     };
-    if let Some(place) = first_without(encoding, places) {
-        return report_uncoded(place, report);
+    if let Some(offset) = utf8_fault(text) {
+        *report = TfmsetEncoded {
+            count: 0,
+            offset,
+            character: 0,
+        };
+        return NOT_UTF8;
+    }
+    if let Some(Place { offset, character }) = first_without(encoding, places_in(text)) {
+        *report = TfmsetEncoded {
+            count: 0,
+            offset,
+            character: u32::from(character),
+        };
+        return UNCODED;
     }
     let count = fill_codes(encoding, places_in(text), codes);
     report_count(count, codes.len(), report)
@@ -188,6 +163,7 @@ fn bytes_are_countable(bytes: &[u8])
 /// isn't UTF-8; 6 if each byte belongs to a character, but a character has no codes. After 5 and 6 `codes` is
 /// unchanged. An array as long as the text is always long enough. `report` has the number of codes after 0 and
 /// 3, and the offset of the fault after 5 and 6. No memory is allocated.
+#[tactic(auto, using(crate::proofs::EncodedLemmas::reported))]
 #[unsafe(no_mangle)]
 pub extern "C" fn tfmset_encode(
     encoding: &[u8],
@@ -195,17 +171,16 @@ pub extern "C" fn tfmset_encode(
     codes: &mut [u8],
     report: &mut TfmsetEncoded,
 ) -> u32
-    ensures answers { (result ≡ 0) ⊎ ((result ≡ 3) ⊎ ((result ≡ 4) ⊎ ((result ≡ 5) ⊎ (result ≡ 6)))) }
-    ensures range { (result ≡ 4) ↔ (encoding_named encoding.now ≡ None) }
-    ensures told { (named : EncodingValue) → encoding_named encoding.now ≡ Some named
-        → AreCodesTold named text.now result report.new codes.old codes.new }
+    ensures answers { (result ≡ 0) ⊎ ((3 ≤ result) × (result ≤ 6)) }
+    ensures range { (result ≡ 4) ↔ (encoding_told encoding.now ≡ None) }
+    ensures told { (named : Option EncodingValue) → encoding_told encoding.now ≡ Some named
+        → AreCodesTold (encoded_as named text.now) result report.new codes.old codes.new }
     ensures kept { result ≡ 4 → (report.new ≡ report.old) × (codes.new ≡ codes.old) }
     ensures enough { length text.now ≤ length codes.old → result ≢ 3 }
 {
     bytes_are_countable(text);
     match encoding_of(encoding) {
         None => RANGE,
-        Some(Encoding::Bytes) => copy_bytes(text, codes, report),
         Some(named) => encode_text(named, text, codes, report),
     }
 }

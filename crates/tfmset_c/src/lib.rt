@@ -4,13 +4,12 @@
 
 pub use check::{TfmsetFault, tfmset_check};
 pub use encode::{TfmsetEncoded, tfmset_encode};
-pub use encoded_records::tfmset_encoded_records;
 pub use font::{TfmsetFont, tfmset_font};
 pub use lines::{TfmsetCounts, TfmsetItem, TfmsetLine};
 pub use metrics::{TfmsetMetrics, tfmset_metrics};
 pub use pair::{TfmsetPair, tfmset_pair};
 pub use pairing::{TfmsetNeighbours, tfmset_pairs};
-pub use records::tfmset_records;
+pub use records::{tfmset_encoded_records, tfmset_records};
 pub use set::{tfmset_set, tfmset_widths};
 pub use size::tfmset_size;
 pub use version::tfmset_version;
@@ -18,7 +17,6 @@ pub use version::tfmset_version;
 mod arrays;
 mod check;
 mod encode;
-mod encoded_records;
 mod font;
 mod lines;
 mod metrics;

@@ -1,9 +1,11 @@
 //! The results of lines as C gets them.
-ghost use Rattle.std.specs.Prelude.{◌≡◌, ℕ, pos};
-ghost use Rattle.tfmset_c.specs.Texts.{held, item_told, line_told};
+ghost use Rattle.std.specs.Prelude.{◌≡◌};
+ghost use Rattle.set_line.specs.declared.outcome.Outcome.{Outcome as OutcomeValue};
+ghost use Rattle.tfmset_c.specs.Texts.{IsOf, item_told, line_told};
 
 use lig_kern::Item;
-use set_line::{LineRefusal, Outcome};
+use line_records::{LineResult, Sums};
+use set_line::{LineRefusal, Outcome, TextRefusal};
 
 /// An item of a line.
 #[repr(C)]
@@ -69,18 +71,50 @@ pub fn item_for_c(item: Item) -> TfmsetItem
     }
 }
 
-/// Returns the result of a refused line, which has no items. `first` is the number of items before it.
-fn refused(first: usize, refusal: u32, place: usize, steps: u32, code: u8) -> TfmsetLine
-    ensures { result ≡ record {
-      width = pos 0;
-      first = first;
-      count = 0;
-      place = place;
-      steps = steps;
-      refusal = refusal;
-      code = code;
-    } }
+/// Returns the result of a line without its items.
+pub fn result_of(outcome: &Outcome) -> LineResult
+    ensures { IsOf outcome.now result }
 {
+    match outcome {
+        Outcome::Set {
+            items,
+            width,
+            steps,
+        } => LineResult::Set(Sums {
+            width: *width,
+            steps: *steps,
+            items: items.as_slice().len(),
+        }),
+        Outcome::Refused(refusal) => LineResult::Refused(TextRefusal::Line(*refusal)),
+    }
+}
+
+/// Returns the result of a line of bytes as C gets it. `first` is the index of its first item.
+#[tactic(auto, unfolding(crate::specs::Texts::line_told))]
+pub fn line_for_c(set: LineResult, first: usize) -> TfmsetLine
+    requires { (outcome : OutcomeValue) × IsOf outcome set }
+    ensures { (outcome : OutcomeValue) → IsOf outcome set → result ≡ line_told first outcome }
+{
+    let refusal = match set {
+        LineResult::Set(sums) => {
+            return TfmsetLine {
+                width: sums.width,
+                first,
+                count: sums.items,
+                place: 0,
+                steps: sums.steps,
+                refusal: 0,
+                code: 0,
+            };
+        }
+        LineResult::Refused(TextRefusal::Line(refusal)) => refusal,
+        LineResult::Refused(_) => unreachable!(),
+    };
+    let (refusal, place, steps, code) = match refusal {
+        LineRefusal::Missing { offset, code } => (1, offset, 0, code),
+        LineRefusal::TooLong(bytes) => (2, bytes, 0, 0),
+        LineRefusal::Steps(limit) => (3, 0, limit, 0),
+    };
     TfmsetLine {
         width: 0,
         first,
@@ -89,32 +123,5 @@ fn refused(first: usize, refusal: u32, place: usize, steps: u32, code: u8) -> Tf
         steps,
         refusal,
         code: u32::from(code),
-    }
-}
-
-/// Returns the result of a line as C gets it. `first` is the number of items before it.
-#[tactic(auto, unfolding(crate::specs::Texts::line_told))]
-pub fn line_for_c(outcome: &Outcome, first: usize) -> TfmsetLine
-    ensures { (before : ℕ) → first ≡ held before → result ≡ line_told before outcome.now }
-{
-    match outcome {
-        Outcome::Set {
-            items,
-            width,
-            steps,
-        } => TfmsetLine {
-            width: *width,
-            first,
-            count: items.as_slice().len(),
-            place: 0,
-            steps: *steps,
-            refusal: 0,
-            code: 0,
-        },
-        Outcome::Refused(LineRefusal::Missing { offset, code }) => {
-            refused(first, 1, *offset, 0, *code)
-        }
-        Outcome::Refused(LineRefusal::TooLong(bytes)) => refused(first, 2, *bytes, 0, 0),
-        Outcome::Refused(LineRefusal::Steps(limit)) => refused(first, 3, 0, *limit, 0),
     }
 }

@@ -1,5 +1,5 @@
 //! `tfmset_pairs`: all pairs of neighbours that have a kern or a ligature operation.
-ghost use Rattle.std.specs.Prelude.{◌≡◌, ◌≤◌, ◌↔◌, ◌⊎◌, None, IsSome, length, map};
+ghost use Rattle.std.specs.Prelude.{◌≡◌, ◌≢◌, ◌≤◌, ◌↔◌, ◌⊎◌, None, IsSome, length, map};
 ghost use Rattle.font_texts.specs.Pairs.{pairs_of};
 ghost use Rattle.tfm_tables.specs.Acceptance.{font_fault_of};
 ghost use Rattle.tfmset_c.specs.Arrays.{ArePairsTold, IsOverlaid};
@@ -49,6 +49,7 @@ fn neighbours_for_c(pair: &Pair) -> TfmsetNeighbours
 }
 
 /// Writes pairs to the front of an array.
+#[tactic(auto, using(crate::proofs::ArrayLemmas::overlaid_more))]
 fn put_pairs(pairs: &mut [TfmsetNeighbours], found: &[Pair])
     requires { length found.now ≤ length pairs.old }
     ensures { IsOverlaid (map neighbours_told found.now) pairs.old pairs.new }
@@ -69,6 +70,7 @@ fn report_pairs(
 ) -> u32
     ensures answers { (result ≡ 0) ⊎ ((result ≡ 2) ⊎ (result ≡ 3)) }
     ensures told { ArePairsTold (pairs_told font.now) result count.old count.new pairs.old pairs.new }
+    ensures kept { result ≢ 0 → pairs.new ≡ pairs.old }
 {
     let Ok(found) = font_texts::pairs(alloc, font) else {
         return MEMORY;
@@ -105,6 +107,7 @@ pub extern "C" fn tfmset_pairs(
     ensures accepted { (result ≡ 0) ⊎ (result ≡ 3) → font_fault_of font.now ≡ None }
     ensures told { ArePairsTold (pairs_told (font_at font.now size)) result count.old count.new
         pairs.old pairs.new }
+    ensures kept { result ≢ 0 → pairs.new ≡ pairs.old }
 {
     if size > MOST_SIZE {
         return RANGE;

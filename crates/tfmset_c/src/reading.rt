@@ -52,6 +52,7 @@ fn size_numbered(size: u32) -> Option<Size>
 
 /// Reads the font in these bytes, without the tables that are needed only to set lines. `size` is in sp, and
 /// 0 is the design size. Returns a `Denial` if the font is refused, or an allocation fails.
+#[tactic(auto, using(crate::proofs::ReadingLemmas::opened))]
 pub fn read_metrics(alloc: Global, bytes: &[u8], size: u32) -> Result<FontMetrics, Denial>
     requires { size ≤ 134217727 }
     ensures ok { IfOk result (IsOpened bytes.now size) }

@@ -1,31 +1,16 @@
 //! `tfmset_set` and `tfmset_widths`: set the lines of a text into arrays of the caller.
-ghost use Rattle.std.specs.Prelude.{◌≡◌, ◌≢◌, ◌≤◌, ◌↔◌, ◌⊎◌, ℕ, ◌∷◌, [], map, None, IsSome, IfOk};
-ghost use Rattle.pair_texts.specs.Sums.{HasSums};
-ghost use Rattle.set_line.specs.Answer.{outcome_of};
-ghost use Rattle.set_line.specs.declared.outcome.Outcome.{Outcome as OutcomeValue};
+ghost use Rattle.std.specs.Prelude.{◌≡◌, ◌≤◌, ◌↔◌, ◌⊎◌, length, map, None, IsSome, IfOk};
 ghost use Rattle.tfm_tables.specs.Acceptance.{font_fault_of};
-ghost use Rattle.tfmset_c.specs.Arrays.{AreLinesTold, ArePut, AreTold, IsFilled, IsPutWithoutItems};
-ghost use Rattle.tfmset_c.specs.Texts.{
-  IsOutOfRange,
-  counts_told,
-  held,
-  item_told,
-  items_in,
-  items_told,
-  line_told,
-  lines_told,
-  outcomes_of,
-  terms_at,
-};
+ghost use Rattle.tfmset_c.specs.Arrays.{AreLinesTold, ArePut, AreTold, IsFilled};
+ghost use Rattle.tfmset_c.specs.Texts.{IsOutOfRange, held, item_told, items_in, items_told, lines_told, outcomes_of, terms_at};
 
 use crate::arrays::{has_room, put_item, put_line};
-use crate::lines::{TfmsetCounts, TfmsetItem, TfmsetLine, item_for_c, line_for_c};
+use crate::lines::{TfmsetCounts, TfmsetItem, TfmsetLine, item_for_c, line_for_c, result_of};
 use crate::reading::{DONE, MEMORY, NO_ROOM, RANGE};
-use crate::records::writer_for;
 use crate::settings::{Text, in_range, terms_of};
 use lig_kern::Item;
-use pair_texts::{LineWriter, Sums};
-use set_line::{OutOfMemory, Outcome, Terms, first_line, set_bytes};
+use line_records::{LineWriter, RecordOf, SourceLine};
+use set_line::{OutOfMemory, Outcome, Version, first_line, set_bytes};
 use std::alloc::Global;
 
 /// The largest number of bytes in a text whose widths are computed without a table of texts: with an empty
@@ -33,6 +18,7 @@ use std::alloc::Global;
 const FEW_FOR_TABLE: usize = 65_536;
 
 /// Writes items, starting at index `first`, while there is room, and returns the index after all of them.
+#[tactic(auto, using(crate::proofs::ArrayLemmas::put_both))]
 fn put_items(items: &mut [TfmsetItem], first: usize, made: &[Item]) -> usize
     ensures { ArePut (map item_told made.now) first result items.old items.new }
 {
@@ -55,25 +41,6 @@ fn put_items_in(items: &mut [TfmsetItem], first: usize, outcome: &Outcome) -> us
     }
 }
 
-/// Writes a line and its items, starting at the indices `at`, while there is room, and returns the indices
-/// after them.
-fn put_outcome(
-    lines: &mut [TfmsetLine],
-    items: &mut [TfmsetItem],
-    at: TfmsetCounts,
-    outcome: &Outcome,
-) -> TfmsetCounts
-    ensures line { (before : ℕ) → at.items ≡ held before
-        → ArePut (line_told before outcome.now ∷ []) at.lines result.lines lines.old lines.new }
-    ensures items { ArePut (map item_told (items_in outcome.now)) at.items result.items
-        items.old items.new }
-{
-    TfmsetCounts {
-        lines: put_line(lines, at.lines, line_for_c(outcome, at.items)),
-        items: put_items_in(items, at.items, outcome),
-    }
-}
-
 /// Sets the lines of a text, and writes the lines and their items into the arrays while there is room.
 /// Returns the numbers of lines and items. If an allocation fails, the contents of the arrays are
 /// unspecified.
@@ -83,19 +50,21 @@ fn fill(
     lines: &mut [TfmsetLine],
     items: &mut [TfmsetItem],
 ) -> Result<TfmsetCounts, OutOfMemory>
-    ensures counts { IfOk result (λ counts.
-        counts ≡ counts_told (outcomes_of text.entry.terms.now text.entry.bytes.now)) }
-    ensures lines { IfOk result (λ counts.
-        IsFilled (lines_told 0 (outcomes_of text.entry.terms.now text.entry.bytes.now)) lines.old lines.new) }
-    ensures items { IfOk result (λ counts.
-        IsFilled (items_told (outcomes_of text.entry.terms.now text.entry.bytes.now)) items.old items.new) }
+    ensures lines { IfOk result (λ counts. IsFilled
+        (lines_told 0 (outcomes_of text.entry.terms.now text.entry.bytes.now)) counts.lines lines.old lines.new) }
+    ensures items { IfOk result (λ counts. IsFilled
+        (items_told (outcomes_of text.entry.terms.now text.entry.bytes.now)) counts.items items.old items.new) }
 {
     let mut list = Vec::new(alloc);
     let mut counts = TfmsetCounts { lines: 0, items: 0 };
     let mut rest = text.bytes;
     while let Some((line, more)) = first_line(rest) {
         let outcome = set_bytes(text.terms, line, &mut list)?;
-        counts = put_outcome(lines, items, counts, &outcome);
+        let told = line_for_c(result_of(&outcome), counts.items);
+        counts = TfmsetCounts {
+            lines: put_line(lines, counts.lines, told),
+            items: put_items_in(items, counts.items, &outcome),
+        };
         outcome.give_back(&mut list);
         rest = more;
     }
@@ -104,6 +73,7 @@ fn fill(
 
 /// Sets the lines of a text into both arrays. Returns: 0 after success; 2 if an allocation fails, with
 /// `counts` unchanged; 3 if an array is too short.
+#[tactic(auto, using(crate::proofs::ArrayLemmas::filled))]
 fn set_into(
     alloc: Global,
     text: Text,
@@ -125,108 +95,42 @@ fn set_into(
     NO_ROOM
 }
 
-/// Returns a line that is set, with these sums. `first` is the number of items before it.
-fn line_of_sums(sums: Sums, first: usize) -> TfmsetLine
-    ensures { (outcome : OutcomeValue) (before : ℕ) → HasSums outcome sums → first ≡ held before
-        → result ≡ line_told before outcome }
-{
-    TfmsetLine {
-        width: sums.width,
-        first,
-        count: sums.items,
-        place: 0,
-        steps: sums.steps,
-        refusal: 0,
-        code: 0,
-    }
-}
-
-/// Writes a line with these sums at the indices `at`, if there is room, and returns the indices after it.
-fn put_sums(lines: &mut [TfmsetLine], at: TfmsetCounts, sums: Sums) -> TfmsetCounts
-    ensures { (outcome : OutcomeValue) → HasSums outcome sums
-        → IsPutWithoutItems outcome at result lines.old lines.new }
-{
-    TfmsetCounts {
-        lines: put_line(lines, at.lines, line_of_sums(sums, at.items)),
-        items: at.items.saturating_add(sums.items),
-    }
-}
-
-/// Writes a line at the indices `at`, if there is room, and returns the indices after it.
-fn put_line_alone(lines: &mut [TfmsetLine], at: TfmsetCounts, outcome: &Outcome) -> TfmsetCounts
-    ensures { IsPutWithoutItems outcome.now at result lines.old lines.new }
-{
-    let mut none: [TfmsetItem; 0] = [];
-    put_outcome(lines, &mut none, at, outcome)
-}
-
-/// Sets a line in the general way, writes it at the indices `at`, if there is room, and returns the indices
-/// after it. The memory of `list` is used for its items.
-fn put_width(
-    lines: &mut [TfmsetLine],
-    at: TfmsetCounts,
-    terms: &Terms,
-    line: &[u8],
-    list: &mut Vec<Item>,
-) -> Result<TfmsetCounts, OutOfMemory>
-    ensures { IfOk result (λ next.
-        IsPutWithoutItems (outcome_of terms.now line.now) at next lines.old lines.new) }
-{
-    let outcome = set_bytes(terms, line, list)?;
-    let next = put_line_alone(lines, at, &outcome);
-    outcome.give_back(list);
-    Ok(next)
-}
-
-/// Sets lines of which only the sums are returned, with the memory that is used for each of them.
-#[derive(Drop)]
-struct WidthSetter {
-    writer: LineWriter,
-    list: Vec<Item>,
-}
-
-impl WidthSetter {
-    /// Sets a line, writes it at the indices `at`, if there is room, and returns the indices after it.
-    fn put(
-        &mut self,
-        terms: &Terms,
-        line: &[u8],
-        lines: &mut [TfmsetLine],
-        at: TfmsetCounts,
-    ) -> Result<TfmsetCounts, OutOfMemory>
-        requires { self.old.writer ≡ terms.now.font }
-        ensures font { self.new.writer ≡ self.old.writer }
-        ensures put { IfOk result (λ next.
-            IsPutWithoutItems (outcome_of terms.now line.now) at next lines.old lines.new) }
-    {
-        match self.writer.sums(terms, line) {
-            Some(Ok(sums)) => Ok(put_sums(lines, at, sums)),
-            Some(Err(refusal)) => Ok(put_line_alone(lines, at, &Outcome::Refused(refusal))),
-            None => put_width(lines, at, terms, line, &mut self.list),
-        }
-    }
-}
-
 /// Sets the lines of a text, and writes the lines into the array while there is room. Returns the numbers of
 /// lines and items. If an allocation fails, the contents of the array are unspecified.
+#[tactic(auto, using(crate::proofs::ArrayLemmas::filled))]
 fn fill_widths(
     alloc: Global,
     text: Text,
     lines: &mut [TfmsetLine],
 ) -> Result<TfmsetCounts, OutOfMemory>
-    ensures counts { IfOk result (λ counts.
-        counts ≡ counts_told (outcomes_of text.entry.terms.now text.entry.bytes.now)) }
-    ensures lines { IfOk result (λ counts.
-        IsFilled (lines_told 0 (outcomes_of text.entry.terms.now text.entry.bytes.now)) lines.old lines.new) }
+    ensures lines { IfOk result (λ counts. IsFilled
+        (lines_told 0 (outcomes_of text.entry.terms.now text.entry.bytes.now)) counts.lines lines.old lines.new) }
+    ensures items { IfOk result (λ counts.
+        counts.items ≡ held (length (items_told (outcomes_of text.entry.terms.now text.entry.bytes.now)))) }
 {
-    let mut setter = WidthSetter {
-        writer: writer_for(alloc, text, text.bytes.len() > FEW_FOR_TABLE),
-        list: Vec::new(alloc),
+    if text.bytes.len() <= FEW_FOR_TABLE {
+        return fill(alloc, text, lines, &mut []);
+    }
+    let of = RecordOf {
+        terms: text.terms,
+        encoding: None,
+        source: 0,
     };
+    let mut writer = LineWriter::new(alloc, text.terms, Version::One);
+    writer.prepare(text.terms);
     let mut counts = TfmsetCounts { lines: 0, items: 0 };
     let mut rest = text.bytes;
-    while let Some((line, more)) = first_line(rest) {
-        counts = setter.put(text.terms, line, lines, counts)?;
+    while let Some((bytes, more)) = first_line(rest) {
+        let line = SourceLine {
+            number: 0,
+            first: false,
+            bytes,
+        };
+        let told = line_for_c(writer.result(&of, line)?, counts.items);
+        counts = TfmsetCounts {
+            lines: put_line(lines, counts.lines, told),
+            items: counts.items.saturating_add(told.count),
+        };
         rest = more;
     }
     Ok(counts)
@@ -234,6 +138,7 @@ fn fill_widths(
 
 /// Sets the lines of a text into the array `lines`. Returns: 0 after success; 2 if an allocation fails, with
 /// `counts` unchanged; 3 if the array is too short.
+#[tactic(auto, using(crate::proofs::ArrayLemmas::filled))]
 fn set_widths(alloc: Global, text: Text, lines: &mut [TfmsetLine], counts: &mut TfmsetCounts) -> u32
     ensures answers { (result ≡ 0) ⊎ ((result ≡ 2) ⊎ (result ≡ 3)) }
     ensures told { AreLinesTold (outcomes_of text.entry.terms.now text.entry.bytes.now) result counts.old

@@ -56,6 +56,7 @@ fn policy_numbered(policy: u32) -> Policy
 
 /// Reads the font in these bytes, and returns settings with the font, the limit and the policy. Returns a
 /// `Denial` if the font is refused, or an allocation fails.
+#[tactic(auto, unfolding(crate::specs::Texts::terms_at))]
 pub fn terms_of(alloc: Global, bytes: &[u8], settings: Settings) -> Result<Terms, Denial>
     requires { settings.size ≤ 134217727 }
     ensures ok { IfOk result

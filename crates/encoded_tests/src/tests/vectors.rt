@@ -3,8 +3,7 @@ use encodings::{EncodedLine, Encoding, character_at, encode_line};
 use std::process::Abort;
 use std::test::Fail;
 
-/// Characters with their codes, a line, the codes that it has up to the first character without codes, and whether
-/// there is one.
+/// Characters with their codes, a line, the codes that it has, and whether it has a character without codes.
 static LINES: [(&[(u8, char)], &str, &[u8], bool); 11] = [
     // two codes of a character, and codes 10 and 32
     (&[(65, 'x'), (66, 'x'), (33, 'é')], "xé", b"A!", false),
@@ -27,7 +26,7 @@ static LINES: [(&[(u8, char)], &str, &[u8], bool); 11] = [
 #[test]
 fn lines_with_codes_of_vectors(rt: HostRuntime) -> Result<(), Fail> {
     let mut line = EncodedLine::new(rt.alloc());
-    for (placed, text, codes, has_uncoded) in LINES {
+    for (placed, text, codes, has_gaps) in LINES {
         // The character after the 256th is ignored.
         let mut characters = [None; 257];
         characters[256] = Some('x');
@@ -37,7 +36,7 @@ fn lines_with_codes_of_vectors(rt: HostRuntime) -> Result<(), Fail> {
         let vector = Encoding::of_characters(rt.alloc(), &characters)?;
         let encoded = encode_line(vector, false, text.as_bytes(), &mut line);
         assert!(rt; encoded == Ok(()) && line.codes() == codes, "{text}");
-        assert!(rt; line.has_uncoded() == has_uncoded, "{text}");
+        assert!(rt; line.has_gaps() == has_gaps, "{text}");
     }
     Ok(())
 }
@@ -56,7 +55,6 @@ fn characters_of_codes(rt: HostRuntime) -> Result<(), Fail> {
         (Encoding::Ot1, 92, Some('“')),
         (Encoding::Ly1, 1, Some('€')),
         (Encoding::Latin1, 10, Some('\n')),
-        (Encoding::Bytes, 65, None),
     ] {
         assert!(rt; character_at(encoding, code) == character, "{code}");
     }

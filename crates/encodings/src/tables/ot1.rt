@@ -1,98 +1,64 @@
 //! The codes of OT1, the encoding of cmr10.
-use crate::tables::{LEADS, NONE, OtherCodes, SingleCodes, X};
+use crate::tables::{OtherCodes, SingleCodes, X};
 
 /// The codes of the characters up to U+017F, and from U+2000 to U+203F, that have a single code.
 pub(crate) static OT1_SINGLE: SingleCodes = [
-    // where a character begins
-    [
-        // U+0000 to U+000F
-        X, X, X, X, X, X, X, X, X, X, X, X, X, X, X, X,
-        // U+0010 to U+001F
-        X, X, X, X, X, X, X, X, X, X, X, X, X, X, X, X,
-        // U+0020 to U+002F
-        32, 33, X, 35, 36, 37, 38, 39, 40, 41, 42, 43, 44, 45, 46, 47,
-        // U+0030 to U+003F
-        48, 49, 50, 51, 52, 53, 54, 55, 56, 57, 58, 59, X, 61, X, 63,
-    ],
-    [
-        // U+0040 to U+004F
-        64, 65, 66, 67, 68, 69, 70, 71, 72, 73, 74, 75, 76, 77, 78, 79,
-        // U+0050 to U+005F
-        80, 81, 82, 83, 84, 85, 86, 87, 88, 89, 90, 91, X, 93, X, X,
-        // U+0060 to U+006F
-        96, 97, 98, 99, 100, 101, 102, 103, 104, 105, 106, 107, 108, 109, 110, 111,
-        // U+0070 to U+007F
-        112, 113, 114, 115, 116, 117, 118, 119, 120, 121, 122, X, X, X, X, X,
-    ],
-    NONE,
-    LEADS,
-    // after the byte 0xC2
-    NONE,
-    NONE,
-    [
-        // U+0080 to U+008F
-        X, X, X, X, X, X, X, X, X, X, X, X, X, X, X, X,
-        // U+0090 to U+009F
-        X, X, X, X, X, X, X, X, X, X, X, X, X, X, X, X,
-        // U+00A0 to U+00AF
-        32, X, X, X, X, X, X, X, 127, X, X, X, X, X, X, 22,
-        // U+00B0 to U+00BF
-        X, X, X, X, 19, X, X, X, 24, X, X, X, X, X, X, X,
-    ],
-    NONE,
-    // after the byte 0xC3
-    NONE,
-    NONE,
-    [
-        // U+00C0 to U+00CF
-        X, X, X, X, X, X, 29, X, X, X, X, X, X, X, X, X,
-        // U+00D0 to U+00DF
-        X, X, X, X, X, X, X, X, 31, X, X, X, X, X, X, 25,
-        // U+00E0 to U+00EF
-        X, X, X, X, X, X, 26, X, X, X, X, X, X, X, X, X,
-        // U+00F0 to U+00FF
-        X, X, X, X, X, X, X, X, 28, X, X, X, X, X, X, X,
-    ],
-    NONE,
-    // after the byte 0xC4
-    NONE,
-    NONE,
-    [
-        // U+0100 to U+010F
-        X, X, X, X, X, X, X, X, X, X, X, X, X, X, X, X,
-        // U+0110 to U+011F
-        X, X, X, X, X, X, X, X, X, X, X, X, X, X, X, X,
-        // U+0120 to U+012F
-        X, X, X, X, X, X, X, X, X, X, X, X, X, X, X, X,
-        // U+0130 to U+013F
-        X, 16, X, X, X, X, X, X, X, X, X, X, X, X, X, X,
-    ],
-    NONE,
-    // after the byte 0xC5
-    NONE,
-    NONE,
-    [
-        // U+0140 to U+014F
-        X, X, X, X, X, X, X, X, X, X, X, X, X, X, X, X,
-        // U+0150 to U+015F
-        X, X, 30, 27, X, X, X, X, X, X, X, X, X, X, X, X,
-        // U+0160 to U+016F
-        X, X, X, X, X, X, X, X, X, X, X, X, X, X, X, X,
-        // U+0170 to U+017F
-        X, X, X, X, X, X, X, X, X, X, X, X, X, X, X, X,
-    ],
-    NONE,
-    // after the bytes 0xE2 and 0x80
-    [
-        // U+2000 to U+200F
-        X, X, X, X, X, X, X, X, X, X, X, X, X, X, X, X,
-        // U+2010 to U+201F
-        45, 45, 123, 123, 124, 124, X, X, 96, 39, X, X, 92, 34, X, X,
-        // U+2020 to U+202F
-        X, X, X, X, X, X, X, X, X, X, X, X, X, X, X, X,
-        // U+2030 to U+203F
-        X, X, X, X, X, X, X, X, X, X, X, X, X, X, X, X,
-    ],
+    // U+0000 to U+000F
+    X, X, X, X, X, X, X, X, X, X, X, X, X, X, X, X,
+    // U+0010 to U+001F
+    X, X, X, X, X, X, X, X, X, X, X, X, X, X, X, X,
+    // U+0020 to U+002F
+    32, 33, X, 35, 36, 37, 38, 39, 40, 41, 42, 43, 44, 45, 46, 47,
+    // U+0030 to U+003F
+    48, 49, 50, 51, 52, 53, 54, 55, 56, 57, 58, 59, X, 61, X, 63,
+    // U+0040 to U+004F
+    64, 65, 66, 67, 68, 69, 70, 71, 72, 73, 74, 75, 76, 77, 78, 79,
+    // U+0050 to U+005F
+    80, 81, 82, 83, 84, 85, 86, 87, 88, 89, 90, 91, X, 93, X, X,
+    // U+0060 to U+006F
+    96, 97, 98, 99, 100, 101, 102, 103, 104, 105, 106, 107, 108, 109, 110, 111,
+    // U+0070 to U+007F
+    112, 113, 114, 115, 116, 117, 118, 119, 120, 121, 122, X, X, X, X, X,
+    // U+0080 to U+008F
+    X, X, X, X, X, X, X, X, X, X, X, X, X, X, X, X,
+    // U+0090 to U+009F
+    X, X, X, X, X, X, X, X, X, X, X, X, X, X, X, X,
+    // U+00A0 to U+00AF
+    32, X, X, X, X, X, X, X, 127, X, X, X, X, X, X, 22,
+    // U+00B0 to U+00BF
+    X, X, X, X, 19, X, X, X, 24, X, X, X, X, X, X, X,
+    // U+00C0 to U+00CF
+    X, X, X, X, X, X, 29, X, X, X, X, X, X, X, X, X,
+    // U+00D0 to U+00DF
+    X, X, X, X, X, X, X, X, 31, X, X, X, X, X, X, 25,
+    // U+00E0 to U+00EF
+    X, X, X, X, X, X, 26, X, X, X, X, X, X, X, X, X,
+    // U+00F0 to U+00FF
+    X, X, X, X, X, X, X, X, 28, X, X, X, X, X, X, X,
+    // U+0100 to U+010F
+    X, X, X, X, X, X, X, X, X, X, X, X, X, X, X, X,
+    // U+0110 to U+011F
+    X, X, X, X, X, X, X, X, X, X, X, X, X, X, X, X,
+    // U+0120 to U+012F
+    X, X, X, X, X, X, X, X, X, X, X, X, X, X, X, X,
+    // U+0130 to U+013F
+    X, 16, X, X, X, X, X, X, X, X, X, X, X, X, X, X,
+    // U+0140 to U+014F
+    X, X, X, X, X, X, X, X, X, X, X, X, X, X, X, X,
+    // U+0150 to U+015F
+    X, X, 30, 27, X, X, X, X, X, X, X, X, X, X, X, X,
+    // U+0160 to U+016F
+    X, X, X, X, X, X, X, X, X, X, X, X, X, X, X, X,
+    // U+0170 to U+017F
+    X, X, X, X, X, X, X, X, X, X, X, X, X, X, X, X,
+    // U+2000 to U+200F
+    X, X, X, X, X, X, X, X, X, X, X, X, X, X, X, X,
+    // U+2010 to U+201F
+    45, 45, 123, 123, 124, 124, X, X, 96, 39, X, X, 92, 34, X, X,
+    // U+2020 to U+202F
+    X, X, X, X, X, X, X, X, X, X, X, X, X, X, X, X,
+    // U+2030 to U+203F
+    X, X, X, X, X, X, X, X, X, X, X, X, X, X, X, X,
 ];
 
 /// The codes of all other characters that have codes.

@@ -1,6 +1,6 @@
 //! The text of the pairs of a font in each format, with and without characters.
 use encodings::Encoding;
-use encodings::Encoding::{Bytes, Latin1, Ot1, T1};
+use encodings::Encoding::{Latin1, Ot1, T1};
 use font_texts::PairsFormat::{Csv, Json, Text};
 use font_texts::{PairsFormat, PairsLayout, pairs_text};
 use std::alloc::{AllocError, Global};
@@ -16,7 +16,7 @@ use tfm_tables::{Font, Step};
 fn has_text<R: Abort + AllocGlobal>(
     rt: &R,
     file: &[u8],
-    (encoding, format): (Encoding, PairsFormat),
+    (encoding, format): (Option<Encoding>, PairsFormat),
     wanted: &str,
 ) -> Result<(), Fail> {
     let layout = PairsLayout { format, encoding };
@@ -30,10 +30,10 @@ fn has_text<R: Abort + AllocGlobal>(
 }
 
 /// Fonts, layouts, and texts.
-const PAIRS: [(Sample<'static>, (Encoding, PairsFormat), &str); 4] = [
+const PAIRS: [(Sample<'static>, (Option<Encoding>, PairsFormat), &str); 4] = [
     (
         LEFT_BOUNDARY,
-        (T1, Json),
+        (Some(T1), Json),
         "{\"left\":\"left\",\"right\":97,\"action\":\"kern\",\"value\":-40960,\
 \"left_character\":null,\"right_character\":\"a\"}\n\
 {\"left\":\"left\",\"right\":98,\"action\":\"/LIG/\",\"value\":99,\
@@ -41,12 +41,12 @@ const PAIRS: [(Sample<'static>, (Encoding, PairsFormat), &str); 4] = [
     ),
     (
         RIGHT_BOUNDARY,
-        (Latin1, Csv),
+        (Some(Latin1), Csv),
         "left,right,action,value,left_character,right_character,value_character\n\
 97,98,kern,-40960,a,b,\n97,right,/LIG,98,a,,b\n98,right,kern,20480,b,,\n",
     ),
-    (NO_CHARACTERS, (Ot1, Text), ""),
-    (NO_CHARACTERS, (Bytes, Csv), "left,right,action,value\n"),
+    (NO_CHARACTERS, (Some(Ot1), Text), ""),
+    (NO_CHARACTERS, (None, Csv), "left,right,action,value\n"),
 ];
 
 #[test]
@@ -59,16 +59,16 @@ fn pairs(rt: HostRuntime) -> Result<(), Fail> {
 
 /// The texts of a font with all codes, in which A has a kern before a line feed, a space and a soft hyphen, and
 /// a ligature before a double quote, a comma, a backslash, a delete, a no-break space, and the codes of é and ÿ.
-const OF_ALL_CODES: [((Encoding, PairsFormat), &str); 3] = [
+const OF_ALL_CODES: [((Option<Encoding>, PairsFormat), &str); 3] = [
     (
-        (Latin1, Text),
+        (Some(Latin1), Text),
         "65 10 kern -40960 A U+000A\n65 32 kern -40960 A U+0020\n\
 65 34 LIG 44 A \" ,\n65 44 LIG 34 A , \"\n65 92 LIG 31 A \\ U+001F\n\
 65 127 LIG 128 A U+007F U+0080\n65 160 LIG 159 A U+00A0 U+009F\n\
 65 173 kern -40960 A U+00AD\n65 233 LIG 161 A é ¡\n65 255 LIG 126 A ÿ ~\n",
     ),
     (
-        (Latin1, Csv),
+        (Some(Latin1), Csv),
         "left,right,action,value,left_character,right_character,value_character\n\
 65,10,kern,-40960,A,U+000A,\n65,32,kern,-40960,A,U+0020,\n\
 65,34,LIG,44,A,\"\"\"\",\",\"\n65,44,LIG,34,A,\",\",\"\"\"\"\n65,92,LIG,31,A,\\,U+001F\n\
@@ -76,7 +76,7 @@ const OF_ALL_CODES: [((Encoding, PairsFormat), &str); 3] = [
 65,173,kern,-40960,A,U+00AD,\n65,233,LIG,161,A,é,¡\n65,255,LIG,126,A,ÿ,~\n",
     ),
     (
-        (Latin1, Json),
+        (Some(Latin1), Json),
         "{\"left\":65,\"right\":10,\"action\":\"kern\",\"value\":-40960,\
 \"left_character\":\"A\",\"right_character\":\"\\u000a\"}\n\
 {\"left\":65,\"right\":32,\"action\":\"kern\",\"value\":-40960,\

@@ -2,7 +2,9 @@
 use super::named::Named::*;
 use super::words::{RUNS, Row};
 use lig_kern::Item;
-use set_line::{LineRefusal, Outcome, Policy, Terms, set_bytes};
+use line_records::{LineResult, LineWriter, RecordOf, SourceLine};
+use set_line::{LineRefusal, OutOfMemory, Outcome, Policy, Terms, TextRefusal, Version, set_bytes};
+use std::alloc::Global;
 use std::process::Abort;
 use test_support::items::{A, AHEAD, B, BACK, C, SPACE};
 use test_support::terms::terms_of;
@@ -16,9 +18,39 @@ const BAR: Item = Item::Skipped(124);
 const NONE: Item = Item::Space(0);
 
 /// Lines with spaces.
-static LINES: [Row; 8] = [
+static LINES: [Row; 18] = [
     // the steps of all runs are counted together
     (Plain, "ab abc", 1_693_013, 5, &[A, B, SPACE, A, B, C]),
+    (
+        Plain,
+        " a  b ",
+        1_365_332,
+        2,
+        &[SPACE, A, SPACE, SPACE, B, SPACE],
+    ),
+    (
+        TwoKerns,
+        "ab ab",
+        1_119_573,
+        4,
+        &[A, BACK, B, SPACE, A, BACK, B],
+    ),
+    // ligatures before a space, and after one
+    (
+        Ligature(0),
+        " aab ab",
+        1_747_626,
+        5,
+        &[SPACE, A, C, SPACE, C],
+    ),
+    (
+        Ligature(3),
+        "c ab",
+        1_672_533,
+        5,
+        &[C, SPACE, A, BACK, C, AHEAD, B],
+    ),
+    (Endless(0), "aaa a", 873_813, 4, &[A, SPACE, A]),
     // a line without characters has no boundaries
     (Plain, "", 0, 0, &[]),
     (Largest, "", 0, 0, &[]),
@@ -34,6 +66,17 @@ static LINES: [Row; 8] = [
         4,
         &[B, AHEAD, SPACE, B, AHEAD],
     ),
+    (RightBoundary, "bcb", 839_680, 4, &[B, C, B, AHEAD]),
+    (
+        RightBoundary,
+        "b a",
+        853_333,
+        5,
+        &[B, AHEAD, SPACE, A, BACK, B],
+    ),
+    (BoundaryExists, "a ", 505_173, 2, &[A, BACK, SPACE]),
+    (LeftBoundary, " a", 505_173, 1, &[SPACE, BACK, A]),
+    (LeftBoundary, "a b", 1_160_533, 4, &[BACK, A, SPACE, C, B]),
 ];
 
 /// Lines with bytes that are skipped.
@@ -66,6 +109,42 @@ pub fn is_set(outcome: &Outcome, wanted: (&[Item], i64, u32)) -> bool {
     }
 }
 
+/// The results of a line by a writer: before it is prepared, when the texts that the line needs are made, and when
+/// they are there.
+fn results_of(alloc: Global, terms: &Terms, line: &str) -> Result<[LineResult; 3], OutOfMemory> {
+    let of = RecordOf {
+        terms,
+        encoding: None,
+        source: 1,
+    };
+    let line = SourceLine {
+        number: 1,
+        first: true,
+        bytes: line.as_bytes(),
+    };
+    let mut writer = LineWriter::new(alloc, terms, Version::One);
+    let general = writer.result(&of, line)?;
+    writer.prepare(terms);
+    let made = writer.result(&of, line)?;
+    Ok([general, made, writer.result(&of, line)?])
+}
+
+/// The line has these results: its width, its steps and the number of its items, or its refusal.
+fn has_results<R: Abort + AllocGlobal>(
+    rt: &R,
+    terms: &Terms,
+    line: &str,
+    wanted: Result<(i64, u32, usize), LineRefusal>,
+) {
+    for result in results_of(rt.alloc(), terms, line).expect(rt, "memory") {
+        let found = match result {
+            LineResult::Set(sums) => Ok((sums.width, sums.steps, sums.items)),
+            LineResult::Refused(refusal) => Err(refusal),
+        };
+        assert_eq!(rt; found, wanted.map_err(TextRefusal::Line), "{line:?}");
+    }
+}
+
 /// The line is set so with just its steps as the limit.
 fn sets_line<R: Abort + AllocGlobal>(
     rt: &R,
@@ -79,6 +158,7 @@ fn sets_line<R: Abort + AllocGlobal>(
         is_set(&outcome, (items, width, steps)),
         "{line:?} in {font:?}: {outcome:?}"
     );
+    has_results(rt, &terms, line, Ok((width, steps, items.len())));
 }
 
 /// The line is refused with one step less as the limit, if that is a limit.
@@ -91,11 +171,9 @@ fn refuses_line<R: Abort + AllocGlobal>(rt: &R, policy: Policy, (font, line, _, 
             Outcome::Set { .. } => None,
             Outcome::Refused(refusal) => Some(refusal),
         };
-        assert_eq!(rt;
-            refused,
-            Some(LineRefusal::Steps(limit)),
-            "{line:?} in {font:?}"
-        );
+        let wanted = LineRefusal::Steps(limit);
+        assert_eq!(rt; refused, Some(wanted), "{line:?} in {font:?}");
+        has_results(rt, &terms, line, Err(wanted));
     }
 }
 

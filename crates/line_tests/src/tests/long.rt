@@ -2,9 +2,11 @@
 use super::lines::{is_set, outcome_of};
 use super::named::Named;
 use super::named::Named::*;
+use super::records::{BYTES, Case, is_recorded};
 use lig_kern::Item;
-use set_line::{Policy, RecordNumber, Version, lines, record_outcome, set_bytes};
+use set_line::{Line, Policy, Version, lines, record, set, set_bytes};
 use std::process::Abort;
+use std::test::Fail;
 use test_support::fonts::lengths::{LONG, Lengths, amount_of};
 use test_support::items::{A, B, C};
 use test_support::terms::{LIMIT, terms_of};
@@ -62,26 +64,21 @@ fn joined<R: Abort + AllocGlobal>(rt: &R, [first, middle, last]: Parts, times: u
     format!(in rt.alloc(); "{first}{middle}{last}").expect(rt, "memory")
 }
 
-/// The line has this record.
-fn has_record<R: Abort + AllocGlobal>(rt: &R, (font, policy, line, times, record): Row) {
-    let terms = terms_of(rt.alloc(), font.file(rt.alloc()), LIMIT, policy).expect(rt, "terms");
-    let outcome = outcome_of(rt, &terms, &joined(rt, line, times));
-    let mut out = Vec::new(rt.alloc());
-    let number = RecordNumber { source: 1, line: 1 };
-    record_outcome(&mut out, number, &outcome, Version::Two, None).expect(rt, "memory");
-    let text = joined(rt, record, times);
-    let wanted = format!(in rt.alloc(); "1:1 {text}\n").expect(rt, "memory");
-    assert!(rt;
-        out.as_slice() == wanted.as_bytes(),
-        "{times} times {line:?} in {font:?}"
-    );
-}
-
 #[test]
-fn long_lines_have_their_records(rt: HostRuntime) {
-    for row in ROWS {
-        has_record(&rt, row);
+fn long_lines_have_their_records(rt: HostRuntime) -> Result<(), Fail> {
+    for (font, policy, line, times, record) in ROWS {
+        let case = Case {
+            font,
+            policy,
+            version: Version::Two,
+            ..BYTES
+        };
+        let bytes = joined(&rt, line, times);
+        let record = joined(&rt, record, times);
+        let recorded = is_recorded(rt.alloc(), case, bytes.as_bytes(), &record)?;
+        assert!(rt; recorded, "{times} times {line:?} in {font:?}");
     }
+    Ok(())
 }
 
 /// The line `aab ac` has the font's kerns and its space.
@@ -139,20 +136,20 @@ fn texts_of_ten_million_bytes_are_cut(rt: HostRuntime) {
 static BEFORE: [usize; 4] = [199_999, 200_000, 1_048_576, 10_000_000];
 
 #[test]
-fn a_record_after_a_long_text(rt: HostRuntime) {
+fn a_record_after_a_long_text(rt: HostRuntime) -> Result<(), Fail> {
     let file = Plain.file(rt.alloc());
-    let terms = terms_of(rt.alloc(), file, LIMIT, Policy::Refuse).expect(&rt, "terms");
-    let outcome = outcome_of(&rt, &terms, "a");
+    let terms = terms_of(rt.alloc(), file, LIMIT, Policy::Refuse).ok_or("terms")?;
+    let line = Line::new(Vec::from_slice(rt.alloc(), b"a")?);
+    let answer = set(rt.alloc(), terms, line).ok().ok_or("memory")?;
     for before in BEFORE {
-        let mut out = Vec::from_elem(rt.alloc(), b'+', before).expect(&rt, "memory");
-        for version in [Version::Two, Version::Json] {
-            let number = RecordNumber { source: 7, line: 1 };
-            record_outcome(&mut out, number, &outcome, version, None).expect(&rt, "memory");
-        }
+        let mut out = Vec::from_elem(rt.alloc(), b'+', before)?;
+        record(7, 1, &answer, Version::Two, &mut out)?;
+        record(7, 1, &answer, Version::Json, &mut out)?;
         let records = "7:1 set 327680 steps 1 c97=327680\n\
             {\"source\":7,\"line\":1,\"width\":327680,\"steps\":1,\"items\":[[\"c\",97,327680]]}\n";
         assert!(rt; out.ends_with(records.as_bytes()), "after {before} bytes");
     }
+    Ok(())
 }
 
 /// The list keeps its memory through lines that are set, refused and too long.

@@ -6,9 +6,27 @@ use test_support::fonts::examples::{
     without_parameters, without_space,
 };
 use test_support::fonts::lengths::SHORT;
-use test_support::fonts::{NO_PROGRAM, SKIPPING, TWO_KERNS};
+use test_support::fonts::{A_FROM_0, B, C, NO_PROGRAM, PLAIN, SKIPPING, Sample, TWO_KERNS};
 use test_support::terms::font_of;
-use tfm_tables::Font;
+use tfm_tables::{Font, Step};
+
+/// The codes 228 to 230, which are ä, å and æ in T1, of 10, 20 and 30 sp, a kern of -10 sp between the first two, and
+/// a space of 50 sp.
+const LETTERS: Sample<'static> = Sample {
+    bc: 228,
+    ec: 230,
+    characters: &[A_FROM_0, B, C],
+    width: &[0, 16, 32, 48],
+    program: &[Step {
+        skip: 128,
+        next: 229,
+        op: 128,
+        remainder: 0,
+    }],
+    kerns: &[0xFFFF_FFF0],
+    parameters: &[0, 80],
+    ..PLAIN
+};
 
 /// The sample fonts. `Ligature` and `Endless` have an operation.
 #[derive(Clone, Copy, Debug)]
@@ -27,6 +45,7 @@ pub enum Named {
     NoProgram,
     Endless(u8),
     Largest,
+    Letters,
 }
 
 impl Named {
@@ -47,6 +66,7 @@ impl Named {
             Named::NoProgram => NO_PROGRAM.file(alloc),
             Named::Endless(op) => endless(alloc, op),
             Named::Largest => largest(alloc),
+            Named::Letters => LETTERS.file(alloc),
         }
     }
 

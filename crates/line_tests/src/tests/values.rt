@@ -1,16 +1,10 @@
 //! The small types give what was put in, and a text is cut into its lines.
-use super::lines::outcome_of;
 use super::named::Named::*;
 use lig_kern::Item;
-use set_line::{
-    Items, Limit, Line, OutOfMemory, Policy, RecordNumber, Terms, Version, lines, record_outcome,
-    set,
-};
+use set_line::{Items, Limit, Line, OutOfMemory, Policy, lines, set};
 use std::alloc::AllocError;
 use std::process::Abort;
 use test_support::terms::terms_of;
-use tfm_tables::Font;
-use tfm_words::Size;
 
 /// A number of steps, and whether it is a limit.
 static LIMITS: [(u32, bool); 6] = [
@@ -68,20 +62,6 @@ fn an_answer_has_its_terms_and_its_line(rt: HostRuntime) {
         (terms.font().space(), terms.font().exists(97)),
         (218_453, true)
     );
-}
-
-/// At twice the design size of the font, characters are twice as wide.
-#[test]
-fn widths_are_those_of_the_size(rt: HostRuntime) {
-    let file = Plain.file(rt.alloc()).expect(&rt, "memory");
-    let font = Font::read(rt.alloc(), &file, Size::new(1_310_720)).expect(&rt, "a font");
-    let limit = Limit::new(3).expect(&rt, "a limit");
-    let outcome = outcome_of(&rt, &Terms::new(font, limit, Policy::Refuse), "abc");
-    let mut out = Vec::new(rt.alloc());
-    let number = RecordNumber { source: 2, line: 1 };
-    record_outcome(&mut out, number, &outcome, Version::One, None).expect(&rt, "memory");
-    let wanted = "2:1 set 1966080 c97=655360 c98=327680 c99=983040\n";
-    assert_eq!(rt; out.as_slice(), wanted.as_bytes());
 }
 
 /// A text, and its lines.

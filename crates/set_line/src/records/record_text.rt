@@ -1,187 +1,166 @@
 //! Records: the printed results of lines.
-ghost use Rattle.std.specs.Prelude.{◌≡◌, ◌+◌, ◌≤◌, ◌++◌, ◌∷◌, IsOk, OnOk, OnErr, codes, decimal, length, flat_map, vec_capacity, vec_len};
-ghost use Rattle.tfm_words.specs.Appending.{HasNoRoomFor, StaysInFront};
-ghost use Rattle.set_line.specs.Record.{item_text, outcome_text, record_text, refusal_text, steps_text, words_record};
+ghost use Rattle.std.specs.Prelude.{◌≡◌, ◌++◌, OnOk, OnErr, drop};
+ghost use Rattle.tfm_words.specs.Appending.{StaysInFront};
+ghost use Rattle.set_line.specs.Record.{head_text, record_text, refusal_text, refused, set, set_text, text_record};
 
-use crate::records::json_text::push_object;
-use crate::records::ready::RecordTexts;
-use crate::records::writing::{BYTES_BEFORE, ITEM_BYTES, write_items};
-use crate::{Answer, LineRefusal, OutOfMemory, Outcome, RecordNumber, Version};
-use lig_kern::Item;
+use crate::records::digits::push_character;
+use crate::records::items_text::append_items;
+use crate::{Answer, LineRefusal, OutOfMemory, Outcome, RecordNumber, TextRefusal, Version};
 use std::alloc::AllocError;
 use tfm_words::push_number;
 
-/// The number of items whose texts are collected before they are appended.
-const ITEMS_AT_ONCE: usize = 32;
-
-/// Appends some items: their texts are collected in `room`, and copied with one call.
-#[tactic(auto, using(tfm_words::proofs::AppendingLemmas::fronts))]
-fn push_some(
-    text: &mut Vec<u8>,
-    room: &mut [u8],
-    items: &[Item],
-    texts: Option<&RecordTexts>,
-) -> Result<(), AllocError>
-    requires items { length items.now ≤ 32 }
-    requires room { 551 ≤ length room.old }
-    ensures front { StaysInFront text.old.items text.new.items }
-    ensures pushed { OnOk result (text.new.items ≡ text.old.items ++ flat_map item_text items.now) }
-    ensures grows { vec_capacity text.old ≤ vec_capacity text.new }
-    ensures full { OnErr result (HasNoRoomFor text.old (flat_map item_text items.now)) }
-    ensures room { length room.new ≡ length room.old }
-{
-    let start = write_items(room, items, texts);
-    text.extend_from_slice(&room[start..])
+/// What a record states of a line that is set.
+#[derive(Clone, Copy, Debug)]
+pub struct SetText<'a> {
+    /// The width of the line, in sp.
+    pub width: i64,
+    /// The number of its steps.
+    pub steps: u32,
+    /// The texts of its items in the format of the record.
+    pub texts: &'a [u8],
 }
 
-#[tactic(auto, using(tfm_words::proofs::AppendingLemmas::fronts))]
-fn push_items(
-    text: &mut Vec<u8>,
-    items: &[Item],
-    texts: Option<&RecordTexts>,
-) -> Result<(), AllocError>
-    ensures front { StaysInFront text.old.items text.new.items }
-    ensures pushed { OnOk result (text.new.items ≡ text.old.items ++ flat_map item_text items.now) }
-    ensures grows { vec_capacity text.old ≤ vec_capacity text.new }
-    ensures full { OnErr result (HasNoRoomFor text.old (flat_map item_text items.now)) }
+/// Appends the numbers in front of a record.
+#[tactic(auto, using(tfm_words::proofs::AppendingLemmas::fronts), unfolding(crate::specs::Record::head_text))]
+fn push_head(out: &mut Vec<u8>, number: RecordNumber, version: Version) -> Result<(), AllocError>
+    ensures front { StaysInFront out.old.items out.new.items }
+    ensures pushed { OnOk result (out.new.items
+        ≡ out.old.items ++ head_text version number.source number.line) }
 {
-    let mut room = [0; ITEMS_AT_ONCE * ITEM_BYTES + BYTES_BEFORE];
-    let mut rest = items;
-    while rest.len() > ITEMS_AT_ONCE {
-        let (some, more) = rest.split_at(ITEMS_AT_ONCE);
-        push_some(text, &mut room, some, texts)?;
-        rest = more;
-    }
-    push_some(text, &mut room, rest, texts)
+    push_number(out, version.label(b"", b"{\"source\":"), number.source)?;
+    push_number(out, version.label(b":", b",\"line\":"), number.line)
 }
 
-#[tactic(auto, using(tfm_words::proofs::AppendingLemmas::fronts), unfolding(crate::specs::Record::refusal_text))]
-fn push_refusal(text: &mut Vec<u8>, refusal: LineRefusal) -> Result<(), AllocError>
-    ensures front { StaysInFront text.old.items text.new.items }
-    ensures pushed { OnOk result (text.new.items ≡ text.old.items ++ refusal_text refusal) }
-    ensures grows { vec_capacity text.old ≤ vec_capacity text.new }
-    ensures full { OnErr result (HasNoRoomFor text.old (refusal_text refusal)) }
+/// Returns the bytes after the first one.
+fn after_first(bytes: &[u8]) -> &[u8]
+    ensures { result.now ≡ drop 1 bytes.now }
 {
-    match refusal {
-        LineRefusal::TooLong(bytes) => push_number(text, b"too-long ", bytes),
-        LineRefusal::Missing { offset, code } => {
-            push_number(text, b"missing ", offset)?;
-            push_number(text, b" ", code)
-        }
-        LineRefusal::Steps(limit) => push_number(text, b"steps ", limit),
+    match bytes {
+        [] => bytes,
+        [_, rest @ ..] => rest,
     }
 }
 
-#[tactic(auto, using(tfm_words::proofs::AppendingLemmas::fronts))]
-fn push_steps(text: &mut Vec<u8>, with_steps: bool, steps: u32) -> Result<(), AllocError>
-    ensures front { StaysInFront text.old.items text.new.items }
-    ensures pushed { OnOk result (text.new.items ≡ text.old.items ++ steps_text with_steps steps) }
-    ensures grows { vec_capacity text.old ≤ vec_capacity text.new }
-    ensures full { OnErr result (HasNoRoomFor text.old (steps_text with_steps steps)) }
-{
-    if !with_steps {
-        return Ok(());
-    }
-    push_number(text, b" steps ", steps)
-}
-
-#[tactic(auto, using(tfm_words::proofs::AppendingLemmas::fronts), unfolding(crate::specs::Record::outcome_text))]
-fn push_outcome(
-    text: &mut Vec<u8>,
-    outcome: &Outcome,
-    with_steps: bool,
-    texts: Option<&RecordTexts>,
-) -> Result<(), AllocError>
-    ensures front { StaysInFront text.old.items text.new.items }
-    ensures pushed { OnOk result (text.new.items
-        ≡ text.old.items ++ outcome_text with_steps outcome.now) }
-    ensures grows { vec_capacity text.old ≤ vec_capacity text.new }
-    ensures full { OnErr result (HasNoRoomFor text.old (outcome_text with_steps outcome.now)) }
-{
-    match outcome {
-        Outcome::Set {
-            items,
-            width,
-            steps,
-        } => {
-            push_number(text, b" set ", *width)?;
-            push_steps(text, with_steps, *steps)?;
-            push_items(text, items.as_slice(), texts)
-        }
-        Outcome::Refused(refusal) => {
-            text.extend_from_slice(b" refused ")?;
-            push_refusal(text, *refusal)
-        }
-    }
-}
-
-/// Appends a record of format 1 or 2.
-#[tactic(auto, using(tfm_words::proofs::AppendingLemmas::fronts), unfolding(crate::specs::Record::words_record))]
-fn push_words(
-    text: &mut Vec<u8>,
-    number: RecordNumber,
-    outcome: &Outcome,
-    with_steps: bool,
-    texts: Option<&RecordTexts>,
-) -> Result<(), AllocError>
-    ensures front { StaysInFront text.old.items text.new.items }
-    ensures pushed { OnOk result (text.new.items
-        ≡ text.old.items ++ words_record with_steps number.source number.line outcome.now) }
-    ensures grows { vec_capacity text.old ≤ vec_capacity text.new }
-    ensures full { OnErr result (HasNoRoomFor text.old
-        (words_record with_steps number.source number.line outcome.now)) }
-{
-    push_number(text, b"", number.source)?;
-    push_number(text, b":", number.line)?;
-    push_outcome(text, outcome, with_steps, texts)?;
-    text.extend_from_slice(b"\n")
-}
-
-/// Appends a record of any format.
-#[tactic(auto, unfolding(crate::specs::Record::record_text))]
-fn push_record(
-    text: &mut Vec<u8>,
-    number: RecordNumber,
-    outcome: &Outcome,
-    version: Version,
-    texts: Option<&RecordTexts>,
-) -> Result<(), AllocError>
-    ensures front { StaysInFront text.old.items text.new.items }
-    ensures pushed { OnOk result (text.new.items
-        ≡ text.old.items ++ record_text number.source number.line outcome.now version) }
-    ensures grows { vec_capacity text.old ≤ vec_capacity text.new }
-    ensures full { OnErr result (HasNoRoomFor text.old
-        (record_text number.source number.line outcome.now version)) }
+/// Appends what a record states of a line that is set.
+#[tactic(auto, using(tfm_words::proofs::AppendingLemmas::fronts), unfolding(crate::specs::Record::set_text))]
+fn push_set(out: &mut Vec<u8>, line: SetText<'_>, version: Version) -> Result<(), AllocError>
+    ensures front { StaysInFront out.old.items out.new.items }
+    ensures pushed { OnOk result (out.new.items
+        ≡ out.old.items ++ set_text version line.entry.width line.entry.steps line.entry.texts.now) }
 {
     match version {
-        Version::One | Version::Two => {
-            let with_steps = matches!(version, Version::Two);
-            push_words(text, number, outcome, with_steps, texts)
+        Version::One => {
+            push_number(out, b" set ", line.width)?;
+            out.extend_from_slice(line.texts)
         }
-        Version::Json => push_object(text, number, outcome),
+        Version::Two => {
+            push_number(out, b" set ", line.width)?;
+            push_number(out, b" steps ", line.steps)?;
+            out.extend_from_slice(line.texts)
+        }
+        Version::Json => {
+            push_number(out, b",\"width\":", line.width)?;
+            push_number(out, b",\"steps\":", line.steps)?;
+            out.extend_from_slice(b",\"items\":[")?;
+            out.extend_from_slice(after_first(line.texts))?;
+            out.extend_from_slice(b"]")
+        }
     }
 }
 
-/// Appends the record of an outcome: one line of text. With the texts of the line's font, most texts of
-/// items are copied from there; with other texts, or with `None`, the bytes are the same. The call succeeds
-/// if `out` has enough capacity for the record. If an allocation fails, the contents of `out` are as before.
-pub fn record_outcome(
+/// Appends the reason of a refusal.
+#[tactic(auto, using(tfm_words::proofs::AppendingLemmas::fronts), unfolding(crate::specs::Record::refusal_text))]
+fn push_refusal(out: &mut Vec<u8>, refusal: TextRefusal, version: Version) -> Result<(), AllocError>
+    ensures front { StaysInFront out.old.items out.new.items }
+    ensures pushed { OnOk result (out.new.items ≡ out.old.items ++ refusal_text version refusal) }
+{
+    match refusal {
+        TextRefusal::Line(LineRefusal::TooLong(bytes)) => {
+            let label = version.label(
+                b" refused too-long ",
+                b",\"refused\":\"too-long\",\"bytes\":",
+            );
+            push_number(out, label, bytes)
+        }
+        TextRefusal::Line(LineRefusal::Missing { offset, code }) => {
+            let label = version.label(
+                b" refused missing ",
+                b",\"refused\":\"missing\",\"offset\":",
+            );
+            push_number(out, label, offset)?;
+            push_number(out, version.label(b" ", b",\"code\":"), code)
+        }
+        TextRefusal::Line(LineRefusal::Steps(limit)) => {
+            let label = version.label(b" refused steps ", b",\"refused\":\"steps\",\"limit\":");
+            push_number(out, label, limit)
+        }
+        TextRefusal::NotUtf8(offset) => {
+            let label = version.label(
+                b" refused encoding ",
+                b",\"refused\":\"encoding\",\"offset\":",
+            );
+            push_number(out, label, offset)
+        }
+        TextRefusal::Uncoded { offset, character } => {
+            let label = version.label(
+                b" refused uncoded ",
+                b",\"refused\":\"uncoded\",\"offset\":",
+            );
+            push_number(out, label, offset)?;
+            let label = version.label(b" U+", b",\"character\":");
+            push_character(out, label, character, version)
+        }
+    }
+}
+
+/// Appends the record of a line that is set.
+#[tactic(auto, using(tfm_words::proofs::AppendingLemmas::fronts), unfolding(crate::specs::Record::text_record))]
+fn push_set_record(
     out: &mut Vec<u8>,
     number: RecordNumber,
-    outcome: &Outcome,
+    line: SetText<'_>,
     version: Version,
-    texts: Option<&RecordTexts>,
+) -> Result<(), AllocError>
+    ensures front { StaysInFront out.old.items out.new.items }
+    ensures pushed { OnOk result (out.new.items ≡ out.old.items ++ text_record number.source number.line
+        (set line.entry.width line.entry.steps line.entry.texts.now) version) }
+{
+    push_head(out, number, version)?;
+    push_set(out, line, version)?;
+    out.extend_from_slice(version.label(b"\n", b"}\n"))
+}
+
+/// Appends the record of a line that is refused.
+#[tactic(auto, using(tfm_words::proofs::AppendingLemmas::fronts), unfolding(crate::specs::Record::text_record))]
+fn push_refused_record(
+    out: &mut Vec<u8>,
+    number: RecordNumber,
+    refusal: TextRefusal,
+    version: Version,
+) -> Result<(), AllocError>
+    ensures front { StaysInFront out.old.items out.new.items }
+    ensures pushed { OnOk result (out.new.items
+        ≡ out.old.items ++ text_record number.source number.line (refused refusal) version) }
+{
+    push_head(out, number, version)?;
+    push_refusal(out, refusal, version)?;
+    out.extend_from_slice(version.label(b"\n", b"}\n"))
+}
+
+/// Appends the record of a line that is set: one line of text. If an allocation fails, the contents of `out` are as
+/// before.
+pub fn append_set(
+    out: &mut Vec<u8>,
+    number: RecordNumber,
+    line: SetText<'_>,
+    version: Version,
 ) -> Result<(), OutOfMemory>
-    ensures ok { OnOk result (out.new.items
-        ≡ out.old.items ++ record_text number.source number.line outcome.now version) }
-    ensures refused { OnErr result (out.new.items ≡ out.old.items) }
-    ensures room { vec_len out.old
-        + length (record_text number.source number.line outcome.now version)
-        ≤ vec_capacity out.old → IsOk result }
-    ensures grows { vec_capacity out.old ≤ vec_capacity out.new }
+    ensures appended { OnOk result (out.new.items ≡ out.old.items ++ text_record number.source number.line
+        (set line.entry.width line.entry.steps line.entry.texts.now) version) }
+    ensures unchanged { OnErr result (out.new.items ≡ out.old.items) }
 {
     let before = out.len();
-    match push_record(out, number, outcome, version, texts) {
+    match push_set_record(out, number, line, version) {
         Ok(()) => Ok(()),
         Err(_) => {
             out.truncate(before);
@@ -190,8 +169,31 @@ pub fn record_outcome(
     }
 }
 
-/// Appends the record of an answer, with the number of its source and its line number there, as
-/// [`record_outcome`] does without texts.
+/// Appends the record of a line that is refused: one line of text. If an allocation fails, the contents of `out`
+/// are as before.
+pub fn append_refusal(
+    out: &mut Vec<u8>,
+    number: RecordNumber,
+    refusal: TextRefusal,
+    version: Version,
+) -> Result<(), OutOfMemory>
+    ensures appended { OnOk result (out.new.items
+        ≡ out.old.items ++ text_record number.source number.line (refused refusal) version) }
+    ensures unchanged { OnErr result (out.new.items ≡ out.old.items) }
+{
+    let before = out.len();
+    match push_refused_record(out, number, refusal, version) {
+        Ok(()) => Ok(()),
+        Err(_) => {
+            out.truncate(before);
+            Err(OutOfMemory)
+        }
+    }
+}
+
+/// Appends the record of an answer, with the number of its source and its line number there: one line of text. If
+/// an allocation fails, the contents of `out` are as before.
+#[tactic(auto, unfolding(crate::specs::Record::record_text, crate::specs::Record::text_result))]
 pub fn record(
     source: u64,
     place: u64,
@@ -202,13 +204,28 @@ pub fn record(
     ensures ok { OnOk result (out.new.items
         ≡ out.old.items ++ record_text source place answer.now.outcome version) }
     ensures refused { OnErr result (out.new.items ≡ out.old.items) }
-    ensures room { vec_len out.old + length (record_text source place answer.now.outcome version)
-        ≤ vec_capacity out.old → IsOk result }
-    ensures grows { vec_capacity out.old ≤ vec_capacity out.new }
 {
     let number = RecordNumber {
         source,
         line: place,
     };
-    record_outcome(out, number, answer.outcome(), version, None)
+    match answer.outcome() {
+        Outcome::Set {
+            items,
+            width,
+            steps,
+        } => {
+            let mut texts = Vec::new(*out.allocator());
+            append_items(&mut texts, items.as_slice(), version)?;
+            let line = SetText {
+                width: *width,
+                steps: *steps,
+                texts: texts.as_slice(),
+            };
+            append_set(out, number, line, version)
+        }
+        Outcome::Refused(refusal) => {
+            append_refusal(out, number, TextRefusal::Line(*refusal), version)
+        }
+    }
 }

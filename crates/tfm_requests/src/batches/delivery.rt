@@ -35,8 +35,8 @@ pub(crate) enum Delivery {
 pub(crate) struct Output<'a> {
     /// The options of the request, except for its encoding.
     pub layout: &'a Layout,
-    /// The encoding.
-    pub encoding: Encoding,
+    /// The encoding, if the lines are in UTF-8.
+    pub encoding: Option<Encoding>,
     /// When the output is written.
     pub delivery: Delivery,
 }

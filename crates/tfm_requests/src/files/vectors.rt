@@ -16,13 +16,13 @@ pub(crate) fn encoding_of<F: Opens>(
     alloc: Global,
     files: &F,
     vector: Option<&str>,
-    stated: Encoding,
-) -> Result<Encoding, EncodingError>
+    stated: Option<Encoding>,
+) -> Result<Option<Encoding>, EncodingError>
     ensures encoding { IfOk result (IsEncodingOf (F.known files.now) vector.entry stated) }
     ensures cause { IfErr result (IsEncodingError (F.known files.now) vector.entry) }
 {
     match vector {
-        Some(file) => read_encoding(alloc, files, file),
+        Some(file) => Ok(Some(read_encoding(alloc, files, file)?)),
         None => Ok(stated),
     }
 }

@@ -2,7 +2,6 @@
 //! the start barrier.
 use super::doubles::check;
 use batch_support::{CountingGate, FailingSource, plan, with_terms};
-use encodings::Encoding;
 use line_lane::SourceFault;
 use run_texts::stream_each;
 use set_line::{Limit, Policy, Version};
@@ -37,7 +36,7 @@ fn deliver<R: Abort + Threads + Wait + Sync + AllocGlobal>(
     let options = OutputOptions {
         plan: batch.plan,
         version: Version::One,
-        encoding: Encoding::Bytes,
+        encoding: None,
         whole_reads: false,
         gate: batch.gate,
     };

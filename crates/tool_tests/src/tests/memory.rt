@@ -6,7 +6,6 @@ use super::early_ends::{COMPLETE, Ends, ONE_EARLY, ends_of};
 use super::requests::{LINES, SKIPPED, vector};
 use batch_support::small_plan;
 use command_line::{Layout, Setting};
-use encodings::Encoding;
 use set_line::{Limit, Policy, Version};
 use set_run::{NoGate, ReaderSource};
 use std::alloc::Global;
@@ -47,7 +46,7 @@ fn set_two<R: Threads + Wait + Sync + AllocGlobal>(
     let options = OutputOptions {
         plan: small_plan()?,
         version: Version::One,
-        encoding: Encoding::Bytes,
+        encoding: None,
         whole_reads: false,
         gate: &NoGate,
     };
@@ -83,7 +82,7 @@ fn requested_of(alloc: Global, streams: bool) -> Option<Requested<'static>> {
         plain_size: false,
         policy: Policy::Skip,
         crlf: false,
-        encoding: Encoding::Bytes,
+        encoding: None,
         plan: small_plan()?,
         whole_reads: false,
         version: Version::One,

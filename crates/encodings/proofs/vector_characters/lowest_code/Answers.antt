@@ -1,8 +1,6 @@
-use Rattle.encodings.proofs.VectorLemmas.{nowhere, space_found}
+use Rattle.std.proofs.Common.{arith}
+use Rattle.encodings.proofs.VectorLemmas.{number_absent}
 use Rattle.encodings.proofs.vector_characters.lowest_code.Goals as goal
 
-pub returns-then-character-eq32 : goal.returns-then-character-eq32
-returns-then-character-eq32 c = space_found c.args.numbers.now c.args.character c.if-character-eq32.true
-
 pub returns : goal.returns
-returns c = nowhere c.args.numbers.now c.args.character c.loop-code.code c.loop-code-test.false c.loop-code.invariant
+returns c = number_absent c.args.characters.now c.args.number c.loop-code.code c.loop-code.invariant (omega (arith, c.told-characters, c.loop-code-test.false))

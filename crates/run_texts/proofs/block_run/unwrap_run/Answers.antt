@@ -1,4 +1,6 @@
 use Rattle.std.proofs.Common.{◌≡◌, ◌∙◌, ◌++◌, map, Ok, ap, refl, subst, sym}
+use Rattle.set_run.specs.Sources.{gives_line}
+use Rattle.line_blocks.proofs.GatherLemmas.{lane_of_lines}
 use Rattle.run_texts.specs.BlockLanes.{AreLinesOf, IsRunOfLines, unwrapped}
 use Rattle.run_texts.proofs.BlockLemmas.{texts_recorded}
 use Rattle.run_texts.proofs.BlockRunLemmas.{lines_of}
@@ -17,6 +19,6 @@ returns-in-Ok g c =
       here,
       refl,
       subst (AreLinesOf to_come failed blocks.lanes.items) (sym here)
-          (lines_of to_come failed (texts_recorded c.kept_lines.ensures.outcome c.kept_lines.ensures.bytes) c.lanes_of_lines.ensures
+          (lines_of to_come failed texts_recorded (lane_of_lines (gives_line to_come failed))
           c.lane_of_lines.ensures blocks.lanes.items),
     )

@@ -1,4 +1,4 @@
-use Rattle.std.proofs.Common.{◌≡◌, None, MutBor, ap, subst, sym}
+use Rattle.std.proofs.Common.{None, MutBor, ap, subst, sym}
 use Rattle.std.specs.Prelude.{IfErr, IfOk}
 use Rattle.tfm_requests.specs.Causes.{IsCauseOf}
 use Rattle.tfm_requests.specs.Requests.{IsDone}

@@ -1,15 +1,17 @@
-use Rattle.std.proofs.Common.{◌≡◌, ◌+◌, ◌^◌, ◌<◌, length}
+use Rattle.std.proofs.Common.{◌≡◌, ◌+◌, ◌^◌, ◌<◌, true, length}
+use Rattle.line_records.specs.Cells.{style_of}
+use Rattle.set_line.specs.Lines.{lines_of}
 use Rattle.tfmset_c.specs.Arrays.{IsPartly}
-use Rattle.tfmset_c.specs.Texts.{outcomes_of, records_told}
+use Rattle.tfmset_c.specs.Texts.{records_told}
 use Rattle.tfmset_c.proofs.records.fill_records.Given as goal
 
-abbrev pub invariant-loop-line : goal.invariant-loop-line
-invariant-loop-line l = record {
-  font : l.writer ≡ l.text.terms.now.font;
-  partly : IsPartly (records_told l.format.first.source l.format.first.line l.format.version (outcomes_of l.text.terms.now l.text.bytes.now))
-      (records_told l.number.source l.number.line l.format.version (outcomes_of l.text.terms.now l.rest)) l.at l.initial.records l.records;
-  countable : l.number.line + length l.rest < 2 ^ 64;
+abbrev pub invariant-loop-bytes : goal.invariant-loop-bytes
+invariant-loop-bytes l = record {
+  style : l.writer ≡ style_of l.text.terms.now l.form.version;
+  partly : IsPartly (records_told l.text.terms.now l.form.encoding l.form.version l.form.source l.form.first true (lines_of l.text.bytes.now))
+      (records_told l.text.terms.now l.form.encoding l.form.version l.form.source l.number l.first (lines_of l.rest)) l.at l.initial.records l.records;
+  countable : l.number + length l.rest < 2 ^ 64;
 }
 
-abbrev pub decreases-loop-line : goal.decreases-loop-line
-decreases-loop-line l = length l.rest
+abbrev pub decreases-loop-bytes : goal.decreases-loop-bytes
+decreases-loop-bytes l = length l.rest

@@ -1,25 +1,25 @@
-use Rattle.std.proofs.Common.{[], ◌∙◌}
-use Rattle.tfmset_c.proofs.ArrayLemmas.{all_put}
-use Rattle.tfmset_c.proofs.TextLemmas.{all_counted, at_first, no_lines, no_outcomes, one_more, outcomes_first}
+use Rattle.std.proofs.Common.{arith, ◌∙◌}
+use Rattle.set_line.specs.Answer.{outcome_of}
+use Rattle.tfmset_c.proofs.TextLemmas.{all_there, at_first, bytes_result, count_told, line_more, no_outcomes, outcomes_first}
 use Rattle.tfmset_c.proofs.set.fill_widths.Goals as goal
 
-pub loop-line-init : goal.loop-line-init
-loop-line-init c = record { font = c.writer_for.ensures; under_way = at_first _ c.args.lines.now [] }
+pub loop-bytes-init : goal.loop-bytes-init
+loop-bytes-init c = record { style = c.prepare.ensures ∙ c.new-writer.ensures; line = at_first _ c.args.lines.now }
 
-pub loop-line-preserved : goal.loop-line-preserved
-loop-line-preserved c = record {
-  font = c.in_ok-counts.ensures.font ∙ c.loop-line.invariant.font;
-  under_way =
-      one_more _ _ _ _ c.loop-line.counts c.in_ok-counts.counts c.args.lines.now c.loop-line.lines c.put.new.lines [] [] []
-      (outcomes_first c.args.text.terms.now c.loop-line.rest.now c.in-Some.line.now c.in-Some.more.now c.in-Some.ensures.cut)
-      c.in_ok-counts.ensures.put.line c.in_ok-counts.ensures.put.items c.loop-line.invariant.under_way;
-}
+pub line_for_c-told-requires : goal.line_for_c-told-requires
+line_for_c-told-requires c = (outcome_of c.args.text.terms.now c.in-Some.bytes.now, bytes_result c.args.text.terms.now _ c.in-Some.bytes.now _ c.in_ok-result.ensures.result)
 
-pub returns-clause-counts : goal.returns-clause-counts
-returns-clause-counts c =
-    all_counted _ _ c.loop-line.counts c.args.lines.now c.loop-line.lines [] []
-    (no_outcomes c.args.text.terms.now c.loop-line.rest.now c.in_default.ensures.cut) c.loop-line.invariant.under_way
+pub loop-bytes-preserved : goal.loop-bytes-preserved
+loop-bytes-preserved c =
+    let now = c.loop-bytes in
+    let told = c.line_for_c-told.ensures _ (bytes_result c.args.text.terms.now _ c.in-Some.bytes.now _ c.in_ok-result.ensures.result) in
+    record {
+      style = c.in_ok-result.ensures.kept ∙ now.invariant.style;
+      line =
+          line_more (outcomes_first c.args.text.terms.now now.rest.now _ _ c.in-Some.ensures.cut) (rw told at c.put_line.ensures)
+          (omega (arith, c.saturating_add.ensures, count_told _ _ _ told)) now.invariant.line;
+    }
 
-pub returns-clause-lines : goal.returns-clause-lines
-returns-clause-lines c = all_put _ _ c.args.lines.now c.loop-line.lines _ c.loop-line.invariant.under_way.line
-    (no_lines c.loop-line.invariant.under_way.item.place _ (no_outcomes c.args.text.terms.now c.loop-line.rest.now c.in_default.ensures.cut))
+pub returns : goal.returns
+returns c =
+    let all = all_there (no_outcomes c.args.text.terms.now c.loop-bytes.rest.now c.in_default.ensures.cut) c.loop-bytes.invariant.line in record { lines = all.0; items = all.1 }

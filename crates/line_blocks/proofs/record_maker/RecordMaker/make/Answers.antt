@@ -9,4 +9,4 @@ new-requires-clause-refused c =
 
 pub returns-in-Ok-clause-made : goal.returns-in-Ok-clause-made
 returns-in-Ok-clause-made c =
-    c.new.ensures ∙ ap (λ maker. block_text maker c.args.block) (c.self-2.view_is ∙ c.append_all.ensures.kept ∙ c.prepare.ensures)
+    c.new.ensures ∙ ap (λ maker. block_text maker c.args.block) (c.self-2.view_is ∙ c.append_all.ensures.kept ∙ c.self.view_is)

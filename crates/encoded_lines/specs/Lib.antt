@@ -1,4 +1,0 @@
-pub mod Answer
-pub mod Items
-pub mod Record
-pub mod Progress

@@ -1,0 +1,9 @@
+pub mod AddingLemmas
+pub mod CellLemmas
+pub mod KeptLemmas
+pub mod LineLemmas
+pub mod RefusalLemmas
+pub mod ResultLemmas
+pub mod RunLemmas
+pub mod StepLemmas
+pub mod WrittenLemmas

@@ -1,0 +1,70 @@
+-- The table of texts: for each current symbol, and for each byte after it or the end of the line, the text of
+-- the items that are added. The text with its sums is a pair. This project's own.
+use Rattle.std.specs.Prelude.{◌≡◌, ℕ, ◌+◌, ◌-◌, ◌*◌, ◌<◌, ◌≤◌, List, [], length, take, get_or, flat_map, Some, if◌then◌else◌}
+use Rattle.tfm_tables.specs.Font.{FontValue}
+use Rattle.lig_kern.specs.declared.symbol.Symbol.{Symbol}
+use Rattle.lig_kern.specs.declared.symbol.Symbol.TheVariants.{Left, Char}
+use Rattle.set_line.specs.declared.policy.Policy.{Policy}
+use Rattle.set_line.specs.declared.version.Version.{Version}
+use Rattle.set_line.specs.Pieces.{is_cut}
+use Rattle.set_line.specs.Record.{text_in}
+use Rattle.set_line.specs.Terms.{TermsValue}
+use Rattle.set_line.specs.Width.{total_width}
+use Rattle.line_records.specs.Additions.{Addition, added_of, one_step}
+use Rattle.line_records.specs.declared.pair.Pair.{Pair}
+
+-- what a table depends on: the font, the missing-character policy, and the format of the texts
+pub record Style : Type 0 where
+  pub font : FontValue
+  pub policy : Policy
+  pub version : Version
+
+-- what it depends on in these settings
+abbrev pub style_of : TermsValue → Version → Style
+style_of terms version = record { font = terms.font; policy = terms.policy; version = version }
+
+-- a table is for lines with these settings
+abbrev pub Fits : Style → TermsValue → Type 0
+Fits style terms = (style.font ≡ terms.font) × (style.policy ≡ terms.policy)
+
+-- the symbol that is current in a row of the table: the character with this code. The left boundary has the rows of
+-- the space and of the codes that aren't characters of the font, since they are never those of a run
+abbrev pub symbol_of : FontValue → ℕ → Symbol
+symbol_of font row = if is_cut font row then Left else Char row
+
+-- a pair has the text, the width, the steps and the number of items of an addition
+pub record IsTextOf (version : Version) (added : Addition) (pair : Pair) : Type 0 where
+  pub text : take pair.length pair.text ≡ flat_map (text_in version) added.items
+  pub width : pair.width ≡ total_width added.items
+  pub steps : pair.steps ≡ added.steps
+  pub count : pair.count ≡ length added.items
+
+-- two pairs have the same text, width and steps and the same number of items
+pub record AreSame (one other : Pair) : Type 0 where
+  pub text : one.text ≡ other.text
+  pub length : one.length ≡ other.length
+  pub width : one.width ≡ other.width
+  pub steps : one.steps ≡ other.steps
+  pub count : one.count ≡ other.count
+
+-- a pair is right for a byte after a symbol, or for the end of the line (256): it has the text of what is
+-- added, and after a byte the symbol of the byte's own row is current
+pub record IsPair (style : Style) (current : Symbol) (next : ℕ) (pair : Pair) : Type 0 where
+  pub added : Addition
+  pub is : added_of style.font style.policy current next ≡ Some added
+  pub text : IsTextOf style.version added pair
+  pub row : next < 256 → symbol_of style.font next ≡ added.current
+
+-- a cell of the table is right: if it is an index, the pair there is right, and otherwise it is at least
+-- 65,024. If it is at least 65,280, a ligature replaces the current symbol and the byte; the number above
+-- 65,280 is the row of this ligature
+pub record IsCell (style : Style) (pairs : List Pair) (row next cell : ℕ) : Type 0 where
+  pub pair : (d : Pair) → cell < length pairs → IsPair style (symbol_of style.font row) next (get_or pairs cell d)
+  pub mark : length pairs ≤ cell → 65024 ≤ cell
+  pub ligature : 65280 ≤ cell → added_of style.font style.policy (symbol_of style.font row) next ≡ Some (one_step [] (symbol_of style.font (cell - 65280)))
+
+-- the cells of a table are right: there are 257 columns, for the bytes and for the end of a line, of 256 rows
+pub record AreCells (style : Style) (pairs : List Pair) (cells : List ℕ) : Type 0 where
+  pub many : length cells ≡ 65792
+  pub few : length pairs ≤ 65024
+  pub each : (row next : ℕ) → row < 256 → next < 257 → IsCell style pairs row next (get_or cells (256 * next + row) 0)

@@ -1,0 +1,6 @@
+pub mod Additions
+pub mod Cells
+pub mod Kept
+pub mod Results
+pub mod Runs
+pub mod Written

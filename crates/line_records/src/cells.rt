@@ -1,0 +1,135 @@
+//! The cells of the table of texts.
+ghost use Rattle.std.specs.Prelude.{◌≡◌, ◌≤◌, ◌<◌, [], IfSome, true, length, slice_index_or, vec_len};
+ghost use Rattle.tfm_words.specs.Appending.{StaysInFront};
+ghost use Rattle.line_records.specs.Additions.{one_step};
+ghost use Rattle.line_records.specs.Cells.{AreSame, IsCell, symbol_of};
+ghost use Rattle.line_records.specs.declared.pair.Pair.{Pair as PairValue};
+
+use crate::adding::{Added, END, added_at, symbol_in};
+use crate::making::make_pair;
+use crate::pair::Pair;
+use lig_kern::Symbol;
+use set_line::{Terms, Version};
+use tfm_tables::Font;
+
+/// The largest number of pairs. They take at most 1 MiB. A cell with a number of at least `UNKNOWN` isn't an
+/// index.
+const MOST_PAIRS: usize = 16_384;
+
+/// The number of pairs, the last ones, among which an equal one is searched for. The limit keeps the time for
+/// a cell short in fonts with many different pairs.
+const SEARCHED: usize = 256;
+
+/// A cell that isn't made yet.
+pub(crate) const UNKNOWN: usize = 65_024;
+
+/// A cell for the general way: a line that needs it has to be set in this way.
+const GENERAL: usize = 65_025;
+
+/// The first of the cells for ligatures that replace the current symbol and the byte. Such a cell is this
+/// number plus the row of the ligature.
+pub(crate) const LIGATURE: usize = 65_280;
+
+/// Returns the row of the ligature that replaces the current symbol and a byte, if what the byte adds is such
+/// a ligature.
+fn ligature_row(font: &Font, added: &Added) -> Option<u8>
+    ensures { IfSome result (λ row. added.now ≡ one_step [] (symbol_of font.now row)) }
+{
+    if added.passed.steps != 1 || added.passed.character.is_some() {
+        return None;
+    }
+    if added.passed.kern.is_some() || added.cut.is_some() {
+        return None;
+    }
+    match added.current {
+        Symbol::Char(code) if symbol_in(font, code) == added.current => Some(code),
+        _ => None,
+    }
+}
+
+/// Returns whether the symbol of the byte's own row is current after the byte, or it is the end of the line.
+fn is_in_own_row(font: &Font, added: &Added, next: usize) -> bool
+    requires { next < 257 }
+    ensures { result ≡ true → next < 256 → symbol_of font.now next ≡ added.now.current }
+{
+    next == END || symbol_in(font, (next % 256) as u8) == added.current
+}
+
+/// Returns whether two pairs have the same text and sums.
+fn is_same(one: &Pair, other: &Pair) -> bool
+    ensures { result ≡ true → AreSame one.now other.now }
+{
+    one.width == other.width
+        && one.length == other.length
+        && one.steps == other.steps
+        && one.count == other.count
+        && one.text == other.text
+}
+
+/// Returns the index of a pair with the same text and sums among the last pairs. Most cells of a row have
+/// equal pairs, and fewer pairs take less of the processor's cache.
+fn find_same(pairs: &[Pair], pair: &Pair) -> Option<usize>
+    ensures { IfSome result (λ index. (index < length pairs.now)
+        × ((d : PairValue) → AreSame pair.now (slice_index_or pairs.now index d))) }
+{
+    for index in pairs.len().saturating_sub(SEARCHED)..pairs.len() {
+        if is_same(pair, &pairs[index]) {
+            return Some(index);
+        }
+    }
+    None
+}
+
+/// Appends a pair, unless an equal one is found, and returns the index of the pair. Returns a cell for the
+/// general way if there are too many pairs or an allocation fails.
+fn push_pair(pairs: &mut Vec<Pair>, pair: Pair) -> usize
+    requires { vec_len pairs.old ≤ 65024 }
+    ensures front { StaysInFront pairs.old.items pairs.new.items }
+    ensures few { vec_len pairs.new ≤ 65024 }
+    ensures same { (d : PairValue) → result < vec_len pairs.new → AreSame pair (slice_index_or pairs.new.items result d) }
+    ensures mark { vec_len pairs.new ≤ result → result ≡ 65025 }
+{
+    if let Some(index) = find_same(pairs, &pair) {
+        return index;
+    }
+    let index = pairs.len();
+    if index >= MOST_PAIRS || pairs.push(pair).is_err() {
+        return GENERAL;
+    }
+    index
+}
+
+/// Returns the cell for what a byte adds after the current symbol of a row, or for the end of the line.
+/// Appends a pair to `pairs` if the cell needs one. The cell is one for the general way if it isn't defined
+/// what the byte adds, if the text is too long, if there are too many pairs, or if an allocation fails.
+#[tactic(auto, using(crate::proofs::CellLemmas::made))]
+pub(crate) fn make_cell(
+    terms: &Terms,
+    version: Version,
+    row: u8,
+    next: usize,
+    pairs: &mut Vec<Pair>,
+) -> usize
+    requires next { next < 257 }
+    requires few { vec_len pairs.old ≤ 65024 }
+    ensures front { StaysInFront pairs.old.items pairs.new.items }
+    ensures few { vec_len pairs.new ≤ 65024 }
+    ensures cell { IsCell (record { font = terms.now.font; policy = terms.now.policy; version = version })
+        pairs.new.items row next result }
+    ensures range { result < 65536 }
+{
+    let font = terms.font();
+    let Some(added) = added_at(font, terms.policy(), symbol_in(font, row), next) else {
+        return GENERAL;
+    };
+    if is_in_own_row(font, &added, next) {
+        return match make_pair(&added, version) {
+            Some(pair) => push_pair(pairs, pair),
+            None => GENERAL,
+        };
+    }
+    match ligature_row(font, &added) {
+        Some(row) => LIGATURE + usize::from(row),
+        None => GENERAL,
+    }
+}

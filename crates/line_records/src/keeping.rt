@@ -1,0 +1,182 @@
+//! Sets a line, and keeps the texts of its items.
+ghost use Rattle.std.specs.Prelude.{◌≡◌, ◌≤◌, ◌^◌, ◌<◌, ◌+◌, ℕ, List, [], IfOk, IfSome, true, length};
+ghost use Rattle.encodings.specs.Parts.{joined, part_numbers};
+ghost use Rattle.encodings.specs.Visited.{value_of};
+ghost use Rattle.lig_kern.specs.declared.item.Item.{Item as ItemValue};
+ghost use Rattle.set_line.specs.Answer.{has_refused};
+ghost use Rattle.set_line.specs.Onward.{AreFew, setting};
+ghost use Rattle.line_records.specs.Cells.{Fits, style_of};
+ghost use Rattle.line_records.specs.Kept.{AreListed, AreParts, IsKept, IsReached, IsThatOf, gaps_in, set_after};
+
+use crate::Sums;
+use crate::table::PairTable;
+use crate::writing::write_line;
+use crate::written::Written;
+use encodings::{Part, Parts};
+use lig_kern::Item;
+use set_line::{Policy, Terms, Version, append_items, append_uncoded, set_stretch, total_width};
+use std::alloc::AllocError;
+
+/// A line that is set: its sums, and the number of bytes of the texts of its items, which are at the front of
+/// the list of texts.
+#[derive(Clone, Copy, Debug)]
+pub(crate) struct Kept {
+    pub sums: Sums,
+    pub length: usize,
+}
+
+/// The lists that are used again from line to line.
+#[derive(Debug, Drop)]
+pub(crate) struct Lists {
+    /// The items of a line that isn't set with the table of texts, without characters that have no codes.
+    pub items: Vec<Item>,
+    /// The texts of the items of a line.
+    pub texts: Vec<u8>,
+}
+
+/// Sets the codes of a part of a line, and appends its items and their texts. `used` is the number of steps
+/// before it. Returns the number of steps with it, or `None` if it has a character that is refused, or if the
+/// steps are above the limit.
+fn set_part(
+    terms: &Terms,
+    version: Version,
+    part: Part<'_>,
+    used: u32,
+    lists: &mut Lists,
+) -> Result<Option<u32>, AllocError>
+    requires { used ≤ terms.now.limit }
+    ensures within { IfOk result (λ steps.
+        IfSome steps (λ n. (n ≤ terms.now.limit) × (n ≤ 16777216))) }
+    ensures few { IfOk result (λ steps. IfSome steps
+        (AreFew used lists.old.items.items part.entry.codes.now lists.new.items.items)) }
+    ensures reached { IfOk result (λ steps. (all : List ItemValue) (gaps : ℕ)
+        → AreListed version all lists.old.items.items gaps lists.old.texts.items
+        → IsReached version (set_after terms.now (setting used all) (part_numbers (value_of part.entry)))
+        lists.new.items.items (gaps + gaps_in (value_of part.entry)) lists.new.texts.items steps) }
+{
+    terms.font().codes_are_bytes();
+    let from = lists.items.len();
+    let right = part.gap.is_none();
+    let Some(steps) = set_stretch(terms, part.codes, right, used, &mut lists.items)? else {
+        return Ok(None);
+    };
+    let (_, added) = lists.items.split_at(from);
+    append_items(&mut lists.texts, added, version)?;
+    match (part.gap, terms.policy()) {
+        (None, _) => Ok(Some(steps)),
+        (Some(_), Policy::Refuse) => Ok(None),
+        (Some(character), Policy::Skip) => {
+            append_uncoded(&mut lists.texts, character, version)?;
+            Ok(Some(steps))
+        }
+    }
+}
+
+/// Sets the parts of a line one after the other. Returns `None` if a character is refused, or if the line takes
+/// more steps than the limit.
+pub(crate) fn set_parts(
+    terms: &Terms,
+    version: Version,
+    parts: Parts<'_>,
+    lists: &mut Lists,
+) -> Result<Option<Kept>, AllocError>
+    requires parts { AreParts parts }
+    requires few { length (joined parts) ≤ 65535 }
+    ensures { IfOk result (IsKept version
+        (set_after terms.now (setting 0 []) (joined parts.entry)) lists.new.texts.items) }
+{
+    terms.font().codes_are_bytes();
+    lists.items.clear();
+    lists.texts.clear();
+    let mut steps = 0;
+    let mut gaps = 0;
+    for part in parts {
+        let Some(after) = set_part(terms, version, part, steps, lists)? else {
+            return Ok(None);
+        };
+        steps = after;
+        gaps += usize::from(part.gap.is_some());
+    }
+    let sums = Sums {
+        width: total_width(&lists.items),
+        steps,
+        items: lists.items.len() + gaps,
+    };
+    Ok(Some(Kept {
+        sums,
+        length: lists.texts.len(),
+    }))
+}
+
+/// Returns whether the code at this index is a missing character that is refused.
+#[tactic(auto, using(crate::proofs::KeptLemmas::refused))]
+fn refuses(terms: &Terms, codes: &[u8], at: usize) -> bool
+    ensures { result ≡ true → has_refused terms.now.policy terms.now.font codes.now ≡ true }
+{
+    match codes.get(at) {
+        Some(code) => {
+            terms.policy() == Policy::Refuse && *code != b' ' && !terms.font().exists(*code)
+        }
+        None => false,
+    }
+}
+
+/// Returns what was written as a line that is kept.
+fn as_kept(whole: Written) -> Kept
+    requires { whole.steps < 2 ^ 32 }
+    ensures { IsThatOf whole result }
+{
+    Kept {
+        sums: Sums {
+            width: whole.width,
+            steps: whole.steps as u32,
+            items: whole.count,
+        },
+        length: whole.length,
+    }
+}
+
+/// Sets codes with the table of texts, as [`set_parts`] sets them. Returns `None` if they have to be set in the
+/// general way.
+#[tactic(auto, using(crate::proofs::KeptLemmas::plainly))]
+fn set_plainly(
+    table: &mut PairTable,
+    terms: &Terms,
+    codes: &[u8],
+    texts: &mut Vec<u8>,
+) -> Option<Option<Kept>>
+    requires fits { Fits table.old terms.now }
+    requires short { length codes.now ≤ 65535 }
+    ensures table { table.new ≡ table.old }
+    ensures kept { IfSome result (IsKept table.old.version
+        (set_after terms.now (setting 0 []) codes.now) texts.new.items) }
+{
+    match write_line(table, terms, codes, texts) {
+        Ok(whole) if whole.steps <= terms.limit().get() as usize => Some(Some(as_kept(whole))),
+        Ok(_) => None,
+        Err(at) => refuses(terms, codes, at).then_some(None),
+    }
+}
+
+/// Sets codes, with the table of texts if there is one and it is enough. Returns `None` if a character is
+/// refused, or if the codes take more steps than the limit.
+pub(crate) fn set_codes(
+    table: &mut Option<PairTable>,
+    terms: &Terms,
+    version: Version,
+    codes: &[u8],
+    lists: &mut Lists,
+) -> Result<Option<Kept>, AllocError>
+    requires table { IfSome table.old (λ table. table ≡ style_of terms.now version) }
+    requires short { length codes.now ≤ 65535 }
+    ensures table { table.new ≡ table.old }
+    ensures kept { IfOk result (IsKept version
+        (set_after terms.now (setting 0 []) codes.now) lists.new.texts.items) }
+{
+    if let Some(table) = table {
+        if let Some(kept) = set_plainly(table, terms, codes, &mut lists.texts) {
+            return Ok(kept);
+        }
+    }
+    set_parts(terms, version, Parts::of_codes(codes), lists)
+}

@@ -1,0 +1,129 @@
+//! Makes the texts of pairs.
+ghost use Rattle.std.specs.Prelude.{◌≡◌, ◌≤◌, ◌+◌, ◌^◌, ◌++◌, pos, ◌+ℤ◌, ◌≤ℤ◌, drop, flat_map, length, take, IfSome};
+ghost use Rattle.std.specs.Option.{option_to_list};
+ghost use Rattle.set_line.specs.Record.{text_in};
+ghost use Rattle.set_line.specs.Width.{total_width};
+ghost use Rattle.line_records.specs.Cells.{IsTextOf};
+
+use crate::adding::{Added, Passed};
+use crate::pair::{BYTES, Pair};
+use lig_kern::Item;
+use set_line::{Version, write_item_text};
+
+/// The largest number of bytes in the texts of three items.
+const ROOM: usize = 66;
+
+/// Writes the text of an item, if there is one, so that it ends at the index `end`, and returns its start.
+fn write_some(text: &mut [u8], end: usize, item: Option<Item>, version: Version) -> usize
+    requires { (22 ≤ end) × (end ≤ length text.old) }
+    ensures place { (result ≤ end) × (end ≤ result + 22) }
+    ensures written { drop result text.new
+        ≡ flat_map (text_in version) (option_to_list item) ++ drop end text.old }
+{
+    match item {
+        Some(item) => write_item_text(text, end, &item, version),
+        None => end,
+    }
+}
+
+/// Writes the texts of the items that a step past a symbol adds, so that they end at the index `end`, and
+/// returns their start.
+#[tactic(auto, using(crate::proofs::AddingLemmas::texts))]
+fn write_passed(text: &mut [u8], end: usize, passed: &Passed, version: Version) -> usize
+    requires { (44 ≤ end) × (end ≤ length text.old) }
+    ensures place { (result ≤ end) × (end ≤ result + 44) }
+    ensures written { drop result text.new ≡ flat_map (text_in version) passed.now.items ++ drop end text.old }
+{
+    let kern_at = write_some(text, end, passed.kern, version);
+    write_some(text, kern_at, passed.character, version)
+}
+
+/// Writes the texts of the items that a byte adds, so that they end at the index 66, and returns their start.
+#[tactic(auto, using(crate::proofs::AddingLemmas::texts))]
+fn write_added(text: &mut [u8], added: &Added, version: Version) -> usize
+    requires { 66 ≤ length text.old }
+    ensures place { result ≤ 66 }
+    ensures written { drop result text.new ≡ flat_map (text_in version) added.now.items ++ drop 66 text.old }
+{
+    let cut_at = write_some(text, ROOM, added.cut, version);
+    write_passed(text, cut_at, &added.passed, version)
+}
+
+/// Returns the amount that an item adds to the width, in sp.
+fn amount(item: Option<Item>) -> i64
+    ensures sum { result ≡ total_width (option_to_list item) }
+    ensures low { pos 0 ≤ℤ (result +ℤ pos (2 ^ 31)) }
+    ensures high { result ≤ℤ pos (2 ^ 31) }
+{
+    match item {
+        Some(Item::Char { width, .. }) => i64::from(width),
+        Some(Item::Kern(amount)) | Some(Item::Space(amount)) => i64::from(amount),
+        Some(Item::Skipped(_)) | None => 0,
+    }
+}
+
+/// Returns a text with unused bytes after it, or `None` if it is too long.
+fn padded(text: &[u8]) -> Option<[u8; BYTES]>
+    ensures { IfSome result (λ bytes. (length text.now ≤ 32)
+        × (take (length text.now) bytes ≡ text.now)) }
+{
+    if text.len() > BYTES {
+        return None;
+    }
+    let mut bytes = [0; BYTES];
+    bytes[..text.len()].copy_from_slice(text);
+    Some(bytes)
+}
+
+/// Returns the width of the items that a step past a symbol adds, in sp.
+#[tactic(auto, using(crate::proofs::AddingLemmas::widths))]
+fn passed_width(passed: &Passed) -> i64
+    ensures sum { result ≡ total_width passed.now.items }
+    ensures low { pos 0 ≤ℤ (result +ℤ pos (2 ^ 32)) }
+    ensures high { result ≤ℤ pos (2 ^ 32) }
+{
+    amount(passed.character) + amount(passed.kern)
+}
+
+/// Returns the width of the items that a byte adds, in sp.
+#[tactic(auto, using(crate::proofs::AddingLemmas::widths))]
+fn added_width(added: &Added) -> i64
+    ensures sum { result ≡ total_width added.now.items }
+    ensures low { pos 0 ≤ℤ (result +ℤ pos (2 ^ 40)) }
+    ensures high { result ≤ℤ pos (2 ^ 40) }
+{
+    passed_width(&added.passed) + amount(added.cut)
+}
+
+/// Returns the number of items that a byte adds.
+fn count_of(added: &Added) -> usize
+    ensures count { result ≡ length added.now.items }
+    ensures few { result ≤ 3 }
+{
+    let passed = &added.passed;
+    let passed_items = usize::from(passed.character.is_some()) + usize::from(passed.kern.is_some());
+    passed_items + usize::from(added.cut.is_some())
+}
+
+/// Returns the pair of what a byte adds, or `None` if its text is too long.
+#[tactic(auto, using(crate::proofs::AddingLemmas::texts))]
+pub(crate) fn make_pair(added: &Added, version: Version) -> Option<Pair>
+    ensures { IfSome result (IsTextOf version added.now) }
+{
+    let mut room = [0; ROOM];
+    let start = write_added(&mut room, added, version);
+    let text = &room[start..];
+    let bytes = padded(text)?;
+    let steps = added.passed.steps;
+    // For the proof: no byte adds more than one step, but the type of the number doesn't state this.
+    if steps > 1 {
+        return None;
+    }
+    Some(Pair {
+        text: bytes,
+        length: text.len(),
+        steps: usize::from(steps),
+        count: count_of(added),
+        width: added_width(added),
+    })
+}

@@ -1,0 +1,76 @@
+//! Writes what a byte adds, with the table of texts.
+ghost use Rattle.std.specs.Prelude.{◌≡◌, ◌≤◌, ◌<◌, ◌+◌, ◌^◌, pos, ◌+ℤ◌, ◌≤ℤ◌, length, IfSome, IsNone};
+ghost use Rattle.line_records.specs.Cells.{AreCells, Style};
+ghost use Rattle.line_records.specs.Written.{IsStep};
+
+use crate::cells::LIGATURE;
+use crate::pair::{BYTES, Pair};
+use crate::written::Written;
+
+/// Copies bytes to a slice of the same length.
+fn put(place: &mut [u8], bytes: &[u8; BYTES])
+    requires { length place.old ≡ 32 }
+    ensures { place.new ≡ bytes.now }
+{
+    match place.as_mut_array() {
+        Some(place) => *place = *bytes,
+        None => unreachable!(),
+    }
+}
+
+/// Writes the text of what a byte, or the end of the line, adds to `room`, after the bytes that are written.
+/// A text of any length is copied as 32 bytes. Returns `None`, with `room` unchanged, if the cell isn't made,
+/// if it is one for the general way, or if `room` has no 32 bytes left.
+pub(crate) fn step(
+    cells: &[u16],
+    pairs: &[Pair],
+    next: usize,
+    before: Written,
+    room: &mut [u8],
+) -> Option<Written>
+    requires cells { length cells.now ≡ 65792 }
+    requires next { next < 257 }
+    requires room { before.length ≤ length room.old }
+    requires row { before.row < 256 }
+    requires steps { before.steps < 2 ^ 31 }
+    requires count { before.count < 2 ^ 31 }
+    requires low { pos 0 ≤ℤ (before.width +ℤ pos (2 ^ 62)) }
+    requires high { before.width ≤ℤ pos (2 ^ 62) }
+    ensures step { (style : Style) → AreCells style pairs.now cells.now
+        → IfSome result (IsStep style before next room.old room.new) }
+    ensures room { length room.new ≡ length room.old }
+    ensures unchanged { IsNone result → room.new ≡ room.old }
+    ensures within { IfSome result (λ after. after.length ≤ length room.new) }
+    ensures row { IfSome result (λ after. after.row < 256) }
+    ensures steps { IfSome result (λ after. after.steps ≤ before.steps + 1) }
+    ensures count { IfSome result (λ after. after.count ≤ before.count + 3) }
+    ensures low { IfSome result (λ after. before.width ≤ℤ (after.width +ℤ pos (2 ^ 40))) }
+    ensures high { IfSome result (λ after. after.width ≤ℤ (before.width +ℤ pos (2 ^ 40))) }
+{
+    let cell = usize::from(cells[256 * next + before.row]);
+    if cell < pairs.len() {
+        if room.len() < BYTES || before.length > room.len() - BYTES {
+            return None;
+        }
+        let pair = &pairs[cell];
+        let end = before.length + BYTES;
+        put(&mut room[before.length..end], &pair.text);
+        return Some(Written {
+            row: next % 256,
+            length: before.length + pair.length,
+            steps: before.steps + pair.steps,
+            count: before.count + pair.count,
+            width: before.width + pair.width,
+        });
+    }
+    if cell < LIGATURE {
+        return None;
+    }
+    Some(Written {
+        row: cell - LIGATURE,
+        length: before.length,
+        steps: before.steps + 1,
+        count: before.count,
+        width: before.width,
+    })
+}

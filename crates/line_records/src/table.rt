@@ -1,0 +1,73 @@
+//! The table of texts of a font. A cell is made when it is first needed.
+ghost use Rattle.std.specs.Prelude.{◌≡◌, ◌<◌, IfOk};
+ghost use Rattle.line_records.specs.Cells.{Fits};
+
+use crate::cells::{UNKNOWN, make_cell};
+use crate::pair::Pair;
+use set_line::{Policy, Terms, Version};
+use std::alloc::{AllocError, Global};
+use std::marker::Model;
+use std::snapshot::Snapshot;
+use tfm_tables::Font;
+
+/// The number of cells: 257 columns, for the bytes and for the end of a line, of 256 rows.
+const CELLS: usize = 65_792;
+
+/// The table of texts of a font, for a missing-character policy and a record format.
+#[derive(Drop)]
+pub(crate) struct PairTable {
+    /// The cells, column by column.
+    pub cells: Vec<u16>,
+    /// The pairs whose indices are in cells.
+    pub pairs: Vec<Pair>,
+    policy: Policy,
+    version: Version,
+    /// For the proof: the font.
+    font: Snapshot<Font>,
+}
+
+impl Model for PairTable {
+    ghost use Rattle.line_records.specs.Cells.{AreCells, Style};
+
+    ghost Value = { Style };
+
+    ghost view = { λ t. record { font = t.font.value; policy = t.policy; version = t.version } };
+
+    ghost invariant = { λ t.
+        AreCells (record { font = t.font.value; policy = t.policy; version = t.version }) t.pairs.items t.cells.items };
+}
+
+impl PairTable {
+    /// Returns the table of a font, in which no cell is made yet. Fails if an allocation fails.
+    #[tactic(auto, using(crate::proofs::CellLemmas::tables))]
+    pub fn new(alloc: Global, terms: &Terms, version: Version) -> Result<Self, AllocError>
+        ensures { IfOk result (λ table. table
+            ≡ record { font = terms.now.font; policy = terms.now.policy; version = version }) }
+    {
+        let mut cells = Vec::new(alloc);
+        cells.resize(CELLS, UNKNOWN as u16)?;
+        Ok(PairTable {
+            cells,
+            pairs: Vec::new(alloc),
+            policy: terms.policy(),
+            version,
+            font: Snapshot::of(terms.font()),
+        })
+    }
+
+    /// Makes the cell of a row for a byte, or for the end of the line, unless it is made already.
+    #[tactic(auto, using(crate::proofs::CellLemmas::tables))]
+    pub fn make(&mut self, terms: &Terms, row: usize, next: usize)
+        requires fits { Fits self.old terms.now }
+        requires row { row < 256 }
+        requires next { next < 257 }
+        ensures { self.new ≡ self.old }
+    {
+        let at = 256 * next + row;
+        if usize::from(self.cells[at]) != UNKNOWN {
+            return;
+        }
+        let cell = make_cell(terms, self.version, row as u8, next, &mut self.pairs);
+        self.cells[at] = cell as u16;
+    }
+}

@@ -1,3 +1,0 @@
-mod named;
-mod records;
-mod sums;

@@ -1,6 +1,0 @@
-pub mod Additions
-pub mod Cells
-pub mod Runs
-pub mod Sums
-pub mod Words
-pub mod Written
