@@ -152,7 +152,7 @@ class Plans(Case):
         long = b"\n".join(b"a" * one.chance.choice((9, 999, 5000, 65535, 65536, 150000)) for _ in range(12))
         return fonts, [one.text(fonts[0], 700) + b"\n", b"", one.text(fonts[1], 90) + b"\n" + long + b"\n\nlast"]
 
-    # Contracts exclude that a block is lost, dealt to another lane, taken from another one, or numbered wrongly. Here the
+    # Contracts exclude that a chunk is lost, dealt to another lane, taken from another one, or numbered wrongly. Here the
     # built program is compared.
     @rows((f"record format {form}", form) for form in ("1", "2", "json"))
     def test_many_lines(self, form):

@@ -52,7 +52,7 @@ class LongLine(Case):
     def test(self, args):
         """A line of 600 MB is refused with its length in 300 MB of address space, and later ones are set.
 
-        It comes through a pipe or from a file. Mutant: a `ReaderSource` has the `next_cut` of its trait.
+        It comes through a pipe or from a file. Mutant of `fill` in line_chunks: the bytes of each line are kept.
         """
         self.file("font", sample("plain"))
         with open(self.file("lines", b""), "wb") as file:

@@ -25,15 +25,16 @@ HIDING_IMPORTS = r"(?<!ghost )\buse [^;]*\b(?:[A-Z]\w*::|(?:OutOfMemory|AllocErr
 UNCAUSED = {
     ("encodings/lines.rt", "encode_line"): "`push_text` lacked memory, since the line is UTF-8, and returned `None`",
     ("line_lane/setter.rt", "give_up"): "the calls of this function are searched",
+    ("line_chunks/input.rt", "fill"): "1,048,576 reads didn't reach the end of a line",
+    ("line_chunks/input.rt", "skip"): "1,048,576 reads didn't reach the end of a line that is too long",
     ("tfm_requests/files/reading.rt", "kept_bytes"): "1,048,576 reads didn't reach the end of a font",
     ("tfm_requests/files/opening.rt", "open"): "no file in memory has this name",
-    ("run_texts/stream.rt", "write_block"): "write_some wrote less than the block, because a write failed",
+    ("run_texts/stream.rt", "write_buffer"): "write_some wrote less than the buffer, because a write failed",
     ("run_texts/writing.rt", "write_text"): "write_some wrote less than the text, because a write failed",
-    ("set_run/reader_source/raw_line.rt", "next_raw_line"): "1,048,576 reads didn't reach the end of a line",
-    ("set_run/spawning.rt", "start_sources"): "`begin` lacked memory, or `start_source` a thread, and returned `None`",
+    ("set_run/sources/reader_source/raw_line.rt", "next_raw_line"): "1,048,576 reads didn't reach the end of a line",
+    ("set_run/threads/spawning.rt", "start_sources"): "`begin` lacked memory, or `start_source` a thread: a `None`",
     ("tfm_requests/checking.rt", "check"): "the highest status of the findings is that of a font that wasn't read",
-    ("tfm_requests/batches/delivery.rt", "done_of"): "the summary states that a read or an allocation failed",
-    ("uses/collecting.rt", "tell_lines"): "the lane has no end, because its collector lacked memory"}
+    ("tfm_requests/batches/delivery.rt", "done_of"): "the summary states that a read or an allocation failed"}
 MOST = 2048
 LARGE = {"CELLS = 65_792": "the table of texts of a font", "LEAST = 4_096": "more room for the text of a line",
          "READ_SIZE = 4096": "the bytes of one read", "ROOM = 73_728": "64 KB of records, and the record after them"}

@@ -241,7 +241,7 @@ class Encoded(Case):
 
     @rows((f"--block {block} --workers {workers}", block, workers) for block in (None, "1", "8") for workers in "13")
     def test_many_lines(self, block, workers):
-        """A mark at the front of any line but the first one is an uncoded character, in any block."""
+        """A mark at the front of any line but the first one is an uncoded character, in any chunk."""
         text, wanted = b"", []
         for number in range(1, 2001):
             length = number % 7

@@ -35,7 +35,7 @@ MOST_REQUESTS = 2000  # of memory, of which each fails in turn until a lane is a
 SILENCE, MOST_IDLE = 5, 0.2  # seconds, and the seconds of processor time in them; about 0.01
 MB = 1 << 20
 MEGABYTES = (20, 200)
-# A megabyte of lines of up to 80 bytes, the last of which don't fill a block of eight.
+# A megabyte of lines of up to 80 bytes, the last of which don't fill a chunk of eight.
 WORDS = b"the office five after all of it affable flow in".split()
 PIECE = b"".join(b" ".join(WORDS[(line * 7 + i * 3) % 10] for i in range(line % 20))[:80] + b"\n"
                  for line in range(21259))
@@ -106,12 +106,12 @@ class Pipes(Case):
         self.ends(child, lines)
         return times
 
+    # Mutant of `read` in line_chunks: it reads until it has 4,096 bytes.
     @rows(BLOCKS)
     def test_one_by_one(self, options):
         """The record of a line is printed before the next line is sent."""
         self.one_by_one(options, LINES)
 
-    # Mutant of `fill` in line_blocks: after a line of 40,000 bytes a stream waits for the next one.
     @rows([*BLOCKS, ("UTF-8", ["--encoding", "t1"])])
     def test_long_lines_one_by_one(self, options):
         """So is the record of a long line, whether the line is set or refused."""
@@ -123,28 +123,16 @@ class Pipes(Case):
         child.stdin.close()
         self.same("end", (b"1 end complete %d\n" % len(lengths), 1), (read_line(child.stdout), child.wait(SECONDS)))
 
-    @rows((f"{lines} lines, {title}", options, lines) for title, options in BLOCKS for lines in (8, 11))
-    def test_of_one_write(self, options, lines):
-        """Lines that arrive in one write bring all their records, even if they don't fill a block."""
-        child = self.start(*options, DEMO)
-        child.stdin.write(b"five\n" * lines)
-        for number in range(1, lines + 1):
-            record = read_line(child.stdout)
-            self.same("record", b"1:%d set" % number, record[:record.find(b"set") + 3])
-        self.ends(child, lines)
-
-    # Mutant of `fill` in line_blocks: a block gets the next line even if the source isn't ready. Proved is that a
-    # reader is ready only if it holds a whole line.
     @rows(BLOCKS)
-    def test_part_of_the_next_line(self, options):
-        """A record is printed although a part of the next line has arrived, too."""
+    def test_of_one_write(self, options):
+        """Lines that arrive in one write bring all their records, although a part of the next line arrives, too."""
         child = self.start(*options, DEMO)
-        child.stdin.write(b"five\nfi")
-        for number in range(1, 6):
+        child.stdin.write(b"five\n" * 11 + b"fi")
+        for number in range(1, 13):
             self.same("record", [b"1:%d" % number, b"set"], read_line(child.stdout).split()[:2])
-            child.stdin.write(b"ve\nfi" if number < 5 else b"ve\n")
-        self.same("record", [b"1:6", b"set"], read_line(child.stdout).split()[:2])
-        self.ends(child, 6)
+            if number == 11:
+                child.stdin.write(b"ve\n")
+        self.ends(child, 12)
 
     @rows(BLOCKS)
     def test_crlf_one_by_one(self, options):
@@ -323,7 +311,7 @@ class Pipes(Case):
             time.sleep(0.02)
         return seen()
 
-    # Mutant of `next_raw_line` in set_run: a line that begins inside a read is taken from 1,000 reads.
+    # Mutant of `fill` in line_chunks: a line that begins inside a read is taken from 1,000 reads.
     @rows((f"{reads:,} reads", reads, *wanted) for reads, wanted in (
         (1048576, ([b"1:1 set", b"1:2 refused too-long 1048579", b"1:3 set", b"1 end complete 3"], 1)),
         (1048577, ([b"1:1 set", b"1 end bound 1"], 4))))
@@ -345,7 +333,7 @@ class Pipes(Case):
         feeder.join()
         self.same("lines and status", (lines, status), (seen, child.wait(SECONDS)))
 
-    # Mutants of `deliver` in tfm_requests: the plan has one worker, or 16. Of `options` in run_texts: one lane a source.
+    # Mutants of `deliver` in tfm_requests: the plan has one worker, or 16. Of `batch` in run_texts: one lane a source.
     @rows((f"{command} --workers {workers}, {count} files: {threads} threads", command, workers, count, threads)
           for command, workers, count, threads in (("set", 1, 3, 5), ("each", 3, 3, 7), ("stream", 16, 1, 18),
                                                    ("stream", 16, 40, 57)))
@@ -357,7 +345,7 @@ class Pipes(Case):
             pipe.close()
         self.same("threads and exit status", (threads, 0), (seen, child.wait(SECONDS)))
 
-    # Mutants of `deliver` in tfm_requests: the plan has 16 slots, or blocks of one line, or of eight; blocks of `set` have
+    # Mutants of `deliver` in tfm_requests: the plan has 16 slots, or chunks of one line, or of eight; chunks of `set` have
     # the lines of a read, or those of `stream` don't. Of `LaneCount` in set_run: the lanes of all sources are more than 64.
     @rows((f"{command} --workers {workers} --capacity {slots} --block {block}, {count} files: {reads} reads",
            command, workers, slots, block, reads, count) for command, workers, slots, block, reads, count in (
@@ -366,8 +354,8 @@ class Pipes(Case):
                ("stream", 16, 1, 8, 3, 8), ("set", 16, 10, 8, 3, 33)))
     def test_lines_ahead(self, command, workers, slots, block, reads, count):
         """While all other threads are stopped, each source is read until it has filled the rings of its lanes, and a
-        block. It has a lane for each worker, but all sources have at most 64 lanes, or one each."""
-        # These are lanes * slots + 1 blocks. A read returns 32 lines of 128 bytes.
+        chunk. It has a lane for each worker, but all sources have at most 64 lanes, or one each."""
+        # These are lanes * slots + 1 chunks. A read returns 32 lines of 128 bytes.
         options = ["--workers", str(workers), "--capacity", str(slots)] + (["--block", str(block)] if block else [])
         child, pipes = self.start_with_fifos(command, count, *options)
         text = (b"five " * 25 + b"ox\n") * 512
@@ -450,7 +438,7 @@ class Pipes(Case):
         """The most memory, in KB, of a stream that gets a megabyte of text so many times."""
         return self.after(times, self.peak, "--block", "8")
 
-    # Mutant of line_blocks: no block and no text is large.
+    # Mutant of line_chunks: no chunk and no text is large.
     def test_long_lines_in_the_rings(self):
         """Lines of 33 KB whose records nobody reads fill only a part of the rings, and later have all records."""
         child, written = self.start("--workers", "3", DEMO), []
@@ -474,11 +462,11 @@ class Pipes(Case):
         print(f"long lines in full rings: {peak} KB")
         self.assertLess(peak, MOST_LONG_MEMORY)
 
-    # Mutants: no block is large (line_blocks); a source doesn't hold a large block back (`offer_now` in set_run).
+    # Mutants: no chunk is large (line_chunks); `offer` in line_lane passes a large chunk on as it does a small one.
     @rows((f"{command} --capacity {slots}: {reads} reads", command, slots, reads)
           for command, slots, reads in (("set", 4, 5), ("stream", 8, 7)))
     def test_long_lines_ahead(self, command, slots, reads):
-        """While all other threads are stopped, blocks above 8 KB fill a quarter of the slots, and one more is read."""
+        """While all other threads are stopped, chunks above 8 KB fill a quarter of the slots, and one more is read."""
         child, (pipe,) = self.start_with_fifos(command, 1, "--workers", "1", "--capacity", str(slots))
         text = (b"five " * 1660 + b"\n") * 7
         with self.others_stopped(child, 2, 1):
@@ -494,7 +482,7 @@ class Pipes(Case):
         lines = child.communicate(timeout=SECONDS)[0].splitlines()
         self.same("lines", (8, b"1 end complete 7", 0), (len(lines), lines[-1], child.returncode))
 
-    # Mutant of `options` in run_texts: a source has one lane.
+    # Mutant of `batch` in run_texts: a source has one lane.
     def test_all_workers_set_the_lines_of_one_source(self):
         """Four of the six threads set lines. Another one reads, and the last one writes."""
         def threads(child):

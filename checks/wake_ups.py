@@ -45,10 +45,10 @@ class WakeUps(Case):
                 os.remove(f"{tests}/{name}")
         write(f"{tests}.rt", "".join(f"mod {name};\n" for name in MODULES))
         for shortest in ("1", "50"):
-            changed(f"{crates}/set_run/src/backoff.rt", f"_SLEEP: u64 = {shortest};",
+            changed(f"{crates}/set_run/src/threads/backoff.rt", f"_SLEEP: u64 = {shortest};",
                     "_SLEEP: u64 = 60_000;")
         for change in changes:
-            changed(f"{crates}/set_run/src/signals.rt", *change)
+            changed(f"{crates}/set_run/src/threads/signals.rt", *change)
         said = "".join(execute("rt", "try", "--test", "--seconds", str(seconds), cwd=f"{crates}/run_tests",
                                timeout=900)[1:])
         words = re.findall(r"^test tests::\w+::\w+ \.\.\. (\w+)", said, re.M)

@@ -49,13 +49,13 @@ TEXTS = {"nothing": b"", "100 KB": PIECE[:100000], "200 KB": PIECE[:200000], "2 
          "3,000 instructions": many_instructions(31), "28,600 instructions": many_instructions(300),
          "2,560 pairs": pairs_of(10), "65,536 pairs": pairs_of(256)}
 LETTERS, SIZES = ("100 KB with ä", "200 KB with ä"), ("3,000 instructions", "28,600 instructions")
-# One worker and blocks of eight lines: then the threads' schedule hardly changes the number of instructions.
+# One worker and chunks of eight lines: then the threads' schedule hardly changes the number of instructions.
 STREAM, SET = ["stream", "--workers", "1", "--block", "8"], ["set", "--workers", "1", "--block", "8"]
 ENDLESS = ["--limit", "5000", path_of("endless_3"), "@"]
 # What is counted; the command, whose @ is one of two arguments; how many more units the second one brings; and the
 # instructions that each takes.
 COUNTERS = [
-    # A byte is read, copied to its line, looked up once in the table of texts, copied twice and written. A byte of a
+    # A byte is read, copied to its chunk, looked up once in the table of texts, copied twice and written. A byte of a
     # line that isn't set with the table takes 176 instructions.
     ("a byte of stream", [*STREAM, DEMO, "@"], ("100 KB", "200 KB"), 100000, 65),
     ("a byte of set", [*SET, DEMO, "@"], ("100 KB", "200 KB"), 100000, 65),
@@ -129,7 +129,7 @@ class Instructions(Case):
         print(f"{(many - few) / units:.1f} instructions, usually {usual}")
         self.assertLess(many - few, 2 * usual * units)
 
-    # Mutants: all earlier buffers are visited for each block of `set`; in the general way, the rest of a line is read
+    # Mutants: all earlier buffers are visited for each chunk of `set`; in the general way, the rest of a line is read
     # for each word; the names of all fonts are compared for each font.
     @rows((title, command, most, other) for title, command, most, other in (
         ("ten times the text, stream", ["stream", DEMO, "20 MB"], 30, ["stream", DEMO, "2 MB"]),
@@ -196,7 +196,7 @@ class Requests(Case):
         reads = 2 + files * (len(TEXTS["short lines"]) / 4096 + 1)
         self.at_most([*words, *["short lines"] * files], "read", round(2 * reads))
 
-    # Mutants of line_records and line_blocks: a table is made for each line or block; none is made, so that all lines are
+    # Mutants of line_records and line_chunks: a table is made for each line or chunk; none is made, so that all lines are
     # set in the general way, which COUNTERS would show, too. The font has one table of the same size.
     @rows((f"tables: {words[0]}, {lanes} lanes", words, lanes) for words, lanes in (
         (["stream", "--workers", "1", DEMO, "2 MB"], 1), (["set", "--workers", "3", DEMO, "100 KB", "100 KB"], 6),
@@ -208,11 +208,14 @@ class Requests(Case):
         got = refuse.execute([PROGRAM, *named(words)], "table", 1 + lanes, stdout=subprocess.DEVNULL, timeout=SECONDS)
         self.same("requests for the last table", 1, len(got.told))
 
-    @rows(("memory: " + " ".join(words), words) for words in (
-        ["set"], ["stream", "--encoding", "t1"], ["stream", "--crlf", "--workers", "1"]))
-    def test_memory(self, words):
-        """A short line takes one request for memory, and a block of them a few. The bound is twice that."""
-        self.at_most([*words, DEMO, "short lines"], "memory", 2 * 15000 + 1000)
+    # Mutant of line_chunks: each line of a chunk is copied. Of 15,000 lines, a chunk has one, eight, or those of a read.
+    @rows(("memory: " + " ".join(words), words, chunks) for words, chunks in (
+        (["set"], 15000), (["set", "--block", "8"], 1875), (["stream", "--encoding", "t1"], 26),
+        (["stream", "--crlf", "--workers", "1"], 26)))
+    def test_memory(self, words, chunks):
+        """A chunk takes two requests for memory, for its lines and for its records, and a line none; 1,000 more are
+        permitted, of which a command takes about 220."""
+        self.at_most([*words, DEMO, "short lines"], "memory", 2 * chunks + 1000)
 
     @rows(("writes: " + words[0], words) for words in (
         ["set", DEMO, "2 MB"], ["stream", DEMO, "2 MB"], ["list", "--all", DEMO]))
@@ -235,7 +238,7 @@ class Requests(Case):
     def test_sleeps(self):
         """The threads of a stream sleep about twice for each half of a ring.
 
-        It has 32 blocks of eight lines, so that they sleep 156 times for 20,000 lines. Since the schedule decides, the
+        It has 32 chunks of eight lines, so that they sleep 156 times for 20,000 lines. Since the schedule decides, the
         bound is six times that.
         """
         options = ["--block", "8", "--workers", "1", "--capacity", "64"]

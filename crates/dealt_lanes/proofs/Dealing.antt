@@ -2,11 +2,12 @@
 use Rattle.std.proofs.Common.{arith, ◌≡◌, ℕ, suc, ◌+◌, ◌%◌, ◌<◌, Bool, true, false, nat_eq, List, [], ◌∷◌, ◌++◌, length, map, get_or, refl, ap, sym, subst, ◌∙◌, length-append}
 use Rattle.std.specs.Prelude.{set, Result, Ok, Err, OnOk, IfOk, IfErr}
 use Rattle.std.proofs.lemmas.Nat.{mod_below}
-use Rattle.std.proofs.lemmas.List.{get_or-set_same, get_or-set_other, map-set}
+use Rattle.std.proofs.lemmas.List.{get_or-set_same, get_or-set_other, map-set, length-map, length-set}
 use Rattle.std.proofs.Math.Nat.{suc-mod}
+use Rattle.line_lane.proofs.FrontLemmas.{front_first, front_same}
 use Rattle.dealt_lanes.specs.InTurn.{AreInTurn, AreShares, StopAt, in_turn, share}
-use Rattle.dealt_lanes.proofs.Zips.{length_map, length_set, map_at}
-use Rattle.dealt_lanes.proofs.Shares.{equal, unequal, front_first, front_same, in_turn_are, share-here, share-there}
+use Rattle.dealt_lanes.proofs.Zips.{map_at}
+use Rattle.dealt_lanes.proofs.Shares.{equal, unequal, in_turn_are, share-here, share-there}
 
 -- ---- results
 
@@ -41,7 +42,7 @@ module _ {T : Type 0} where
   shares_next : (lists : List (List T)) (items : List T) (item : T) (at : ℕ) → at < length lists → at ≡ length items % length lists
       → AreShares lists items → AreShares (set lists at (get_or lists at [] ++ item ∷ [])) (items ++ item ∷ [])
   shares_next lists items item at below turn have =
-      let long = length_set lists at (get_or lists at [] ++ item ∷ []) in
+      let long = length-set lists at (get_or lists at [] ++ item ∷ []) in
       λ i within. subst (λ n. get_or (set lists at (get_or lists at [] ++ item ∷ [])) i [] ≡ share n i (items ++ item ∷ [])) (sym long)
       (by i (nat_eq at i) refl (have i (subst (λ n. i < n) long within)))
     where
@@ -62,7 +63,7 @@ module _ {T : Type 0} where
   lists_next lists item at next below was is =
       let items : List T = in_turn lists in
       let more : List (List T) = set lists at (get_or lists at [] ++ item ∷ []) in
-      let long : length more ≡ length lists = length_set lists at (get_or lists at [] ++ item ∷ []) in
+      let long : length more ≡ length lists = length-set lists at (get_or lists at [] ++ item ∷ []) in
       let have : AreShares more (items ++ item ∷ []) = shares_next lists items item at below was.1 was.0 in
       let now : in_turn more ≡ items ++ item ∷ [] = in_turn_shares more (items ++ item ∷ []) (omega (arith, long, below)) have in
       let count : length (items ++ item ∷ []) ≡ length items + 1 = length-append items (item ∷ []) in (
@@ -90,7 +91,7 @@ module _ {E T : Type 0} where
       → f new ≡ f old ++ item ∷ [] → AreInTurn (map f ends) at → next ≡ (at + 1) % length ends
       → (in_turn (map f (set ends at new)) ≡ in_turn (map f ends) ++ item ∷ []) × AreInTurn (map f (set ends at new)) next
   endpoint_next f ends old new item at next below is more was turn =
-      let long : length (map f ends) ≡ length ends = length_map f ends in
+      let long : length (map f ends) ≡ length ends = length-map ends f in
       let had : get_or (map f ends) at [] ≡ f old = map_at f ends at old [] below is in
       subst (λ l. (in_turn l ≡ in_turn (map f ends) ++ item ∷ []) × AreInTurn l next)
       (ap (set (map f ends) at) (ap (λ q. q ++ item ∷ []) had ∙ sym more) ∙ sym (map-set f ends at new))

@@ -1,24 +1,26 @@
 -- The feeders of a dealer and the takers of a gatherer, after a call for the lane in turn.
 use Rattle.std.proofs.Common.{arith, ◌≡◌, ℕ, zero, suc, ◌+◌, ◌%◌, ◌<◌, Bool, true, false, List, [], ◌∷◌, ◌++◌, length, map, get_or, Option, Some, None, refl, ap, sym, subst, ◌∙◌}
+use Rattle.std.proofs.lemmas.List.{get_or-set_same, length-map, length-set}
 use Rattle.std.specs.Prelude.{set, is_some, not, if◌then◌else◌}
 use Rattle.std.specs.List.{AllZip}
 use Rattle.std.proofs.lemmas.Bool.{true≢false}
 use Rattle.std.proofs.lemmas.List.Elements.{length_all_zip}
 use Rattle.line_lane.specs.Rings.{IsFirstOf}
-use Rattle.line_lane.specs.Ends.{IsRefusal, fed, feeder_end, taken, taker_end}
+use Rattle.line_lane.specs.Ends.{IsRefusal, fed, taken, taker_end}
 use Rattle.line_lane.specs.declared.feeder.Feeder.{Feeder}
 use Rattle.line_lane.specs.declared.taker.Taker.{Taker}
 use Rattle.line_lane.specs.declared.ending.SourceEnd.{SourceEnd}
 use Rattle.line_lane.specs.declared.ending.LaneEnd.{LaneEnd}
-use Rattle.line_lane.specs.declared.offer_fault.OfferFault.TheVariants.{Closed}
+use Rattle.line_lane.specs.declared.offer_fault.OfferFault.{OfferFault}
+use Rattle.line_lane.specs.declared.offer_fault.OfferFault.TheVariants.{Closed, NoRoom}
 use Rattle.line_lane.specs.declared.took.Took.TheVariants.{Nothing, Answer, End}
+use Rattle.line_lane.proofs.FrontLemmas.{first_front, front_first, front_trans}
 use Rattle.dealt_lanes.specs.InTurn.{AreInTurn, BeginWithShares, StopAt, in_turn, share}
-use Rattle.dealt_lanes.specs.Feeders.{HaveEnd, IsFedAt, each_fed}
+use Rattle.dealt_lanes.specs.Feeders.{IsFedAt, IsReturned, each_fed}
 use Rattle.dealt_lanes.specs.Takers.{AreGathered, IsDrained, IsTakenAt, SameTakers, each_taken}
 use Rattle.dealt_lanes.proofs.Dealing.{endpoint_next, stop_in_turn}
-use Rattle.dealt_lanes.proofs.SameEnds.{ends_at}
-use Rattle.dealt_lanes.proofs.Shares.{first_front, front_first, front_trans, in_turn_are}
-use Rattle.dealt_lanes.proofs.Zips.{length_map, length_set, map_at, map_kept}
+use Rattle.dealt_lanes.proofs.Shares.{in_turn_are}
+use Rattle.dealt_lanes.proofs.Zips.{map_at, map_kept}
 
 pub none_of : {T : Type 0} (end : Option T) (is : Bool) → is ≡ is_some end → is ≡ false → end ≡ None
 none_of None is e false-is = refl
@@ -27,40 +29,25 @@ none_of (Some x) is e false-is = absurd (true≢false (sym e ∙ false-is))
 pub some_of : {T : Type 0} (end : Option T) (is : Bool) → is_some end ≡ not is → is ≡ false → is_some end ≡ true
 some_of end is e false-is = e ∙ ap not false-is
 
-pub element_at : {A : Type 0} (xs : List A) (i : ℕ) → i < length xs → (x : A) × (x ≡ get_or xs i x)
-element_at [] i below = absurd (omega (arith, below))
-element_at (x ∷ xs) zero below = (x, refl)
-element_at (x ∷ xs) (suc i) below = element_at xs i (omega (arith, below))
-
 -- ---- feeders
 
--- an end that is only `None`
-no_end : (end : Option SourceEnd) → (is_some end ≡ true → end ≡ None) → end ≡ None
-no_end None only = refl
-no_end (Some end) only = only refl
-
 module _ {I : Type 0} where
-  -- the error of a closed dealer
-  pub closed_refusal : (end : Option SourceEnd) (is : Bool) (block : ℕ) (lines : List I) (item : I) → is ≡ is_some end → is ≡ true
-      → IsRefusal end block lines item (Closed item)
-  closed_refusal None is block lines item e some = absurd (true≢false (sym some ∙ e))
-  closed_refusal (Some end) is block lines item e some = refl
+  -- the error of a feeder that isn't closed
+  pub returned : (end : Option SourceEnd) (block : ℕ) (lines : List I) (item : I) (fault : OfferFault I) → (is_some end ≡ true → end ≡ None)
+      → IsRefusal end block lines item fault → IsReturned None item fault
+  returned None block lines item (Closed back) none is = elim is [ ]
+  returned None block lines item (NoRoom back) none is = (refl, is.0)
+  returned (Some end) block lines item fault none is = absurd (true≢false (ap is_some (none refl)))
 
 module _ {I IS : Type 0} where
-  -- the feeder of a dealer that isn't closed isn't closed either
-  pub open_feeder : (feeders : List (Feeder I IS)) (at : ℕ) (f : Feeder I IS) (end : Option SourceEnd) → f ≡ get_or feeders at f → at < length feeders
-      → HaveEnd end feeders → end ≡ None → feeder_end f ≡ end
-  open_feeder feeders at f end is below have none =
-      no_end (feeder_end f) (subst (λ e. is_some (feeder_end f) ≡ true → feeder_end f ≡ e) none (ends_at end feeders at f is below have)) ∙ sym none
-
   -- an item was dealt
   pub fed_next : (before after : List (Feeder I IS)) (item : I) (at next many : ℕ) → at < length before → many ≡ length after
       → IsFedAt before at item after → AreInTurn (each_fed before) at → next ≡ (at + 1) % many
       → (in_turn (each_fed after) ≡ in_turn (each_fed before) ++ item ∷ []) × AreInTurn (each_fed after) next
-  fed_next before after item at next many below long (f, g, is, one, all) was turn =
-      let same : many ≡ length before = long ∙ ap length all ∙ length_set before at g in
+  fed_next before after item at next many below long (f, g, is, more, all) was turn =
+      let same : many ≡ length before = long ∙ ap length all ∙ length-set before at g in
       subst (λ l. (in_turn (each_fed l) ≡ in_turn (each_fed before) ++ item ∷ []) × AreInTurn (each_fed l) next) (sym all)
-      (endpoint_next fed before f g item at next below is one.1 was (turn ∙ ap (λ n. (at + 1) % n) same))
+      (endpoint_next fed before f g item at next below is more was (turn ∙ ap (λ n. (at + 1) % n) same))
 
 -- ---- takers
 
@@ -90,11 +77,11 @@ module _ {O OS : Type 0} where
       → next ≡ (at + 1) % many
       → right answer × (in_turn (each_taken after) ≡ in_turn (each_taken before) ++ answer ∷ []) × AreGathered end after next
   answer_next right before after answer at next many end below long inside none (t, u, is, all, takes) was turn =
-      let same : many ≡ length before = long ∙ ap length all ∙ length_set before at u in
+      let same : many ≡ length before = long ∙ ap length all ∙ length-set before at u in
       let (more, now) =
       subst (λ l. (in_turn (each_taken l) ≡ in_turn (each_taken before) ++ answer ∷ []) × AreInTurn (each_taken l) next) (sym all)
       (endpoint_next taken before t u answer at next below is takes.3 (was.0 none) (turn ∙ ap (λ n. (at + 1) % n) same)) in
-      let count : length (each_taken after) ≡ length after = length_map taken after in (
+      let count : length (each_taken after) ≡ length after = length-map after taken in (
         takes.0,
         more,
         (
@@ -112,8 +99,8 @@ module _ {O OS : Type 0} where
       let same : each_taken after ≡ each_taken before =
       ap (map taken) all ∙ map_kept taken before at t u is (ap (λ s. s.taken) takes.2) in
       let ended : taker_end u ≡ Some end = ap (λ s. if s.ended then s.ending else None) takes.2 in
-      let inside : at < length (set before at u) = let long = length_set before at u in omega (arith, long, below) in
-      let there : u ≡ get_or (set before at u) at u = sym (set_at before at u below) in (
+      let inside : at < length (set before at u) = let long = length-set before at u in omega (arith, long, below) in
+      let there : u ≡ get_or (set before at u) at u = sym (get_or-set_same before at u u below) in (
         ap in_turn same,
         (
           (λ e. absurd (true≢false (ap is_some e))),
@@ -121,11 +108,6 @@ module _ {O OS : Type 0} where
           (λ _. ap (λ l. get_or (map taker_end l) at None) all ∙ map_at taker_end (set before at u) at u None inside there ∙ ended),
         ),
       )
-    where
-      set_at : {A : Type 0} (xs : List A) (i : ℕ) (x : A) → i < length xs → get_or (set xs i x) i x ≡ x
-      set_at [] i x below = absurd (omega (arith, below))
-      set_at (y ∷ xs) zero x below = refl
-      set_at (y ∷ xs) (suc i) x below = set_at xs i x (omega (arith, below))
 
   -- ---- takers that are emptied
 
@@ -155,8 +137,8 @@ module _ {O OS : Type 0} where
       let items : List O = in_turn (each_taken before) in
       let old : List (List O) = each_taken before in
       let new : List (List O) = each_taken after in
-      let wide : length old ≡ length before = length_map taken before in
-      let long : length new ≡ length old = length_map taken after ∙ sym (length_all_zip IsDrained before after zip) ∙ sym wide in
+      let wide : length old ≡ length before = length-map before taken in
+      let long : length new ≡ length old = length-map after taken ∙ sym (length_all_zip IsDrained before after zip) ∙ sym wide in
       let ended : get_or (map taker_end before) at None ≡ end = was.2 some in
       let kept = drained_end before after at zip (ap is_some ended ∙ some) in
       let turn : at ≡ length items % length new = was.1.1 ∙ ap (λ n. length items % n) (sym long) in

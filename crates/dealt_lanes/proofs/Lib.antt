@@ -1,7 +1,5 @@
 pub mod Shares
 pub mod Zips
-pub mod Rounds
-pub mod IfRoom
 pub mod SameEnds
 pub mod Drained
 pub mod Dealing

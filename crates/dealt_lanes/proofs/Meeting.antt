@@ -1,8 +1,9 @@
 -- Lists of the endpoints of lanes.
 use Rattle.std.proofs.Common.{arith, ◌≡◌, ℕ, suc, List, [], ◌∷◌, ◌++◌, length, get_or, refl, ap, sym, subst, ◌∙◌}
-use Rattle.std.specs.Prelude.{◌==◌, true}
+use Rattle.std.specs.Prelude.{◌==◌, All, true}
 use Rattle.std.specs.List.{remove}
 use Rattle.std.proofs.lemmas.Bool.Decides.{nat_tests}
+use Rattle.std.proofs.lemmas.List.Elements.{All-cons, All-nil}
 use Rattle.dealt_lanes.specs.Lanes.{AllThree}
 
 pub zero_of : (n : ℕ) → true ≡ (n == 0) → n ≡ 0
@@ -20,17 +21,12 @@ module _ {A : Type 0} where
 
 module _ {A B C : Type 0} where
   -- three lists, of which the first isn't empty
-  pub three_second : (P : A → B → C → Type 0) (as' : List A) (bs : List B) (cs : List C) → (as' ≡ [] → ⊥) → AllThree P as' bs cs → bs ≡ [] → ⊥
-  three_second P [] bs cs some all none = some refl
-  three_second P (a ∷ as') [] cs some all none = all
-  three_second P (a ∷ as') (b ∷ bs) [] some all none = all
-  three_second P (a ∷ as') (b ∷ bs) (c ∷ cs) some all none = absurd (grind (arith, none))
-
-  pub three_third : (P : A → B → C → Type 0) (as' : List A) (bs : List B) (cs : List C) → (as' ≡ [] → ⊥) → AllThree P as' bs cs → cs ≡ [] → ⊥
-  three_third P [] bs cs some all none = some refl
-  three_third P (a ∷ as') [] cs some all none = all
-  three_third P (a ∷ as') (b ∷ bs) [] some all none = all
-  three_third P (a ∷ as') (b ∷ bs) (c ∷ cs) some all none = absurd (grind (arith, none))
+  pub three_some : (P : A → B → C → Type 0) (as' : List A) (bs : List B) (cs : List C) → (as' ≡ [] → ⊥) → AllThree P as' bs cs
+      → (bs ≡ [] → ⊥) × (cs ≡ [] → ⊥)
+  three_some P [] bs cs some all = absurd (some refl)
+  three_some P (a ∷ as') [] cs some all = elim all [ ]
+  three_some P (a ∷ as') (b ∷ bs) [] some all = elim all [ ]
+  three_some P (a ∷ as') (b ∷ bs) (c ∷ cs) some all = ((λ none. grind (arith, none)), (λ none. grind (arith, none)))
 
   -- three lists with a first element
   pub three_first : (P : A → B → C → Type 0) (as' as'' : List A) (bs bs' : List B) (cs cs' : List C) (a : A) (b : B) (c : C) → as' ≡ a ∷ as'' → bs ≡ b ∷ bs'
@@ -70,6 +66,20 @@ module _ {A B C : Type 0} where
   three_lengths P (x ∷ as') [] cs all = elim all [ ]
   three_lengths P (x ∷ as') (y ∷ bs) [] all = elim all [ ]
   three_lengths P (x ∷ as') (y ∷ bs) (z ∷ cs) all = let more = three_lengths P as' bs cs all.1 in (ap suc more.0, ap suc more.1)
+
+  -- what holds of the elements of each list
+  pub three_each : (P : A → B → C → Type 0) (Q : A → Type 0) (R : B → Type 0) (S : C → Type 0)
+      → ((a : A) (b : B) (c : C) → P a b c → Q a × R b × S c) → (as' : List A) (bs : List B) (cs : List C)
+      → AllThree P as' bs cs → All Q as' × All R bs × All S cs
+  three_each P Q R S split [] [] [] all = (All-nil Q, All-nil R, All-nil S)
+  three_each P Q R S split [] [] (z ∷ cs) all = elim all [ ]
+  three_each P Q R S split [] (y ∷ bs) cs all = elim all [ ]
+  three_each P Q R S split (x ∷ as') [] cs all = elim all [ ]
+  three_each P Q R S split (x ∷ as') (y ∷ bs) [] all = elim all [ ]
+  three_each P Q R S split (x ∷ as') (y ∷ bs) (z ∷ cs) all =
+      let one = split x y z all.0 in
+      let more = three_each P Q R S split as' bs cs all.1 in
+      (All-cons Q x as' one.0 more.0, All-cons R y bs one.1 more.1, All-cons S z cs one.2 more.2)
 
   -- three lists, of which the first is empty
   pub three_none : (P Q : A → B → C → Type 0) (as' : List A) (bs : List B) (cs : List C) → as' ≡ [] → AllThree P as' bs cs → AllThree Q as' bs cs

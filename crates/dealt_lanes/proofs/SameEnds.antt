@@ -17,12 +17,6 @@ module _ {I IS : Type 0} where
   pub feeder_trans : (f g h : Feeder I IS) → SameFeeder f g → SameFeeder g h → SameFeeder f h
   feeder_trans f g h a b = grind (rules, a, b)
 
-  pub fed_refl : (f : Feeder I IS) → IsAsFed f f
-  fed_refl f = (refl, refl, refl, refl)
-
-  pub fed_trans : (f g h : Feeder I IS) → IsAsFed f g → IsAsFed g h → IsAsFed f h
-  fed_trans f g h a b = (b.0 ∙ a.0, b.1 ∙ a.1, b.2 ∙ a.2, b.3 ∙ a.3)
-
 module _ {O OS : Type 0} where
   pub taker_refl : (t : Taker O OS) → SameTaker t t
   taker_refl t = grind rules

@@ -1,11 +1,10 @@
 -- What is dealt over lists comes back in turn.
-use Rattle.std.proofs.Common.{arith, rules, ◌≡◌, ℕ, zero, suc, ◌+◌, ◌%◌, ◌<◌, ◌≤◌, Bool, true, false, nat_eq, List, [], ◌∷◌, ◌++◌, length, take, drop, get_or, refl, ap, sym, subst, ◌∙◌, append_assoc, append-nil, take-append-drop}
+use Rattle.std.proofs.Common.{arith, rules, ◌≡◌, ℕ, zero, suc, ◌+◌, ◌%◌, ◌<◌, ◌≤◌, Bool, true, false, nat_eq, List, [], ◌∷◌, ◌++◌, length, get_or, refl, ap, sym, subst, ◌∙◌, append-nil}
 use Rattle.std.specs.Prelude.{set}
 use Rattle.std.proofs.lemmas.Nat.{mod_below}
 use Rattle.std.proofs.lemmas.Bool.{true≢false}
-use Rattle.std.proofs.lemmas.List.{get_or-set_same, get_or-set_other}
-use Rattle.std.proofs.Math.Seq.{take-append_seam}
-use Rattle.line_lane.specs.Rings.{IsFirstOf}
+use Rattle.std.proofs.lemmas.List.{get_or-set_same, get_or-set_other, length-set}
+use Rattle.line_lane.proofs.FrontLemmas.{IsFront, first_front}
 use Rattle.dealt_lanes.specs.InTurn.{share_from, share, BeginWithShares, count_all, turns, in_turn}
 
 itself : (n : ℕ) → nat_eq n n ≡ true
@@ -17,26 +16,7 @@ equal m n e = search (rules, e)
 pub unequal : (m n : ℕ) → nat_eq m n ≡ false → n ≡ m → ⊥
 unequal m n e is = true≢false (sym (itself m) ∙ ap (nat_eq m) (sym is) ∙ e)
 
--- ---- first parts of lists
-
 module _ {T : Type 0} where
-  -- a list, and what follows it in another
-  abbrev pub IsFront : List T → List T → Type 0
-  IsFront front all = (rest : List T) × (front ++ rest ≡ all)
-
-  pub first_front : (front all : List T) → IsFirstOf front all → IsFront front all
-  first_front front all e =
-      (drop (length front) all, ap (λ f. f ++ drop (length front) all) e ∙ take-append-drop (length front) all)
-
-  pub front_first : (front all : List T) → IsFront front all → IsFirstOf front all
-  front_first front all (rest, e) = sym (take-append_seam front rest) ∙ ap (take (length front)) e
-
-  pub front_same : (front all : List T) → all ≡ front → IsFront front all
-  front_same front all e = ([], append-nil front ∙ sym e)
-
-  pub front_trans : (a b c : List T) → IsFront a b → IsFront b c → IsFront a c
-  front_trans a b c (r, e) (q, f) = (r ++ q, sym (append_assoc a r q) ∙ ap (λ x. x ++ q) e ∙ f)
-
   no_front : (x : T) (xs : List T) → IsFront (x ∷ xs) [] → ⊥
   no_front x xs (rest, e) = grind (arith, e)
 
@@ -97,11 +77,6 @@ module _ {T : Type 0} where
 
   -- ---- lists
 
-  pub length_set : (lists : List (List T)) (i : ℕ) (list : List T) → length (set lists i list) ≡ length lists
-  length_set [] i list = refl
-  length_set (l ∷ lists) zero list = refl
-  length_set (l ∷ lists) (suc i) list = ap suc (length_set lists i list)
-
   count_less : (lists : List (List T)) (i : ℕ) (item : T) (rest : List T) → get_or lists i [] ≡ item ∷ rest
       → count_all (set lists i rest) + 1 ≡ count_all lists
   count_less [] i item rest is = absurd (grind (arith, is))
@@ -132,7 +107,7 @@ module _ {T : Type 0} where
       let rest : List T = share_from k at (j + 1) xs ++ r in
       let is : get_or lists at [] ≡ x ∷ rest = sym e in
       let one = count_less lists at x rest is in
-      let long : length (set lists at rest) ≡ k = length_set lists at rest in
+      let long : length (set lists at rest) ≡ k = length-set lists at rest in
       let end : j + length (x ∷ xs) ≡ j + 1 + length xs = omega arith in
       let more : turns most (j + 1) (set lists at rest) ≡ xs =
       turns_are most (j + 1) (set lists at rest) xs (omega (arith, long, some)) (omega (arith, one, few))

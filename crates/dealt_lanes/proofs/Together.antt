@@ -4,7 +4,7 @@ use Rattle.std.specs.Prelude.{is_some}
 use Rattle.std.specs.Option.{option_map}
 use Rattle.std.proofs.lemmas.Nat.{mod_below}
 use Rattle.std.proofs.lemmas.Option.{none-some}
-use Rattle.std.proofs.lemmas.List.{map-append, take-map}
+use Rattle.std.proofs.lemmas.List.{length-map}
 use Rattle.std.proofs.lemmas.List.Elements.{All-head, All-tail}
 use Rattle.line_lane.specs.Rings.{IsFirstOf}
 use Rattle.line_lane.specs.Lane.{lane_end_of, pipeline}
@@ -18,14 +18,14 @@ use Rattle.line_lane.specs.declared.taker.Taker.{Taker}
 use Rattle.line_lane.specs.declared.ending.SourceEnd.{SourceEnd}
 use Rattle.line_lane.specs.declared.ending.LaneEnd.{LaneEnd}
 use Rattle.line_lane.specs.declared.ending.LaneEnd.TheVariants.{GaveUp}
+use Rattle.line_lane.proofs.FrontLemmas.{IsFront, first_front, front_pipeline, front_trans, pipeline_front}
 use Rattle.dealt_lanes.specs.InTurn.{AreFirstOfShares, AreInTurn, StopAt, in_turn, share, share_from}
 use Rattle.dealt_lanes.specs.Feeders.{HaveEnd, each_fed}
 use Rattle.dealt_lanes.specs.Takers.{AreGathered, each_taken}
 use Rattle.dealt_lanes.specs.Lanes.{AllThree, IsMet}
 use Rattle.dealt_lanes.specs.Settled.{AllMake, HaveAbandoned, each_seen}
 use Rattle.dealt_lanes.proofs.Meeting.{three_lengths}
-use Rattle.dealt_lanes.proofs.Shares.{IsFront, first_front, front_first, front_trans, fronts, here, share-append, there}
-use Rattle.dealt_lanes.proofs.Zips.{length_map}
+use Rattle.dealt_lanes.proofs.Shares.{fronts, here, share-append, there}
 
 -- ---- what is made of shares
 
@@ -38,17 +38,6 @@ module _ {S T : Type 0} where
           → share_from k i j (f x ∷ map f xs) ≡ map f (share_from k i j (x ∷ xs))
       by true e more = here k i j (f x) (map f xs) e ∙ ap (λ l. f x ∷ l) more ∙ ap (map f) (sym (here k i j x xs e))
       by false e more = there k i j (f x) (map f xs) e ∙ more ∙ ap (map f) (sym (there k i j x xs e))
-
-  map_front : (f : S → T) (front all : List S) → IsFront front all → IsFront (map f front) (map f all)
-  map_front f front all (rest, e) = (map f rest, sym (map-append f front rest) ∙ ap (map f) e)
-
-  -- results made of the first items
-  pipeline_front : (makes : S → T) (items : List S) (results : List T) → pipeline makes items results → IsFront results (map makes items)
-  pipeline_front makes items results e =
-      first_front results (map makes items) (e ∙ sym (take-map makes (length results) items))
-
-  front_pipeline : (makes : S → T) (items : List S) (results : List T) → IsFront results (map makes items) → pipeline makes items results
-  front_pipeline makes items results front = front_first results (map makes items) front ∙ take-map makes (length results) items
 
 module _ {T : Type 0} where
   longer : (xs : List T) (y : T) (ys : List T) → xs ≡ xs ++ (y ∷ ys) → ⊥
@@ -154,8 +143,8 @@ module _ {M I O IS OS : Type 0} {ghosts : Ghosts M I O IS OS} where
       let k : ℕ = length fs in
       let items : List I = in_turn (each_fed fs) in
       let results : List O = in_turn (each_taken ts) in
-      let wide : length (each_fed fs) ≡ k = length_map fed fs in
-      let long : length (each_taken ts) ≡ k = length_map taken ts ∙ lengths.1 ∙ sym lengths.0 in
+      let wide : length (each_fed fs) ≡ k = length-map fs fed in
+      let long : length (each_taken ts) ≡ k = length-map ts taken ∙ lengths.1 ∙ sym lengths.0 in
       fronts k 0 results (map makes items) (omega (arith, below)) (λ i within.
       let inside : i < length (each_taken ts) = omega (arith, long, within) in
       let there : i < length (each_fed fs) = omega (arith, wide, within) in
@@ -182,8 +171,8 @@ module _ {M I O IS OS : Type 0} {ghosts : Ghosts M I O IS OS} where
       let k : ℕ = length fs in
       let items : List I = in_turn (each_fed fs) in
       let results : List O = in_turn (each_taken ts) in
-      let wide : length (each_fed fs) ≡ k = length_map fed fs in
-      let long : length (each_taken ts) ≡ k = length_map taken ts ∙ lengths.1 ∙ sym lengths.0 in
+      let wide : length (each_fed fs) ≡ k = length-map fs fed in
+      let long : length (each_taken ts) ≡ k = length-map ts taken ∙ lengths.1 ∙ sym lengths.0 in
       let some : 0 < k = omega (arith, below) in
       let here' : get_or (map taker_end ts) turn None ≡ Some end = gathered.2 (ap is_some is) ∙ is in
       let facts = lane_ended fs ss ts makes turn end met make here' going in
@@ -203,7 +192,7 @@ module _ {M I O IS OS : Type 0} {ghosts : Ghosts M I O IS OS} where
   seen_shares fs ss ts at dealt met i within =
       let lengths = three_lengths IsMet fs ss ts met in
       let items : List I = in_turn (each_fed fs) in
-      let same : length (each_fed fs) ≡ length (each_seen ss) = length_map fed fs ∙ lengths.0 ∙ sym (length_map (λ s. (state_of s).seen) ss) in
+      let same : length (each_fed fs) ≡ length (each_seen ss) = length-map fs fed ∙ lengths.0 ∙ sym (length-map ss (λ s. (state_of s).seen)) in
       let inside : i < length (each_fed fs) = omega (arith, same, within) in
       subst (IsFirstOf (get_or (each_seen ss) i [])) (dealt.0 i inside ∙ ap (λ n. share n i items) same) (lane_seen fs ss ts i met)
 

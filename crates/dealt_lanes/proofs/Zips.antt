@@ -1,5 +1,6 @@
 -- Lists that are related element by element, and one element that changes.
 use Rattle.std.proofs.Common.{arith, ◌≡◌, ℕ, zero, suc, ◌<◌, List, [], ◌∷◌, length, map, get_or, subst, ap, refl, sym, ◌∙◌}
+use Rattle.std.proofs.lemmas.List.{get_or-map}
 use Rattle.std.specs.Prelude.{set}
 use Rattle.std.specs.List.{AllZip}
 
@@ -24,20 +25,9 @@ module _ {A : Type 0} where
   zip_set R same (x ∷ xs) zero old new at r = (subst (λ o. R o new) at r, zip_refl R same xs)
   zip_set R same (x ∷ xs) (suc i) old new at r = (same x, zip_set R same xs i old new at r)
 
-  pub length_set : (xs : List A) (i : ℕ) (x : A) → length (set xs i x) ≡ length xs
-  length_set [] i x = refl
-  length_set (y ∷ xs) zero x = refl
-  length_set (y ∷ xs) (suc i) x = ap suc (length_set xs i x)
-
 module _ {A B : Type 0} where
-  pub length_map : (f : A → B) (xs : List A) → length (map f xs) ≡ length xs
-  length_map f [] = refl
-  length_map f (x ∷ xs) = ap suc (length_map f xs)
-
   pub map_at : (f : A → B) (xs : List A) (i : ℕ) (x : A) (other : B) → i < length xs → x ≡ get_or xs i x → get_or (map f xs) i other ≡ f x
-  map_at f [] i x other below at = absurd (omega (arith, below))
-  map_at f (y ∷ xs) zero x other below at = ap f (sym at)
-  map_at f (y ∷ xs) (suc i) x other below at = map_at f xs i x other (omega (arith, below)) at
+  map_at f xs i x other below at = get_or-map f xs i x other below ∙ ap f (sym at)
 
   -- an element changes, but what is read of it doesn't
   pub map_kept : (f : A → B) (xs : List A) (i : ℕ) (old new : A) → old ≡ get_or xs i old → f new ≡ f old → map f (set xs i new) ≡ map f xs

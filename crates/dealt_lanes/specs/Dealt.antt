@@ -1,16 +1,13 @@
 -- The endpoints of several lanes for one source: the items dealt, and the results gathered.
 -- This project's own.
-use Rattle.std.specs.Prelude.{◌≡◌, ◌++◌, ◌∷◌, [], ℕ, List, length, get_or, Option, Some, None}
+use Rattle.std.specs.Prelude.{◌≡◌, ◌++◌, ◌∷◌, [], ℕ, List, length, Option, Some, None}
 use Rattle.line_lane.specs.Messages.{first_end}
-use Rattle.line_lane.specs.Ends.{IsRefusal, block_of, open_lines}
-use Rattle.line_lane.specs.declared.feeder.Feeder.{Feeder}
 use Rattle.line_lane.specs.declared.ending.SourceEnd.{SourceEnd}
 use Rattle.line_lane.specs.declared.ending.LaneEnd.{LaneEnd}
-use Rattle.line_lane.specs.declared.offer_fault.OfferFault.{OfferFault}
 use Rattle.line_lane.specs.declared.took.Took.{Took}
 use Rattle.line_lane.specs.declared.took.Took.TheVariants.{Nothing, Answer, End}
 use Rattle.dealt_lanes.specs.InTurn.{in_turn}
-use Rattle.dealt_lanes.specs.Feeders.{AreAsFed, IsFedAt, SameFeeders, each_fed}
+use Rattle.dealt_lanes.specs.Feeders.{SameFeeders, each_fed}
 use Rattle.dealt_lanes.specs.Takers.{SameTakers, each_taken}
 use Rattle.dealt_lanes.specs.declared.dealer.Dealer.{Dealer}
 use Rattle.dealt_lanes.specs.declared.gatherer.Gatherer.{Gatherer}
@@ -38,24 +35,14 @@ module _ {I IS : Type 0} where
   abbrev pub SameDealer : Dealer I IS → Dealer I IS → Type 0
   SameDealer d e = SameFeeders d.feeders.items e.feeders.items
 
-  -- the items dealt, the lane in turn and the end are as before, and nothing was sent
+  -- the items dealt, the lane in turn and the end are as before
   abbrev pub IsAsDealt : Dealer I IS → Dealer I IS → Type 0
   IsAsDealt d e =
-      (dealt e ≡ dealt d) × (dealer_turn e ≡ dealer_turn d) × (dealer_end e ≡ dealer_end d) × AreAsFed d.feeders.items e.feeders.items
+      (dealt e ≡ dealt d) × (dealer_turn e ≡ dealer_turn d) × (dealer_end e ≡ dealer_end d)
 
-  -- an item was dealt by a dealer that isn't closed: it was fed to the feeder in turn, and no other feeder
-  -- has changed
+  -- an item was dealt by a dealer that isn't closed
   abbrev pub IsDealt : Dealer I IS → I → Dealer I IS → Type 0
-  IsDealt d item e =
-      (dealer_end d ≡ None)
-      × (dealt e ≡ dealt d ++ item ∷ [])
-      × IsFedAt d.feeders.items d.turn item e.feeders.items
-
-  -- the error with which an item is returned: `Closed` if the dealer is closed, otherwise `NoRoom`, and only if
-  -- the item would fill the open block of the feeder in turn
-  abbrev pub IsNotDealt : Dealer I IS → I → OfferFault I → Type 0
-  IsNotDealt d item fault =
-      (f : Feeder I IS) × (f ≡ get_or d.feeders.items d.turn f) × IsRefusal (dealer_end d) (block_of f) (open_lines f) item fault
+  IsDealt d item e = (dealer_end d ≡ None) × (dealt e ≡ dealt d ++ item ∷ [])
 
 -- ---- the gatherer
 
@@ -67,10 +54,6 @@ module _ {O OS : Type 0} where
   -- the end that was gathered
   abbrev pub gatherer_end : Gatherer O OS → Option LaneEnd
   gatherer_end g = g.end
-
-  -- the number of the lane from which the next result is taken
-  abbrev pub gatherer_turn : Gatherer O OS → ℕ
-  gatherer_turn g = g.turn
 
   -- a gatherer of the same lanes
   abbrev pub SameGatherer : Gatherer O OS → Gatherer O OS → Type 0

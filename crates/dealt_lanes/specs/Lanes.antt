@@ -1,13 +1,11 @@
 -- The feeders, setters and takers of several lanes, lane by lane.
 -- This project's own.
-use Rattle.std.specs.Prelude.{◌≡◌, ℕ, List, [], ◌∷◌, Some, None, true}
+use Rattle.std.specs.Prelude.{◌≡◌, List, [], ◌∷◌, Some, None, true}
 use Rattle.line_lane.specs.Rings.{IsFirstOf}
 use Rattle.line_lane.specs.Lane.{pipeline}
-use Rattle.line_lane.specs.Turns.{is_given_up}
-use Rattle.line_lane.specs.Takes.{empty_handed}
-use Rattle.line_lane.specs.Known.{AreUnused}
+use Rattle.line_lane.specs.Turns.{fresh, is_given_up}
 use Rattle.line_lane.specs.Settled.{IsSettled}
-use Rattle.line_lane.specs.Ends.{HasPlaces, IsLane, block_of, fed, feeder_end, hands_of, open_lines, state_of, taken, taker_end}
+use Rattle.line_lane.specs.Ends.{IsLane, fed, feeder_end, state_of, taken, taker_end}
 use Rattle.line_lane.specs.declared.making.Making.{Ghosts}
 use Rattle.line_lane.specs.declared.feeder.Feeder.{Feeder}
 use Rattle.line_lane.specs.declared.setter.Setter.{Setter}
@@ -22,15 +20,11 @@ AllThree P (a ∷ as') (b ∷ bs) (c ∷ cs) = P a b c × AllThree P as' bs cs
 AllThree P as' bs cs = ⊥
 
 module _ {M I O IS OS : Type 0} {ghosts : Ghosts M I O IS OS} where
-  -- the endpoints of a lane that was opened with this capacity and this block: nothing was fed, sent or taken,
-  -- and the feeder isn't closed
-  abbrev pub IsOpened : ℕ → ℕ → Feeder I IS → Setter M I O IS OS ghosts → Taker O OS → Type 0
-  IsOpened capacity block f s t =
-      IsLane f s t
-      × HasPlaces capacity f s t
-      × AreUnused capacity f s t
-      × ((fed f ≡ []) × (open_lines f ≡ []) × (feeder_end f ≡ None) × (block_of f ≡ block))
-      × (hands_of t ≡ empty_handed)
+  -- the endpoints of a new lane, whose maker makes this: nothing was fed, sent or taken, and the feeder isn't
+  -- closed
+  abbrev pub IsNew : (I → O) → Feeder I IS → Setter M I O IS OS ghosts → Taker O OS → Type 0
+  IsNew makes f s t =
+      IsLane f s t × ((fed f ≡ []) × (feeder_end f ≡ None)) × (state_of s ≡ fresh makes) × (taken t ≡ [])
 
   -- the endpoints of a lane that were brought together: the results taken are those of the first items fed, and
   -- the items that the setter received are the first of those fed. If an end other than `GaveUp` was taken, the

@@ -1,11 +1,10 @@
 -- The takers of a gatherer.
 -- This project's own.
-use Rattle.std.specs.Prelude.{◌≡◌, ◌+◌, ◌<◌, ◌≤◌, ℕ, List, [], length, map, get_or, set, true, All, IsSome, Option, None, is_some}
+use Rattle.std.specs.Prelude.{◌≡◌, ℕ, List, map, get_or, set, true, All, IsSome, Option, None, is_some}
 use Rattle.std.specs.List.{AllZip}
 use Rattle.line_lane.specs.Rings.{IsFirstOf}
 use Rattle.line_lane.specs.Ends.{SameTaker, hands_of, taken, taker_end}
 use Rattle.line_lane.specs.Takes.{Takes}
-use Rattle.line_lane.specs.Known.{HasNoneIf, IsKept, answer_messages, is_nothing}
 use Rattle.line_lane.specs.declared.taker.Taker.{Taker}
 use Rattle.line_lane.specs.declared.took.Took.{Took}
 use Rattle.line_lane.specs.declared.ending.LaneEnd.{LaneEnd}
@@ -34,18 +33,6 @@ module _ {O OS : Type 0} where
   IsDrained t u =
       SameTaker t u × IsFirstOf (taken t) (taken u) × (is_some (taker_end t) ≡ true → hands_of u ≡ hands_of t)
 
-  -- nothing can be taken: no result and no end is buffered, and no message is known
-  abbrev pub HasNothing : Taker O OS → Type 0
-  HasNothing t = ((hands_of t).held ≡ []) × ((hands_of t).ending ≡ None) × ((answer_messages t).known ≡ 0)
-
-  -- the taker after up to this many results were taken: if fewer were taken and the end wasn't returned, nothing was
-  -- left
-  pub record IsDrainedOf (most : ℕ) (t u : Taker O OS) : Type 0 where
-    pub drained : IsDrained t u
-    pub bound : length (taken u) ≤ length (taken t) + most
-    pub rest : length (taken u) < length (taken t) + most → taker_end u ≡ None → HasNothing u
-    pub known : IsKept (answer_messages t) (answer_messages u)
-
   -- each taker has returned the end of its lane
   abbrev pub HaveEnded : List (Taker O OS) → Type 0
   HaveEnded takers = All (λ t. IsSome (taker_end t)) takers
@@ -55,10 +42,3 @@ module _ {O OS : Type 0} where
   IsTakenAt right before lane took after =
       (t : Taker O OS) × (u : Taker O OS) × (t ≡ get_or before lane t) × (after ≡ set before lane u)
       × Takes right (hands_of t) took (hands_of u)
-
-  -- the messages that one taker knows about: a number that was known becomes smaller only by use, and nothing is
-  -- returned only if none was known. The other takers are unchanged
-  abbrev pub HasMessagesAt : List (Taker O OS) → ℕ → Took O → List (Taker O OS) → Type 0
-  HasMessagesAt before lane took after =
-      (t : Taker O OS) × (u : Taker O OS) × (t ≡ get_or before lane t) × (after ≡ set before lane u)
-      × HasNoneIf (is_nothing took) (answer_messages t) (answer_messages u)

@@ -4,7 +4,7 @@ ghost use Rattle.std.proofs.Props.{props};
 ghost use Rattle.dealt_lanes.specs.InTurn.{AreInTurn};
 ghost use Rattle.dealt_lanes.specs.Feeders.{HaveEnd, each_fed};
 
-use crate::feeding::{close_all, flush_all, holds_back_at, offer_at};
+use crate::feeding::{close_all, offer_at};
 use crate::turn::next_turn;
 use line_lane::{Feeder, OfferFault, SourceEnd, Stored};
 use set_line::Line;
@@ -24,12 +24,10 @@ pub struct Dealer<I: Stored = Line> {
 }
 
 impl<I: Stored> Dealer<I> {
-    ghost use Rattle.std.specs.Prelude.{◌≡◌, ◌↔◌, IsTrue, OnOk, IfErr, None, Some};
-    ghost use Rattle.std.specs.List.{AllZip};
+    ghost use Rattle.std.specs.Prelude.{◌≡◌, ◌↔◌, IsTrue, OnOk, IfErr, Some};
     ghost use Rattle.line_lane.specs.Messages.{first_end};
-    ghost use Rattle.dealt_lanes.specs.Feeders.{AreClosedWith, AreFlushed, HasManyLinesAt, HasRoomAt, IsClosedIfRoom, IsFlushedIfRoom};
-    ghost use Rattle.dealt_lanes.specs.Dealt.{IsAsDealt, IsDealt, IsNotDealt, SameDealer, dealer_end, dealer_lanes, dealer_turn, dealt};
-    ghost use Rattle.line_lane.specs.declared.ending.SourceEnd.{SourceEnd as End};
+    ghost use Rattle.dealt_lanes.specs.Feeders.{AreClosed, IsReturned};
+    ghost use Rattle.dealt_lanes.specs.Dealt.{IsAsDealt, IsDealt, SameDealer, dealer_end, dealer_lanes, dealer_turn, dealt};
 
     /// Returns the number of lanes.
     pub fn lanes(&self) -> usize
@@ -48,16 +46,14 @@ impl<I: Stored> Dealer<I> {
 
     /// Deals an item: feeds it to the lane in turn, after which the next lane is in turn.
     ///
-    /// The error is `Closed` if the dealer is closed, and `NoRoom` if the item would fill the open block of
-    /// the lane in turn and no free slot was found for this block. Both return the item, and nothing is fed.
+    /// The error is `Closed` if the dealer is closed, and `NoRoom` if the lane in turn returns it
+    /// ([`Feeder::offer`]). Both return the item, and nothing is fed.
     pub fn offer(&mut self, item: I) -> Result<(), OfferFault<I>>
         ensures lanes { SameDealer self.old self.new }
         ensures end { dealer_end self.new ≡ dealer_end self.old }
         ensures dealt { OnOk result (IsDealt self.old item self.new) }
         ensures refused { IfErr result (λ fault. IsAsDealt self.old self.new
-            × IsNotDealt self.old item fault) }
-        ensures room { dealer_end self.old ≡ None
-            → HasRoomAt self.old.feeders.items (dealer_turn self.old) result self.new.feeders.items }
+            × IsReturned (dealer_end self.old) item fault) }
     {
         if self.end.is_some() {
             return Err(OfferFault::Closed(item));
@@ -71,29 +67,6 @@ impl<I: Stored> Dealer<I> {
         }
     }
 
-    /// Returns whether this item should be dealt later: it is large, and a quarter of the slots of the lane in
-    /// turn, and at least one, are in use as far as is known. Nothing is dealt or sent.
-    pub fn holds_back(&mut self, item: &I) -> bool
-        ensures lanes { SameDealer self.old self.new }
-        ensures same { IsAsDealt self.old self.new }
-        ensures full { IsTrue result → HasManyLinesAt self.new.feeders.items (dealer_turn self.new) }
-    {
-        holds_back_at(&mut self.feeders, self.turn, item)
-    }
-
-    /// Sends the open block of each lane. Returns false if no free slot was found for one of them; the others
-    /// were sent, and a later call sends the rest.
-    pub fn flush(&mut self) -> bool
-        ensures lanes { SameDealer self.old self.new }
-        ensures end { dealer_end self.new ≡ dealer_end self.old }
-        ensures turn { dealer_turn self.new ≡ dealer_turn self.old }
-        ensures dealt { dealt self.new ≡ dealt self.old }
-        ensures flushed { IsTrue result ↔ AreFlushed self.new.feeders.items }
-        ensures room { AllZip IsFlushedIfRoom self.old.feeders.items self.new.feeders.items }
-    {
-        flush_all(&mut self.feeders)
-    }
-
     /// Closes the dealer: sends the open block of each lane, with this end after its items. Returns false if
     /// no free slot was found for one of them; the others are closed, and a later call closes the rest. The
     /// dealer keeps the end of the first call.
@@ -102,10 +75,7 @@ impl<I: Stored> Dealer<I> {
         ensures end { dealer_end self.new ≡ first_end (dealer_end self.old) (Some end) }
         ensures turn { dealer_turn self.new ≡ dealer_turn self.old }
         ensures dealt { dealt self.new ≡ dealt self.old }
-        ensures closed { (first : End) → dealer_end self.new ≡ Some first
-            → (IsTrue result ↔ AreClosedWith first self.new.feeders.items) }
-        ensures room { (first : End) → dealer_end self.new ≡ Some first
-            → AllZip (IsClosedIfRoom first) self.old.feeders.items self.new.feeders.items }
+        ensures closed { IsTrue result ↔ AreClosed self.new.feeders.items }
     {
         let first = self.end.unwrap_or(end);
         self.end = Some(first);

@@ -34,10 +34,8 @@ impl<O: Stored> Gatherer<O> {
 }
 
 impl<O: Made + Stored> Gatherer<O> {
-    ghost use Rattle.std.specs.Prelude.{◌≡◌, IsSome, None};
-    ghost use Rattle.std.specs.List.{AllZip};
-    ghost use Rattle.dealt_lanes.specs.Takers.{HasMessagesAt, IsDrainedOf};
-    ghost use Rattle.dealt_lanes.specs.Dealt.{Gathers, SameGatherer, gathered, gatherer_end, gatherer_turn};
+    ghost use Rattle.std.specs.Prelude.{◌≡◌};
+    ghost use Rattle.dealt_lanes.specs.Dealt.{Gathers, SameGatherer, gathered, gatherer_end};
 
     /// Takes the next result, which is from the lane in turn, after which the next lane is in turn. If this
     /// lane has ended, returns its end, which each later call returns again. Returns `Nothing` if no message
@@ -49,8 +47,6 @@ impl<O: Made + Stored> Gatherer<O> {
     pub fn take(&mut self) -> Took<O>
         ensures lanes { SameGatherer self.old self.new }
         ensures took { Gathers O.is_right self.old result self.new }
-        ensures known { gatherer_end self.old ≡ None
-            → HasMessagesAt self.old.takers.items (gatherer_turn self.old) result self.new.takers.items }
     {
         if let Some(end) = self.end {
             return Took::End(end);
@@ -76,9 +72,6 @@ impl<O: Made + Stored> Gatherer<O> {
         ensures lanes { SameGatherer self.old self.new }
         ensures gathered { gathered self.new ≡ gathered self.old }
         ensures end { gatherer_end self.new ≡ gatherer_end self.old }
-        ensures unchanged { gatherer_end self.old ≡ None → self.new ≡ self.old }
-        ensures emptied { IsSome (gatherer_end self.old)
-            → AllZip (IsDrainedOf most) self.old.takers.items self.new.takers.items }
     {
         if self.end.is_none() {
             return false;

@@ -5,9 +5,9 @@
 
 pub use dealer::Dealer;
 pub use gatherer::Gatherer;
+pub use opening::open_shared;
 pub use settling::settle_lanes;
 pub use shared::Shared;
-pub use sharing::open_shared;
 
 mod dealer;
 mod feeding;
@@ -16,6 +16,5 @@ mod gatherer;
 mod opening;
 mod settling;
 mod shared;
-mod sharing;
 mod taking;
 mod turn;

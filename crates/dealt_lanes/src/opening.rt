@@ -1,15 +1,13 @@
 //! Opens several lanes for one source.
-ghost use Rattle.std.specs.Prelude.{◌≡◌, ◌<◌, ◌++◌, ◌∷◌, [], None, IfOk, OnOk, vec_len};
-ghost use Rattle.std.specs.List.{AllZip};
+ghost use Rattle.std.specs.Prelude.{◌≡◌, ◌+◌, ◌<◌, ◌++◌, ◌∷◌, [], All, None, IfOk, OnOk, length};
 ghost use Rattle.line_lane.specs.Turns.{fresh};
 ghost use Rattle.line_lane.specs.Ends.{state_of};
-ghost use Rattle.dealt_lanes.specs.Lanes.{AllThree, IsOpened};
+ghost use Rattle.dealt_lanes.specs.Lanes.{AllThree, IsNew};
 ghost use Rattle.dealt_lanes.specs.Dealt.{dealer_end, dealer_turn, dealt, gathered, gatherer_end};
 ghost use Rattle.dealt_lanes.specs.Settled.{AreDealtLanes};
 
-use crate::first::take_first;
-use crate::{Dealer, Gatherer};
-use line_lane::{Block, Capacity, Making, Setter, open};
+use crate::{Dealer, Gatherer, Shared};
+use line_lane::{Block, Capacity, Feeder, Making, Setter, Taker, open};
 use set_line::OutOfMemory;
 use std::alloc::{AllocError, Global};
 
@@ -36,48 +34,60 @@ fn push<F: Drop, S: Drop, T: Drop>(
     Ok(())
 }
 
-/// Opens a lane with each of these makers, of which there must be at least one, for one source. Each ring of
-/// a lane has `capacity` slots, and a block has `block` items. The error means that an allocation failed.
-pub fn open_lanes<M: Making>(
+/// Opens one more lane, with this maker. The error means that an allocation failed.
+fn open_more<M: Making>(
     alloc: Global,
-    makers: Vec<M>,
+    maker: M,
+    capacity: Capacity,
+    block: Block,
+    lanes: &mut Endpoints<Feeder<M::In>, Setter<M>, Taker<M::Out>>,
+) -> Result<(), OutOfMemory>
+    ensures lanes { OnOk result ((makes : M.In → M.Out) → M.makes maker ≡ makes
+        → AllThree (IsNew makes) lanes.old.feeders.items lanes.old.setters.items lanes.old.takers.items
+        → AllThree (IsNew makes) lanes.new.feeders.items lanes.new.setters.items lanes.new.takers.items) }
+    ensures count { OnOk result (length lanes.new.setters.items ≡ length lanes.old.setters.items + 1) }
+{
+    let ends = open(alloc, maker, capacity, block)?;
+    push(lanes, ends)?;
+    Ok(())
+}
+
+/// Opens a number of lanes, at least one, for one source. Their makers are this one and others that make the
+/// same results. Each ring of a lane has `capacity` slots, and a block has `block` items. The error means
+/// that an allocation failed.
+pub fn open_shared<M: Shared>(
+    alloc: Global,
+    maker: M,
+    lanes: usize,
     capacity: Capacity,
     block: Block,
 ) -> Result<(Dealer<M::In>, Vec<Setter<M>>, Gatherer<M::Out>), OutOfMemory>
-    requires { 0 < vec_len makers }
+    requires { 0 < lanes }
     ensures lanes { IfOk result (λ ends. AreDealtLanes ends.0 ends.1.items ends.2) }
-    ensures opened { IfOk result (λ ends. AllThree (IsOpened capacity block)
-        ends.0.feeders.items ends.1.items ends.2.takers.items) }
-    ensures makers { IfOk result (λ ends. AllZip (λ maker setter. state_of setter ≡ fresh (M.makes maker))
-        makers.items ends.1.items) }
+    ensures makers { IfOk result (λ ends. All (λ setter. state_of setter ≡ fresh (M.makes maker)) ends.1.items) }
+    ensures count { IfOk result (λ ends. length ends.1.items ≡ lanes) }
     ensures dealer { IfOk result (λ ends. (dealt ends.0 ≡ []) × (dealer_end ends.0 ≡ None)
         × (dealer_turn ends.0 ≡ 0)) }
     ensures gatherer { IfOk result (λ ends. (gathered ends.2 ≡ []) × (gatherer_end ends.2 ≡ None)) }
 {
-    let mut makers = makers;
-    let mut lanes = Endpoints {
+    let mut ends = Endpoints {
         feeders: Vec::new(alloc),
         setters: Vec::new(alloc),
         takers: Vec::new(alloc),
     };
-    'makers: while !makers.is_empty() {
-        let ends = open(alloc, take_first(&mut makers), capacity, block)?;
-        push(&mut lanes, ends)?;
+    for opened in 1..lanes {
+        open_more(alloc, maker.share()?, capacity, block, &mut ends)?;
     }
-    let Endpoints {
-        feeders,
-        setters,
-        takers,
-    } = lanes;
+    open_more(alloc, maker, capacity, block, &mut ends)?;
     let dealer = Dealer {
-        feeders,
+        feeders: ends.feeders,
         turn: 0,
         end: None,
     };
     let gatherer = Gatherer {
-        takers,
+        takers: ends.takers,
         turn: 0,
         end: None,
     };
-    Ok((dealer, setters, gatherer))
+    Ok((dealer, ends.setters, gatherer))
 }

@@ -1,7 +1,7 @@
 //! The takers of a gatherer.
-ghost use Rattle.std.specs.Prelude.{◌≡◌, ◌↔◌, ◌<◌, IsTrue, vec_len};
+ghost use Rattle.std.specs.Prelude.{◌↔◌, ◌<◌, IsTrue, vec_len};
 ghost use Rattle.std.specs.List.{AllZip};
-ghost use Rattle.dealt_lanes.specs.Takers.{HasMessagesAt, HaveEnded, IsDrainedOf, IsTakenAt, SameTakers};
+ghost use Rattle.dealt_lanes.specs.Takers.{HaveEnded, IsDrained, IsTakenAt, SameTakers};
 
 use line_lane::{Made, Stored, Taker, Took};
 
@@ -10,14 +10,13 @@ pub(crate) fn take_at<O: Made + Stored>(takers: &mut Vec<Taker<O>>, lane: usize)
     requires { lane < vec_len takers.old }
     ensures lanes { SameTakers takers.old.items takers.new.items }
     ensures took { IsTakenAt O.is_right takers.old.items lane result takers.new.items }
-    ensures known { HasMessagesAt takers.old.items lane result takers.new.items }
 {
     takers[lane].take()
 }
 
 /// Takes up to `most` results of a lane and drops them. Returns whether there were any.
 fn drop_some<O: Made + Stored>(taker: &mut Taker<O>, most: usize) -> bool
-    ensures { IsDrainedOf most taker.old taker.new }
+    ensures { IsDrained taker.old taker.new }
 {
     for dropped in 0..most {
         match taker.take() {
@@ -31,7 +30,7 @@ fn drop_some<O: Made + Stored>(taker: &mut Taker<O>, most: usize) -> bool
 
 /// Takes up to `most` results of each lane and drops them. Returns whether there were any.
 pub(crate) fn drop_all<O: Made + Stored>(takers: &mut Vec<Taker<O>>, most: usize) -> bool
-    ensures { AllZip (IsDrainedOf most) takers.old.items takers.new.items }
+    ensures { AllZip IsDrained takers.old.items takers.new.items }
 {
     let mut any = false;
     for lane in 0..takers.len() {

@@ -3,6 +3,7 @@ mod bounds;
 mod call_by_call;
 mod lane;
 mod memory;
+mod one_slot;
 mod script;
 mod threads;
 mod two_lanes;

@@ -1,9 +1,7 @@
 -- The lists of a lane's ends, once these have met.
-use Rattle.std.proofs.Common.{arith, ◌≡◌, Bool, true, false, List, [], ◌∷◌, ◌++◌, length, take, drop, Option, Some, None, refl, ap, sym, subst, ◌∙◌, append_assoc, append-nil, take-append-drop}
+use Rattle.std.proofs.Common.{arith, ◌≡◌, Bool, true, false, List, [], ◌∷◌, ◌++◌, length, take, drop, Option, Some, None, refl, ap, sym, subst, ◌∙◌, append-nil, take-append-drop}
 use Rattle.std.proofs.lemmas.Bool.{true≢false}
-use Rattle.std.proofs.lemmas.List.{map-append, take-map}
 use Rattle.std.proofs.lemmas.Option.{none-some}
-use Rattle.std.proofs.Math.Seq.{take-append_seam}
 use Rattle.std.specs.Prelude.{◌&&◌, not, is_some, map, MatchOption, if◌then◌else◌}
 use Rattle.std.specs.Option.{option_map}
 use Rattle.line_lane.specs.Lane.{pipeline, lane_end_of}
@@ -19,48 +17,31 @@ use Rattle.line_lane.specs.declared.ending.SourceEnd.{SourceEnd}
 use Rattle.line_lane.specs.declared.ending.LaneEnd.{LaneEnd}
 use Rattle.line_lane.specs.declared.ending.LaneEnd.TheVariants.{Complete, SourceFailed, GaveUp}
 use Rattle.line_lane.specs.declared.making.Making.{Ghosts}
-
--- a list in front of another
-abbrev IsFront : {T : Type 0} → List T → List T → Type 0
-IsFront {T} front all = (rest : List T) × (front ++ rest ≡ all)
-
-first-front : {T : Type 0} (front all : List T) → IsFirstOf front all → IsFront front all
-first-front front all e =
-    (drop (length front) all, ap (λ f. f ++ drop (length front) all) e ∙ take-append-drop (length front) all)
-
-front-front : {T : Type 0} (a b c : List T) → IsFront a b → IsFront b c → IsFront a c
-front-front a b c (r, e) (q, f) = (r ++ q, sym (append_assoc a r q) ∙ ap (λ x. x ++ q) e ∙ f)
+use Rattle.line_lane.proofs.FrontLemmas.{IsFront, first_front, front_first, front_pipeline, front_trans, map_front}
 
 module _ {I O : Type 0} where
-  front-answers : (makes : I → O) (front all : List I) → IsFront front all → IsFront (map makes front) (map makes all)
-  front-answers makes front all (r, e) = (map makes r, sym (map-append makes front r) ∙ ap (map makes) e)
-
-  front-pipeline : (makes : I → O) (taken : List O) (fed : List I) → IsFront taken (map makes fed) → pipeline makes fed taken
-  front-pipeline makes taken fed (r, e) =
-      sym (take-append_seam taken r) ∙ ap (take (length taken)) e ∙ take-map makes (length taken) fed
-
   -- whatever an end still holds, what was taken are the answers of the first of the lines that were fed
   pub pipeline_holds : (s : SetterState I O) (taken held received : List O) (sent lines : List I) → IsOrderly s
       → taken ++ held ≡ received → IsFirstOf received s.given → IsFirstOf s.seen sent → pipeline s.makes (sent ++ lines) taken
   pipeline_holds s taken held received sent lines orderly whole first seen =
       let done : List O = s.given ++ s.answers in
       let of_received : IsFront taken received = (held, whole) in
-      let of_given = front-front taken received s.given of_received (first-front received s.given first) in
-      let of_done : IsFront taken done = front-front taken s.given done of_given (s.answers, refl) in
+      let of_given = front_trans taken received s.given of_received (first_front received s.given first) in
+      let of_done : IsFront taken done = front_trans taken s.given done of_given (s.answers, refl) in
       let of_answers : IsFront taken (map s.makes (take (length done) s.seen)) = subst (IsFront taken) orderly.0 of_done in
-      let of_seen = front-front taken (map s.makes (take (length done) s.seen)) (map s.makes s.seen) of_answers
-      (front-answers s.makes (take (length done) s.seen) s.seen (drop (length done) s.seen, take-append-drop (length done) s.seen)) in
-      let fed_front = front-front s.seen sent (sent ++ lines) (first-front s.seen sent seen) (lines, refl) in
-      front-pipeline s.makes taken (sent ++ lines)
-      (front-front taken (map s.makes s.seen) (map s.makes (sent ++ lines)) of_seen (front-answers s.makes s.seen (sent ++ lines) fed_front))
+      let of_seen = front_trans taken (map s.makes (take (length done) s.seen)) (map s.makes s.seen) of_answers
+      (map_front s.makes (take (length done) s.seen) s.seen (drop (length done) s.seen, take-append-drop (length done) s.seen)) in
+      let fed_front = front_trans s.seen sent (sent ++ lines) (first_front s.seen sent seen) (lines, refl) in
+      front_pipeline s.makes (sent ++ lines) taken
+      (front_trans taken (map s.makes s.seen) (map s.makes (sent ++ lines)) of_seen (map_front s.makes s.seen (sent ++ lines) fed_front))
 
 module _ {M I O IS OS : Type 0} {ghosts : Ghosts M I O IS OS} where
   -- what the setter saw are the first of the lines that were fed
   pub seen_of : (f : Feeder I IS) (s : Setter M I O IS OS ghosts) (t : Taker O OS) → HaveMet f s t → IsFirstOf (state_of s).seen (fed f)
   seen_of f s t met =
       let seen = (state_of s).seen in
-      let (rest, is) = front-front seen (items_sent f.sender) (fed f) (first-front seen (items_sent f.sender) met.first_lines) (open_lines f, refl) in
-      sym (take-append_seam seen rest) ∙ ap (take (length seen)) is
+      front_first seen (fed f)
+      (front_trans seen (items_sent f.sender) (fed f) (first_front seen (items_sent f.sender) met.first_lines) (open_lines f, refl))
 
 -- ---- a setter that is done
 

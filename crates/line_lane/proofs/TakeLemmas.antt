@@ -1,13 +1,11 @@
 -- Answers that come out, one after the other.
-use Rattle.std.proofs.Common.{arith, ◌≡◌, ◌-◌, Bool, true, false, List, [], ◌∷◌, ◌++◌, length, take, Option, Some, None, ◌<◌, ◌≤◌, refl, ap, sym, subst, ◌∙◌, append_assoc}
+use Rattle.std.proofs.Common.{arith, ◌≡◌, ◌-◌, Bool, true, false, List, [], ◌∷◌, ◌++◌, length, take, Option, Some, None, refl, ap, sym, subst, ◌∙◌, append_assoc}
 use Rattle.std.proofs.lemmas.Bool.{true≢false}
 use Rattle.std.specs.Prelude.{is_some}
 use Rattle.std.specs.Option.{unwrap_or}
-use Rattle.line_lane.specs.Known.{is_nothing}
 use Rattle.line_lane.specs.Takes.{TakerState, Takes, TakesFrom, IsTakenFromHand}
 use Rattle.line_lane.specs.declared.took.Took.{Took}
 use Rattle.line_lane.specs.declared.took.Took.TheVariants.{Nothing, Answer, End}
-use Rattle.line_lane.proofs.KnownLemmas.{something}
 use Rattle.line_lane.specs.declared.ending.LaneEnd.{LaneEnd}
 use Rattle.line_lane.proofs.LaneLemmas.{taken_front}
 
@@ -70,32 +68,22 @@ module _ {O : Type 0} where
       )
 
 module _ {O : Type 0} where
-  -- what is left of a message that had no more than eight results
-  short_left : (list : List O) (answer : O) (s t : TakerState O) → length list ≤ 8 → TakesFrom list answer s t → length t.held < 8
-  short_left [] answer s t few (unended, short) = short
-  short_left (first ∷ rest) answer s t few (same, left, ending) = let count = ap length left in omega (arith, count, few)
-
   -- what is taken of a message that was just received
   pub takes_received : (right : O → Type 0) (old s t : TakerState O) (result : Option (Took O))
-      → old.held ≡ [] → old.ending ≡ None → old.ended ≡ false → s.taken ≡ old.taken → length s.held ≤ 8
+      → old.held ≡ [] → old.ending ≡ None → old.ended ≡ false → s.taken ≡ old.taken
       → (s.held ≡ [] → s.ending ≡ None → ⊥) → IsTakenFromHand right s result t → Takes right old (unwrap_or result Nothing) t
-  takes_received right old s t None held ending ended same few filled took = absurd (filled took.1 took.2)
-  takes_received right old s t (Some Nothing) held ending ended same few filled took = absurd (took.1 refl)
-  takes_received right old s t (Some (Answer answer)) held ending ended same few filled took = (
+  takes_received right old s t None held ending ended same filled took = absurd (filled took.1 took.2)
+  takes_received right old s t (Some Nothing) held ending ended same filled took = absurd (took.1 refl)
+  takes_received right old s t (Some (Answer answer)) held ending ended same filled took = (
     took.0.0,
     ended,
     took.0.2,
     took.0.3 ∙ ap (λ l. l ++ answer ∷ []) same,
-    subst (λ l. TakesFrom l answer old t) (sym held) (ending, short_left s.held answer s t few took.0.4),
+    subst (λ l. TakesFrom l answer old t) (sym held) ending,
   )
-  takes_received right old s t (Some (End end)) held ending ended same few filled took = (
+  takes_received right old s t (Some (End end)) held ending ended same filled took = (
     held,
     rw ending refl,
     took.0.2 ∙ ap (λ l. record { taken = l; held = []; ending = Some end; ended = true }) same,
     (λ up. absurd (true≢false (sym up ∙ ended))),
   )
-
-  pub received_something : (right : O → Type 0) (s t : TakerState O) (result : Option (Took O)) → (s.held ≡ [] → s.ending ≡ None → ⊥)
-      → IsTakenFromHand right s result t → is_nothing (unwrap_or result Nothing) ≡ true → ⊥
-  received_something right s t None filled took e = filled took.1 took.2
-  received_something right s t (Some some) filled took e = something some took.1 e

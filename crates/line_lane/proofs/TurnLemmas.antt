@@ -113,18 +113,17 @@ module _ {I O : Type 0} where
   pub before_end-unmade : (s : SetterState I O) → s.lines ≡ [] → s.source ≡ None → is_given_up s.made ≡ false → IsOrderly s → s.made ≡ None
   before_end-unmade s lines source going orderly = let made = orderly.2 going in rw (made, lines, source) refl
 
+  -- of an end that wasn't made none was sent
+  pub unsent : (s : SetterState I O) (sent before : Option LaneEnd) → s.made ≡ first_end sent before → s.made ≡ None → sent ≡ None
+  unsent s sent before is unmade = (ends_none sent before (sym is ∙ unmade)).0
+
   pub set_state : (s : SetterState I O) (makes : I → O) (line : I) (rest : MessageValue I SourceEnd) (answers : MessageValue O LaneEnd)
-      (sent before : Option LaneEnd) (ready : Bool)
-      → makes ≡ s.makes → s.lines ≡ line ∷ rest.items → rest.ending ≡ s.source → s.made ≡ first_end sent before → IsOrderly s
-      → answers.items ≡ s.answers ++ s.makes line ∷ [] → ready ≡ are_none rest.items
-      → answers.ending ≡ first_end (end_with rest.items rest.ending) before
+      (sent : Option LaneEnd) (ready : Bool)
+      → makes ≡ s.makes → rest.ending ≡ s.source → sent ≡ None
+      → answers.items ≡ s.answers ++ s.makes line ∷ [] → ready ≡ are_none rest.items → answers.ending ≡ end_with rest.items rest.ending
       → record s { makes = makes; lines = rest.items; answers = answers.items; ready = ready; made = first_end sent answers.ending }
       ≡ after_set s line rest.items
-  set_state s makes line rest answers sent before ready kept lines source made orderly items is_ready ending =
-      let none = ends_none sent before (sym made ∙ with_line-unmade s line rest.items lines orderly) in
-      rw (kept, items, is_ready, ending, none.0, none.1, source)
-      (ap (λ m. record s { lines = rest.items; answers = s.answers ++ s.makes line ∷ []; ready = are_none rest.items; made = m })
-      (first_end-none (end_with rest.items s.source)))
+  set_state s makes line rest answers sent ready kept source none items is_ready ending = rw (kept, items, is_ready, ending, none, source) refl
 
   -- a setter that gives up
   pub given_up_state : (s : SetterState I O) (rest : MessageValue I SourceEnd) (answers : MessageValue O LaneEnd) (sent before : Option LaneEnd)
@@ -146,17 +145,13 @@ module _ {I O : Type 0} where
       (first_end-none ended ∙ end ∙ ap (λ e. first_end e before) (sym unsent) ∙ sym made))
 
   pub message_state : (s : SetterState I O) (m : MessageValue I SourceEnd) (answers : MessageValue O LaneEnd)
-      (sent before : Option LaneEnd) (ready : Bool) (seen : List I) (source : Option SourceEnd) (popped : ℕ)
-      → s.lines ≡ [] → s.source ≡ None → is_given_up s.made ≡ false → s.made ≡ first_end sent before → IsOrderly s
-      → answers.items ≡ s.answers → ready ≡ are_none m.items → answers.ending ≡ first_end (end_with m.items m.ending) before
-      → seen ≡ s.seen ++ m.items → source ≡ m.ending → popped ≡ s.popped + 1
+      (sent : Option LaneEnd) (ready : Bool) (seen : List I) (source : Option SourceEnd) (popped : ℕ)
+      → is_given_up s.made ≡ false → sent ≡ None → answers.items ≡ s.answers → ready ≡ are_none m.items
+      → answers.ending ≡ end_with m.items m.ending → seen ≡ s.seen ++ m.items → source ≡ m.ending → popped ≡ s.popped + 1
       → record s { seen = seen; source = source; lines = m.items; answers = answers.items; ready = ready; made = first_end sent answers.ending; popped = popped }
-      ≡ after_message s m
-  message_state s m answers sent before ready seen source popped lines unended going made orderly items is_ready ending e f g =
-      let none = ends_none sent before (sym made ∙ before_end-unmade s lines unended going orderly) in
-      rw (items, is_ready, ending, none.0, none.1, e, f, g)
-      (ap (λ x. record s { seen = s.seen ++ m.items; source = m.ending; lines = m.items; ready = are_none m.items; made = x; popped = s.popped + 1 })
-      (first_end-none (end_with m.items m.ending)))
+      ≡ after_receipt s m
+  message_state s m answers sent ready seen source popped going none items is_ready ending e f g =
+      rw (going, items, is_ready, ending, none, e, f, g) refl
 
   -- a setter without a line in hand, with no ready message, that isn't done, has not seen the source's end
   pub undone-before_end : (s : SetterState I O) → s.lines ≡ [] → s.ready ≡ false → is_done s ≡ false → IsOrderly s → s.source ≡ None
@@ -180,31 +175,29 @@ module _ {I O : Type 0} where
 
 -- ---- what is in its hands then
 
-module _ {I O : Type 0} where
-  pub set_in_hand : (lines : List I) (line : I) (rest : MessageValue I SourceEnd) (answer : O)
-      (before after : MessageValue O LaneEnd) (sent : Option LaneEnd) (ready : Bool)
-      → lines ≡ line ∷ rest.items → length lines + length before.items ≤ 8 → after.items ≡ before.items ++ answer ∷ []
-      → ready ≡ are_none rest.items → after.ending ≡ first_end (end_with rest.items rest.ending) before.ending
-      → first_end sent before.ending ≡ None
-      → (length rest.items + length after.items ≤ 8) × (ready ≡ false → after.ending ≡ None) × (ready ≡ true → sent ≡ None)
-  set_in_hand lines line rest answer before after sent ready is room items is_ready ending unmade =
-      let none = ends_none sent before.ending unmade in
-      let count : length after.items ≡ length before.items + 1 = ap length items ∙ length-append before.items (answer ∷ []) in
-      let more : length lines ≡ suc (length rest.items) = ap length is in (
-        omega (arith, count, more, room),
-        (λ unready. ending ∙ rw (none.1) (still rest.items (sym is_ready ∙ unready))),
-        (λ _. none.0),
-      )
-    where
-      still : (lines : List I) → are_none lines ≡ false → first_end (end_with lines rest.ending) None ≡ None
-      still [] some = absurd (grind (arith, some))
-      still (next ∷ lines) some = refl
+module _ {I : Type 0} where
+  -- with a line in hand the end isn't made yet
+  still : (lines : List I) (source : Option SourceEnd) (ending : Option LaneEnd) (ready : Bool) → ready ≡ are_none lines
+      → ending ≡ end_with lines source → ready ≡ false → ending ≡ None
+  still [] source ending ready is_ready is unready = absurd (grind (arith, is_ready, unready))
+  still (line ∷ lines) source ending ready is_ready is unready = is
 
-  pub given_up_in_hand : (lines : List I) (rest : MessageValue I SourceEnd) (before after : MessageValue O LaneEnd) (sent : Option LaneEnd)
-      → length lines + length before.items ≤ 8 → rest.items ≡ [] → after.items ≡ before.items
+module _ {I O : Type 0} where
+  pub set_in_hand : (slots : ℕ) (lines : List I) (line : I) (rest : MessageValue I SourceEnd) (answer : O)
+      (before after : MessageValue O LaneEnd) (sent : Option LaneEnd) (ready : Bool)
+      → lines ≡ line ∷ rest.items → length lines + length before.items ≤ slots → after.items ≡ before.items ++ answer ∷ []
+      → ready ≡ are_none rest.items → after.ending ≡ end_with rest.items rest.ending → sent ≡ None
+      → (length rest.items + length after.items ≤ slots) × (ready ≡ false → after.ending ≡ None) × (ready ≡ true → sent ≡ None)
+  set_in_hand slots lines line rest answer before after sent ready is room items is_ready ending none =
+      let count : length after.items ≡ length before.items + 1 = ap length items ∙ length-append before.items (answer ∷ []) in
+      let more : length lines ≡ suc (length rest.items) = ap length is in
+      (omega (arith, count, more, room), still rest.items rest.ending after.ending ready is_ready ending, λ _. none)
+
+  pub given_up_in_hand : (slots : ℕ) (lines : List I) (rest : MessageValue I SourceEnd) (before after : MessageValue O LaneEnd) (sent : Option LaneEnd)
+      → length lines + length before.items ≤ slots → rest.items ≡ [] → after.items ≡ before.items
       → is_some (first_end sent before.ending) ≡ false
-      → (length rest.items + length after.items ≤ 8) × (true ≡ false → after.ending ≡ None) × (true ≡ true → sent ≡ None)
-  given_up_in_hand lines rest before after sent room none items unmade =
+      → (length rest.items + length after.items ≤ slots) × (true ≡ false → after.ending ≡ None) × (true ≡ true → sent ≡ None)
+  given_up_in_hand slots lines rest before after sent room none items unmade =
       let count : length rest.items ≡ 0 = ap length none in
       let same : length after.items ≡ length before.items = ap length items in (
         omega (arith, room, count, same),
@@ -212,38 +205,30 @@ module _ {I O : Type 0} where
         (λ _. (ends_none sent before.ending (none_of (first_end sent before.ending) unmade)).0),
       )
 
-  pub sent_in_hand : (lines : List I) (before next : MessageValue O LaneEnd) (sent : Option LaneEnd) → length lines + length before.items ≤ 8
-      → next ≡ nothing → (length lines + length next.items ≤ 8) × (false ≡ false → next.ending ≡ None) × (false ≡ true → sent ≡ None)
-  sent_in_hand lines before next sent room empty =
+  pub sent_in_hand : (slots : ℕ) (lines : List I) (before next : MessageValue O LaneEnd) (sent : Option LaneEnd) → length lines + length before.items ≤ slots
+      → next ≡ nothing → (length lines + length next.items ≤ slots) × (false ≡ false → next.ending ≡ None) × (false ≡ true → sent ≡ None)
+  sent_in_hand slots lines before next sent room empty =
       let count : length next.items ≡ 0 = ap (λ m. length m.items) empty in (
         omega (arith, room, count),
         (λ _. ap (λ m. m.ending) empty),
         (λ e. absurd (true≢false (sym e))),
       )
 
-  pub message_in_hand : (m : MessageValue I SourceEnd) (before after : MessageValue O LaneEnd) (sent : Option LaneEnd) (ready : Bool)
-      → length m.items ≤ 8 → before.items ≡ [] → after.items ≡ before.items → ready ≡ are_none m.items
-      → after.ending ≡ first_end (end_with m.items m.ending) before.ending → first_end sent before.ending ≡ None
-      → (length m.items + length after.items ≤ 8) × (ready ≡ false → after.ending ≡ None) × (ready ≡ true → sent ≡ None)
-  message_in_hand m before after sent ready few nothing items is_ready ending unmade =
-      let none = ends_none sent before.ending unmade in
-      let count : length after.items ≡ 0 = ap length (items ∙ nothing) in (
-        omega (arith, count, few),
-        (λ unready. ending ∙ rw (none.1) (still m.items (sym is_ready ∙ unready))),
-        (λ _. none.0),
-      )
-    where
-      still : (lines : List I) → are_none lines ≡ false → first_end (end_with lines m.ending) None ≡ None
-      still [] some = absurd (grind (arith, some))
-      still (next ∷ lines) some = refl
+  pub message_in_hand : (slots : ℕ) (m : MessageValue I SourceEnd) (before after : MessageValue O LaneEnd) (sent : Option LaneEnd) (ready : Bool)
+      → length m.items ≤ slots → before.items ≡ [] → after.items ≡ before.items → ready ≡ are_none m.items
+      → after.ending ≡ end_with m.items m.ending → sent ≡ None
+      → (length m.items + length after.items ≤ slots) × (ready ≡ false → after.ending ≡ None) × (ready ≡ true → sent ≡ None)
+  message_in_hand slots m before after sent ready few nothing items is_ready ending none =
+      let count : length after.items ≡ 0 = ap length (items ∙ nothing) in
+      (omega (arith, count, few), still m.items m.ending after.ending ready is_ready ending, λ _. none)
 
   -- a message without a line has an end, and so has what is ready then
-  pub message_filled : (m : MessageValue I SourceEnd) (before : Option LaneEnd) (after : MessageValue O LaneEnd) (ready : Bool)
-      → IsFilled m → ready ≡ are_none m.items → after.ending ≡ first_end (end_with m.items m.ending) before → ready ≡ true → IsFilled after
-  message_filled m before after ready filled is_ready ending up = λ _ none. by m.items m.ending filled (sym is_ready ∙ up) (sym ending ∙ none)
+  pub message_filled : (m : MessageValue I SourceEnd) (after : MessageValue O LaneEnd) (ready : Bool)
+      → IsFilled m → ready ≡ are_none m.items → after.ending ≡ end_with m.items m.ending → ready ≡ true → IsFilled after
+  message_filled m after ready filled is_ready ending up = λ _ none. by m.items m.ending filled (sym is_ready ∙ up) (sym ending ∙ none)
     where
       by : (items : List I) (source : Option SourceEnd) → (items ≡ [] → source ≡ None → ⊥) → are_none items ≡ true
-          → first_end (end_with items source) before ≡ None → ⊥
+          → end_with items source ≡ None → ⊥
       by [] None some _ _ = some refl refl
       by [] (Some end) some _ e = grind (arith, e)
       by (line ∷ lines) source some none _ = grind (arith, none)
@@ -294,9 +279,6 @@ module _ {I O : Type 0} where
       → is_given_up s.made ≡ true → seen ≡ s.seen ++ m.items → source ≡ m.ending → lines ≡ [] → s.lines ≡ [] → popped ≡ s.popped + 1
       → record s { seen = seen; source = source; lines = lines; popped = popped } ≡ after_receipt s m
   receipt-dropping s m seen lines source popped up e f g h i = rw (up, e, f, g, sym h, i) refl
-
-  pub receipt-message : (s : SetterState I O) (m : MessageValue I SourceEnd) → is_given_up s.made ≡ false → after_message s m ≡ after_receipt s m
-  receipt-message s m going = rw going refl
 
 -- ---- whether it gave up stays
 

@@ -1,11 +1,11 @@
 -- The three endpoints of a lane, as lists: the items fed, the state of the setter, and the results taken.
 -- This project's own.
 use Rattle.std.specs.Prelude.{◌≡◌, ℕ, ◌+◌, nat_lt, Bool, is_some, List, [], ◌∷◌, ◌++◌, length, Option, Some, None, if◌then◌else◌}
-use Rattle.rtrb.specs.Ring.{IsPair, producer_capacity, consumer_capacity}
+use Rattle.rtrb.specs.Ring.{IsPair}
 use Rattle.line_lane.specs.Messages.{first_end, are_none}
 use Rattle.line_lane.specs.Turns.{SetterState}
 use Rattle.line_lane.specs.Takes.{TakerState}
-use Rattle.line_lane.specs.Rings.{items_sent, items_received, messages_sent, messages_received, end_sent, SameSender, SameReceiver}
+use Rattle.line_lane.specs.Rings.{items_sent, messages_sent, end_sent, SameSender, SameReceiver}
 use Rattle.line_lane.specs.Hands.{setter_state, taker_state}
 use Rattle.line_lane.specs.declared.feeder.Feeder.{Feeder}
 use Rattle.line_lane.specs.declared.setter.Setter.{Setter}
@@ -98,14 +98,6 @@ module _ {O OS : Type 0} where
   abbrev pub taken : Taker O OS → List O
   taken t = (hands_of t).taken
 
-  -- all results that were received, taken or still buffered
-  abbrev pub received_answers : Taker O OS → List O
-  received_answers t = items_received t.receiver
-
-  -- the number of messages received
-  abbrev pub pops : Taker O OS → ℕ
-  pops t = messages_received t.receiver
-
   -- the end that was taken
   abbrev pub taker_end : Taker O OS → Option LaneEnd
   taker_end t = if t.ended then (hands_of t).ending else None
@@ -131,10 +123,3 @@ module _ {O OS : Type 0} where
   -- a taker of the same ring
   abbrev pub SameTaker : Taker O OS → Taker O OS → Type 0
   SameTaker s t = SameReceiver s.receiver t.receiver
-
-module _ {M I O IS OS : Type 0} {ghosts : Ghosts M I O IS OS} where
-  -- each ring has this many slots
-  abbrev pub HasPlaces : ℕ → Feeder I IS → Setter M I O IS OS ghosts → Taker O OS → Type 0
-  HasPlaces places f s t =
-      (producer_capacity f.sender.producer ≡ places) × (consumer_capacity s.receiver.consumer ≡ places)
-      × (producer_capacity s.sender.producer ≡ places) × (consumer_capacity t.receiver.consumer ≡ places)

@@ -1,6 +1,6 @@
 -- The states of a setter and of a taker, from their ends of the two rings.
 -- This project's own.
-use Rattle.std.specs.Prelude.{◌≡◌, ◌+◌, ◌≤◌, Bool, true, false, [], ◌++◌, length, None, is_some}
+use Rattle.std.specs.Prelude.{◌≡◌, ℕ, ◌+◌, ◌≤◌, Bool, true, false, [], ◌++◌, length, None, is_some}
 use Rattle.line_lane.specs.Messages.{first_end}
 use Rattle.line_lane.specs.Turns.{SetterState}
 use Rattle.line_lane.specs.Takes.{TakerState}
@@ -26,11 +26,11 @@ module _ {I O IS OS : Type 0} where
     pushed = messages_sent sender;
   }
 
-  -- the buffered items and results of a setter fit into one message; the next message has an end only if it is
+  -- the buffered items and results of a setter are no more than a message of items has slots; the next message has an end only if it is
   -- ready, and none is ready after an end was sent
-  abbrev pub IsInHand : Receiver I SourceEnd IS → Sender O LaneEnd OS → Bool → Type 0
-  IsInHand receiver sender ready =
-      (length receiver.hand.items + length sender.hand.items ≤ 8)
+  abbrev pub IsInHand : ℕ → Receiver I SourceEnd IS → Sender O LaneEnd OS → Bool → Type 0
+  IsInHand slots receiver sender ready =
+      (length receiver.hand.items + length sender.hand.items ≤ slots)
       × (ready ≡ false → sender.hand.ending ≡ None)
       × (ready ≡ true → end_sent sender ≡ None)
 

@@ -1,6 +1,6 @@
 -- The state of a taker, and how each call of `take` changes it.
 -- This project's own.
-use Rattle.std.specs.Prelude.{◌≡◌, ◌<◌, length, Bool, true, false, List, [], ◌∷◌, ◌++◌, Option, Some, None}
+use Rattle.std.specs.Prelude.{◌≡◌, Bool, true, false, List, [], ◌∷◌, ◌++◌, Option, Some, None}
 use Rattle.line_lane.specs.Messages.{first_end}
 use Rattle.line_lane.specs.declared.ending.LaneEnd.{LaneEnd}
 use Rattle.line_lane.specs.declared.took.Took.{Took}
@@ -23,7 +23,7 @@ module _ {O : Type 0} where
   -- only if no end was received before
   abbrev pub TakesFrom : List O → O → TakerState O → TakerState O → Type 0
   TakesFrom (first ∷ rest) answer s t = (answer ≡ first) × (t.held ≡ rest) × (t.ending ≡ s.ending)
-  TakesFrom [] answer s t = (s.ending ≡ None) × (length t.held < 8)
+  TakesFrom [] answer s t = s.ending ≡ None
 
   -- an end is taken if no result is buffered: the one that was received before, if any. Taking it again changes
   -- nothing

@@ -3,8 +3,9 @@ ghost use Rattle.std.specs.Prelude.{◌≡◌, ◌<◌, [], true, None, length, 
 ghost use Rattle.std.proofs.Props.{props};
 ghost use Rattle.line_lane.specs.Rings.{end_sent};
 
+use crate::block_size::BlockSize;
 use crate::sender::Sender;
-use crate::{Block, OfferFault, SourceEnd, Stored};
+use crate::{OfferFault, SourceEnd, Stored};
 use set_line::Line;
 
 /// The endpoint of a lane where items are fed. It collects them in an open block, and sends a full block to
@@ -12,18 +13,18 @@ use set_line::Line;
 #[derive(Drop)]
 pub struct Feeder<I: Stored = Line> {
     pub(crate) sender: Sender<I, SourceEnd>,
-    pub(crate) block: Block,
+    pub(crate) block: BlockSize<I>,
     ghost short: { length sender.hand.items < block },
     ghost plain: { sender.hand.ending ≡ None } by { Prim.hlevel props },
     ghost closed: { is_some (end_sent sender) ≡ true → sender.hand.items ≡ [] } by { Prim.hlevel props },
 }
 
 impl<I: Stored> Feeder<I> {
-    ghost use Rattle.std.specs.Prelude.{IsTrue, IsFalse, OnOk, IfErr, not};
+    ghost use Rattle.std.specs.Prelude.{IsTrue, IsFalse, OnOk, IfErr};
     ghost use Rattle.line_lane.specs.Ends.{IsAsFed, IsClosedWith, IsFed, IsFlushed, IsRefused, SameFeeder, block_of, fed, feeder_end, open_lines};
-    ghost use Rattle.line_lane.specs.Known.{HasManyLines, HasNoneIf, IsKept, lacks_room, line_places};
 
-    pub(crate) fn is_closed(&self) -> bool
+    /// Returns whether the feeder is closed.
+    pub fn is_closed(&self) -> bool
         ensures { result ≡ is_some (feeder_end self.now) }
     {
         self.sender.ended.is_some()
@@ -32,8 +33,9 @@ impl<I: Stored> Feeder<I> {
     /// Feeds an item: appends it to the open block, and sends this block if it is full then.
     ///
     /// The error is `Closed` if the feeder is closed, and `NoRoom` if the item would fill the open block and
-    /// no free slot was found for the block. Both return the item, and nothing is fed: the open block is
-    /// unchanged.
+    /// no free slot was found for the block. If the item is large ([`Stored::is_large`]), the error is `NoRoom`
+    /// also if a quarter of the slots, and at least one, are in use. Both errors return the item, and nothing is
+    /// fed: the open block is unchanged.
     pub fn offer(&mut self, item: I) -> Result<(), OfferFault<I>>
         ensures lane { SameFeeder self.old self.new }
         ensures end { feeder_end self.new ≡ feeder_end self.old }
@@ -41,8 +43,6 @@ impl<I: Stored> Feeder<I> {
         ensures fed { OnOk result (IsFed self.old item self.new) }
         ensures refused { IfErr result (λ fault. IsAsFed self.old self.new
             × IsRefused self.old item fault) }
-        ensures room { HasNoneIf (lacks_room result)
-            (line_places self.old) (line_places self.new) }
     {
         if self.is_closed() {
             return Err(OfferFault::Closed(item));
@@ -51,23 +51,12 @@ impl<I: Stored> Feeder<I> {
             self.sender.hand.push(item);
             return Ok(());
         }
-        if !self.sender.has_room() {
+        if !self.sender.has_room(item.is_large()) {
             return Err(OfferFault::NoRoom(item));
         }
         self.sender.hand.push(item);
         self.sender.send();
         Ok(())
-    }
-
-    /// Returns whether this item should be fed later: it is large, and a quarter of the slots of the ring, and
-    /// at least one, are in use as far as is known. Nothing is fed or sent.
-    pub fn holds_back(&mut self, item: &I) -> bool
-        ensures lane { SameFeeder self.old self.new }
-        ensures fed { IsAsFed self.old self.new }
-        ensures full { IsTrue result → HasManyLines self.new }
-        ensures known { IsKept (line_places self.old) (line_places self.new) }
-    {
-        item.is_large() && self.sender.is_quarter_full()
     }
 
     /// Sends the open block as one message, unless it is empty. Returns false, with the open block unchanged,
@@ -79,12 +68,11 @@ impl<I: Stored> Feeder<I> {
         ensures flushed { IsTrue result → IsFlushed self.old self.new }
         ensures refused { IsFalse result → IsAsFed self.old self.new
             × (open_lines self.old ≡ [] → ⊥) }
-        ensures room { HasNoneIf (not result) (line_places self.old) (line_places self.new) }
     {
         if self.sender.hand.len() == 0 {
             return true;
         }
-        if !self.sender.has_room() {
+        if !self.sender.has_room(false) {
             return false;
         }
         self.sender.send();
@@ -100,15 +88,12 @@ impl<I: Stored> Feeder<I> {
         ensures closed { IsTrue result → IsClosedWith self.old end self.new }
         ensures refused { IsFalse result → (feeder_end self.old ≡ None)
             × IsAsFed self.old self.new }
-        ensures again { is_some (feeder_end self.old) ≡ true → IsAsFed self.old self.new
-            × (open_lines self.old ≡ []) }
-        ensures room { HasNoneIf (not result) (line_places self.old) (line_places self.new) }
     {
         if self.is_closed() {
             // The first end stands.
             return true;
         }
-        if !self.sender.has_room() {
+        if !self.sender.has_room(false) {
             return false;
         }
         self.sender.hand.finish(end);

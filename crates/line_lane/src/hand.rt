@@ -46,7 +46,8 @@ impl<T: Stored, E: Copy> Hand<T, E> {
     /// Returns the number of items.
     pub fn len(&self) -> usize
         ensures value { result ≡ length self.now.items }
-        ensures few { result ≤ 8 }
+        ensures few { result ≤ T.Slots.SLOTS }
+        ensures eight { result ≤ 8 }
     {
         self.reversed.len()
     }
@@ -58,9 +59,9 @@ impl<T: Stored, E: Copy> Hand<T, E> {
         self.reversed.ending()
     }
 
-    /// Puts an item before all others. There must be fewer than eight items.
+    /// Puts an item before all others. There must be a free slot.
     pub fn put_back(&mut self, item: T)
-        requires { length self.old.items < 8 }
+        requires { length self.old.items < T.Slots.SLOTS }
         ensures { self.new ≡ record { items = item ∷ self.old.items; ending = self.old.ending } }
     {
         self.reversed.push(item);

@@ -18,11 +18,11 @@ pub use run_plan::{Block, Capacity};
 pub use setter::Setter;
 pub use settling::{Open, settle};
 pub use slots::{InlineSlots, Slots, Stored};
-pub use stored::{AnswerSlots, LineSlots};
 pub use taker::Taker;
 pub use took::Took;
 pub use turn::Turn;
 
+mod block_size;
 mod ending;
 mod fault;
 mod feeder;

@@ -1,7 +1,6 @@
 //! Brings the two ends of a ring together in one thread.
 ghost use Rattle.std.specs.Prelude.{◌≡◌, true, is_some};
 ghost use Rattle.rtrb.specs.Ring.{IsPair};
-ghost use Rattle.line_lane.specs.Known.{IsAllKnown, messages, places};
 ghost use Rattle.line_lane.specs.Rings.{IsFirstOf, IsReceiverAsBefore, IsSenderAsBefore, end_received, end_sent, items_received, items_sent};
 
 use crate::Stored;
@@ -20,8 +19,6 @@ pub(crate) fn meet<T: Stored, E: Copy>(sender: &mut Sender<T, E>, receiver: &mut
         → items_received receiver.old ≡ items_sent sender.old }
     ensures ended { is_some (end_received receiver.old) ≡ true
         → end_received receiver.old ≡ end_sent sender.old }
-    ensures known { IsAllKnown (places sender.old) (messages receiver.old)
-        (places sender.new) (messages receiver.new) }
 {
     receiver.consumer.slots_beside(&mut sender.producer);
 }

@@ -1,4 +1,4 @@
-//! A message of a ring: up to eight items, stored inside it, and an optional end after them.
+//! A message of a ring: items, stored inside it, and an optional end after them.
 ghost use Rattle.std.specs.Prelude.{◌≡◌, ◌≤◌, ◌<◌, [], ◌∷◌, ◌++◌, length, reverse, Some, MatchOption};
 ghost use Rattle.line_lane.specs.Messages.{nothing};
 
@@ -7,7 +7,7 @@ use rtrb::Protocol;
 use std::alloc::Global;
 use std::marker::Model;
 
-/// Up to eight items, and an optional end after them.
+/// Items, at most as many as there are slots for this type of items, and an optional end after them.
 #[derive(Drop)]
 pub(crate) struct Message<T: Stored, E> {
     slots: T::Slots,
@@ -48,7 +48,8 @@ impl<T: Stored, E: Copy> Message<T, E> {
     /// Returns the number of items.
     pub fn len(&self) -> usize
         ensures value { result ≡ length self.now.items }
-        ensures few { result ≤ 8 }
+        ensures few { result ≤ T.Slots.SLOTS }
+        ensures eight { result ≤ 8 }
     {
         self.slots.len()
     }
@@ -60,9 +61,9 @@ impl<T: Stored, E: Copy> Message<T, E> {
         self.ending
     }
 
-    /// Appends an item. There must be fewer than eight items.
+    /// Appends an item. There must be a free slot.
     pub fn push(&mut self, item: T)
-        requires { length self.old.items < 8 }
+        requires { length self.old.items < T.Slots.SLOTS }
         ensures { self.new
             ≡ record { items = self.old.items ++ item ∷ []; ending = self.old.ending } }
     {
@@ -95,7 +96,10 @@ impl<T: Stored, E: Copy> Message<T, E> {
 
     /// Returns whether the last item is large.
     pub fn ends_large(&self) -> bool {
-        self.slots.ends_large()
+        match self.slots.last() {
+            Some(item) => item.is_large(),
+            None => false,
+        }
     }
 
     /// Sets the end, in place of an earlier one.

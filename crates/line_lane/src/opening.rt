@@ -1,10 +1,10 @@
 //! Opens a lane.
-ghost use Rattle.std.specs.Prelude.{◌≡◌, [], None, IfOk};
+ghost use Rattle.std.specs.Prelude.{◌≡◌, [], None, IfOk, min};
 ghost use Rattle.line_lane.specs.Turns.{fresh};
 ghost use Rattle.line_lane.specs.Takes.{empty_handed};
-ghost use Rattle.line_lane.specs.Known.{AreUnused};
-ghost use Rattle.line_lane.specs.Ends.{HasPlaces, IsLane, block_of, fed, feeder_end, hands_of, open_lines, state_of};
+ghost use Rattle.line_lane.specs.Ends.{IsLane, block_of, fed, feeder_end, hands_of, open_lines, state_of};
 
+use crate::block_size::BlockSize;
 use crate::message::Filled;
 use crate::receiver::Receiver;
 use crate::sender::Sender;
@@ -13,7 +13,8 @@ use rtrb::RingBuffer;
 use set_line::OutOfMemory;
 use std::alloc::Global;
 
-/// Opens a lane with this maker: two rings with `capacity` slots each, and blocks of `block` items.
+/// Opens a lane with this maker: two rings with `capacity` slots each, and blocks of `block` items, or of as
+/// many as a message has slots if these are fewer.
 /// Memory is allocated for the rings only. The error means that an allocation failed.
 pub fn open<M: Making>(
     alloc: Global,
@@ -22,19 +23,17 @@ pub fn open<M: Making>(
     block: Block,
 ) -> Result<(Feeder<M::In>, Setter<M>, Taker<M::Out>), OutOfMemory>
     ensures lane { IfOk result (λ ends. IsLane ends.0 ends.1 ends.2) }
-    ensures places { IfOk result (λ ends. HasPlaces capacity ends.0 ends.1 ends.2) }
     ensures feeder { IfOk result (λ ends. (fed ends.0 ≡ []) × (open_lines ends.0 ≡ [])
-        × (feeder_end ends.0 ≡ None) × (block_of ends.0 ≡ block)) }
+        × (feeder_end ends.0 ≡ None) × (block_of ends.0 ≡ min block M.In.Slots.SLOTS)) }
     ensures setter { IfOk result (λ ends. state_of ends.1 ≡ fresh (M.makes maker)) }
     ensures taker { IfOk result (λ ends. hands_of ends.2 ≡ empty_handed) }
-    ensures known { IfOk result (λ ends. AreUnused capacity ends.0 ends.1 ends.2) }
 {
     let places = capacity.get();
     let (lines_in, lines_out) = RingBuffer::with_protocol::<Global, Filled>(alloc, places)?;
     let (answers_in, answers_out) = RingBuffer::with_protocol::<Global, Filled>(alloc, places)?;
     let feeder = Feeder {
         sender: Sender::new(alloc, lines_in),
-        block,
+        block: BlockSize::new(block),
     };
     let setter = Setter {
         maker,

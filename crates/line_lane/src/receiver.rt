@@ -27,22 +27,21 @@ fn pop<T: Stored, E: Copy>(
     hand: &mut Hand<T, E>,
 )
     requires { 0 < length (known_items consumer.old) }
-    ensures known { length (known_items consumer.old) ≡ length (known_items consumer.new) + 1 }
     ensures same { SameConsumer consumer.old consumer.new }
     ensures received { received consumer.new ≡ received consumer.old ++ hand.new ∷ [] }
-    ensures few { length hand.new.items ≤ 8 }
+    ensures few { length hand.new.items ≤ T.Slots.SLOTS }
+    ensures eight { length hand.new.items ≤ 8 }
     ensures filled { IsFilled hand.new }
 {
     hand.fill(consumer.pop_known());
-    // For the proof: the contract of `len` states that a message has at most eight items.
+    // For the proof: the contract of `len` states that a message has no more items than slots.
     let _ = hand.len();
 }
 
 impl<T: Stored, E: Copy> Receiver<T, E> {
-    ghost use Rattle.std.specs.Prelude.{None, IsTrue, IsFalse, not};
+    ghost use Rattle.std.specs.Prelude.{None, IsTrue, IsFalse};
     ghost use Rattle.line_lane.specs.Messages.{nothing};
     ghost use Rattle.line_lane.specs.Rings.{SameReceiver, end_received, items_received, messages_received};
-    ghost use Rattle.line_lane.specs.Known.{HasNoneIf, messages};
 
     /// Returns the receiving end of a ring from which nothing was received.
     pub fn new(alloc: Global, consumer: Consumer<Message<T, E>, Global, Filled>) -> Self
@@ -68,12 +67,12 @@ impl<T: Stored, E: Copy> Receiver<T, E> {
         ensures ended { IsTrue result → end_received self.new ≡ self.new.hand.ending }
         ensures count { IsTrue result →
             messages_received self.new ≡ messages_received self.old + 1 }
-        ensures few { IsTrue result → length self.new.hand.items ≤ 8 }
+        ensures few { IsTrue result → length self.new.hand.items ≤ T.Slots.SLOTS }
+        ensures eight { IsTrue result → length self.new.hand.items ≤ 8 }
         ensures filled { IsTrue result → IsFilled self.new.hand }
         ensures nothing { IsFalse result →
             (received self.new.consumer ≡ received self.old.consumer)
             × (self.new.hand ≡ self.old.hand) }
-        ensures known { HasNoneIf (not result) (messages self.old) (messages self.new) }
     {
         if self.consumer.is_empty() {
             return false;

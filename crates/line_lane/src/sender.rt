@@ -1,8 +1,9 @@
 //! The sending end of a ring of messages.
-ghost use Rattle.std.specs.Prelude.{◌≡◌, true};
+ghost use Rattle.std.specs.Prelude.{◌≡◌};
 ghost use Rattle.std.specs.Coded.{Coded-set, coded_option};
 ghost use Rattle.rtrb.specs.Ring.{sent};
-ghost use Rattle.line_lane.specs.Messages.{end_of, ends_last};
+ghost use Rattle.std.proofs.Props.{props};
+ghost use Rattle.line_lane.specs.Messages.{EndsLast, end_of};
 
 use crate::Stored;
 use crate::message::{Filled, Message};
@@ -18,16 +19,15 @@ pub(crate) struct Sender<T: Stored, E> {
     /// The end that was sent, if any.
     pub ended: Option<E>,
     pub alloc: Global,
-    ghost last: { ends_last (sent producer) ≡ true },
+    ghost last: { EndsLast (sent producer) } by { Prim.hlevel props },
     ghost told: { ended ≡ end_of (sent producer) } by { Coded-set (coded_option E.code) _ _ },
 }
 
 impl<T: Stored, E: Copy> Sender<T, E> {
-    ghost use Rattle.std.specs.Prelude.{◌↔◌, ◌+◌, ◌<◌, [], ◌∷◌, ◌++◌, None, IsTrue, not};
+    ghost use Rattle.std.specs.Prelude.{◌+◌, ◌<◌, [], ◌∷◌, ◌++◌, None, IsTrue};
     ghost use Rattle.rtrb.specs.Ring.{known_free};
     ghost use Rattle.line_lane.specs.Messages.{IsFilled, first_end, nothing};
     ghost use Rattle.line_lane.specs.Rings.{SameSender, end_sent, items_sent, messages_sent};
-    ghost use Rattle.line_lane.specs.Known.{HasNoneIf, IsKept, IsQuarterFull, places};
 
     /// Returns the sending end of a ring into which nothing was sent, with an empty next message.
     pub fn new(alloc: Global, producer: Producer<Message<T, E>, Global, Filled>) -> Self
@@ -43,29 +43,19 @@ impl<T: Stored, E: Copy> Sender<T, E> {
         }
     }
 
-    /// Returns whether a free slot was found. The receiver may free one at any time.
-    pub fn has_room(&mut self) -> bool
+    /// Returns whether a free slot was found. For a large item at most a quarter of the slots, but at least one,
+    /// are used: otherwise such items would take too much memory. The receiver may free a slot at any time.
+    pub fn has_room(&mut self, is_large: bool) -> bool
         ensures same { SameSender self.old self.new }
         ensures sent { sent self.new.producer ≡ sent self.old.producer }
         ensures hand { self.new.hand ≡ self.old.hand }
         ensures room { IsTrue result → 0 < known_free self.new.producer }
-        ensures known { HasNoneIf (not result) (places self.old) (places self.new) }
-    {
-        !self.producer.is_full()
-    }
-
-    /// Returns whether a quarter of the slots of the ring, and at least one, are in use as far as is known. The
-    /// receiver may free one at any time.
-    pub fn is_quarter_full(&mut self) -> bool
-        ensures same { SameSender self.old self.new }
-        ensures sent { sent self.new.producer ≡ sent self.old.producer }
-        ensures hand { self.new.hand ≡ self.old.hand }
-        ensures full { IsTrue result ↔ IsQuarterFull self.new }
-        ensures known { IsKept (places self.old) (places self.new) }
     {
         let slots = self.producer.capacity();
-        let free = self.producer.slots();
-        (slots / 4).max(1) <= slots.saturating_sub(free)
+        if is_large && (slots / 4).max(1) <= slots.saturating_sub(self.producer.slots()) {
+            return false;
+        }
+        !self.producer.is_full()
     }
 
     /// Returns the end that was sent or, if none was sent, the end of the next message.
@@ -87,7 +77,6 @@ impl<T: Stored, E: Copy> Sender<T, E> {
         ensures count { messages_sent self.new ≡ messages_sent self.old + 1 }
         ensures ended { end_sent self.new ≡ self.old.hand.ending }
         ensures hand { self.new.hand ≡ nothing }
-        ensures known { (places self.old).known ≡ (places self.new).known + 1 }
     {
         self.ended = self.hand.ending();
         let next = Message::new(self.alloc);

@@ -1,7 +1,7 @@
 //! The setter of a lane.
-ghost use Rattle.std.specs.Prelude.{◌≡◌, [], true};
+ghost use Rattle.std.specs.Prelude.{◌≡◌, [], None, true};
 ghost use Rattle.std.proofs.Props.{props};
-ghost use Rattle.line_lane.specs.Messages.{IsFilled, are_none, first_end};
+ghost use Rattle.line_lane.specs.Messages.{IsFilled, are_none};
 ghost use Rattle.line_lane.specs.Lane.{lane_end_of};
 ghost use Rattle.line_lane.specs.Turns.{IsOrderly, end_with};
 ghost use Rattle.line_lane.specs.Hands.{IsInHand, setter_state};
@@ -21,7 +21,7 @@ pub struct Setter<M: Making = Arc<Terms>> {
     pub(crate) receiver: Receiver<M::In, SourceEnd>,
     pub(crate) sender: Sender<M::Out, LaneEnd>,
     pub(crate) ready: bool,
-    ghost in_hand: { IsInHand receiver sender ready } by { Prim.hlevel props },
+    ghost in_hand: { IsInHand M.slots receiver sender ready } by { Prim.hlevel props },
     ghost orderly: { IsOrderly (setter_state (M.makes maker) receiver sender ready) } by { Prim.hlevel props },
     ghost filled: { ready ≡ true → IsFilled sender.hand } by { Prim.hlevel props },
 }
@@ -37,15 +37,15 @@ fn lane_end(end: SourceEnd) -> LaneEnd
 }
 
 /// Returns whether no received item is left. If none is left and the items have an end, sets the
-/// end of the results.
+/// end of the results, which must have none yet.
 fn finish<I: Stored, O: Stored>(
     lines: &Hand<I, SourceEnd>,
     answers: &mut Message<O, LaneEnd>,
 ) -> bool
+    requires { answers.old.ending ≡ None }
     ensures ready { result ≡ are_none lines.now.items }
     ensures items { answers.new.items ≡ answers.old.items }
-    ensures ending { answers.new.ending
-        ≡ first_end (end_with lines.now.items lines.now.ending) answers.old.ending }
+    ensures ending { answers.new.ending ≡ end_with lines.now.items lines.now.ending }
 {
     if lines.len() > 0 {
         return false;
@@ -57,10 +57,9 @@ fn finish<I: Stored, O: Stored>(
 }
 
 impl<M: Making> Setter<M> {
-    ghost use Rattle.std.specs.Prelude.{false, is_some, IsTrue, OnErr, IfOk, MatchResult};
+    ghost use Rattle.std.specs.Prelude.{false, is_some, OnErr, IfOk};
     ghost use Rattle.line_lane.specs.Turns.{Turns, given_up, is_done, is_given_up};
     ghost use Rattle.line_lane.specs.Ends.{SameSetter, state_of};
-    ghost use Rattle.line_lane.specs.Known.{HasManyAnswers, IsKept, KnowsAfter, KnowsTheSame, answer_places, line_messages};
 
     /// Returns whether the setter has made the end of the lane, whether or not this end was sent.
     fn has_made_end(&self) -> bool
@@ -87,9 +86,9 @@ impl<M: Making> Setter<M> {
         requires { self.old.ready ≡ true }
         ensures lane { SameSetter self.old self.new }
         ensures turn { Turns (state_of self.old) result (state_of self.new) }
-        ensures known { KnowsAfter result self.old self.new }
     {
-        if !self.sender.has_room() {
+        let is_large = self.sender.hand.ends_large();
+        if !self.sender.has_room(is_large) {
             return Turn::Blocked;
         }
         self.sender.send();
@@ -105,9 +104,6 @@ impl<M: Making> Setter<M> {
         ensures lane { SameSetter self.old self.new }
         ensures turn { IfOk result (λ turn. Turns (state_of self.old) turn (state_of self.new)) }
         ensures refused { OnErr result (state_of self.new ≡ state_of self.old) }
-        ensures known { MatchResult result
-            (λ turn. KnowsAfter turn self.old self.new)
-            (λ _. KnowsTheSame self.old self.new) }
     {
         let Some(line) = self.receiver.hand.take_first() else {
             unreachable!()
@@ -134,7 +130,6 @@ impl<M: Making> Setter<M> {
         requires done { is_done (state_of self.old) ≡ false }
         ensures lane { SameSetter self.old self.new }
         ensures turn { Turns (state_of self.old) result (state_of self.new) }
-        ensures known { KnowsAfter result self.old self.new }
     {
         let given_up = self.has_given_up();
         if !self.receiver.receive() {
@@ -149,22 +144,10 @@ impl<M: Making> Setter<M> {
         Turn::Moved
     }
 
-    /// Returns whether the ready message should be sent later: its last result is large, and a quarter of the
-    /// slots of the ring of results, and at least one, are in use as far as is known. Nothing is sent.
-    pub fn holds_back(&mut self) -> bool
-        ensures lane { SameSetter self.old self.new }
-        ensures state { state_of self.new ≡ state_of self.old }
-        ensures ready { IsTrue result → (state_of self.old).ready ≡ true }
-        ensures full { IsTrue result → HasManyAnswers self.new }
-        ensures known { IsKept (answer_places self.old) (answer_places self.new) }
-        ensures messages { line_messages self.new ≡ line_messages self.old }
-    {
-        self.ready && self.sender.hand.ends_large() && self.sender.is_quarter_full()
-    }
-
     /// Makes one turn: sends the ready message, makes a result or receives a message, the first of these that
     /// applies. If nothing remains to be done, returns `Done`. If a message of results is ready, sends it, or
-    /// returns `Blocked` if no free slot was found. If a received item is left, makes the result of the first
+    /// returns `Blocked` if no free slot was found, or, if its last result is large ([`Stored::is_large`]), if a
+    /// quarter of the slots, and at least one, are in use. If a received item is left, makes the result of the first
     /// such item. Otherwise receives a message, or returns `Idle` if no message was found.
     ///
     /// Once the results of all items of a message are made, they are ready to be sent as one message, with the
@@ -179,9 +162,6 @@ impl<M: Making> Setter<M> {
         ensures refused { OnErr result ((state_of self.new ≡ state_of self.old)
             × (is_done (state_of self.old) ≡ false)
             × ((state_of self.old).ready ≡ false) × (are_none (state_of self.old).lines ≡ false)) }
-        ensures known { MatchResult result
-            (λ turn. KnowsAfter turn self.old self.new)
-            (λ _. KnowsTheSame self.old self.new) }
     {
         if self.is_done() {
             return Ok(Turn::Done);
@@ -202,7 +182,6 @@ impl<M: Making> Setter<M> {
         ensures lane { SameSetter self.old self.new }
         ensures orderly { IsOrderly (state_of self.new) }
         ensures state { state_of self.new ≡ given_up (state_of self.old) }
-        ensures known { KnowsTheSame self.old self.new }
     {
         if self.has_made_end() {
             return;

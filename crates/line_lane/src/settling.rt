@@ -2,7 +2,6 @@
 ghost use Rattle.std.specs.Prelude.{◌≡◌, true, false, Some, IfOk, IfErr, MatchOption};
 ghost use Rattle.line_lane.specs.Lane.{pipeline};
 ghost use Rattle.line_lane.specs.Ends.{IsLane, fed, state_of, taken, taker_end};
-ghost use Rattle.line_lane.specs.Known.{AreAllKnown};
 ghost use Rattle.line_lane.specs.Rings.{IsFirstOf};
 ghost use Rattle.line_lane.specs.Turns.{is_given_up};
 ghost use Rattle.line_lane.specs.Settled.{AreAsBefore, HaveMet, IsSettled, is_over};
@@ -54,7 +53,6 @@ fn look<M: Making>(feeder: &mut Feeder<M::In>, setter: &mut Setter<M>, taker: &m
     requires { IsLane feeder.old setter.old taker.old }
     ensures before { AreAsBefore feeder.old setter.old taker.old feeder.new setter.new taker.new }
     ensures met { HaveMet feeder.old setter.old taker.old }
-    ensures known { AreAllKnown feeder.old setter.old taker.old feeder.new setter.new taker.new }
 {
     meet(&mut feeder.sender, &mut setter.receiver);
     meet(&mut setter.sender, &mut taker.receiver);
@@ -84,8 +82,6 @@ pub fn settle<M: Making>(
     ensures unsettled { IfErr result (λ back. (is_over feeder setter taker ≡ false)
         × AreAsBefore feeder setter taker back.feeder back.setter back.taker
         × IsLane back.feeder back.setter back.taker) }
-    ensures known { IfErr result (λ back.
-        AreAllKnown feeder setter taker back.feeder back.setter back.taker) }
 {
     let (mut feeder, mut setter, mut taker) = (feeder, setter, taker);
     let end = end_of_lane(&feeder, &setter, &taker);

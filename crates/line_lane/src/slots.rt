@@ -5,28 +5,39 @@ use smallvec::SmallVec;
 use std::alloc::Global;
 use std::marker::Model;
 
-/// Room for up to eight items of a message. `items` are the items in the slots, in order.
-pub trait Slots<T>: Drop {
-    ghost use Rattle.std.specs.Prelude.{List};
+/// Room for the items of a message. `items` are the items in the slots, in order.
+pub trait Slots<T> {
+    ghost use Rattle.std.specs.Prelude.{List, ℕ};
 
     ghost items: { Self → List T };
 
+    ghost SLOTS: { ℕ };
+
+    /// The number of slots: 1 to 8.
+    const SLOTS: usize;
+
     /// Returns slots without items. This allocates no memory.
     fn new(alloc: Global) -> Self
+    where
+        T: Drop,
         ensures { items result ≡ [] };
 
     /// Returns the number of items.
     fn len(&self) -> usize
         ensures value { result ≡ length (items self.now) }
-        ensures few { result ≤ 8 };
+        ensures few { result ≤ SLOTS };
 
-    /// Appends an item. There must be fewer than eight items.
+    /// Appends an item. There must be a free slot.
     fn push(&mut self, item: T)
-        requires { length (items self.old) < 8 }
+    where
+        T: Drop,
+        requires { length (items self.old) < SLOTS }
         ensures { items self.new ≡ items self.old ++ item ∷ [] };
 
     /// Removes and returns the last item, or returns `None` if there is no item.
     fn pop(&mut self) -> Option<T>
+    where
+        T: Drop,
         ensures { MatchOption result
             ((items self.old ≡ []) × (items self.new ≡ []))
             (λ item. items self.old ≡ items self.new ++ item ∷ []) };
@@ -37,19 +48,21 @@ pub trait Slots<T>: Drop {
 
     /// Drops the items.
     fn clear(&mut self)
+    where
+        T: Drop,
         ensures { items self.new ≡ [] };
 
-    /// Returns whether the last item is large ([`Stored::is_large`]). The default is false.
-    fn ends_large(&self) -> bool {
-        false
-    }
+    /// Returns the last item, or `None` if there is no item.
+    fn last(&self) -> Option<&T>;
+
+    ghost range: { (1 ≤ SLOTS) × (SLOTS ≤ 8) };
 }
 
 /// An item of a message: a type with slots for its values.
 pub trait Stored: Drop {
-    /// The slots of a message for items of this type. For the proof: generic code needn't bound the size of a
-    /// type that each type of items chooses, unlike that of an array of items.
-    type Slots: Slots<Self>;
+    /// The slots of a message for items of this type: an `Option` if a message has at most one item, otherwise
+    /// [`InlineSlots`].
+    type Slots: Slots<Self> + Drop;
 
     /// Returns whether this item takes so much memory that only a quarter of the slots of a ring should have
     /// such items. The return value affects only when an item is sent, never the results. The default is
@@ -57,6 +70,62 @@ pub trait Stored: Drop {
     fn is_large(&self) -> bool {
         false
     }
+}
+
+/// One slot.
+impl<T> Slots<T> for Option<T> {
+    ghost use Rattle.std.specs.Option.{option_to_list};
+    ghost use Rattle.std.proofs.Common.{rules};
+
+    ghost items = { option_to_list };
+
+    ghost SLOTS = { 1 };
+
+    const SLOTS: usize = 1;
+
+    fn new(alloc: Global) -> Self
+    where
+        T: Drop,
+    {
+        let _ = alloc;
+        None
+    }
+
+    fn len(&self) -> usize {
+        match self {
+            Some(_) => 1,
+            None => 0,
+        }
+    }
+
+    fn push(&mut self, item: T)
+    where
+        T: Drop,
+    {
+        *self = Some(item);
+    }
+
+    fn pop(&mut self) -> Option<T>
+    where
+        T: Drop,
+    {
+        self.take()
+    }
+
+    fn reverse(&mut self) {}
+
+    fn clear(&mut self)
+    where
+        T: Drop,
+    {
+        *self = None;
+    }
+
+    fn last(&self) -> Option<&T> {
+        self.as_ref()
+    }
+
+    ghost range = { Prim.search rules };
 }
 
 /// Slots inside the message. Each item is in an `Option`, since unused slots of the list contain a blank value.
@@ -80,10 +149,19 @@ impl<T> Model for InlineSlots<T> {
     ghost invariant = { λ s. IsInline s.slots };
 }
 
-impl<T: Drop> Slots<T> for InlineSlots<T> {
+impl<T> Slots<T> for InlineSlots<T> {
+    ghost use Rattle.std.proofs.Common.{rules};
+
     ghost items = { λ s. s };
 
-    fn new(alloc: Global) -> Self {
+    ghost SLOTS = { 8 };
+
+    const SLOTS: usize = 8;
+
+    fn new(alloc: Global) -> Self
+    where
+        T: Drop,
+    {
         InlineSlots {
             slots: SmallVec::new(alloc),
         }
@@ -93,11 +171,17 @@ impl<T: Drop> Slots<T> for InlineSlots<T> {
         self.slots.len()
     }
 
-    fn push(&mut self, item: T) {
+    fn push(&mut self, item: T)
+    where
+        T: Drop,
+    {
         self.slots.push_reserved(Some(item));
     }
 
-    fn pop(&mut self) -> Option<T> {
+    fn pop(&mut self) -> Option<T>
+    where
+        T: Drop,
+    {
         self.slots.pop()?
     }
 
@@ -105,14 +189,16 @@ impl<T: Drop> Slots<T> for InlineSlots<T> {
         self.slots.as_mut_slice().reverse();
     }
 
-    fn clear(&mut self) {
+    fn clear(&mut self)
+    where
+        T: Drop,
+    {
         self.slots.clear();
     }
-}
 
-impl<T> InlineSlots<T> {
-    /// Returns the last item, or `None` if there is no item.
-    pub fn last(&self) -> Option<&T> {
+    fn last(&self) -> Option<&T> {
         self.slots.as_slice().last()?.as_ref()
     }
+
+    ghost range = { Prim.search rules };
 }

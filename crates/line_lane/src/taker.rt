@@ -27,17 +27,14 @@ impl<O: Stored> Taker<O> {
 }
 
 impl<O: Made + Stored> Taker<O> {
-    ghost use Rattle.std.specs.Prelude.{◌≡◌, ◌+◌, ◌≤◌, ◌++◌};
     ghost use Rattle.line_lane.specs.Takes.{Takes, IsTakenFromHand};
-    ghost use Rattle.line_lane.specs.Known.{HasNoneIf, answer_messages, is_nothing};
-    ghost use Rattle.line_lane.specs.Ends.{SameTaker, hands_of, pops, received_answers, taken};
+    ghost use Rattle.line_lane.specs.Ends.{SameTaker, hands_of};
 
     /// Takes the next result of the last received message or, if none is left, the end. Returns `None`, with
     /// nothing changed, if there is neither.
     fn take_held(&mut self) -> Option<Took<O>>
         ensures lane { SameTaker self.old self.new }
         ensures took { IsTakenFromHand O.is_right (hands_of self.old) result (hands_of self.new) }
-        ensures none { answer_messages self.new ≡ answer_messages self.old }
     {
         if let Some(answer) = self.receiver.hand.take_first() {
             // For the proof: the contract of `show_right` states that the result is right.
@@ -54,10 +51,6 @@ impl<O: Made + Stored> Taker<O> {
     pub fn take(&mut self) -> Took<O>
         ensures lane { SameTaker self.old self.new }
         ensures took { Takes O.is_right (hands_of self.old) result (hands_of self.new) }
-        ensures whole { taken self.new ++ (hands_of self.new).held ≡ received_answers self.new }
-        ensures one { pops self.new ≤ pops self.old + 1 }
-        ensures known { HasNoneIf (is_nothing result)
-            (answer_messages self.old) (answer_messages self.new) }
     {
         if let Some(took) = self.take_held() {
             return took;

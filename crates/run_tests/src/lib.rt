@@ -1,4 +1,4 @@
-//! The tests of `set_run` and `uses`, over their public calls alone.
+//! The tests of `set_run`, over its public calls alone.
 #![tactic(auto)]
 
 #[cfg(test)]

@@ -1,9 +1,5 @@
-mod after_stopping;
-mod callers;
 mod collectors;
 mod failing;
-mod flushing;
-mod long_lines;
 mod many_lines;
 mod meeting;
 mod memory;
@@ -12,5 +8,4 @@ mod readers;
 mod reports;
 mod slow;
 mod stopping;
-mod threads;
 mod waking;

@@ -9,12 +9,12 @@ use Rattle.std.proofs.lemmas.List.Sums.{sum_by-cons, sum_by-append}
 use Rattle.set_line.specs.declared.version.Version.{Version}
 use Rattle.set_line.specs.Answer.{AnswerValue}
 use Rattle.line_lane.specs.declared.ending.LaneEnd.{LaneEnd}
-use Rattle.line_blocks.specs.BlockText.{BlockTextValue, RecordStyle}
+use Rattle.line_chunks.specs.ChunkText.{ChunkTextValue, RecordStyle}
 use Rattle.set_run.specs.Events.{Event, LaneEvent, Answered, Ended, answers_among, lane_events, of_lane}
 use Rattle.run_texts.specs.RunText.{end_text, lane_text, record_of, records_from, why_of}
-use Rattle.run_texts.specs.LaneText.{block_lines, event_lines, events_lines, records_of, refused_of}
+use Rattle.run_texts.specs.LaneText.{chunk_lines, event_lines, events_lines, records_of, refused_of}
 use Rattle.run_texts.specs.Streaming.{lane_lines, record_lines}
-use Rattle.run_texts.specs.BlockLanes.{AreRecordsOf}
+use Rattle.run_texts.specs.ChunkLanes.{AreRecordsOf}
 
 -- ---- events
 
@@ -57,55 +57,55 @@ one_summed : {T : Type 0} (count : T → ℕ) (texts : List T) (text : T) → su
 one_summed count texts text =
     let last = sum_by-cons count text [] in let both = sum_by-append count texts (text ∷ []) in omega (arith, last, both)
 
-pub records_more : (events : List (LaneEvent BlockTextValue)) (text : BlockTextValue)
+pub records_more : (events : List (LaneEvent ChunkTextValue)) (text : ChunkTextValue)
     → records_of (answers_among (events ++ Answered text ∷ [])) ≡ records_of (answers_among events) + text.lines
 records_more events text = ap records_of (among_answered events text) ∙ one_summed (λ t. t.lines) (answers_among events) text
 
-pub refused_more : (events : List (LaneEvent BlockTextValue)) (text : BlockTextValue)
+pub refused_more : (events : List (LaneEvent ChunkTextValue)) (text : ChunkTextValue)
     → refused_of (answers_among (events ++ Answered text ∷ [])) ≡ refused_of (answers_among events) + text.refused
 refused_more events text = ap refused_of (among_answered events text) ∙ one_summed (λ t. t.refused) (answers_among events) text
 
 -- ---- lines
 
 -- the lines of one event more
-pub lines_more : (source : ℕ) (version : Version) (before count : ℕ) (events : List (LaneEvent BlockTextValue)) (event : LaneEvent BlockTextValue)
+pub lines_more : (source : ℕ) (version : Version) (before count : ℕ) (events : List (LaneEvent ChunkTextValue)) (event : LaneEvent ChunkTextValue)
     → count ≡ before + records_of (answers_among events)
     → events_lines source version before (events ++ event ∷ []) ≡ events_lines source version before events ++ event_lines source version count event
-lines_more source version before count [] (Answered text) is = append-nil (block_lines text)
+lines_more source version before count [] (Answered text) is = append-nil (chunk_lines text)
 lines_more source version before count [] (Ended end) is =
     let same : before ≡ count = omega (arith, is) in ap (λ n. event_lines source version n (Ended end)) same
 lines_more source version before count (Answered text ∷ events) event is =
-    let sum = sum_by-cons (λ (t : BlockTextValue). t.lines) text (answers_among events) in
+    let sum = sum_by-cons (λ (t : ChunkTextValue). t.lines) text (answers_among events) in
     let at : count ≡ before + text.lines + records_of (answers_among events) = omega (arith, is, sum) in
-    ap (λ t. block_lines text ++ t) (lines_more source version (before + text.lines) count events event at)
-    ∙ sym (append_assoc (block_lines text) (events_lines source version (before + text.lines) events) (event_lines source version count event))
+    ap (λ t. chunk_lines text ++ t) (lines_more source version (before + text.lines) count events event at)
+    ∙ sym (append_assoc (chunk_lines text) (events_lines source version (before + text.lines) events) (event_lines source version count event))
 lines_more source version before count (Ended e ∷ events) event is =
     ap (λ t. event_lines source version before (Ended e) ++ t) (lines_more source version before count events event is)
 
 -- the lines of a lane with these blocks
-lines_of_lane : (source : ℕ) (version : Version) (before count : ℕ) (texts : List BlockTextValue) (end : LaneEnd)
+lines_of_lane : (source : ℕ) (version : Version) (before count : ℕ) (texts : List ChunkTextValue) (end : LaneEnd)
     → count ≡ before + records_of texts
-    → events_lines source version before (lane_events texts (Some end)) ≡ flat_map block_lines texts ++ end_text source version (why_of end) count ∷ []
+    → events_lines source version before (lane_events texts (Some end)) ≡ flat_map chunk_lines texts ++ end_text source version (why_of end) count ∷ []
 lines_of_lane source version before count [] end is =
     let same : before ≡ count = omega (arith, is) in ap (λ n. end_text source version (why_of end) n ∷ []) same
 lines_of_lane source version before count (text ∷ texts) end is =
-    let sum = sum_by-cons (λ (t : BlockTextValue). t.lines) text texts in
+    let sum = sum_by-cons (λ (t : ChunkTextValue). t.lines) text texts in
     let at : count ≡ before + text.lines + records_of texts = omega (arith, is, sum) in
-    ap (λ t. block_lines text ++ t) (lines_of_lane source version (before + text.lines) count texts end at)
-    ∙ sym (append_assoc (block_lines text) (flat_map block_lines texts) (end_text source version (why_of end) count ∷ []))
+    ap (λ t. chunk_lines text ++ t) (lines_of_lane source version (before + text.lines) count texts end at)
+    ∙ sym (append_assoc (chunk_lines text) (flat_map chunk_lines texts) (end_text source version (why_of end) count ∷ []))
 
 -- the lines of a lane are those of its results
-pub lane_lined : (source : ℕ) (style : RecordStyle) (events : List (LaneEvent BlockTextValue)) (answers : List AnswerValue) (end : LaneEnd)
+pub lane_lined : (source : ℕ) (style : RecordStyle) (events : List (LaneEvent ChunkTextValue)) (answers : List AnswerValue) (end : LaneEnd)
     → events ≡ lane_events (answers_among events) (Some end) → AreRecordsOf source style answers (answers_among events) → 1 + length answers < 2 ^ 64
     → events_lines source style.version 0 events ≡ lane_lines source style answers end
 lane_lined source style events answers end came are fits =
     ap (events_lines source style.version 0) came
     ∙ lines_of_lane source style.version 0 (records_of (answers_among events)) (answers_among events) end (omega arith)
-    ∙ ap (λ n. flat_map block_lines (answers_among events) ++ end_text source style.version (why_of end) n ∷ []) are.0
+    ∙ ap (λ n. flat_map chunk_lines (answers_among events) ++ end_text source style.version (why_of end) n ∷ []) are.0
     ∙ ap (λ lines. lines ++ end_text source style.version (why_of end) (length answers) ∷ []) (are.1 fits).1
 
 -- the output of one event more
-pub text_more : (source : ℕ) (version : Version) (events : List (LaneEvent BlockTextValue)) (event : LaneEvent BlockTextValue)
+pub text_more : (source : ℕ) (version : Version) (events : List (LaneEvent ChunkTextValue)) (event : LaneEvent ChunkTextValue)
     → concat (events_lines source version 0 (events ++ event ∷ []))
     ≡ concat (events_lines source version 0 events) ++ concat (event_lines source version (records_of (answers_among events)) event)
 text_more source version events event =

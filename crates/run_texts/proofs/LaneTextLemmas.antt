@@ -6,11 +6,11 @@ use Rattle.std.proofs.Math.ListN.{set}
 use Rattle.std.proofs.lemmas.List.{length-set, set-get_or}
 use Rattle.set_line.specs.declared.version.Version.{Version}
 use Rattle.line_lane.specs.declared.ending.LaneEnd.{LaneEnd}
-use Rattle.line_blocks.specs.BlockText.{BlockTextValue}
+use Rattle.line_chunks.specs.ChunkText.{ChunkTextValue}
 use Rattle.set_run.specs.declared.collector.Refusal.{Refusal}
 use Rattle.set_run.specs.Events.{Event, LaneEvent, Answered, Ended, Gets, answers_among, of_lane}
 use Rattle.run_texts.specs.RunText.{end_text, why_of}
-use Rattle.run_texts.specs.LaneText.{AreKept, LaneTextValue, block_lines, kept_of, records_of, refused_of}
+use Rattle.run_texts.specs.LaneText.{AreKept, LaneTextValue, chunk_lines, kept_of, records_of, refused_of}
 use Rattle.run_texts.proofs.EventLemmas.{among_ended, of_lane_more, of_lane_other, other_test, records_more, refused_more, text_more}
 
 -- ---- what is kept of a lane
@@ -21,9 +21,9 @@ lane_of text records refused = record { text = text; records = records; refused 
 same_lane : (t t' : List ℕ) (a a' r r' : ℕ) → t ≡ t' → a ≡ a' → r ≡ r' → lane_of t a r ≡ lane_of t' a' r'
 same_lane t t' a a' r r' p q s = ap (λ x. lane_of x a r) p ∙ ap (λ x. lane_of t' x r) q ∙ ap (λ x. lane_of t' a' x) s
 
-abbrev pub with_block : BlockTextValue → LaneTextValue → LaneTextValue
-with_block block old = record {
-  text = old.text ++ concat (block_lines block);
+abbrev pub with_chunk : ChunkTextValue → LaneTextValue → LaneTextValue
+with_chunk block old = record {
+  text = old.text ++ concat (chunk_lines block);
   records = old.records + block.lines;
   refused = old.refused + block.refused;
 }
@@ -35,16 +35,16 @@ pub length_more : {T : Type 0} (xs : List T) (x : T) → length (xs ++ x ∷ [])
 length_more [] x = refl
 length_more (y ∷ xs) x = omega (arith, length_more xs x)
 
-kept_answered : (version : Version) (source : ℕ) (events : List (LaneEvent BlockTextValue)) (block : BlockTextValue) (old new : LaneTextValue)
-    → old ≡ kept_of version source events → new ≡ with_block block old → new ≡ kept_of version source (events ++ Answered block ∷ [])
+kept_answered : (version : Version) (source : ℕ) (events : List (LaneEvent ChunkTextValue)) (block : ChunkTextValue) (old new : LaneTextValue)
+    → old ≡ kept_of version source events → new ≡ with_chunk block old → new ≡ kept_of version source (events ++ Answered block ∷ [])
 kept_answered version source events block old new was is =
-    is ∙ ap (with_block block) was
+    is ∙ ap (with_chunk block) was
     ∙ same_lane _ _ _ _ _ _
     (sym (text_more source version events (Answered block)))
     (sym (records_more events block))
     (sym (refused_more events block))
 
-kept_ended : (version : Version) (source : ℕ) (events : List (LaneEvent BlockTextValue)) (end : LaneEnd) (old new : LaneTextValue)
+kept_ended : (version : Version) (source : ℕ) (events : List (LaneEvent ChunkTextValue)) (end : LaneEnd) (old new : LaneTextValue)
     → old ≡ kept_of version source events → new ≡ with_end version source end old → new ≡ kept_of version source (events ++ Ended end ∷ [])
 kept_ended version source events end old new was is =
     is ∙ ap (with_end version source end) was
@@ -56,7 +56,7 @@ kept_ended version source events end old new was is =
 
 -- ---- what is kept of all lanes
 
-kept_at : (version : Version) (events : List (Event BlockTextValue)) (number i n : ℕ) (lanes : List LaneTextValue) (d : LaneTextValue)
+kept_at : (version : Version) (events : List (Event ChunkTextValue)) (number i n : ℕ) (lanes : List LaneTextValue) (d : LaneTextValue)
     → n ≡ number + i → i < length lanes → AreKept version events number lanes → get_or lanes i d ≡ kept_of version (n + 1) (of_lane n events)
 kept_at version events number i n [] d at within kept = absurd (omega (arith, within))
 kept_at version events number zero n (lane ∷ lanes) d at within kept =
@@ -66,7 +66,7 @@ kept_at version events number (suc i) n (lane ∷ lanes) d at within kept =
     kept_at version events (number + 1) i n lanes d (omega arith) (omega (arith, within)) kept.2
 
 -- what came of a lane before these
-kept_same : (version : Version) (events : List (Event BlockTextValue)) (n : ℕ) (event : LaneEvent BlockTextValue) (number : ℕ) (lanes : List LaneTextValue)
+kept_same : (version : Version) (events : List (Event ChunkTextValue)) (n : ℕ) (event : LaneEvent ChunkTextValue) (number : ℕ) (lanes : List LaneTextValue)
     → n < number → AreKept version events number lanes → AreKept version (events ++ (n, event) ∷ []) number lanes
 kept_same version events n event number [] before kept = tt
 kept_same version events n event number (lane ∷ lanes) before kept = (
@@ -76,7 +76,7 @@ kept_same version events n event number (lane ∷ lanes) before kept = (
 )
 
 -- one event more
-kept_set : (version : Version) (events : List (Event BlockTextValue)) (number i n : ℕ) (lanes : List LaneTextValue) (event : LaneEvent BlockTextValue) (new : LaneTextValue)
+kept_set : (version : Version) (events : List (Event ChunkTextValue)) (number i n : ℕ) (lanes : List LaneTextValue) (event : LaneEvent ChunkTextValue) (new : LaneTextValue)
     → n ≡ number + i → i < length lanes → new ≡ kept_of version (n + 1) (of_lane n events ++ event ∷ []) → 1 + new.records < 2 ^ 64
     → AreKept version events number lanes → AreKept version (events ++ (n, event) ∷ []) number (set lanes i new)
 kept_set version events number i n [] event new at within is fits kept = absurd (omega (arith, within))
@@ -106,14 +106,14 @@ kept_begun version number lanes more lane is blank kept = rw is (kept_blank vers
 -- ---- what a collector of texts was given
 
 module _ {C : Type 0} (version_of : C → Version) (lanes_of : C → List LaneTextValue) (version : Version) (count : ℕ) where
-  abbrev pub Given : C → List (Event BlockTextValue) → Type 0
+  abbrev pub Given : C → List (Event ChunkTextValue) → Type 0
   Given texts events = (version_of texts ≡ version) × (length (lanes_of texts) ≡ count) × AreKept version events 0 (lanes_of texts)
 
   -- the text of a block was taken, or refused
-  pub gets_answer : (before after : C) (lane : ℕ) (block : BlockTextValue) (r : Result (Unit {0}) Refusal) (old new : LaneTextValue)
+  pub gets_answer : (before after : C) (lane : ℕ) (block : ChunkTextValue) (r : Result (Unit {0}) Refusal) (old new : LaneTextValue)
       → lane < length (lanes_of before) → old ≡ get_or (lanes_of before) lane old → version_of after ≡ version_of before
       → lanes_of after ≡ set (lanes_of before) lane new
-      → OnOk r (new ≡ with_block block old) → OnErr r (new ≡ old) → 1 + new.records < 2 ^ 64
+      → OnOk r (new ≡ with_chunk block old) → OnErr r (new ≡ old) → 1 + new.records < 2 ^ 64
       → Gets Given before (lane, Answered block) (is_ok r) after
   gets_answer before after lane block (Ok u) old new within at same becomes ok err fits = λ events given. (
     same ∙ given.0,

@@ -1,8 +1,8 @@
 pub mod SettingLemmas
 pub mod RunTextLemmas
 pub mod EventLemmas
-pub mod BlockLemmas
-pub mod BlockRunLemmas
+pub mod ChunkLemmas
+pub mod ChunkRunLemmas
 pub mod LaneTextLemmas
 pub mod ReportLemmas
 pub mod ReportTextLemmas

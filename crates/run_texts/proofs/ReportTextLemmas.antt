@@ -1,5 +1,5 @@
 -- The reports of a run whose texts were kept, and their text.
-use Rattle.std.proofs.Common.{◌≡◌, ◌<◌, ℕ, ◌+◌, ◌-◌, ◌^◌, List, [], ◌∷◌, ◌++◌, length, map, min, sum_by, flat_map, All, Option, None, arith, refl, ap, subst, ◌∙◌}
+use Rattle.std.proofs.Common.{◌≡◌, ◌<◌, ℕ, ◌+◌, ◌^◌, List, [], ◌∷◌, ◌++◌, length, sum_by, flat_map, All, Option, arith, refl, ap, subst, ◌∙◌}
 use Rattle.std.proofs.lemmas.List.Elements.{All-head, All-tail}
 use Rattle.std.specs.Prelude.{IsSome}
 use Rattle.std.specs.List.{concat}
@@ -11,25 +11,24 @@ use Rattle.set_line.specs.Answer.{AnswerValue}
 use Rattle.set_line.specs.Terms.{TermsValue}
 use Rattle.line_lane.specs.declared.fault.SourceFault.{SourceFault}
 use Rattle.line_lane.specs.declared.ending.LaneEnd.{LaneEnd}
-use Rattle.line_blocks.specs.BlockText.{BlockTextValue, RecordStyle}
+use Rattle.line_chunks.specs.ChunkText.{ChunkTextValue, RecordStyle}
 use Rattle.set_run.specs.Events.{Event, LaneEvent, answers_among, answers_in, lane_events, of_lane}
-use Rattle.set_run.specs.Closed.{AreBack, IsWhole}
+use Rattle.set_run.specs.Reports.{AreReported}
 use Rattle.set_run.specs.declared.report.LaneReport.{LaneReport}
 use Rattle.set_run.specs.declared.run_end.ClosedLane.{ClosedLane}
-use Rattle.set_run.specs.declared.run_end.RunEnd.{RunEnd}
 use Rattle.run_texts.specs.RunText.{head_text, lane_text, why_of}
 use Rattle.run_texts.specs.LaneText.{AreKept, LaneTextValue, events_lines, records_of}
-use Rattle.run_texts.specs.BlockLanes.{AreClosedIn, AreRecordsOf, IsCollectedIn}
-use Rattle.run_texts.specs.ReportText.{is_unread, is_wanting, lanes_text, run_text, summary_of_lanes}
-use Rattle.run_texts.specs.Setting.{AreOwnReports, IsWritten}
+use Rattle.run_texts.specs.ChunkLanes.{AreClosedIn, AreRecordsOf, IsCollectedIn}
+use Rattle.run_texts.specs.ReportText.{lanes_text, run_text, summary_of_lanes}
+use Rattle.run_texts.specs.Setting.{IsWritten}
 use Rattle.run_texts.specs.declared.summary.Summary.{Summary}
 use Rattle.run_texts.proofs.EventLemmas.{lane_joined, lane_lined}
-use Rattle.run_texts.proofs.ReportLemmas.{AreRefused, HasEnd, own_reports, end_or, ends_of, refusals_of, reports_of, same_summary, some_end}
+use Rattle.run_texts.proofs.ReportLemmas.{AreRefused, HasEnd, are_reported, end_or, reports_of, some_end, summary_of_reports}
 use Rattle.run_texts.proofs.LaneTextLemmas.{Given}
 
 -- ---- the text of a lane
 
-kept_text : (source : ℕ) (style : RecordStyle) (events : List (LaneEvent BlockTextValue)) (answers : List AnswerValue) (end : Option LaneEnd)
+kept_text : (source : ℕ) (style : RecordStyle) (events : List (LaneEvent ChunkTextValue)) (answers : List AnswerValue) (end : Option LaneEnd)
     → events ≡ lane_events (answers_among events) end → AreRecordsOf source style answers (answers_among events)
     → 1 + records_of (answers_among events) < 2 ^ 64 → IsSome end
     → concat (events_lines source style.version 0 events) ≡ lane_text source style answers (why_of (end_or end))
@@ -39,7 +38,7 @@ kept_text source style events answers end came are fits ended =
     ∙ lane_joined source style answers (end_or end)
 
 -- the refused lines that are kept
-kept_refused : (version : Version) (events : List (Event BlockTextValue)) (number : ℕ) (texts : List LaneTextValue) → AreKept version events number texts
+kept_refused : (version : Version) (events : List (Event ChunkTextValue)) (number : ℕ) (texts : List LaneTextValue) → AreKept version events number texts
     → AreRefused events (λ (text : LaneTextValue). text.refused) number texts
 kept_refused version events number [] kept = tt
 kept_refused version events number (t ∷ texts) kept = (
@@ -48,7 +47,7 @@ kept_refused version events number (t ∷ texts) kept = (
   kept_refused version events (number + 1) texts kept.2,
 )
 
-module _ {S : Type 0} (to_come : S → Option (List (List ℕ))) (failed : S → Option SourceFault) (style : RecordStyle) (events : List (Event BlockTextValue)) where
+module _ {S : Type 0} (to_come : S → Option (List (List ℕ))) (failed : S → Option SourceFault) (style : RecordStyle) (events : List (Event ChunkTextValue)) where
   texts_of : (number : ℕ) (sources : List (S × Arc TermsValue Global)) (lanes : List (ClosedLane S)) (texts : List LaneTextValue)
       → length texts ≡ length sources → (closed : AreClosedIn to_come failed style events number sources lanes) → All (λ lane. IsSome lane.end) lanes
       → AreKept style.version events number texts
@@ -65,35 +64,31 @@ module _ {S : Type 0} (to_come : S → Option (List (List ℕ))) (failed : S →
       (ap (λ (v : LaneTextValue). v.text) kept.0
       ∙ kept_text (number + 1) style (of_lane number events) closed.1.0 l.end closed.0 closed.1.1 fits (All-head HasEnd l lanes whole))
 
-module _ {S O C : Type 0} (version_of : C → Version) (lanes_of : C → List LaneTextValue) (version : Version) where
+module _ {S C : Type 0} (version_of : C → Version) (lanes_of : C → List LaneTextValue) (version : Version) where
   -- what was written of the texts that were kept of a run is the output of its reports
-  pub kept_run : (to_come : S → Option (List (List ℕ))) (failed : S → Option SourceFault) (origin : S → O) (sources : List (S × Arc TermsValue Global))
-      (run : RunEnd S) (before after : C) (style : RecordStyle) (count : ℕ) (w w' : Option (List ℕ)) (summary : Summary)
-      → version ≡ style.version → count ≡ length sources → Given version_of lanes_of version count before [] → run.refusal ≡ None → IsWhole run
-      → IsCollectedIn to_come failed style (Given version_of lanes_of version count) sources run before after → AreBack origin sources (map (λ lane. lane.source) run.lanes.items)
+  pub kept_run : (to_come : S → Option (List (List ℕ))) (failed : S → Option SourceFault) (sources : List (S × Arc TermsValue Global))
+      (lanes : List (ClosedLane S)) (before after : C) (style : RecordStyle) (count : ℕ) (w w' : Option (List ℕ)) (summary : Summary)
+      → version ≡ style.version → count ≡ length sources → Given version_of lanes_of version count before [] → All (λ lane. IsSome lane.end) lanes
+      → IsCollectedIn to_come failed style (Given version_of lanes_of version count) sources lanes before after
       → Appends w w' (head_text (version_of after) ++ flat_map (λ text. text.text) (lanes_of after))
-      → summary ≡ summary_of_lanes (sum_by (λ text. text.refused) (lanes_of after)) run.lanes.items
-      → (reports : List (LaneReport S)) × AreOwnReports to_come failed origin sources reports × IsWritten style reports w w' summary
-  kept_run to_come failed origin sources run before after style count w w' summary asked many begun none whole collected back written is =
+      → summary ≡ summary_of_lanes (sum_by (λ text. text.refused) (lanes_of after)) lanes
+      → (reports : List (LaneReport S)) × AreReported to_come failed sources reports × IsWritten style reports w w' summary
+  kept_run to_come failed sources lanes before after style count w w' summary asked many begun ended collected written is =
       let came = collected begun in
-      let events : List (Event BlockTextValue) = came.0 in
-      let closed : AreClosedIn to_come failed style events 0 sources run.lanes.items = came.2 in
+      let events : List (Event ChunkTextValue) = came.0 in
+      let closed : AreClosedIn to_come failed style events 0 sources lanes = came.2 in
       let kept : AreKept style.version events 0 (lanes_of after) = subst (λ v. AreKept v events 0 (lanes_of after)) asked came.1.2 in
-      let reports : List (LaneReport S) = reports_of to_come failed style events 0 sources run.lanes.items closed in
-      let ended = whole none in
+      let reports : List (LaneReport S) = reports_of to_come failed style events 0 sources lanes closed in
       let long : length (lanes_of after) ≡ length sources = came.1.1 ∙ many in
       let texts : flat_map (λ text. text.text) (lanes_of after) ≡ lanes_text 1 style reports =
-      texts_of to_come failed style events 0 sources run.lanes.items (lanes_of after) long closed ended kept in
+      texts_of to_come failed style events 0 sources lanes (lanes_of after) long closed ended kept in
       let text : head_text (version_of after) ++ flat_map (λ text. text.text) (lanes_of after) ≡ run_text style reports =
       ap (λ v. head_text v ++ flat_map (λ text. text.text) (lanes_of after)) (came.1.0 ∙ asked) ∙ ap (λ t. head_text style.version ++ t) texts in (
         reports,
-        own_reports to_come failed style events origin sources run.lanes.items closed ended back,
+        are_reported to_come failed style events 0 sources lanes closed ended,
         (
           subst (Appends w w') text written,
-          is ∙ same_summary _ _ _ _ _ _
-              (ap (min (2 ^ 64 - 1)) (refusals_of to_come failed style events (λ (text : LaneTextValue). text.refused) 0 sources run.lanes.items (lanes_of after) closed
-              (kept_refused style.version events 0 (lanes_of after) kept) long))
-              (ends_of to_come failed style events is_unread 0 sources run.lanes.items closed ended)
-              (ends_of to_come failed style events is_wanting 0 sources run.lanes.items closed ended),
+          is ∙ summary_of_reports to_come failed style events (λ (text : LaneTextValue). text.refused) sources lanes (lanes_of after) closed ended
+              (kept_refused style.version events 0 (lanes_of after) kept) long,
         ),
       )

@@ -6,7 +6,7 @@ use Rattle.std.proofs.lemmas.Bool.{eq-eqb}
 use Rattle.std.proofs.lemmas.Bool.Decides.{eqb_tells}
 use Rattle.set_line.specs.declared.version.Version.{Version}
 use Rattle.line_lane.specs.declared.ending.LaneEnd.{LaneEnd}
-use Rattle.line_blocks.specs.BlockText.{BlockTextValue}
+use Rattle.line_chunks.specs.ChunkText.{ChunkTextValue}
 use Rattle.set_run.specs.Events.{Event, LaneEvent, Answered, Ended, answers_among, answers_in, of_lane}
 use Rattle.run_texts.specs.Streaming.{SourceLine, merged_text, of_source}
 use Rattle.run_texts.specs.LaneText.{event_lines, events_lines, records_of, refused_of}
@@ -65,7 +65,7 @@ merged_more (l ∷ lines) source texts = ap (λ t. l.1 ++ t) (merged_more lines 
 -- ---- lines of events
 
 -- one event more, and its lines
-pub event_lined : (version : Version) (events : List (Event BlockTextValue)) (lines : List SourceLine) (lane : ℕ) (event : LaneEvent BlockTextValue) (texts : List (List ℕ))
+pub event_lined : (version : Version) (events : List (Event ChunkTextValue)) (lines : List SourceLine) (lane : ℕ) (event : LaneEvent ChunkTextValue) (texts : List (List ℕ))
     → texts ≡ event_lines (lane + 1) version (records_of (answers_in lane events)) event
     → AreLinesOf version events lines → AreLinesOf version (events ++ (lane, event) ∷ []) (lines ++ sourced (lane + 1) texts)
 event_lined version events lines lane event texts is so_far = (
@@ -91,7 +91,7 @@ event_lined version events lines lane event texts is so_far = (
 -- ---- counts
 
 -- one block more
-pub count_answered : (count new : LaneCount) (lane : ℕ) (events : List (Event BlockTextValue)) (block : BlockTextValue) → IsCountOf count (answers_in lane events)
+pub count_answered : (count new : LaneCount) (lane : ℕ) (events : List (Event ChunkTextValue)) (block : ChunkTextValue) → IsCountOf count (answers_in lane events)
     → new.records ≡ count.records + block.lines → new.refused ≡ count.refused + block.refused
     → IsCountOf new (answers_in lane (events ++ (lane, Answered block) ∷ []))
 count_answered count new lane events block was records refused =
@@ -102,14 +102,14 @@ count_answered count new lane events block was records refused =
     )
 
 -- an end
-pub count_ended : (count : LaneCount) (lane : ℕ) (events : List (Event BlockTextValue)) (end : LaneEnd) → IsCountOf count (answers_in lane events)
+pub count_ended : (count : LaneCount) (lane : ℕ) (events : List (Event ChunkTextValue)) (end : LaneEnd) → IsCountOf count (answers_in lane events)
     → IsCountOf count (answers_in lane (events ++ (lane, Ended end) ∷ []))
 count_ended count lane events end was =
     let all : answers_in lane (events ++ (lane, Ended end) ∷ []) ≡ answers_in lane events =
     ap answers_among (of_lane_more lane lane events (Ended end) refl) ∙ among_ended (of_lane lane events) end in
     (was.0 ∙ sym (ap records_of all), was.1 ∙ sym (ap refused_of all))
 
-pub counts_at : (events : List (Event BlockTextValue)) (number i n : ℕ) (counts : List LaneCount) (d : LaneCount)
+pub counts_at : (events : List (Event ChunkTextValue)) (number i n : ℕ) (counts : List LaneCount) (d : LaneCount)
     → n ≡ number + i → i < length counts → AreCounts events number counts → IsCountOf (get_or counts i d) (answers_in n events)
 counts_at events number i n [] d at within are = absurd (omega (arith, within))
 counts_at events number zero n (count ∷ counts) d at within are =
@@ -118,19 +118,19 @@ counts_at events number (suc i) n (count ∷ counts) d at within are =
     counts_at events (number + 1) i n counts d (omega arith) (omega (arith, within)) are.1
 
 -- what came of another lane
-count_same : (count : LaneCount) (number n : ℕ) (events : List (Event BlockTextValue)) (event : LaneEvent BlockTextValue) → (n ≡ number → ⊥)
+count_same : (count : LaneCount) (number n : ℕ) (events : List (Event ChunkTextValue)) (event : LaneEvent ChunkTextValue) → (n ≡ number → ⊥)
     → IsCountOf count (answers_in number events) → IsCountOf count (answers_in number (events ++ (n, event) ∷ []))
 count_same count number n events event differs is =
     subst (λ xs. IsCountOf count (answers_among xs)) (sym (of_lane_other number n events event (other_test n number differs))) is
 
-counts_same : (events : List (Event BlockTextValue)) (n : ℕ) (event : LaneEvent BlockTextValue) (number : ℕ) (counts : List LaneCount)
+counts_same : (events : List (Event ChunkTextValue)) (n : ℕ) (event : LaneEvent ChunkTextValue) (number : ℕ) (counts : List LaneCount)
     → n < number → AreCounts events number counts → AreCounts (events ++ (n, event) ∷ []) number counts
 counts_same events n event number [] before are = tt
 counts_same events n event number (count ∷ counts) before are =
     (count_same count number n events event (λ (e : n ≡ number). omega arith) are.0, counts_same events n event (number + 1) counts (omega arith) are.1)
 
 -- one event more
-pub counts_set : (events : List (Event BlockTextValue)) (number i n : ℕ) (counts : List LaneCount) (event : LaneEvent BlockTextValue) (new : LaneCount)
+pub counts_set : (events : List (Event ChunkTextValue)) (number i n : ℕ) (counts : List LaneCount) (event : LaneEvent ChunkTextValue) (new : LaneCount)
     → n ≡ number + i → i < length counts → IsCountOf new (answers_in n (events ++ (n, event) ∷ []))
     → AreCounts events number counts → AreCounts (events ++ (n, event) ∷ []) number (set counts i new)
 counts_set events number i n [] event new at within is are = absurd (omega (arith, within))

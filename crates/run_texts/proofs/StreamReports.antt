@@ -1,5 +1,5 @@
 -- The reports of a run whose lines were written as they came.
-use Rattle.std.proofs.Common.{◌≡◌, ◌<◌, ℕ, zero, suc, ◌+◌, ◌-◌, ◌^◌, ◌≤◌, Bool, true, false, cond, ◌==◌, List, [], ◌∷◌, length, map, min, sum_by, All, Option, Some, None, inl, inr, arith, ap, sym, subst, ◌∙◌}
+use Rattle.std.proofs.Common.{◌≡◌, ◌<◌, ℕ, zero, suc, ◌+◌, ◌^◌, ◌≤◌, Bool, true, false, cond, ◌==◌, List, [], ◌∷◌, length, sum_by, All, Option, Some, inl, inr, arith, ap, sym, subst, ◌∙◌}
 use Rattle.std.proofs.lemmas.List.Elements.{All-cons, All-head, All-nil, All-tail}
 use Rattle.std.proofs.lemmas.Bool.{eq-eqb}
 use Rattle.std.proofs.lemmas.Bool.Decides.{leb_tells}
@@ -13,35 +13,34 @@ use Rattle.set_line.specs.Answer.{AnswerValue}
 use Rattle.set_line.specs.Terms.{TermsValue}
 use Rattle.line_lane.specs.declared.fault.SourceFault.{SourceFault}
 use Rattle.line_lane.specs.declared.ending.LaneEnd.{LaneEnd}
-use Rattle.line_blocks.specs.BlockText.{BlockTextValue, RecordStyle}
+use Rattle.line_chunks.specs.ChunkText.{ChunkTextValue, RecordStyle}
 use Rattle.set_run.specs.Events.{Event, answers_in, lane_events, of_lane}
-use Rattle.set_run.specs.Closed.{AreBack, HasNoOthers, IsWhole}
+use Rattle.set_run.specs.Closed.{HasNoOthers}
 use Rattle.set_run.specs.declared.report.LaneReport.{LaneReport}
 use Rattle.set_run.specs.declared.run_end.ClosedLane.{ClosedLane}
-use Rattle.set_run.specs.declared.run_end.RunEnd.{RunEnd}
 use Rattle.run_texts.specs.declared.fault.ToolFault.{ToolFault}
-use Rattle.run_texts.specs.ReportText.{is_unread, is_wanting, summary_of_lanes, summary_of_run}
-use Rattle.run_texts.specs.Setting.{AreOwnReports}
+use Rattle.run_texts.specs.ReportText.{summary_of_lanes, summary_of_run}
+use Rattle.set_run.specs.Reports.{AreReported}
 use Rattle.run_texts.specs.Streaming.{AreOfSources, HaveLines, IsStreamed, SourceLine, lane_lines, of_source}
-use Rattle.run_texts.specs.BlockLanes.{AreClosedIn, AreRecordsOf}
+use Rattle.run_texts.specs.ChunkLanes.{AreClosedIn, AreRecordsOf}
 use Rattle.run_texts.specs.StreamState.{AreCounts, AreLinesOf, AreOut, IsCountOf, StreamStart}
 use Rattle.run_texts.specs.LaneText.{events_lines}
 use Rattle.run_texts.specs.declared.lane_count.LaneCount.{LaneCount}
 use Rattle.run_texts.specs.declared.summary.Summary.{Summary}
 use Rattle.run_texts.proofs.EventLemmas.{lane_joined, lane_lined}
-use Rattle.run_texts.proofs.ReportLemmas.{AreRefused, HasEnd, as_many, end_or, ends_of, own_reports, refusals_of, reports_of, same_summary, some_end}
+use Rattle.run_texts.proofs.ReportLemmas.{AreRefused, HasEnd, are_reported, as_many, end_or, reports_of, some_end, summary_of_reports}
 use Rattle.run_texts.proofs.StreamLemmas.{appends_more}
 use Rattle.run_texts.proofs.StreamSteps.{StandsSo}
 
 -- ---- the lines of a lane
 
-counts_refused : (events : List (Event BlockTextValue)) (number : ℕ) (counts : List LaneCount) → AreCounts events number counts
+counts_refused : (events : List (Event ChunkTextValue)) (number : ℕ) (counts : List LaneCount) → AreCounts events number counts
     → AreRefused events (λ (count : LaneCount). count.refused) number counts
 counts_refused events number [] are = tt
 counts_refused events number (c ∷ counts) are = (are.0.1, omega (arith, c.few, are.0.0), counts_refused events (number + 1) counts are.1)
 
 -- the lines of a source of which this came
-own_lines : (style : RecordStyle) (events : List (Event BlockTextValue)) (lines : List SourceLine) (number : ℕ) (answers : List AnswerValue) (end : LaneEnd) (count : LaneCount)
+own_lines : (style : RecordStyle) (events : List (Event ChunkTextValue)) (lines : List SourceLine) (number : ℕ) (answers : List AnswerValue) (end : LaneEnd) (count : LaneCount)
     → AreLinesOf style.version events lines → of_lane number events ≡ lane_events (answers_in number events) (Some end)
     → AreRecordsOf (number + 1) style answers (answers_in number events) → IsCountOf count (answers_in number events)
     → of_source (number + 1) lines ≡ lane_lines (number + 1) style answers end
@@ -75,14 +74,14 @@ all_within sources (line ∷ lines) none others =
     (all_within sources lines (others_behind (line.0 == 0) line.1 (of_source 0 lines) none)
     (λ lane h. others_behind (line.0 == lane + 1) line.1 (of_source (lane + 1) lines) (others lane h)))
 
-pub of_sources : (version : Version) (events : List (Event BlockTextValue)) (lines : List SourceLine) (sources : ℕ)
+pub of_sources : (version : Version) (events : List (Event ChunkTextValue)) (lines : List SourceLine) (sources : ℕ)
     → AreLinesOf version events lines → HasNoOthers events sources → AreOfSources sources lines
 of_sources version events lines sources are none =
     all_within sources lines are.0 (λ lane h. are.1 lane ∙ ap (events_lines (lane + 1) version 0) (none lane h))
 
 module _ {S : Type 0} where
   -- the lines of the reports
-  have_lines : (to_come : S → Option (List (List ℕ))) (failed : S → Option SourceFault) (style : RecordStyle) (events : List (Event BlockTextValue)) (lines : List SourceLine)
+  have_lines : (to_come : S → Option (List (List ℕ))) (failed : S → Option SourceFault) (style : RecordStyle) (events : List (Event ChunkTextValue)) (lines : List SourceLine)
       (number next : ℕ) (sources : List (S × Arc TermsValue Global)) (lanes : List (ClosedLane S)) (counts : List LaneCount) → next ≡ number + 1
       → (closed : AreClosedIn to_come failed style events number sources lanes) → All (λ lane. IsSome lane.end) lanes → AreLinesOf style.version events lines
       → length counts ≡ length sources → AreCounts events number counts
@@ -103,20 +102,19 @@ module _ {S : Type 0} where
             (omega (arith, long)) counted.1,
       )
 
-  module _ (to_come : S → Option (List (List ℕ))) (failed : S → Option SourceFault) (style : RecordStyle) (events : List (Event BlockTextValue))
+  module _ (to_come : S → Option (List (List ℕ))) (failed : S → Option SourceFault) (style : RecordStyle) (events : List (Event ChunkTextValue))
       (sources : List (S × Arc TermsValue Global)) (lanes : List (ClosedLane S)) (counts : List LaneCount) (before w : Option (List ℕ)) (block : List ℕ)
       (closed : AreClosedIn to_come failed style events 0 sources lanes) (none : HasNoOthers events (length sources))
       (long : length counts ≡ length sources) (are : AreCounts events 0 counts) where
     -- all was written
-    pub all_streamed : {O : Type 0} (origin : S → O) (after : Option (List ℕ)) (summary : Summary)
-        → All (λ lane. IsSome lane.end) lanes → AreBack origin sources (map (λ lane. lane.source) lanes)
+    pub all_streamed : (after : Option (List ℕ)) (summary : Summary) → All (λ lane. IsSome lane.end) lanes
         → AreOut style.version events before w block → Appends w after block
         → summary ≡ summary_of_lanes (sum_by (λ count. count.refused) counts) lanes
-        → (reports : List (LaneReport S)) × AreOwnReports to_come failed origin sources reports × IsStreamed style reports before after × (summary ≡ summary_of_run style.encoding reports)
-    all_streamed origin after summary whole back (lines, lined, (written, appends, all)) rest is =
+        → (reports : List (LaneReport S)) × AreReported to_come failed sources reports × IsStreamed style reports before after × (summary ≡ summary_of_run style.encoding reports)
+    all_streamed after summary whole (lines, lined, (written, appends, all)) rest is =
         let reports : List (LaneReport S) = reports_of to_come failed style events 0 sources lanes closed in (
           reports,
-          own_reports to_come failed style events origin sources lanes closed whole back,
+          are_reported to_come failed style events 0 sources lanes closed whole,
           (
             lines,
             (
@@ -125,10 +123,8 @@ module _ {S : Type 0} where
             ),
             subst (Appends before after) all (appends_more before w after written block appends rest),
           ),
-          is ∙ same_summary _ _ _ _ _ _
-              (ap (min (2 ^ 64 - 1)) (refusals_of to_come failed style events (λ (count : LaneCount). count.refused) 0 sources lanes counts closed (counts_refused events 0 counts are) long))
-              (ends_of to_come failed style events is_unread 0 sources lanes closed whole)
-              (ends_of to_come failed style events is_wanting 0 sources lanes closed whole),
+          is ∙ summary_of_reports to_come failed style events (λ (count : LaneCount). count.refused) sources lanes counts closed whole
+              (counts_refused events 0 counts are) long,
         )
 
 -- what holds of what was answered
@@ -143,7 +139,7 @@ module _ {S : Type 0} (to_come : S → Option (List (List ℕ))) (failed : S →
   -- what a stream was given in a run
   abbrev pub Came : Type 0
   Came =
-      (events : List (Event BlockTextValue))
+      (events : List (Event ChunkTextValue))
       × StandsSo start name version counts w block events
       × AreClosedIn to_come failed start.style events 0 sources lanes
       × HasNoOthers events (length sources)
@@ -151,17 +147,11 @@ module _ {S : Type 0} (to_come : S → Option (List (List ℕ))) (failed : S →
   pub same_name : Came → name ≡ start.name
   same_name (events, stands, closed, none) = stands.0
 
-  pub ends_whole : {O : Type 0} (origin : S → O) (r : Result Summary ToolFault) → AreBack origin sources (map (λ lane. lane.source) lanes) → Came → start.lanes ≡ length sources → OnOk r (Appends w w' block)
+  pub ends_whole : (r : Result Summary ToolFault) → Came → start.lanes ≡ length sources → OnOk r (Appends w w' block)
       → OnOk r (All (λ lane. IsSome lane.end) lanes) → IfOk r (λ summary. summary ≡ summary_of_lanes (sum_by (λ count. count.refused) counts) lanes)
-      → IfOk r (λ summary. (reports : List (LaneReport S)) × AreOwnReports to_come failed origin sources reports
+      → IfOk r (λ summary. (reports : List (LaneReport S)) × AreReported to_come failed sources reports
       × IsStreamed start.style reports start.before w' × (summary ≡ summary_of_run start.style.encoding reports))
-  ends_whole origin (Ok summary) back (events, stands, closed, none) long rest whole is =
-      all_streamed to_come failed start.style events sources lanes counts start.before w block closed none (stands.2 ∙ long) stands.3 origin w' summary whole back
+  ends_whole (Ok summary) (events, stands, closed, none) long rest whole is =
+      all_streamed to_come failed start.style events sources lanes counts start.before w block closed none (stands.2 ∙ long) stands.3 w' summary whole
       stands.4 rest is
-  ends_whole origin (Err fault) back came long rest whole is = is
-
--- a run that was refused nothing
-pub whole_ends : {S : Type 0} (run : RunEnd S) (r : Result Summary ToolFault) → IsWhole run → OnOk r (run.refusal ≡ None)
-    → OnOk r (All (λ lane. IsSome lane.end) run.lanes.items)
-whole_ends run (Ok summary) whole none = whole none
-whole_ends run (Err fault) whole none = none
+  ends_whole (Err fault) came long rest whole is = is

@@ -7,17 +7,17 @@ use Rattle.std.specs.Io.KnownBytes.{Keeps}
 use Rattle.set_line.specs.declared.version.Version.{Version}
 use Rattle.line_lane.specs.declared.ending.LaneEnd.{LaneEnd}
 use Rattle.set_run.specs.Events.{Event, LaneEvent, Answered, Ended, answers_in}
-use Rattle.line_blocks.specs.BlockText.{BlockTextValue, RecordStyle}
+use Rattle.line_chunks.specs.ChunkText.{ChunkTextValue, RecordStyle}
 use Rattle.run_texts.specs.RunText.{end_text, head_text, why_of}
 use Rattle.run_texts.specs.Streaming.{merged_text}
-use Rattle.run_texts.specs.LaneText.{block_lines, event_lines, records_of}
+use Rattle.run_texts.specs.LaneText.{chunk_lines, event_lines, records_of}
 use Rattle.run_texts.specs.StreamState.{AreCounts, AreOut, MovesOut, IsCountOf, StreamStart}
 use Rattle.run_texts.specs.declared.lane_count.LaneCount.{LaneCount}
 use Rattle.run_texts.proofs.StreamLemmas.{appends_nothing, moves_more, nothing_appended}
 use Rattle.run_texts.proofs.StreamEvents.{count_answered, count_ended, counts_at, counts_set, event_lined, merged_more, sourced}
 
 -- how a stream stands that began so and was given these events
-abbrev pub StandsSo : StreamStart → ℕ → Version → List LaneCount → Option (List ℕ) → List ℕ → List (Event BlockTextValue) → Type 0
+abbrev pub StandsSo : StreamStart → ℕ → Version → List LaneCount → Option (List ℕ) → List ℕ → List (Event ChunkTextValue) → Type 0
 StandsSo start name version counts written block events =
     (name ≡ start.name)
     × (version ≡ start.style.version)
@@ -26,7 +26,7 @@ StandsSo start name version counts written block events =
     × AreOut start.style.version events start.before written block
 
 -- the lines of one event more
-out_more : (version : Version) (events : List (Event BlockTextValue)) (before after : Option (List ℕ)) (block block' : List ℕ) (lane : ℕ) (event : LaneEvent BlockTextValue) (texts : List (List ℕ))
+out_more : (version : Version) (events : List (Event ChunkTextValue)) (before after : Option (List ℕ)) (block block' : List ℕ) (lane : ℕ) (event : LaneEvent ChunkTextValue) (texts : List (List ℕ))
     → texts ≡ event_lines (lane + 1) version (records_of (answers_in lane events)) event → block' ≡ block ++ concat texts
     → AreOut version events before after block → AreOut version (events ++ (lane, event) ∷ []) before after block'
 out_more version events before after block block' lane event texts is more (lines, are, (written, appends, all)) = (
@@ -41,7 +41,7 @@ out_more version events before after block block' lane event texts is more (line
 )
 
 -- some of the block was written
-pub goes_on : (start : StreamStart) (name name' : ℕ) (version version' : Version) (counts counts' : List LaneCount) (w w' : Option (List ℕ)) (b b' : List ℕ) (events : List (Event BlockTextValue))
+pub goes_on : (start : StreamStart) (name name' : ℕ) (version version' : Version) (counts counts' : List LaneCount) (w w' : Option (List ℕ)) (b b' : List ℕ) (events : List (Event ChunkTextValue))
     → name' ≡ name → version' ≡ version → counts' ≡ counts → MovesOut w b w' b'
     → StandsSo start name version counts w b events → StandsSo start name' version' counts' w' b' events
 goes_on start name name' version version' counts counts' w w' b b' events same_name same_version same_counts moves (named, form, lanes, are, (lines, lined, out)) = (
@@ -53,7 +53,7 @@ goes_on start name name' version version' counts counts' w w' b b' events same_n
 )
 
 -- the writer was flushed
-pub flushed : (start : StreamStart) (name : ℕ) (version : Version) (counts : List LaneCount) (w w' : Option (List ℕ)) (b : List ℕ) (events : List (Event BlockTextValue))
+pub flushed : (start : StreamStart) (name : ℕ) (version : Version) (counts : List LaneCount) (w w' : Option (List ℕ)) (b : List ℕ) (events : List (Event ChunkTextValue))
     → Keeps w w' → StandsSo start name version counts w b events → StandsSo start name version counts w' b events
 flushed start name version counts w w' b events keeps stands =
     goes_on start name name version version counts counts w w' b b events refl refl refl ([], nothing_appended w w' keeps, refl) stands
@@ -65,10 +65,10 @@ begins name style counts w block none is =
     (refl, refl, refl, none, ([], (refl, λ lane. refl), ([], appends_nothing w, is ∙ sym (append-nil (head_text style.version)))))
 
 -- the text of a block was taken
-pub taken : (start : StreamStart) (name : ℕ) (version : Version) (counts : List LaneCount) (w : Option (List ℕ)) (b b' : List ℕ) (events : List (Event BlockTextValue))
-    (lane : ℕ) (block : BlockTextValue) (count new : LaneCount)
+pub taken : (start : StreamStart) (name : ℕ) (version : Version) (counts : List LaneCount) (w : Option (List ℕ)) (b b' : List ℕ) (events : List (Event ChunkTextValue))
+    (lane : ℕ) (block : ChunkTextValue) (count new : LaneCount)
     → lane < length counts → count ≡ get_or counts lane count
-    → b' ≡ b ++ concat (block_lines block)
+    → b' ≡ b ++ concat (chunk_lines block)
     → new.records ≡ count.records + block.lines → new.refused ≡ count.refused + block.refused
     → StandsSo start name version counts w b events → StandsSo start name version (set counts lane new) w b' (events ++ (lane, Answered block) ∷ [])
 taken start name version counts w b b' events lane block count new within at more records refused (named, form, lanes, are, out) =
@@ -78,11 +78,11 @@ taken start name version counts w b b' events lane block count new within at mor
       form,
       length-set counts lane new ∙ lanes,
       counts_set events 0 lane lane counts (Answered block) new (omega arith) within (count_answered count new lane events block was records refused) are,
-      out_more start.style.version events start.before w b b' lane (Answered block) (block_lines block) refl more out,
+      out_more start.style.version events start.before w b b' lane (Answered block) (chunk_lines block) refl more out,
     )
 
 -- an end was taken
-pub ended : (start : StreamStart) (name : ℕ) (version : Version) (counts : List LaneCount) (w : Option (List ℕ)) (b b' : List ℕ) (events : List (Event BlockTextValue))
+pub ended : (start : StreamStart) (name : ℕ) (version : Version) (counts : List LaneCount) (w : Option (List ℕ)) (b b' : List ℕ) (events : List (Event ChunkTextValue))
     (lane : ℕ) (end : LaneEnd) (count : LaneCount)
     → lane < length counts → count ≡ get_or counts lane count
     → b' ≡ b ++ end_text (lane + 1) version (why_of end) count.records

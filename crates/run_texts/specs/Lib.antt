@@ -1,6 +1,6 @@
 pub mod RunText
 pub mod LaneText
-pub mod BlockLanes
+pub mod ChunkLanes
 pub mod ReportText
 pub mod Refusals
 pub mod Setting

@@ -1,10 +1,10 @@
 -- The output for the report of a batch, and the summary of a batch.
 -- This project's own.
-use Rattle.std.specs.Prelude.{ℕ, ◌+◌, Bool, true, false, List, [], ◌∷◌, ◌++◌, sum_by, min, ◌-◌, ◌^◌, Option}
+use Rattle.std.specs.Prelude.{ℕ, ◌+◌, Bool, true, false, List, [], ◌∷◌, ◌++◌, map, sum_by, min, ◌-◌, ◌^◌, Option, Some}
 use Rattle.std.specs.List.{list_any}
 use Rattle.std.specs.Option.{option_map_or}
 use Rattle.encodings.specs.declared.encoding.Encoding.{Encoding}
-use Rattle.line_blocks.specs.BlockText.{RecordStyle}
+use Rattle.line_chunks.specs.ChunkText.{RecordStyle}
 use Rattle.line_lane.specs.declared.fault.SourceFault.TheVariants.{Read, OutOfMemory, ReadBound}
 use Rattle.line_lane.specs.declared.ending.LaneEnd.{LaneEnd}
 use Rattle.line_lane.specs.declared.ending.LaneEnd.TheVariants.{Complete, SourceFailed, GaveUp}
@@ -29,6 +29,14 @@ is_wanting (SourceFailed Read) = false
 is_wanting (SourceFailed ReadBound) = false
 is_wanting Complete = false
 
+-- the summary of a batch with this many refused lines, whose lanes have these ends
+abbrev pub summary_of_ends : ℕ → List (Option LaneEnd) → Summary
+summary_of_ends refused ends = record {
+  refused = min (2 ^ 64 - 1) refused;
+  read_failed = list_any (λ end. option_map_or is_unread end false) ends;
+  memory = list_any (λ end. option_map_or is_wanting end false) ends;
+}
+
 module _ {S : Type 0} where
   -- the output of lanes, one after the other; the first source has this number
   abbrev pub lanes_text : ℕ → RecordStyle → List (LaneReport S) → List ℕ
@@ -41,22 +49,11 @@ module _ {S : Type 0} where
   abbrev pub run_text : RecordStyle → List (LaneReport S) → List ℕ
   run_text style lanes = head_text style.version ++ lanes_text 1 style lanes
 
-  -- the number of refused lines of all lanes, or 2^64 - 1 if it is larger
-  abbrev pub refused_in : Option Encoding → List (LaneReport S) → ℕ
-  refused_in encoding lanes = min (2 ^ 64 - 1) (sum_by (λ lane. refused_lines encoding lane.answers) lanes)
-
   -- the summary of a batch with these reports of its lanes, whose lines have this encoding
   abbrev pub summary_of_run : Option Encoding → List (LaneReport S) → Summary
-  summary_of_run encoding lanes = record {
-    refused = refused_in encoding lanes;
-    read_failed = list_any (λ lane. is_unread lane.end) lanes;
-    memory = list_any (λ lane. is_wanting lane.end) lanes;
-  }
+  summary_of_run encoding lanes =
+      summary_of_ends (sum_by (λ lane. refused_lines encoding lane.answers) lanes) (map (λ lane. Some lane.end) lanes)
 
   -- the summary of a batch with these closed lanes and this many refused lines
   abbrev pub summary_of_lanes : ℕ → List (ClosedLane S) → Summary
-  summary_of_lanes refused lanes = record {
-    refused = min (2 ^ 64 - 1) refused;
-    read_failed = list_any (λ lane. option_map_or is_unread lane.end false) lanes;
-    memory = list_any (λ lane. option_map_or is_wanting lane.end false) lanes;
-  }
+  summary_of_lanes refused lanes = summary_of_ends refused (map (λ lane. lane.end) lanes)

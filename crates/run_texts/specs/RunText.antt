@@ -11,12 +11,16 @@ use Rattle.line_lane.specs.declared.ending.LaneEnd.{LaneEnd}
 use Rattle.line_lane.specs.declared.ending.LaneEnd.TheVariants.{Complete, SourceFailed, GaveUp}
 use Rattle.encodings.specs.declared.encoding.Encoding.{Encoding}
 use Rattle.line_records.specs.Results.{is_refusal, is_refused, line_record, line_result}
-use Rattle.line_blocks.specs.BlockText.{RecordStyle}
+use Rattle.line_chunks.specs.ChunkText.{RecordStyle}
 use Rattle.run_texts.specs.declared.options.OutputOptions.{OutputOptions}
 
 -- the encoding and the record format of an output with these options
 abbrev pub style_of : {G : Type 0} → OutputOptions G → RecordStyle
 style_of options = record { encoding = options.encoding; version = options.version }
+
+-- the style of the output of lines of bytes in this record format
+abbrev pub bytes_style : Version → RecordStyle
+bytes_style version = record { encoding = None; version = version }
 
 -- the record of the line with this number: that of a line of bytes has the outcome of the answer, and a line in
 -- UTF-8 is set with the settings of the answer

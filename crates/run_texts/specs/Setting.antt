@@ -1,16 +1,15 @@
 -- The relations of the reports and the output of a batch to its sources.
 -- This project's own.
 use Rattle.std.specs.Prelude.{◌≡◌, ℕ, List, map, Option}
-use Rattle.std.specs.List.{AllZip}
 use Rattle.std.specs.Arc.{arc_value}
 use Rattle.std.specs.declared.sync.Arc.{Arc}
 use Rattle.std.specs.declared.alloc.Global.{Global}
 use Rattle.std.specs.Io.KnownBytes.{Appends}
 use Rattle.set_line.specs.Terms.{TermsValue}
-use Rattle.line_blocks.specs.BlockText.{RecordStyle}
+use Rattle.line_chunks.specs.ChunkText.{RecordStyle}
 use Rattle.line_lane.specs.declared.fault.SourceFault.{SourceFault}
 use Rattle.set_run.specs.Closed.{AreBack}
-use Rattle.set_run.specs.Reports.{AreReported, IsReported}
+use Rattle.set_run.specs.Reports.{AreReported}
 use Rattle.set_run.specs.declared.report.LaneReport.{LaneReport}
 use Rattle.run_texts.specs.ReportText.{run_text, summary_of_run}
 use Rattle.run_texts.specs.declared.summary.Summary.{Summary}
@@ -20,12 +19,6 @@ module _ {S : Type 0} where
   abbrev pub IsWritten : RecordStyle → List (LaneReport S) → Option (List ℕ) → Option (List ℕ) → Summary → Type 0
   IsWritten style reports before after summary =
       Appends before after (run_text style reports) × (summary ≡ summary_of_run style.encoding reports)
-
-  -- reports of these sources, in the same order; all sources have these settings
-  abbrev pub AreReportedWith :
-      (S → Option (List (List ℕ))) → (S → Option SourceFault) → TermsValue → List S → List (LaneReport S) → Type 0
-  AreReportedWith to_come failed terms sources reports =
-      AllZip (λ source report. IsReported to_come failed terms source report) sources reports
 
   -- a pair of this source and these settings
   abbrev pub HasTerms : TermsValue → S → S × Arc TermsValue Global → Type 0
@@ -38,9 +31,3 @@ module _ {S O : Type 0} where
       (S → Option (List (List ℕ))) → (S → Option SourceFault) → (S → O) → List (S × Arc TermsValue Global) → List (LaneReport S) → Type 0
   AreOwnReports to_come failed origin sources reports =
       AreReported to_come failed sources reports × AreBack origin sources (map (λ report. report.source) reports)
-
-  -- the same for sources that all have these settings
-  abbrev pub AreOwnReportsWith :
-      (S → Option (List (List ℕ))) → (S → Option SourceFault) → (S → O) → TermsValue → List S → List (LaneReport S) → Type 0
-  AreOwnReportsWith to_come failed origin terms sources reports =
-      AreReportedWith to_come failed terms sources reports × (map origin (map (λ report. report.source) reports) ≡ map origin sources)

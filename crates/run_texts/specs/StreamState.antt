@@ -4,7 +4,7 @@ use Rattle.std.specs.Prelude.{◌≡◌, ℕ, ◌+◌, List, [], ◌∷◌, ◌+
 use Rattle.std.specs.Io.KnownBytes.{Appends}
 use Rattle.set_line.specs.declared.version.Version.{Version}
 use Rattle.set_run.specs.Events.{Event, answers_in, of_lane}
-use Rattle.line_blocks.specs.BlockText.{BlockTextValue, RecordStyle}
+use Rattle.line_chunks.specs.ChunkText.{ChunkTextValue, RecordStyle}
 use Rattle.run_texts.specs.RunText.{head_text}
 use Rattle.run_texts.specs.LaneText.{events_lines, records_of, refused_of}
 use Rattle.run_texts.specs.Streaming.{SourceLine, merged_text, of_source}
@@ -12,17 +12,17 @@ use Rattle.run_texts.specs.declared.lane_count.LaneCount.{LaneCount}
 use Rattle.run_texts.specs.declared.stream.Stream.{Stream}
 
 -- these are the output lines of these events; the number of a source is the index of its lane plus 1
-abbrev pub AreLinesOf : Version → List (Event BlockTextValue) → List SourceLine → Type 0
+abbrev pub AreLinesOf : Version → List (Event ChunkTextValue) → List SourceLine → Type 0
 AreLinesOf version events lines =
     (of_source 0 lines ≡ [])
     × ((lane : ℕ) → of_source (lane + 1) lines ≡ events_lines (lane + 1) version 0 (of_lane lane events))
 
 -- the counts are the number of records of these blocks and the number of refused lines among them
-abbrev pub IsCountOf : LaneCount → List BlockTextValue → Type 0
+abbrev pub IsCountOf : LaneCount → List ChunkTextValue → Type 0
 IsCountOf count texts = (count.records ≡ records_of texts) × (count.refused ≡ refused_of texts)
 
 -- these are the counts of the blocks of each lane; the first lane has this index
-abbrev pub AreCounts : List (Event BlockTextValue) → ℕ → List LaneCount → Type 0
+abbrev pub AreCounts : List (Event ChunkTextValue) → ℕ → List LaneCount → Type 0
 AreCounts events number [] = Unit {0}
 AreCounts events number (count ∷ counts) = IsCountOf count (answers_in number events) × AreCounts events (number + 1) counts
 
@@ -32,7 +32,7 @@ MovesOut before block after left = (written : List ℕ) × Appends before after 
 
 -- the bytes that were written, followed by the bytes in the buffer, are the first line of the record format,
 -- if it has one, and then the lines of these events
-abbrev pub AreOut : Version → List (Event BlockTextValue) → Option (List ℕ) → Option (List ℕ) → List ℕ → Type 0
+abbrev pub AreOut : Version → List (Event ChunkTextValue) → Option (List ℕ) → Option (List ℕ) → List ℕ → Type 0
 AreOut version events before after block =
     (lines : List SourceLine)
     × AreLinesOf version events lines
@@ -48,10 +48,10 @@ pub record StreamStart : Type 0 where
 
 module _ {W : Type 0} where
   -- a stream that began in this state has taken these events
-  abbrev pub IsStreamOf : (W → Option (List ℕ)) → StreamStart → Stream W → List (Event BlockTextValue) → Type 0
+  abbrev pub IsStreamOf : (W → Option (List ℕ)) → StreamStart → Stream W → List (Event ChunkTextValue) → Type 0
   IsStreamOf contents start stream events =
       (stream.out.ghost_name ≡ start.name)
       × (stream.version ≡ start.style.version)
       × (length stream.counts.items ≡ start.lanes)
       × AreCounts events 0 stream.counts.items
-      × AreOut start.style.version events start.before (contents stream.out.now) stream.block.items
+      × AreOut start.style.version events start.before (contents stream.out.now) stream.buffer.items

@@ -3,14 +3,14 @@ ghost use Rattle.std.specs.Prelude.{◌≡◌, ◌+◌, ◌<◌, ◌^◌, ◌++�
 ghost use Rattle.std.specs.Io.KnownBytes.{Appends};
 ghost use Rattle.std.specs.List.{concat};
 ghost use Rattle.set_run.specs.declared.collector.Refusal.TheVariants.{OutOfMemory as NoMemory};
-ghost use Rattle.run_texts.specs.LaneText.{block_lines};
+ghost use Rattle.run_texts.specs.LaneText.{chunk_lines};
 ghost use Rattle.run_texts.specs.RunText.{end_text, why_of};
 
 use crate::ToolFault;
-use crate::block::TextBlock;
+use crate::buffer::{Buffer, FULL, ROOM};
 use crate::lane_count::{Counted, LaneCount};
 use crate::writing::write_text;
-use line_blocks::BlockText;
+use line_chunks::ChunkText;
 use line_lane::LaneEnd;
 use set_line::Version;
 use set_run::Refusal;
@@ -19,17 +19,10 @@ use std::io::Write;
 use std::marker::Model;
 use std::mem;
 
-/// A buffer with this many bytes or more is full: the text of the next block begins a new buffer.
-const FULL: usize = 65_536;
-
-/// The capacity with which each buffer after the first begins. It is larger than `FULL`, so that most buffers
-/// don't have to grow for their last text.
-const ROOM: usize = 73_728;
-
 /// The output of a source, in buffers. Texts are appended to the last one.
 #[derive(Drop)]
 pub(crate) struct LaneText {
-    blocks: Vec<TextBlock>,
+    full: Vec<Buffer>,
     last: Vec<u8>,
     count: LaneCount,
 }
@@ -42,7 +35,7 @@ impl Model for LaneText {
     ghost Value = { LaneTextValue };
 
     ghost view = { λ lane. record {
-      text = concat lane.blocks.items ++ lane.last.items;
+      text = concat lane.full.items ++ lane.last.items;
       records = lane.count.records;
       refused = lane.count.refused;
     } };
@@ -57,13 +50,13 @@ impl Counted for LaneText {
 }
 
 /// Writes buffers in order, and frees each when it is written.
-fn write_blocks<W: Write>(blocks: Vec<TextBlock>, out: &mut W) -> Result<(), ToolFault>
+fn write_buffers<W: Write>(full: Vec<Buffer>, out: &mut W) -> Result<(), ToolFault>
     ensures written { OnOk result (Appends (W.contents out.old) (W.contents out.new)
-        (concat blocks.items)) }
+        (concat full.items)) }
     ensures fault { IfErr result (λ fault. fault ≡ ToolFault.Write) }
 {
-    for block in blocks {
-        write_text(block.as_slice(), out)?;
+    for buffer in full {
+        write_text(buffer.as_slice(), out)?;
     }
     Ok(())
 }
@@ -74,21 +67,21 @@ impl LaneText {
         ensures { result ≡ record { text = []; records = 0; refused = 0 } }
     {
         LaneText {
-            blocks: Vec::new(alloc),
+            full: Vec::new(alloc),
             last: Vec::new(alloc),
             count: LaneCount::new(),
         }
     }
 
     /// Begins a new buffer. The output is unchanged, also if an allocation fails.
-    fn begin_block(&mut self) -> Result<(), AllocError>
+    fn begin_buffer(&mut self) -> Result<(), AllocError>
         ensures as_before { self.new ≡ self.old }
         ensures few { 1 + self.new.records < 2 ^ 64 }
     {
         let alloc = *self.last.allocator();
         let begun = Vec::with_capacity(alloc, ROOM)?;
-        let full = TextBlock::new(mem::replace(&mut self.last, begun));
-        match self.blocks.push(full) {
+        let full = Buffer::new(mem::replace(&mut self.last, begun));
+        match self.full.push(full) {
             Ok(()) => Ok(()),
             Err(failed) => {
                 self.last = failed.value.into_vec();
@@ -106,23 +99,23 @@ impl LaneText {
         if self.last.len() < FULL {
             return Ok(());
         }
-        self.begin_block().map_err(|_| Refusal::OutOfMemory)
+        self.begin_buffer().map_err(|_| Refusal::OutOfMemory)
     }
 
-    /// Appends the records of the next block, and counts them. After an error the output and the counts are
+    /// Appends the records of the next chunk, and counts them. After an error the output and the counts are
     /// unchanged.
-    pub fn take(&mut self, block: &BlockText) -> Result<(), Refusal>
+    pub fn take(&mut self, chunk: &ChunkText) -> Result<(), Refusal>
         ensures taken { OnOk result (self.new ≡ record {
-          text = self.old.text ++ concat (block_lines block.now);
-          records = self.old.records + block.now.lines;
-          refused = self.old.refused + block.now.refused;
+          text = self.old.text ++ concat (chunk_lines chunk.now);
+          records = self.old.records + chunk.now.lines;
+          refused = self.old.refused + chunk.now.refused;
         }) }
         ensures as_before { OnErr result (self.new ≡ self.old) }
         ensures refusal { IfErr result (λ refusal. refusal ≡ NoMemory) }
         ensures few { 1 + self.new.records < 2 ^ 64 }
     {
         self.make_room()?;
-        self.count.push_block(block, &mut self.last)
+        self.count.push_chunk(chunk, &mut self.last)
     }
 
     /// Appends the end line of the lane with this index. After an error the output is unchanged.
@@ -146,11 +139,11 @@ impl LaneText {
         ensures fault { IfErr result (λ fault. fault ≡ ToolFault.Write) }
     {
         let LaneText {
-            blocks,
+            full,
             last,
             count: _,
         } = self;
-        write_blocks(blocks, out)?;
+        write_buffers(full, out)?;
         write_text(last.as_slice(), out)?;
         Ok(())
     }

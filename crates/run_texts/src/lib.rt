@@ -5,19 +5,21 @@
 pub use fault::ToolFault;
 pub use font_setting::{FontSetting, terms_of, with_terms};
 pub use options::OutputOptions;
-pub use setting::{set_each, set_text};
-pub use streaming::stream_each;
+pub use reporting::{ReportOptions, set_each, set_text};
+pub use setting::set_readers;
+pub use streaming::stream_readers;
 pub use summary::{Summary, status};
 pub use writing::write_text;
 
-mod block;
-mod block_run;
+mod buffer;
+mod chunk_run;
 mod fault;
 mod font_setting;
 mod lane_count;
 mod lane_text;
 mod options;
 mod record;
+mod reporting;
 mod run_summary;
 mod run_text;
 mod setting;

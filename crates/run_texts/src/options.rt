@@ -3,13 +3,13 @@ use run_plan::{Block, Plan};
 use set_line::Version;
 use set_run::ItemOptions;
 
-/// More lines than a block can have: a block with 64 KB is full, and each line counts as one byte at least.
-const ANY_LINES: usize = 65_536;
+/// More lines than a chunk can have: the lines that one read completes, each of one byte at least.
+const ANY_LINES: usize = 131_072;
 
-/// The options of a batch and of its output.
+/// The options of a batch of readers and of its output.
 #[derive(Drop)]
 pub struct OutputOptions<'a, G> {
-    /// The capacity of each lane, the largest number of lines in a block, and the largest number of workers,
+    /// The capacity of each lane, the largest number of lines in a chunk, and the largest number of workers,
     /// which is also that of the lanes of a source.
     pub plan: Plan,
     /// The record format.
@@ -18,16 +18,18 @@ pub struct OutputOptions<'a, G> {
     /// offsets in records count bytes of the line before it is encoded. Without an encoding each byte of a line
     /// is a code of the font.
     pub encoding: Option<Encoding>,
-    /// Whether a block has all lines that one read of its source completes, up to 64 KB, and not at most as many
-    /// lines as the plan states.
+    /// Whether one carriage return before a line feed belongs to the line ending.
+    pub crlf: bool,
+    /// Whether a chunk has all lines that one read of its source completes, and not at most as many lines as the
+    /// plan states.
     pub whole_reads: bool,
     /// The start barrier of the threads.
     pub gate: &'a G,
 }
 
 impl<'a, G> OutputOptions<'a, G> {
-    /// Returns the options of the batch, whose items are blocks of lines: the plan, with one block in each
-    /// message; the start barrier; and the number of workers as the largest number of lanes of a source.
+    /// Returns the options of the batch, whose items are chunks: the plan, with one chunk in each message; the
+    /// start barrier; and the number of workers as the largest number of lanes of a source.
     pub(crate) fn batch(&self) -> ItemOptions<'a, G> {
         let block = Block::new(1).unwrap_or(self.plan.block);
         ItemOptions {
@@ -37,7 +39,7 @@ impl<'a, G> OutputOptions<'a, G> {
         }
     }
 
-    /// Returns the largest number of lines in a block.
+    /// Returns the largest number of lines in a chunk.
     pub(crate) fn most_lines(&self) -> usize {
         if self.whole_reads {
             ANY_LINES

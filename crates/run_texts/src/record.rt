@@ -1,13 +1,13 @@
-//! Appends lines of the output: its first line, the records of a block, and the end line of a lane.
+//! Appends lines of the output: its first line, the records of a chunk, and the end line of a lane.
 ghost use Rattle.std.specs.Prelude.{◌≡◌, ◌+◌, ◌<◌, ◌^◌, ◌++◌, IfErr, OnErr, OnOk};
 ghost use Rattle.std.specs.List.{concat};
 ghost use Rattle.set_run.specs.declared.collector.Refusal.TheVariants.{OutOfMemory as NoMemory};
-ghost use Rattle.run_texts.specs.LaneText.{block_lines};
+ghost use Rattle.run_texts.specs.LaneText.{chunk_lines};
 ghost use Rattle.run_texts.specs.RunText.{end_text, head_text, json_end, why_of, words_end};
 
 use crate::lane_count::LaneCount;
 use itoa::Buffer;
-use line_blocks::BlockText;
+use line_chunks::ChunkText;
 use line_lane::{LaneEnd, SourceFault};
 use set_line::Version;
 use set_run::Refusal;
@@ -42,7 +42,7 @@ pub(crate) fn push_head(version: Version, text: &mut Vec<u8>) -> Result<(), Refu
 
 /// Appends the end line of the source with this number, which has this many records.
 #[tactic(auto, unfolding(crate::specs::RunText::end_text))]
-fn push_end_line(
+pub(crate) fn push_end_line(
     source: u64,
     version: Version,
     end: LaneEnd,
@@ -111,24 +111,24 @@ impl LaneCount {
         }
     }
 
-    /// Appends the records of the next block of a lane, and counts them. The error is `OutOfMemory`: an
+    /// Appends the records of the next chunk of a lane, and counts them. The error is `OutOfMemory`: an
     /// allocation failed, or the lane would have 2^64 - 1 records. After an error `text` and the counts are
     /// unchanged.
-    #[tactic(auto, using(crate::proofs::BlockLemmas::texts))]
-    pub fn push_block(&mut self, block: &BlockText, text: &mut Vec<u8>) -> Result<(), Refusal>
+    #[tactic(auto, using(crate::proofs::ChunkLemmas::texts))]
+    pub fn push_chunk(&mut self, chunk: &ChunkText, text: &mut Vec<u8>) -> Result<(), Refusal>
         ensures text { OnOk result (text.new.items
-            ≡ text.old.items ++ concat (block_lines block.now)) }
-        ensures records { OnOk result (self.new.records ≡ self.old.records + block.now.lines) }
-        ensures refused { OnOk result (self.new.refused ≡ self.old.refused + block.now.refused) }
+            ≡ text.old.items ++ concat (chunk_lines chunk.now)) }
+        ensures records { OnOk result (self.new.records ≡ self.old.records + chunk.now.lines) }
+        ensures refused { OnOk result (self.new.refused ≡ self.old.refused + chunk.now.refused) }
         ensures as_before { OnErr result ((text.new.items ≡ text.old.items)
             × (self.new ≡ self.old)) }
         ensures refusal { IfErr result (λ refusal. refusal ≡ NoMemory) }
     {
-        let (lines, refused) = (block.lines(), block.refused());
+        let (lines, refused) = (chunk.lines(), chunk.refused());
         if lines >= u64::MAX - self.records {
             return Err(Refusal::OutOfMemory);
         }
-        text.extend_from_slice(block.text())?;
+        text.extend_from_slice(chunk.text())?;
         *self = LaneCount {
             records: self.records + lines,
             refused: self.refused + refused,

@@ -1,13 +1,14 @@
 //! The summary of a batch.
-ghost use Rattle.std.specs.Prelude.{◌≡◌, ℕ, false, min, ◌-◌, ◌^◌, sum_by};
+ghost use Rattle.std.specs.Prelude.{◌≡◌, ℕ, false, map, min, ◌-◌, ◌^◌, Option, sum_by};
 ghost use Rattle.std.specs.List.{list_any};
 ghost use Rattle.std.specs.Option.{option_map_or};
-ghost use Rattle.run_texts.specs.ReportText.{is_unread, is_wanting, summary_of_lanes};
+ghost use Rattle.line_lane.specs.declared.ending.LaneEnd.{LaneEnd as End};
+ghost use Rattle.run_texts.specs.ReportText.{is_unread, is_wanting, summary_of_ends};
 
 use crate::Summary;
 use crate::lane_count::Counted;
 use line_lane::{LaneEnd, SourceFault};
-use set_run::ClosedLane;
+use set_run::{ClosedLane, LaneReport};
 
 /// Returns the number of refused lines of all lanes, or 2^64 - 1 if it is larger.
 pub(crate) fn all_refused<C: Counted>(lanes: &[C]) -> u64
@@ -20,14 +21,42 @@ pub(crate) fn all_refused<C: Counted>(lanes: &[C]) -> u64
     count
 }
 
+/// A lane with its end, if it has one.
+pub(crate) trait Ended {
+    /// The end.
+    ghost ended: { Self → Option End };
+
+    /// Returns the end.
+    fn ended(&self) -> Option<LaneEnd>
+        ensures { result ≡ ended self.now };
+}
+
+impl<S> Ended for ClosedLane<S> {
+    ghost ended = { λ lane. lane.end };
+
+    fn ended(&self) -> Option<LaneEnd> {
+        self.end
+    }
+}
+
+impl<S> Ended for LaneReport<S> {
+    ghost use Rattle.std.specs.Prelude.{Some};
+
+    ghost ended = { λ lane. Some lane.end };
+
+    fn ended(&self) -> Option<LaneEnd> {
+        Some(self.end)
+    }
+}
+
 /// Returns whether a read of some source failed, or a line needed too many reads.
-fn any_unread<S>(lanes: &[ClosedLane<S>]) -> bool
-    ensures { result ≡ list_any (λ lane. option_map_or is_unread lane.end false) lanes.now }
+fn any_unread<L: Ended>(lanes: &[L]) -> bool
+    ensures { result ≡ list_any (λ lane. option_map_or is_unread (L.ended lane) false) lanes.now }
 {
     let mut some = false;
     for lane in lanes {
         some |= matches!(
-            lane.end,
+            lane.ended(),
             Some(LaneEnd::SourceFailed(SourceFault::Read | SourceFault::ReadBound))
         );
     }
@@ -35,13 +64,13 @@ fn any_unread<S>(lanes: &[ClosedLane<S>]) -> bool
 }
 
 /// Returns whether some lane ended because an allocation failed.
-fn any_out_of_memory<S>(lanes: &[ClosedLane<S>]) -> bool
-    ensures { result ≡ list_any (λ lane. option_map_or is_wanting lane.end false) lanes.now }
+fn any_out_of_memory<L: Ended>(lanes: &[L]) -> bool
+    ensures { result ≡ list_any (λ lane. option_map_or is_wanting (L.ended lane) false) lanes.now }
 {
     let mut some = false;
     for lane in lanes {
         some |= matches!(
-            lane.end,
+            lane.ended(),
             Some(LaneEnd::GaveUp | LaneEnd::SourceFailed(SourceFault::OutOfMemory))
         );
     }
@@ -49,9 +78,9 @@ fn any_out_of_memory<S>(lanes: &[ClosedLane<S>]) -> bool
 }
 
 /// Returns the summary of a batch with this many refused lines and these lanes.
-pub(crate) fn summary_of<S>(refused: u64, lanes: &[ClosedLane<S>]) -> Summary
+pub(crate) fn summary_of<L: Ended>(refused: u64, lanes: &[L]) -> Summary
     ensures { (lines : ℕ) → refused ≡ min (2 ^ 64 - 1) lines
-        → result ≡ summary_of_lanes lines lanes.now }
+        → result ≡ summary_of_ends lines (map L.ended lanes.now) }
 {
     Summary {
         refused,

@@ -12,7 +12,7 @@ use crate::ToolFault;
 use crate::lane_text::LaneText;
 use crate::record::push_head;
 use crate::writing::write_text;
-use line_blocks::BlockText;
+use line_chunks::ChunkText;
 use line_lane::LaneEnd;
 use set_line::Version;
 use set_run::{Collector, Refusal};
@@ -90,7 +90,7 @@ impl<K: Kept> RunTexts<K> {
 }
 
 impl<K: Kept> Collector for RunTexts<K> {
-    type Item = BlockText;
+    type Item = ChunkText;
 
     ghost lanes = { λ texts. length texts.lanes.items };
 
@@ -102,8 +102,8 @@ impl<K: Kept> Collector for RunTexts<K> {
 
     ghost quiet = { λ texts. ⊤ };
 
-    fn take(&mut self, lane: usize, block: BlockText) -> Result<(), Refusal> {
-        self.lanes[lane].take(&block)
+    fn take(&mut self, lane: usize, chunk: ChunkText) -> Result<(), Refusal> {
+        self.lanes[lane].take(&chunk)
     }
 
     fn end(&mut self, lane: usize, end: LaneEnd) -> Result<(), Refusal> {

@@ -4,57 +4,51 @@ ghost use Rattle.set_run.specs.Events.{Answered, Ended, Gets, Keeps as KeepsGive
 ghost use Rattle.run_texts.specs.RunText.{head_text};
 ghost use Rattle.run_texts.specs.StreamState.{AreCounts, IsStreamOf, MovesOut, StreamStart};
 
+use crate::buffer::{FULL, ROOM};
 use crate::lane_count::LaneCount;
 use crate::record::push_head;
 use crate::writing::write_some;
-use line_blocks::BlockText;
+use line_chunks::ChunkText;
 use line_lane::LaneEnd;
 use set_line::Version;
 use set_run::Refusal;
 use std::alloc::{AllocError, Global};
 use std::io::Write;
 
-/// A buffer with this many bytes or more is full: it is written before more is appended.
-const FULL: usize = 65_536;
-
-/// The capacity with which the buffer begins. It is larger than `FULL`, so that the buffer rarely has to grow
-/// for its last text.
-const ROOM: usize = 73_728;
-
 /// The output of a batch: the writer, and a buffer with the lines that weren't written yet.
 #[derive(Drop)]
 pub(crate) struct Stream<'a, W> {
     pub out: &'a mut W,
-    pub block: Vec<u8>,
+    pub buffer: Vec<u8>,
     pub counts: Vec<LaneCount>,
     pub version: Version,
 }
 
 /// Writes the buffer, and empties it. After an error the bytes that weren't written are still in the buffer.
 #[tactic(auto, using(crate::proofs::StreamLemmas::moves))]
-pub(crate) fn write_block<W: Write>(block: &mut Vec<u8>, out: &mut W) -> Result<(), Refusal>
-    ensures emptied { OnOk result (block.new.items ≡ []) }
-    ensures goes { MovesOut (W.contents out.old) block.old.items
-        (W.contents out.new) block.new.items }
+pub(crate) fn write_buffer<W: Write>(buffer: &mut Vec<u8>, out: &mut W) -> Result<(), Refusal>
+    ensures emptied { OnOk result (buffer.new.items ≡ []) }
+    ensures goes { MovesOut (W.contents out.old) buffer.old.items
+        (W.contents out.new) buffer.new.items }
 {
-    let done = write_some(block.as_slice(), out);
-    let rest = block.len() - done;
+    let done = write_some(buffer.as_slice(), out);
+    let rest = buffer.len() - done;
     if rest == 0 {
-        block.clear();
+        buffer.clear();
         return Ok(());
     }
-    block.copy_within(done.., 0);
-    block.truncate(rest);
+    buffer.copy_within(done.., 0);
+    buffer.truncate(rest);
     Err(Refusal::Output)
 }
 
 /// Returns a buffer with the first line of the record format, if it has one.
-pub(crate) fn first_block(alloc: Global, version: Version) -> Result<Vec<u8>, Refusal>
-    ensures head { IfOk result (λ block. block.items ≡ head_text version) }
+pub(crate) fn first_buffer(alloc: Global, version: Version) -> Result<Vec<u8>, Refusal>
+    ensures head { IfOk result (λ buffer. buffer.items ≡ head_text version) }
 {
-    let mut block = Vec::with_capacity(alloc, ROOM).map_err(|_| Refusal::OutOfMemory)?;
-    push_head(version, &mut block)?;
-    Ok(block)
+    let mut buffer = Vec::with_capacity(alloc, ROOM).map_err(|_| Refusal::OutOfMemory)?;
+    push_head(version, &mut buffer)?;
+    Ok(buffer)
 }
 
 /// Returns the counts of this many lanes without results.
@@ -76,11 +70,11 @@ impl<W: Write> Stream<'_, W> {
         ensures same { (self.new.out.ghost_name ≡ self.old.out.ghost_name)
             × (self.new.version ≡ self.old.version)
             × (self.new.counts ≡ self.old.counts) }
-        ensures emptied { OnOk result (self.new.block.items ≡ []) }
-        ensures goes { MovesOut (W.contents self.old.out.now) self.old.block.items
-            (W.contents self.new.out.now) self.new.block.items }
+        ensures emptied { OnOk result (self.new.buffer.items ≡ []) }
+        ensures goes { MovesOut (W.contents self.old.out.now) self.old.buffer.items
+            (W.contents self.new.out.now) self.new.buffer.items }
     {
-        write_block(&mut self.block, &mut *self.out)
+        write_buffer(&mut self.buffer, &mut *self.out)
     }
 
     /// Writes the buffer if it is full.
@@ -89,23 +83,23 @@ impl<W: Write> Stream<'_, W> {
         ensures given { (start : StreamStart)
             → KeepsGiven (IsStreamOf W.contents start) self.old self.new }
     {
-        if self.block.len() < FULL {
+        if self.buffer.len() < FULL {
             return Ok(());
         }
         self.write_out()
     }
 
-    /// Takes the text of the next block of the source with this index, and appends it to the buffer. A full
+    /// Takes the text of the next chunk of the source with this index, and appends it to the buffer. A full
     /// buffer is written first.
-    pub fn take(&mut self, lane: usize, block: &BlockText) -> Result<(), Refusal>
+    pub fn take(&mut self, lane: usize, chunk: &ChunkText) -> Result<(), Refusal>
         requires { lane < length self.old.counts.items }
         ensures lanes { length self.new.counts.items ≡ length self.old.counts.items }
         ensures given { (start : StreamStart) → Gets (IsStreamOf W.contents start)
-            self.old (lane, Answered block.now) (is_ok result) self.new }
+            self.old (lane, Answered chunk.now) (is_ok result) self.new }
     {
         self.make_room()?;
         let mut count = self.counts[lane];
-        count.push_block(block, &mut self.block)?;
+        count.push_chunk(chunk, &mut self.buffer)?;
         self.counts[lane] = count;
         Ok(())
     }
@@ -120,18 +114,18 @@ impl<W: Write> Stream<'_, W> {
     {
         self.make_room()?;
         let count = self.counts[lane];
-        count.push_end(lane, end, self.version, &mut self.block)?;
+        count.push_end(lane, end, self.version, &mut self.buffer)?;
         Ok(())
     }
 
     /// Writes the buffer and flushes the writer, unless the buffer is empty.
     pub fn flush(&mut self) -> Result<(), Refusal>
         ensures lanes { length self.new.counts.items ≡ length self.old.counts.items }
-        ensures emptied { OnOk result (self.new.block.items ≡ []) }
+        ensures emptied { OnOk result (self.new.buffer.items ≡ []) }
         ensures given { (start : StreamStart)
             → KeepsGiven (IsStreamOf W.contents start) self.old self.new }
     {
-        if self.block.is_empty() {
+        if self.buffer.is_empty() {
             return Ok(());
         }
         self.write_out()?;

@@ -4,27 +4,27 @@ ghost use Rattle.std.specs.Io.KnownBytes.{Appends};
 ghost use Rattle.set_run.specs.declared.report.LaneReport.{LaneReport as Lane};
 ghost use Rattle.set_run.specs.declared.run_fault.RunFault.{RunFault as Fault};
 ghost use Rattle.set_run.specs.declared.run_fault.RunFault.TheVariants.{TooManySources, OutOfMemory as NoMemory, Thread};
-ghost use Rattle.set_run.specs.Closed.{AreBack, IsWhole};
-ghost use Rattle.run_texts.specs.BlockLanes.{IsCollectedIn};
+ghost use Rattle.set_run.specs.Closed.{IsWhole};
+ghost use Rattle.line_chunks.specs.Reading.{Told};
+ghost use Rattle.run_texts.specs.ChunkLanes.{AreReadReports, IsCollectedIn, fault_told, lines_told, told_lane, told_readers};
 ghost use Rattle.tfm_tables.specs.declared.fault.FontFault.{FontFault as FontRefusal};
 ghost use Rattle.run_texts.specs.ReportText.{summary_of_lanes, summary_of_run};
 ghost use Rattle.run_texts.specs.RunText.{style_of};
 ghost use Rattle.run_texts.specs.Endings.{is_text_fault};
-ghost use Rattle.run_texts.specs.Setting.{AreOwnReports};
 ghost use Rattle.run_texts.specs.Streaming.{IsStreamed};
 ghost use Rattle.run_texts.specs.StreamState.{IsStreamOf};
 
-use crate::block_run::{unwrap_run, wrap_sources};
+use crate::chunk_run::chunk_sources;
 use crate::lane_count::LaneCount;
 use crate::run_summary::{all_refused, summary_of};
-use crate::stream::{Stream, first_block, no_answers, write_block};
+use crate::stream::{Stream, first_buffer, no_answers, write_buffer};
 use crate::{OutputOptions, Summary, ToolFault};
-use line_blocks::BlockText;
+use line_chunks::{ChunkReader, ChunkText};
 use line_lane::LaneEnd;
 use set_line::Terms;
-use set_run::{Collector, Gate, LineSource, MOST_SOURCES, Refusal, RunEnd, RunFault, run_items};
+use set_run::{Collector, Gate, MOST_SOURCES, Refusal, RunEnd, RunFault, run_items};
 use std::alloc::Global;
-use std::io::Write;
+use std::io::{Read, Write};
 use std::marker::{Brand, PhantomData};
 use std::sync::{Arc, Wait};
 use std::thread::Threads;
@@ -58,7 +58,7 @@ struct Begun<'a, W, K> {
 }
 
 impl<W: Write, K: Beginning> Collector for Begun<'_, W, K> {
-    type Item = BlockText;
+    type Item = ChunkText;
 
     ghost lanes = { λ begun. length begun.stream.counts.items };
 
@@ -66,10 +66,10 @@ impl<W: Write, K: Beginning> Collector for Begun<'_, W, K> {
 
     ghost refused = { λ begun refusal. ⊤ };
 
-    ghost quiet = { λ begun. begun.stream.block.items ≡ [] };
+    ghost quiet = { λ begun. begun.stream.buffer.items ≡ [] };
 
-    fn take(&mut self, lane: usize, block: BlockText) -> Result<(), Refusal> {
-        self.stream.take(lane, &block)
+    fn take(&mut self, lane: usize, chunk: ChunkText) -> Result<(), Refusal> {
+        self.stream.take(lane, &chunk)
     }
 
     fn end(&mut self, lane: usize, end: LaneEnd) -> Result<(), Refusal> {
@@ -81,41 +81,40 @@ impl<W: Write, K: Beginning> Collector for Begun<'_, W, K> {
     }
 }
 
-/// Sets the lines of all sources in one batch that writes to a stream. Returns the stream, and the end of the
+/// Sets the lines of all readers in one batch that writes to a stream. Returns the stream, and the end of the
 /// batch or the reason why it failed. If it failed, the stream is unchanged.
-fn run_over<'a, R, S, G, W, K>(
+fn run_over<'a, R, T, G, W, K>(
     rt: &R,
     alloc: Global,
-    sources: Vec<(S, Arc<Terms>)>,
+    readers: Vec<(T, Arc<Terms>)>,
     options: &OutputOptions<'_, G>,
     stream: Stream<'a, W>,
-) -> (Stream<'a, W>, Result<RunEnd<S>, RunFault>)
+) -> (Stream<'a, W>, Result<RunEnd<ChunkReader<T>>, RunFault>)
 where
     R: Threads + Wait + Sync,
-    S: LineSource + Send + Drop,
+    T: Read + Send + Drop,
     G: Gate + Sync,
     W: Write,
     K: Beginning,
-    requires { vec_len sources ≤ length stream.counts.items }
-    ensures collected { IfOk result.1 (λ run. IsCollectedIn S.to_come S.failed (style_of options.now)
-        (IsStreamOf W.contents K.start) sources.items run stream.entry result.0) }
+    requires { vec_len readers ≤ length stream.counts.items }
+    ensures collected { IfOk result.1 (λ run. IsCollectedIn lines_told fault_told (style_of options.now)
+        (IsStreamOf W.contents K.start) (told_readers T.remaining options.now.crlf readers.items)
+        (map (told_lane T.remaining) run.lanes.items) stream.entry result.0) }
     ensures whole { IfOk result.1 (λ run. IsWhole run) }
-    ensures sources { IfOk result.1 (λ run.
-        AreBack S.origin sources.items (map (λ lane. lane.source) run.lanes.items)) }
     ensures fault { IfErr result.1 (λ fault. result.0 ≡ stream.entry) }
-    ensures few { vec_len sources ≤ 64
+    ensures few { vec_len readers ≤ 64
         → IfErr result.1 (λ fault. (fault ≡ NoMemory) ⊎ (fault ≡ Thread)) }
 {
     let begun: Begun<'a, W, K> = Begun {
         stream,
         of: PhantomData,
     };
-    match wrap_sources(alloc, sources, options) {
-        Ok((wrapped, closed)) => {
-            let (begun, ran) = run_items(rt, alloc, wrapped, options.batch(), begun);
-            (begun.stream, unwrap_run(ran, closed))
+    match chunk_sources(alloc, readers, options) {
+        Ok(sources) => {
+            let (begun, ran) = run_items(rt, alloc, sources, options.batch(), begun);
+            (begun.stream, ran)
         }
-        Err(fault) => (begun.stream, Err(fault)),
+        Err(_) => (begun.stream, Err(RunFault::OutOfMemory)),
     }
 }
 
@@ -124,12 +123,12 @@ where
 /// fails, or failed before, the error is `Write`.
 #[tactic(auto, using(crate::proofs::StreamLemmas::moved_out))]
 fn finish<W: Write, S>(
-    block: &mut Vec<u8>,
+    buffer: &mut Vec<u8>,
     counts: &[LaneCount],
     out: &mut W,
     run: &RunEnd<S>,
 ) -> Result<Summary, ToolFault>
-    ensures text { OnOk result (Appends (W.contents out.old) (W.contents out.new) block.old.items) }
+    ensures text { OnOk result (Appends (W.contents out.old) (W.contents out.new) buffer.old.items) }
     ensures whole { OnOk result (run.now.refusal ≡ None) }
     ensures summary { IfOk result (λ summary.
         summary ≡ summary_of_lanes (sum_by (λ count. count.refused) counts.now)
@@ -139,63 +138,63 @@ fn finish<W: Write, S>(
     if run.refusal == Some(Refusal::Output) {
         return Err(ToolFault::Write);
     }
-    write_block(block, out).map_err(|_| ToolFault::Write)?;
+    write_buffer(buffer, out).map_err(|_| ToolFault::Write)?;
     match run.refusal {
         None => Ok(summary_of(all_refused(counts), run.lanes.as_slice())),
         Some(_) => Err(ToolFault::OutOfMemory),
     }
 }
 
-/// Sets the lines of all sources, each with its settings, in one batch, and writes the output as the results
+/// Sets the lines of all readers, each with its settings, in one batch, and writes the output as the results
 /// arrive: the first line of the record format, if it has one, and then the records and end lines. The
 /// records of a source are in the order of its lines, and its end line follows its last record; lines of
 /// other sources may be between them. Returns the summary.
 ///
-/// The error is `Run` if the batch failed, with `TooManySources` exactly if there are more than 64 sources;
+/// The error is `Run` if the batch failed, with `TooManySources` exactly if there are more than 64 readers;
 /// `OutOfMemory` if an allocation fails; or `Write` if the writer fails. It is never `Font`. After `Run`
 /// nothing was written. After `Write` or `OutOfMemory` nothing is stated about how much was written.
-pub fn stream_each<R, S, G, W>(
+pub fn stream_readers<R, T, G, W>(
     rt: &R,
     alloc: Global,
-    sources: Vec<(S, Arc<Terms>)>,
+    readers: Vec<(T, Arc<Terms>)>,
     options: &OutputOptions<'_, G>,
     out: &mut W,
 ) -> Result<Summary, ToolFault>
 where
     R: Threads + Wait + Sync,
-    S: LineSource + Send + Drop,
+    T: Read + Send + Drop,
     G: Gate + Sync,
     W: Write,
-    ensures text { IfOk result (λ summary. (reports : List (Lane S))
-        × AreOwnReports S.to_come S.failed S.origin sources.items reports
+    ensures text { IfOk result (λ summary. (reports : List (Lane Told))
+        × AreReadReports T.remaining options.now.crlf readers.items reports
         × IsStreamed (style_of options.now) reports (W.contents out.old) (W.contents out.new)
         × (summary ≡ summary_of_run options.now.encoding reports)) }
-    ensures many { 64 < vec_len sources → result ≡ Err (ToolFault.Run TooManySources) }
-    ensures few { vec_len sources ≤ 64 → (fault : Fault) → result ≡ Err (ToolFault.Run fault)
+    ensures many { 64 < vec_len readers → result ≡ Err (ToolFault.Run TooManySources) }
+    ensures few { vec_len readers ≤ 64 → (fault : Fault) → result ≡ Err (ToolFault.Run fault)
         → (fault ≡ NoMemory) ⊎ (fault ≡ Thread) }
     ensures run { (fault : Fault) → result ≡ Err (ToolFault.Run fault) → out.new ≡ out.old }
     ensures font { (fault : FontRefusal) → result ≡ Err (ToolFault.Font fault) → ⊥ }
 {
-    if sources.len() > MOST_SOURCES {
+    if readers.len() > MOST_SOURCES {
         return Err(ToolFault::Run(RunFault::TooManySources));
     }
-    let block = first_block(alloc, options.version)?;
-    let counts = no_answers(alloc, sources.len())?;
+    let buffer = first_buffer(alloc, options.version)?;
+    let counts = no_answers(alloc, readers.len())?;
     let stream = Stream {
         out,
-        block,
+        buffer,
         counts,
         version: options.version,
     };
-    let (stream, ran) = run_over::<R, S, G, W, Brand>(rt, alloc, sources, options, stream);
+    let (stream, ran) = run_over::<R, T, G, W, Brand>(rt, alloc, readers, options, stream);
     let Stream {
         out: writer,
-        mut block,
+        mut buffer,
         counts,
         version: _,
     } = stream;
     match ran {
-        Ok(run) => finish(&mut block, counts.as_slice(), writer, &run),
+        Ok(run) => finish(&mut buffer, counts.as_slice(), writer, &run),
         Err(fault) => Err(ToolFault::Run(fault)),
     }
 }

@@ -1,11 +1,8 @@
 -- Lanes of lines: what the calls of a source of lines say of its lines.
-use Rattle.std.proofs.Common.{rules, arith, ◌≡◌, ℕ, ◌+◌, List, [], ◌∷◌, ◌++◌, length, take, Option, Some, None, refl, ap, sym, subst, ◌∙◌, append_assoc, append-nil}
+use Rattle.std.proofs.Common.{rules, arith, ◌≡◌, ℕ, List, [], ◌∷◌, ◌++◌, length, take, Option, Some, None, refl, ap, sym, subst, ◌∙◌, append_assoc, append-nil}
 use Rattle.std.proofs.lemmas.List.{length-map, length-append}
 use Rattle.std.proofs.Math.Seq.{take-append_seam}
 use Rattle.std.specs.Prelude.{⊤}
-use Rattle.std.specs.Arc.{arc_value}
-use Rattle.std.specs.declared.sync.Arc.{Arc}
-use Rattle.std.specs.declared.alloc.Global.{Global}
 use Rattle.set_line.specs.Terms.{TermsValue}
 use Rattle.set_line.specs.Answer.{AnswerValue, answer_of}
 use Rattle.line_lane.specs.Lane.{answers_of}
@@ -16,10 +13,9 @@ use Rattle.line_lane.specs.declared.ending.SourceEnd.TheVariants.{Complete as So
 use Rattle.line_lane.specs.declared.ending.LaneEnd.{LaneEnd}
 use Rattle.line_lane.specs.declared.ending.LaneEnd.TheVariants.{Complete, SourceFailed, GaveUp}
 use Rattle.set_run.specs.Calls.{HasEnded, HasReturned}
-use Rattle.set_run.specs.Events.{Event, answers_in}
 use Rattle.set_run.specs.Sources.{GivesNext, HasGiven, HasNoMore, gives_line}
-use Rattle.set_run.specs.Closed.{AreClosedOf, IsClosedOf}
-use Rattle.set_run.specs.Reports.{AreAllAnswers, AreClosed, AreFirstAnswers, IsClosed}
+use Rattle.set_run.specs.Closed.{IsClosedOf}
+use Rattle.set_run.specs.Reports.{AreAllAnswers, AreFirstAnswers, IsClosed}
 use Rattle.set_run.specs.declared.run_end.ClosedLane.{ClosedLane}
 
 -- ---- lines to come
@@ -157,17 +153,3 @@ module _ {S : Type 0} (to_come : S → Option (List (List ℕ))) (failed : S →
       lane_end (SourceFailed other) fault is none kept =
           let own : Failed other ≡ Failed fault = kept (Failed other) (made.failed other is).1 in search (rules, own)
       lane_end GaveUp fault is none kept = absurd (made.abandoned is none)
-
-  -- the closed lanes of sources of lines
-  pub closed_lines : (events : List (Event AnswerValue)) (number : ℕ)
-      (sources : List (S × Arc TermsValue Global)) (lanes : List (ClosedLane S))
-      → AreClosedOf (gives_line to_come failed) (λ terms. answer_of (arc_value terms)) events number sources lanes
-      → AreClosed to_come failed events number sources lanes
-  closed_lines events number [] [] are = tt
-  closed_lines events number [] (lane ∷ lanes) are = elim are [ ]
-  closed_lines events number (source ∷ sources) [] are = elim are [ ]
-  closed_lines events number (source ∷ sources) (lane ∷ lanes) are = (
-    are.0,
-    closed_line (arc_value source.1) source.0 (answers_in number events) lane are.1,
-    closed_lines events (number + 1) sources lanes are.2,
-  )

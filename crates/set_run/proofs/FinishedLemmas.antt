@@ -1,23 +1,26 @@
 -- The reports of a run whose answers were kept, and what a finished one says.
-use Rattle.std.proofs.Common.{arith, ◌≡◌, ℕ, zero, suc, ◌+◌, ◌<◌, List, [], ◌∷◌, ◌++◌, length, get_or, replicate, Option, Some, None, refl, ap, sym, subst, ◌∙◌, append-nil}
+use Rattle.std.proofs.Common.{arith, ◌≡◌, ℕ, zero, suc, ◌+◌, ◌<◌, List, [], ◌∷◌, ◌++◌, length, get_or, replicate, Option, Some, None, refl, ap, sym, subst, ◌∙◌}
 use Rattle.std.specs.Prelude.{map, All, IfOk, IfSome, Result, Ok}
 use Rattle.std.specs.Arc.{arc_value}
 use Rattle.std.specs.declared.sync.Arc.{Arc}
 use Rattle.std.specs.declared.alloc.Global.{Global}
 use Rattle.set_line.specs.Terms.{TermsValue}
-use Rattle.set_line.specs.Answer.{AnswerValue}
+use Rattle.set_line.specs.Answer.{AnswerValue, answer_of}
 use Rattle.line_lane.specs.Lane.{answers_of}
 use Rattle.line_lane.specs.declared.fault.SourceFault.{SourceFault}
 use Rattle.line_lane.specs.declared.ending.LaneEnd.{LaneEnd}
 use Rattle.line_lane.specs.declared.ending.LaneEnd.TheVariants.{Complete}
-use Rattle.set_run.specs.Events.{Event, answers_in, lane_events, of_lane}
-use Rattle.set_run.specs.Closed.{AreAllMade, AreClosedOf, AreComplete, HasNoOthers, IsAllCollectedOf, IsCollectedOf}
-use Rattle.set_run.specs.Calls.{WasRead}
-use Rattle.set_run.specs.Reports.{AreAllAnswers, AreAllGiven, AreAnswered, AreClosed, AreReported, AreReportsOf, IsTrueToSource, LaneSeen}
-use Rattle.line_lane.specs.declared.ending.SourceEnd.TheVariants.{Complete as SourceComplete}
+use Rattle.set_run.specs.Events.{Event, answers_in}
+use Rattle.set_run.specs.Closed.{AreClosedOf, HasNoOthers}
+use Rattle.set_run.specs.Reports.{AreAllAnswers, AreAnswered, AreReported, AreReportsOf, IsTrueToSource, LaneSeen}
+use Rattle.set_run.specs.Sources.{gives_line}
 use Rattle.set_run.specs.declared.run_end.ClosedLane.{ClosedLane}
-use Rattle.set_run.specs.declared.run_end.RunEnd.{RunEnd}
 use Rattle.set_run.specs.declared.report.LaneReport.{LaneReport}
+use Rattle.set_run.proofs.ClosedLines.{closed_line}
+
+-- what the settings make of a line
+abbrev made : Arc TermsValue Global → List ℕ → AnswerValue
+made terms = answer_of (arc_value terms)
 
 all_lines : (terms : TermsValue) (answers : List AnswerValue) (before after : Option (List (List ℕ))) → AreAllAnswers terms answers before after
     → IfSome before (λ lines. answers ≡ answers_of terms lines)
@@ -67,7 +70,7 @@ module _ {S : Type 0} where
   -- what holds of the lanes holds of their reports
   pub reported_all : (to_come : S → Option (List (List ℕ))) (failed : S → Option SourceFault) (events : List (Event AnswerValue)) (first : ℕ)
       (sources : List (S × Arc TermsValue Global)) (lanes : List (ClosedLane S)) (lists : List (List AnswerValue)) (reports : List (LaneReport S))
-      → AreClosed to_come failed events first sources lanes → AreReportsOf lanes lists reports
+      → AreClosedOf (gives_line to_come failed) made events first sources lanes → AreReportsOf lanes lists reports
       → ((i : ℕ) → i < length lists → get_or lists i [] ≡ answers_in (first + i) events) → AreReported to_come failed sources reports
   reported_all to_come failed events first [] [] [] [] are of_lanes have = tt
   reported_all to_come failed events first [] [] [] (r ∷ reports) are of_lanes have = elim of_lanes [ ]
@@ -93,7 +96,8 @@ module _ {S : Type 0} where
       in (
         subst (λ answers. IsTrueToSource (seen answers (Some r.end) r.source)) own
             (subst (λ end. IsTrueToSource (seen (answers_in first events) end r.source)) of_lanes.2
-            (subst (λ source. IsTrueToSource (seen (answers_in first events) c.end source)) (sym of_lanes.0) are.1)),
+            (subst (λ source. IsTrueToSource (seen (answers_in first events) c.end source)) (sym of_lanes.0)
+            (closed_line to_come failed (arc_value s.1) s.0 (answers_in first events) c are.1))),
         reported_all to_come failed events (first + 1) sources lanes lists reports are.2 of_lanes.3 (
             λ i below.
             let next : first + suc i ≡ first + 1 + i = omega arith in
@@ -113,7 +117,7 @@ none_kept lanes lists is = λ lane below. ap (λ l. get_or l lane []) is ∙ all
 
 -- a lane for each source
 pub closed_length : {S : Type 0} (to_come : S → Option (List (List ℕ))) (failed : S → Option SourceFault) (events : List (Event AnswerValue)) (first : ℕ)
-    (sources : List (S × Arc TermsValue Global)) (lanes : List (ClosedLane S)) → AreClosed to_come failed events first sources lanes
+    (sources : List (S × Arc TermsValue Global)) (lanes : List (ClosedLane S)) → AreClosedOf (gives_line to_come failed) made events first sources lanes
     → length lanes ≡ length sources
 closed_length to_come failed events first [] [] are = refl
 closed_length to_come failed events first [] (c ∷ lanes) are = elim are [ ]
@@ -127,7 +131,7 @@ module _ {S : Type 0} where
       (lanes : List (ClosedLane S)) (lists : List (List AnswerValue)) (reports : List (LaneReport S))
       → (events : List (Event AnswerValue))
       × ((lane : ℕ) → lane < length lists → get_or lists lane [] ≡ answers_in lane events)
-      × AreClosed to_come failed events 0 sources lanes × HasNoOthers events (length sources)
+      × AreClosedOf (gives_line to_come failed) made events 0 sources lanes × HasNoOthers events (length sources)
       → AreReportsOf lanes lists reports → AreReported to_come failed sources reports
   reported_kept to_come failed sources lanes lists reports (events, kept, are, others) of_lanes =
       reported_all to_come failed events 0 sources lanes lists reports are of_lanes (
@@ -137,53 +141,3 @@ module _ {S : Type 0} where
 -- what is said of a good answer
 pub by_ok : {T E : Type 0} (P : T → Type 0) (r : Result T E) (x : T) → r ≡ Ok x → IfOk r P → P x
 by_ok P r x is all = subst (λ y. IfOk y P) is all
-
--- ---- batches all of whose lanes are complete
-
-some_weaker : {A : Type 0} (P Q : A → Type 0) (o : Option A) → ((x : A) → P x → Q x) → IfSome o P → IfSome o Q
-some_weaker P Q (Some x) f p = f x p
-some_weaker P Q None f p = tt
-
-module _ {S : Type 0} where
-  -- a collector has the results of all lines
-  pub all_given : (to_come : S → Option (List (List ℕ))) (failed : S → Option SourceFault) (events : List (Event AnswerValue)) (number : ℕ)
-      (sources : List (S × Arc TermsValue Global)) (lanes : List (ClosedLane S)) → AreClosed to_come failed events number sources lanes
-      → AreComplete lanes → AreAllGiven to_come events number sources
-  all_given to_come failed events number [] [] are all = tt
-  all_given to_come failed events number [] (lane ∷ lanes) are all = elim are [ ]
-  all_given to_come failed events number (source ∷ sources) [] are all = elim are [ ]
-  all_given to_come failed events number (source ∷ sources) (lane ∷ lanes) are all =
-      let terms = arc_value source.1 in
-      let answers = answers_in number events in
-      let complete : lane.end ≡ Some Complete = all 0 lane (omega arith) in (
-        some_weaker (λ lines. answers ≡ answers_of terms lines)
-            (λ lines. of_lane number events ≡ lane_events (answers_of terms lines) (Some Complete)) (to_come source.0)
-            (λ lines own. are.0 ∙ ap (λ a. lane_events a lane.end) own ∙ ap (lane_events (answers_of terms lines)) complete)
-            (all_lines terms answers (to_come source.0) (to_come lane.source) (are.1.1 complete).1),
-        all_given to_come failed events (number + 1) sources lanes are.2 (rest_too (λ l. l.end ≡ Some Complete) lane lanes all),
-      )
-
-module _ {S M I O : Type 0} (gives : S → Result (Option I) SourceFault → S → Type 0) (makes : M → I → O) where
-  -- a collector has what is made of all items
-  pub all_made : (events : List (Event O)) (number : ℕ) (sources : List (S × M)) (lanes : List (ClosedLane S))
-      → AreClosedOf gives makes events number sources lanes → AreComplete lanes → AreAllMade gives makes events number sources lanes
-  all_made events number [] [] are all = tt
-  all_made events number [] (lane ∷ lanes) are all = elim are [ ]
-  all_made events number (source ∷ sources) [] are all = elim are [ ]
-  all_made events number (source ∷ sources) (lane ∷ lanes) are all =
-      let complete : lane.end ≡ Some Complete = all 0 lane (omega arith) in
-      let whole = are.1.complete complete in
-      let only : are.1.items ++ are.1.more ≡ are.1.items = ap (λ l. are.1.items ++ l) whole.0 ∙ append-nil are.1.items in (
-        (
-          are.1.items,
-          subst (λ items. WasRead gives source.0 items (Some SourceComplete) lane.source) only
-              (subst (λ end. WasRead gives source.0 (are.1.items ++ are.1.more) end lane.source) whole.1 are.1.read),
-          are.0 ∙ ap (λ results. lane_events results lane.end) are.1.made ∙ ap (lane_events (map (makes source.1) are.1.items)) complete,
-        ),
-        all_made events (number + 1) sources lanes are.2 (rest_too (λ l. l.end ≡ Some Complete) lane lanes all),
-      )
-
-  pub all_collected : {C : Type 0} (given : C → List (Event O) → Type 0) (sources : List (S × M)) (run : RunEnd S) (before after : C)
-      → IsCollectedOf gives makes given sources run before after → AreComplete run.lanes.items → IsAllCollectedOf gives makes given sources run before after
-  all_collected given sources run before after collected complete has =
-      let (events, has', are, others) = collected has in (events, has', all_made events 0 sources run.lanes.items are complete, others)

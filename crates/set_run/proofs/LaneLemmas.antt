@@ -25,8 +25,8 @@ use Rattle.set_run.specs.Lanes.{IsFresh, IsFinished}
 use Rattle.set_run.specs.Workers.{HadSeenAnItem, IsWorked}
 use Rattle.set_run.specs.Events.{LaneEvent, answers_among, lane_events}
 use Rattle.set_run.specs.Collecting.{IsToldFirst}
-use Rattle.set_run.specs.declared.source_thread.Feeding.{Feeding}
-use Rattle.set_run.specs.declared.lane_taker.LaneTaker.{LaneTaker}
+use Rattle.set_run.specs.declared.threads.source_thread.Feeding.{Feeding}
+use Rattle.set_run.specs.declared.collecting.lane_taker.LaneTaker.{LaneTaker}
 use Rattle.set_run.specs.declared.run_end.ClosedLane.{ClosedLane}
 
 -- no items

@@ -1,10 +1,8 @@
 -- Lines from a reader.
 use Rattle.std.proofs.Common.{◌≡◌, ◌≢◌, ℕ, suc, ◌+◌, ◌-◌, ◌<◌, ◌≤◌, ◌==◌, true, false, List, [], ◌∷◌, ◌++◌, length, get_or, take, drop, Option, Some, None, Ok, arith, refl, ap, sym, subst, ◌∙◌, append_assoc, add-one}
-use Rattle.std.specs.Prelude.{◌↔◌, IsSome}
-use Rattle.std.specs.List.{Contains, position, position_or_len}
+use Rattle.std.specs.List.{position, position_or_len}
 use Rattle.std.specs.Option.{option_map}
 use Rattle.std.specs.Io.KnownBytes.{Consumes, Keeps, prepend_known}
-use Rattle.std.proofs.lemmas.Bool.{true≢false}
 use Rattle.std.proofs.lemmas.Bool.Decides.{nat_tests}
 use Rattle.std.proofs.lemmas.List.{get_or_default, get_or-take, length-take, drop_all, drop-drop, take-append-drop}
 use Rattle.std.proofs.lemmas.Slice.{between_is}
@@ -13,8 +11,8 @@ use Rattle.std.proofs.lemmas.List.Elements.{All-append}
 use Rattle.std.proofs.lemmas.List.Quantifiers.{position-Some}
 use Rattle.std.proofs.lemmas.List.Sums.{fails_before_first}
 use Rattle.set_line.specs.Lines.{lines_of, HasNoFeed, IsCutAtFeed}
-use Rattle.set_run.specs.declared.reader_source.state.ReaderState.{ReaderState}
-use Rattle.set_run.specs.declared.reader_source.state.ReaderState.TheVariants.{Open, AtEnd, Failed}
+use Rattle.set_run.specs.declared.sources.reader_source.state.ReaderState.{ReaderState}
+use Rattle.set_run.specs.declared.sources.reader_source.state.ReaderState.TheVariants.{Open, AtEnd, Failed}
 use Rattle.set_run.specs.Sources.{GivesNext, Reads}
 use Rattle.set_run.specs.Reading.{MovesLine, fault_of, lines_to_come}
 
@@ -49,20 +47,6 @@ found bytes at here = (none, split)
     split =
         sym (take-append-drop at bytes)
         ∙ ap (λ xs. take at bytes ++ xs) (drop-cons bytes at 0 at_first.0 ∙ ap (λ byte. byte ∷ drop (suc at) bytes) feed ∙ ap (λ n. 10 ∷ drop n bytes) (sym (add-one at)))
-
--- a line feed is found if there is one
-pub feed_found : (bytes : List ℕ) (place : Option ℕ) → place ≡ position (λ byte. byte == 10) bytes → IsSome place ↔ Contains bytes 10
-feed_found bytes None is = ((λ some. absurd (true≢false (sym some))), λ has. absurd (none_found bytes (sym is) has.0 10 has.1 has.2))
-feed_found bytes (Some at) is = ((λ _. here), λ _. refl)
-  where
-    at_first : (at < length bytes) × ((get_or bytes at 0 == 10) ≡ true) × ((k : ℕ) → k < at → (get_or bytes k 0 == 10) ≡ false)
-    at_first = position-Some (λ byte. byte == 10) bytes at 0 (sym is)
-
-    feed : get_or bytes at 0 ≡ 10
-    feed = grind (arith, nat_tests, at_first.1)
-
-    here : Contains bytes 10
-    here = (at, at_first.0, get_or_default bytes at 10 0 at_first.0 ∙ feed)
 
 -- ---- moved to a line
 

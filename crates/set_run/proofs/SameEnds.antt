@@ -1,23 +1,20 @@
 -- Ends of the same lane.
-use Rattle.std.proofs.Common.{rules, ◌≡◌, ℕ, suc, List, [], ◌∷◌, length, Option, Some, None, refl, ap}
+use Rattle.std.proofs.Common.{rules, ◌≡◌, suc, List, [], ◌∷◌, length, Option, Some, None, refl, ap}
 use Rattle.std.specs.List.{AllZip}
 use Rattle.dealt_lanes.specs.Lanes.{AllThree}
 use Rattle.line_lane.specs.Messages.{first_end}
 use Rattle.line_lane.specs.declared.ending.SourceEnd.{SourceEnd}
-use Rattle.line_lane.specs.declared.offer_fault.OfferFault.{OfferFault}
-use Rattle.line_lane.specs.declared.offer_fault.OfferFault.TheVariants.{Closed, NoRoom}
-use Rattle.set_run.specs.Given.{item_of}
 use Rattle.dealt_lanes.specs.Dealt.{SameDealer}
 use Rattle.dealt_lanes.specs.declared.dealer.Dealer.{Dealer}
 use Rattle.set_run.proofs.Zips.{zip_refl, zip_trans}
-use Rattle.line_lane.specs.Ends.{IsLane, IsRefusal, SameFeeder, SameSetter, SameTaker}
+use Rattle.line_lane.specs.Ends.{IsLane, SameFeeder, SameSetter, SameTaker}
 use Rattle.line_lane.specs.declared.making.Making.{Ghosts}
 use Rattle.line_lane.specs.declared.feeder.Feeder.{Feeder}
 use Rattle.line_lane.specs.declared.setter.Setter.{Setter}
 use Rattle.line_lane.specs.declared.taker.Taker.{Taker}
 use Rattle.set_run.specs.Workers.{IsWorked}
 use Rattle.set_run.specs.Collecting.{SameLane}
-use Rattle.set_run.specs.declared.lane_taker.LaneTaker.{LaneTaker}
+use Rattle.set_run.specs.declared.collecting.lane_taker.LaneTaker.{LaneTaker}
 
 module _ {M I O IS OS : Type 0} {ghosts : Ghosts M I O IS OS} where
   same_setter : (s : Setter M I O IS OS ghosts) → SameSetter s s
@@ -72,14 +69,6 @@ module _ {I IS : Type 0} where
 pub first_again : (old : Option SourceEnd) (end : SourceEnd) → first_end (first_end old (Some end)) (Some end) ≡ first_end old (Some end)
 first_again None end = refl
 first_again (Some first) end = refl
-
--- the item of an error is the one that was offered
-pub back_item : {I : Type 0} (end : Option SourceEnd) (block : ℕ) (lines : List I) (item : I) (fault : OfferFault I) → IsRefusal end block lines item fault
-    → item_of fault ≡ item
-back_item (Some first) block lines item (Closed back) is = is
-back_item (Some first) block lines item (NoRoom back) is = elim is [ ]
-back_item None block lines item (Closed back) is = elim is [ ]
-back_item None block lines item (NoRoom back) is = is.0
 
 module _ {M I O IS OS : Type 0} {ghosts : Ghosts M I O IS OS} where
   -- the endpoints of each lane are replaced by the same endpoints

@@ -18,9 +18,9 @@ use Rattle.set_run.specs.Closed.{AreBack, AreClosedOf, HasNoOthers, IsClosedOf}
 use Rattle.set_run.specs.Lanes.{Begins, CanEnd, Ends, Held}
 use Rattle.set_run.specs.Gathering.{Collects, Gathers}
 use Rattle.set_run.specs.declared.collector.Refusal.{Refusal}
-use Rattle.set_run.specs.declared.collector_thread.Collected.{Collected}
-use Rattle.set_run.specs.declared.source_thread.Feeding.{Feeding}
-use Rattle.set_run.specs.declared.lane_taker.LaneTaker.{LaneTaker}
+use Rattle.set_run.specs.declared.collecting.collector_thread.Collected.{Collected}
+use Rattle.set_run.specs.declared.threads.source_thread.Feeding.{Feeding}
+use Rattle.set_run.specs.declared.collecting.lane_taker.LaneTaker.{LaneTaker}
 use Rattle.set_run.specs.declared.run_end.ClosedLane.{ClosedLane}
 use Rattle.set_run.specs.declared.run_fault.RunFault.{RunFault}
 use Rattle.set_run.specs.declared.run_fault.RunFault.TheVariants.{TooManySources, OutOfMemory, Thread}

@@ -8,7 +8,7 @@ use Rattle.dealt_lanes.specs.Dealt.{gathered, gatherer_end}
 use Rattle.line_lane.specs.declared.ending.LaneEnd.{LaneEnd}
 use Rattle.set_run.specs.Events.{LaneEvent, Answered, Ended, Event, Gets, Keeps, of_lane, answers_among, lane_events}
 use Rattle.set_run.specs.Collecting.{AllLanes, IsTold, IsToldBy, IsToldFirst, SameOthers, TellsLane, TellsLanes}
-use Rattle.set_run.specs.declared.lane_taker.LaneTaker.{LaneTaker}
+use Rattle.set_run.specs.declared.collecting.lane_taker.LaneTaker.{LaneTaker}
 use Rattle.set_run.proofs.EventLemmas.{answered_more, answers_back, ended_more, of_other, of_own}
 
 -- ---- one lane

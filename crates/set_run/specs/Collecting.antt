@@ -6,7 +6,7 @@ use Rattle.line_lane.specs.declared.ending.LaneEnd.TheVariants.{GaveUp}
 use Rattle.dealt_lanes.specs.Takers.{HaveEnded}
 use Rattle.dealt_lanes.specs.Dealt.{SameGatherer, gathered, gatherer_end}
 use Rattle.set_run.specs.Events.{Event, LaneEvent, answers_among, lane_events, of_lane}
-use Rattle.set_run.specs.declared.lane_taker.LaneTaker.{LaneTaker}
+use Rattle.set_run.specs.declared.collecting.lane_taker.LaneTaker.{LaneTaker}
 
 module _ {O OS : Type 0} where
   -- the gatherer of the same lanes

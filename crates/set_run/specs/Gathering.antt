@@ -7,8 +7,8 @@ use Rattle.set_run.specs.Events.{Event}
 use Rattle.set_run.specs.Collecting.{AllLanes, IsFreshTaker, IsToldFirst, SameLane, TellsLanes}
 use Rattle.set_run.specs.Closed.{AreBack, AreClosedOf, HasNoOthers}
 use Rattle.set_run.specs.declared.collector.Refusal.{Refusal}
-use Rattle.set_run.specs.declared.collector_thread.Collected.{Collected}
-use Rattle.set_run.specs.declared.lane_taker.LaneTaker.{LaneTaker}
+use Rattle.set_run.specs.declared.collecting.collector_thread.Collected.{Collected}
+use Rattle.set_run.specs.declared.collecting.lane_taker.LaneTaker.{LaneTaker}
 use Rattle.set_run.specs.declared.run_end.ClosedLane.{ClosedLane}
 
 module _ {C R RS : Type 0} where

@@ -6,7 +6,7 @@ use Rattle.line_lane.specs.declared.fault.SourceFault.{SourceFault}
 use Rattle.set_run.specs.Calls.{IsFedFrom}
 use Rattle.line_lane.specs.declared.offer_fault.OfferFault.{OfferFault}
 use Rattle.line_lane.specs.declared.offer_fault.OfferFault.TheVariants.{Closed, NoRoom}
-use Rattle.set_run.specs.declared.source_thread.Feeding.{Feeding}
+use Rattle.set_run.specs.declared.threads.source_thread.Feeding.{Feeding}
 
 module _ {I : Type 0} where
   -- the item that an error returns

@@ -13,8 +13,8 @@ use Rattle.dealt_lanes.specs.Settled.{AllMake, AreDealtLanes, HaveAbandoned, IsW
 use Rattle.dealt_lanes.specs.declared.dealer.Dealer.{Dealer}
 use Rattle.set_run.specs.Workers.{HadSeenAnItem, HaveMore}
 use Rattle.set_run.specs.Collecting.{IsFreshTaker}
-use Rattle.set_run.specs.declared.source_thread.Feeding.{Feeding}
-use Rattle.set_run.specs.declared.lane_taker.LaneTaker.{LaneTaker}
+use Rattle.set_run.specs.declared.threads.source_thread.Feeding.{Feeding}
+use Rattle.set_run.specs.declared.collecting.lane_taker.LaneTaker.{LaneTaker}
 use Rattle.set_run.specs.declared.run_end.ClosedLane.{ClosedLane}
 
 -- the setters, worker by worker, and the gatherers of the sources whose lanes are open

@@ -1,9 +1,7 @@
 pub mod Sources
-pub mod Cuts
 pub mod Calls
 pub mod Events
 pub mod Reading
-pub mod Buffered
 pub mod Given
 pub mod Workers
 pub mod Collecting

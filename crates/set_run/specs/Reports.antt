@@ -1,6 +1,6 @@
 -- The report of a batch on each source.
 -- This project's own.
-use Rattle.std.specs.Prelude.{◌≡◌, ℕ, ◌+◌, List, [], ◌∷◌, length, take, Option, Some, None, IfSome}
+use Rattle.std.specs.Prelude.{◌≡◌, ℕ, List, [], ◌∷◌, length, take, Option, Some, None, IfSome}
 use Rattle.std.specs.List.{AllZip}
 use Rattle.std.specs.Arc.{arc_value}
 use Rattle.std.specs.declared.sync.Arc.{Arc}
@@ -11,12 +11,9 @@ use Rattle.line_lane.specs.Lane.{answers_of}
 use Rattle.line_lane.specs.declared.fault.SourceFault.{SourceFault}
 use Rattle.line_lane.specs.declared.ending.LaneEnd.{LaneEnd}
 use Rattle.line_lane.specs.declared.ending.LaneEnd.TheVariants.{Complete, SourceFailed}
-use Rattle.set_run.specs.Closed.{HasNoOthers}
-use Rattle.set_run.specs.Events.{Event, answers_in, lane_events, of_lane}
 use Rattle.set_run.specs.Sources.{HasGiven}
 use Rattle.set_run.specs.declared.report.LaneReport.{LaneReport}
 use Rattle.set_run.specs.declared.run_end.ClosedLane.{ClosedLane}
-use Rattle.set_run.specs.declared.run_end.RunEnd.{RunEnd}
 
 -- these are the results of the first of the lines that were to come; if those weren't known, of some list of
 -- lines
@@ -103,45 +100,6 @@ module _ {S : Type 0} where
         after = to_come lane.source;
         fails = failed lane.source;
       })
-
-  -- the closed lanes of sources, of which the first has this number: the events of each lane are its results
-  -- and then its end, if it has one, and the lane agrees with its source
-  abbrev pub AreClosed :
-      (S → Option (List (List ℕ))) → (S → Option SourceFault) → List (Event AnswerValue) → ℕ → List (S × Arc TermsValue Global) → List (ClosedLane S) → Type 0
-  AreClosed to_come failed events number [] [] = Unit {0}
-  AreClosed to_come failed events number [] (lane ∷ lanes) = ⊥
-  AreClosed to_come failed events number (source ∷ sources) [] = ⊥
-  AreClosed to_come failed events number (source ∷ sources) (lane ∷ lanes) =
-      (of_lane number events ≡ lane_events (answers_in number events) lane.end)
-      × IsClosed to_come failed (arc_value source.1) source.0 (answers_in number events) lane
-      × AreClosed to_come failed events (number + 1) sources lanes
-
-module _ {S C : Type 0} where
-  -- if a collector had received nothing before a batch with these sources, it has received the events of
-  -- their lanes and no others
-  abbrev pub IsCollected :
-      (S → Option (List (List ℕ))) → (S → Option SourceFault) → (C → List (Event AnswerValue) → Type 0) → List (S × Arc TermsValue Global) → RunEnd S → C → C → Type 0
-  IsCollected to_come failed given sources run before after =
-      given before []
-      → (events : List (Event AnswerValue)) × given after events × AreClosed to_come failed events 0 sources run.lanes.items × HasNoOthers events (length sources)
-
-module _ {S : Type 0} where
-  -- the events of sources with their settings, of which the first has this number: for each source whose lines are
-  -- known, the results of all its lines, in order, and then the end `Complete`
-  abbrev pub AreAllGiven : (S → Option (List (List ℕ))) → List (Event AnswerValue) → ℕ → List (S × Arc TermsValue Global) → Type 0
-  AreAllGiven to_come events number [] = Unit {0}
-  AreAllGiven to_come events number (source ∷ sources) =
-      IfSome (to_come source.0) (λ lines. of_lane number events ≡ lane_events (answers_of (arc_value source.1) lines) (Some Complete))
-      × AreAllGiven to_come events (number + 1) sources
-
-module _ {S C : Type 0} where
-  -- if a collector had received nothing before a batch with these sources, it has received the results of all lines
-  -- of each source whose lines are known, and its end, and nothing of other lanes
-  abbrev pub IsAllCollected :
-      (S → Option (List (List ℕ))) → (C → List (Event AnswerValue) → Type 0) → List (S × Arc TermsValue Global) → C → C → Type 0
-  IsAllCollected to_come given sources before after =
-      given before []
-      → (events : List (Event AnswerValue)) × given after events × AreAllGiven to_come events 0 sources × HasNoOthers events (length sources)
 
 module _ {S : Type 0} where
   -- the reports of lanes that have all ended; each has the results with the same index

@@ -1,7 +1,6 @@
 //! Collectors, which receive the results of a batch.
 ghost use Rattle.std.specs.Prelude.{◌≡◌, ◌<◌, ℕ, List, Option, None, OnOk, is_ok};
 ghost use Rattle.std.specs.Result.{result_err};
-ghost use Rattle.line_lane.specs.declared.ending.LaneEnd.{LaneEnd as End};
 ghost use Rattle.set_run.specs.declared.collector.Refusal.{Refusal as Refused};
 ghost use Rattle.set_run.specs.declared.collector.Refusal.TheVariants.{OutOfMemory as NoMemory};
 ghost use Rattle.set_run.specs.Events.{Answered, Ended, Event, Gets, Keeps};
@@ -32,7 +31,8 @@ impl From<AllocError> for Refusal {
 /// different lanes isn't specified. All calls are made in the thread that called the batch.
 ///
 /// After a refusal the collector isn't called again, and the batch is stopped. Before the thread sleeps, and
-/// after the end of the last lane, it calls `about_to_wait`, so that the collector can write what it has buffered.
+/// after the end of the last lane, it calls `about_to_wait`, so that the collector can write what it has
+/// buffered.
 pub trait Collector {
     /// A result: [`Answer`](set_line::Answer) if lines are set.
     type Item: Made + Stored;

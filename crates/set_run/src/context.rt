@@ -1,7 +1,7 @@
 //! The context of a batch.
 use crate::Plan;
 use crate::lane_count::LaneCount;
-use crate::signals::Signals;
+use crate::threads::signals::Signals;
 use std::alloc::Global;
 
 /// The values that the functions that start the threads of a batch share.

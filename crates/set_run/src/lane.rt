@@ -4,10 +4,10 @@ ghost use Rattle.dealt_lanes.specs.Settled.{AreDealtLanes};
 ghost use Rattle.dealt_lanes.specs.Dealt.{dealer_lanes};
 ghost use Rattle.set_run.specs.Lanes.{Begins, CanEnd, Ends, IsFinished, IsFresh};
 
+use crate::collecting::lane_taker::LaneTaker;
 use crate::context::Context;
-use crate::lane_taker::LaneTaker;
-use crate::source_thread::Feeding;
-use crate::worker::{Worker, give_all, take_back_all};
+use crate::threads::source_thread::Feeding;
+use crate::threads::worker::{Worker, give_all, take_back_all};
 use crate::{ClosedLane, Plan};
 use dealt_lanes::{Dealer, Shared, open_shared, settle_lanes};
 use line_lane::{Making, Setter, Stored};

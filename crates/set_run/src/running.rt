@@ -1,14 +1,14 @@
 //! A batch that returns a report of all results.
-ghost use Rattle.std.specs.Prelude.{All, ◌≡◌, ◌++◌, ◌∷◌, [], ◌<◌, ◌≤◌, ◌⊎◌, Err, IfOk, IfErr, IsSome, MatchResult, get_or, length, map, vec_len};
+ghost use Rattle.std.specs.Prelude.{◌≡◌, ◌<◌, ◌≤◌, ◌⊎◌, [], All, Err, IfOk, IfErr, IsSome, MatchResult, map, vec_len};
 ghost use Rattle.set_run.specs.declared.run_fault.RunFault.TheVariants.{TooManySources, OutOfMemory as NoMemory, Thread};
 ghost use Rattle.line_lane.specs.declared.ending.LaneEnd.TheVariants.{Complete};
 ghost use Rattle.set_run.specs.Closed.{AreBack};
 ghost use Rattle.set_run.specs.Reports.{AreAnswered, AreReported, AreReportsOf};
 
-use crate::answer_lists::AnswerLists;
+use crate::collecting::answer_lists::AnswerLists;
 use crate::{
-    Answers, BatchOptions, ClosedLane, Gate, LaneReport, LineSource, MOST_SOURCES, Plan, Report,
-    RunFault, run_into,
+    Answers, ClosedLane, Gate, ItemOptions, LaneReport, LineSource, MOST_SOURCES, Plan, Report,
+    RunFault, run_items,
 };
 use set_line::Terms;
 use std::alloc::{AllocError, Global};
@@ -77,8 +77,9 @@ pub fn run<R: Threads + Wait + Sync, S: LineSource + Send + Drop, G: Gate + Sync
         return Err(RunFault::TooManySources);
     }
     let lists = AnswerLists::new(alloc, sources.len())?;
-    let options = BatchOptions { plan, gate };
-    let (lists, ended) = run_into(rt, alloc, sources, options, lists);
+    let lanes = 1;
+    let options = ItemOptions { plan, gate, lanes };
+    let (lists, ended) = run_items(rt, alloc, sources, options, lists);
     let ended = ended?;
     if ended.refusal.is_some() {
         return Err(RunFault::OutOfMemory);

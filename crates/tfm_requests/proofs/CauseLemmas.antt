@@ -20,7 +20,7 @@ use Rattle.tfm_requests.specs.Errors.{font_error_of, font_error_of_read, job_err
 use Rattle.tfm_requests.specs.Jobs.{AreTermsOf, AreWordsOfJobs, HasTermsOf, IsOpenedWith, JobValue, job_value, jobs_in, IsSourceWith}
 use Rattle.tfm_requests.specs.Kept.{HaveSameFont}
 use Rattle.tfm_requests.specs.Known.{OfKnown, file_bytes_of}
-use Rattle.tfm_requests.specs.Told.{Told}
+use Rattle.line_chunks.specs.Reading.{Told}
 use Rattle.tfm_requests.specs.declared.batches.jobs.Job.{Job}
 use Rattle.tfm_requests.specs.declared.failures.errors.FontError.{FontError}
 use Rattle.tfm_requests.specs.declared.failures.errors.FontError.TheVariants.{Refused}

@@ -16,7 +16,8 @@ use Rattle.run_texts.specs.Setting.{HasTerms}
 use Rattle.tfm_requests.specs.Jobs.{AreTermsFor, AreTermsOf, HasTermsOf, IsOpenedWith, IsSourceOfJob, JobValue, job_value, jobs_in, told_with_terms, IsSourceWith}
 use Rattle.tfm_requests.specs.Kept.{HaveSameFont}
 use Rattle.tfm_requests.specs.Known.{file_bytes_of}
-use Rattle.tfm_requests.specs.Told.{IsSourceOf, Told, text_in}
+use Rattle.line_chunks.specs.Reading.{Told}
+use Rattle.tfm_requests.specs.Told.{IsSourceOf}
 use Rattle.command_line.specs.declared.request.Layout.{Layout}
 use Rattle.tfm_requests.specs.declared.batches.jobs.Job.{Job}
 use Rattle.tfm_requests.proofs.KnownLemmas.{of_known}
@@ -90,7 +91,7 @@ module _ {S : Type 0} (known : List ℕ → Option (List ℕ)) (tell : S → Tol
   sources_of_jobs layout jobs words pairs sources is has opened =
       subst (λ values. AllZip (IsSourceOfJob known layout) values (map (told_with_terms tell) sources)) is
       (zipped (HasTermsOf known layout) (IsOpenedWith known layout tell) (IsSourceOfJob known layout) job_value (told_with_terms tell) (λ job named source h o. (
-        subst (λ name. IsSourceOf (text_in layout (known name.now)) (tell source.0)) h.0 o.0,
+        subst (λ name. IsSourceOf layout.crlf (known name.now) (tell source.0)) h.0 o.0,
         subst (λ arc. AreTermsOf known layout (job_value job) (arc_value arc)) (sym o.1) h.1,
       )) jobs pairs sources has opened)
 
@@ -101,7 +102,7 @@ module _ {S : Type 0} (known : List ℕ → Option (List ℕ)) (tell : S → Tol
       → IfOk r (λ sources. AllZip (IsSourceWith layout terms) (file_bytes_of known names) (map (told_with_terms tell) (items sources)))
   sources_of_files items (Ok sources) layout terms names pairs has opened =
       zipped (HasTerms terms) (IsOpenedWith known layout tell) (IsSourceWith layout terms) (λ name. known name.now) (told_with_terms tell) (λ name named source h o. (
-        subst (λ name. IsSourceOf (text_in layout (known name.now)) (tell source.0)) h.0 o.0,
+        subst (λ name. IsSourceOf layout.crlf (known name.now) (tell source.0)) h.0 o.0,
         ap arc_value o.1 ∙ h.1,
       )) names pairs (items sources) has opened
   sources_of_files items (Err e) layout terms names pairs has opened = opened

@@ -1,7 +1,6 @@
 pub mod KeptLemmas
 pub mod KnownLemmas
 pub mod NamedLemmas
-pub mod ReaderLemmas
 pub mod FailureLemmas
 pub mod CauseLemmas
 pub mod VectorLemmas

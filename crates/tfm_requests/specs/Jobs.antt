@@ -11,7 +11,8 @@ use Rattle.std.specs.declared.sync.Arc.{Arc}
 use Rattle.tfm_tables.specs.Font.{IsFontOf}
 use Rattle.set_line.specs.Terms.{TermsValue}
 use Rattle.tfm_requests.specs.Known.{OfKnown}
-use Rattle.tfm_requests.specs.Told.{IsSourceOf, Told, text_in}
+use Rattle.line_chunks.specs.Reading.{Told}
+use Rattle.tfm_requests.specs.Told.{IsSourceOf}
 use Rattle.command_line.specs.declared.request.Layout.{Layout}
 use Rattle.tfm_requests.specs.declared.failures.errors.RequestError.{RequestError}
 use Rattle.tfm_requests.specs.declared.failures.errors.RequestError.TheVariants.{NotInThrees, TooManyFiles, LimitRange, OutOfMemory}
@@ -83,9 +84,9 @@ abbrev pub AreTermsFor : Option (List ℕ) → Layout → ℕ → TermsValue →
 AreTermsFor bytes layout limit terms =
     OfKnown bytes (λ all. IsFontOf all layout.size terms.font) × (terms.limit ≡ limit) × (terms.policy ≡ layout.policy)
 
--- a source of the text in these bytes for a layout, by its known contents, with these settings
+-- a source of the lines in these bytes for a layout, by its known contents, with these settings
 abbrev pub IsSourceWith : Layout → TermsValue → Option (List ℕ) → Told × TermsValue → Type 0
-IsSourceWith layout terms bytes source = IsSourceOf (text_in layout bytes) source.0 × (source.1 ≡ terms)
+IsSourceWith layout terms bytes source = IsSourceOf layout.crlf bytes source.0 × (source.1 ≡ terms)
 
 module _ (known : List ℕ → Option (List ℕ)) where
   -- the settings of a job in a layout
@@ -94,7 +95,7 @@ module _ (known : List ℕ → Option (List ℕ)) where
 
   -- a source of the file of a job, by its known contents, with the settings of the job
   abbrev pub IsSourceOfJob : Layout → JobValue → Told × TermsValue → Type 0
-  IsSourceOfJob layout job source = IsSourceOf (text_in layout (known job.file)) source.0 × AreTermsOf layout job source.1
+  IsSourceOfJob layout job source = IsSourceOf layout.crlf (known job.file) source.0 × AreTermsOf layout job source.1
 
   -- the name of the file of a job, with the settings of the job
   abbrev pub HasTermsOf : Layout → Job → Bor (List ℕ) × Arc TermsValue Global → Type 0
@@ -105,7 +106,7 @@ module _ {S : Type 0} where
   abbrev pub told_with_terms : (S → Told) → S × Arc TermsValue Global → Told × TermsValue
   told_with_terms tell source = (tell source.0, arc_value source.1)
 
-  -- a source of the text in the file of this name, with the same settings
+  -- a source of the lines of the file of this name, with the same settings
   abbrev pub IsOpenedWith :
       (List ℕ → Option (List ℕ)) → Layout → (S → Told) → Bor (List ℕ) × Arc TermsValue Global → S × Arc TermsValue Global → Type 0
-  IsOpenedWith known layout tell named source = IsSourceOf (text_in layout (known named.0.now)) (tell source.0) × (source.1 ≡ named.1)
+  IsOpenedWith known layout tell named source = IsSourceOf layout.crlf (known named.0.now) (tell source.0) × (source.1 ≡ named.1)

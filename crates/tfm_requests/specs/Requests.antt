@@ -12,9 +12,11 @@ use Rattle.font_texts.specs.declared.pairs_layout.PairsLayout.{PairsLayout}
 use Rattle.tfm_tables.specs.Font.{FontValue, IsFontOf}
 use Rattle.set_line.specs.Terms.{TermsValue}
 use Rattle.encodings.specs.declared.encoding.Encoding.{Encoding}
-use Rattle.line_blocks.specs.BlockText.{RecordStyle}
+use Rattle.line_chunks.specs.ChunkText.{RecordStyle}
+use Rattle.line_chunks.specs.Reading.{Told}
 use Rattle.set_run.specs.Reports.{IsReported}
 use Rattle.set_run.specs.declared.report.LaneReport.{LaneReport}
+use Rattle.run_texts.specs.ChunkLanes.{fault_told, lines_told}
 use Rattle.run_texts.specs.Endings.{summary_status}
 use Rattle.run_texts.specs.ReportText.{run_text, summary_of_run}
 use Rattle.run_texts.specs.Streaming.{IsStreamed}
@@ -26,7 +28,6 @@ use Rattle.command_line.specs.declared.request.Setting.{Setting}
 use Rattle.tfm_requests.specs.Checking.{AreChecked}
 use Rattle.tfm_requests.specs.Known.{OfKnown, file_bytes_of, font_bytes_of, stream_bytes_of}
 use Rattle.tfm_requests.specs.Jobs.{AreTermsFor, IsSourceOfJob, IsSourceWith, jobs_in}
-use Rattle.tfm_requests.specs.Told.{Told}
 use Rattle.tfm_requests.specs.Vectors.{IsEncodingOf}
 use Rattle.tfm_requests.specs.declared.batches.delivery.Delivery.{Delivery}
 use Rattle.tfm_requests.specs.declared.batches.delivery.Output.{Output}
@@ -66,7 +67,7 @@ style_of output = record { encoding = output.encoding; version = output.layout.n
 
 -- the output for these reports was written: in the order of the sources, or the lines of all sources as they
 -- arrived
-abbrev pub IsDelivered : {S : Type 0} → Delivery → RecordStyle → List (LaneReport S) → Option (List ℕ) → Option (List ℕ) → Type 0
+abbrev pub IsDelivered : Delivery → RecordStyle → List (LaneReport Told) → Option (List ℕ) → Option (List ℕ) → Type 0
 IsDelivered AtTheEnd style reports before after = Appends before after (run_text style reports)
 IsDelivered AsTheyCome style reports before after = IsStreamed style reports before after
 
@@ -75,7 +76,7 @@ IsDelivered AsTheyCome style reports before after = IsStreamed style reports bef
 abbrev pub IsPrinted : Delivery → List (Told × TermsValue) → RecordStyle → Option (List ℕ) → Option (List ℕ) → ℕ → Type 0
 IsPrinted delivery sources style before after status =
     (reports : List (LaneReport Told))
-    × AllZip (λ source report. IsReported (λ told. told.lines) (λ told. told.fault) source.1 source.0 report) sources reports
+    × AllZip (λ source report. IsReported lines_told fault_told source.1 source.0 report) sources reports
     × IsDelivered delivery style reports before after
     × (status ≡ summary_status (summary_of_run style.encoding reports))
 

@@ -4,7 +4,7 @@
 
 pub use command_line::{Request, Requested, requested};
 pub use program::{tool, words_refused};
-pub use run_texts::{FontSetting, OutputOptions, Summary, ToolFault, set_each, set_text, status};
+pub use run_texts::{FontSetting, ReportOptions, Summary, ToolFault, set_each, set_text, status};
 pub use set_line::Version;
 pub use tfm_requests::{
     Disk, Done, EncodingError, Failure, FileError, FontError, InMemory, Opens, RequestError,

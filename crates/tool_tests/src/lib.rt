@@ -1,4 +1,4 @@
-//! The tests of the texts of runs and of the whole program, over the public calls of `tfm_tool` alone.
+//! The tests of chunks, of the output of batches, of requests, and of the whole program.
 #![tactic(auto)]
 
 #[cfg(test)]

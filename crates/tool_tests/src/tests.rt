@@ -5,6 +5,13 @@ macro_rules! rows {
     };
 }
 
+/// The rows of another table.
+macro_rules! table {
+    ($($($part:expr),+;)+) => {
+        [$(($($part),+)),+]
+    };
+}
+
 /// Ways of reads and writes that differ from `FREE` in these fields.
 macro_rules! ways {
     ($($field:ident = $value:expr),+) => {
@@ -13,12 +20,10 @@ macro_rules! ways {
 }
 
 mod batches;
-mod carriage_returns;
+mod chunks;
 mod doubles;
-mod early_ends;
 mod memory;
 mod prompt_records;
-mod ready_blocks;
 mod requests;
 mod single_functions;
 mod tool_calls;

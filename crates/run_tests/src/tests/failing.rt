@@ -1,76 +1,72 @@
-//! Runs with readers, and with sources that fail.
-use super::reports::{reports, text_of_ab};
+//! Batches with readers, and with sources that fail.
+use super::reports::{Sources, reports, text_of_ab};
 use batch_support::{FailingSource, plan, with_terms};
 use line_lane::SourceFault;
-use set_line::Terms;
 use set_run::ReaderSource;
 use std::alloc::Global;
 use std::process::Abort;
-use std::sync::{Arc, Wait};
+use std::sync::Wait;
 use std::test::Fail;
 use std::thread::Threads;
-use std::vec;
 use test_support::TricklingReader;
 use test_support::terms::plain_terms;
 
 /// More reads than any text takes.
 const ALL: usize = usize::MAX;
 
-/// Two sources of the plain font; `None` if an allocation fails.
-fn two<S: Drop>(alloc: Global, first: S, second: S) -> Option<Vec<(S, Arc<Terms>)>> {
-    let mut sources = Vec::with_capacity(alloc, 2).ok()?;
-    sources.push(first).ok()?;
-    sources.push(second).ok()?;
+/// A source of `ab` and `c` that fails so, and one of `a`; `None` if an allocation fails.
+fn failing_and_good(alloc: Global, fault: SourceFault) -> Option<Sources<FailingSource>> {
+    let mut sources = Vec::new(alloc);
+    sources
+        .push(FailingSource::new(alloc, &["ab", "c"], Some(fault))?)
+        .ok()?;
+    sources.push(FailingSource::new(alloc, &["a"], None)?).ok()?;
     with_terms(alloc, &plain_terms(alloc)?, sources)
 }
 
-/// A source of `ab` and `c` that fails so, and one of `a`; `None` if an allocation fails.
-fn failing_and_good(alloc: Global, fault: SourceFault) -> Option<Vec<(FailingSource, Arc<Terms>)>> {
-    let failing = FailingSource::new(alloc, &["ab", "c"], Some(fault))?;
-    let good = FailingSource::new(alloc, &["a"], None)?;
-    two(alloc, failing, good)
-}
-
-/// Faults, their words and what is reported of both sources.
-static FAULTS: [(SourceFault, &str, &str); 3] = [
-    (
-        SourceFault::Read,
-        "read",
-        "1:1 set 491520 c97=327680 c98=163840\n1:2 set 491520 c99=491520\n1 end read 2\n\
-         2:1 set 327680 c97=327680\n2 end complete 1\n",
-    ),
-    (
-        SourceFault::OutOfMemory,
-        "memory",
-        "1:1 set 491520 c97=327680 c98=163840\n1:2 set 491520 c99=491520\n1 end memory 2\n\
-         2:1 set 327680 c97=327680\n2 end complete 1\n",
-    ),
-    (
-        SourceFault::ReadBound,
-        "bound",
-        "1:1 set 491520 c97=327680 c98=163840\n1:2 set 491520 c99=491520\n1 end bound 2\n\
-         2:1 set 327680 c97=327680\n2 end complete 1\n",
-    ),
+/// Errors, and their words.
+static FAULTS: [(SourceFault, &str); 3] = [
+    (SourceFault::Read, "read"),
+    (SourceFault::OutOfMemory, "memory"),
+    (SourceFault::ReadBound, "bound"),
 ];
 
-/// The lines before this fault are answered in blocks of this many.
-fn answers_before<R: Threads + Wait + Abort + AllocGlobal + Sync>(
-    rt: &R,
-    (fault, word, wanted): (SourceFault, &str, &str),
-    block: usize,
-) -> Result<(), Fail> {
-    let plan = plan(1, block, 2)?;
-    let case = format!(in rt.alloc(); "{word} block {block}")?;
-    let sources = failing_and_good(rt.alloc(), fault).ok_or("out of memory")?;
-    reports(rt, &case, sources, plan, (wanted, false))
+#[test]
+fn the_lines_before_an_error_have_results(rt: HostRuntime) -> Result<(), Fail> {
+    for (fault, word) in &FAULTS {
+        let wanted = format!(in rt.alloc();
+            "1:1 set 491520 c97=327680 c98=163840\n1:2 set 491520 c99=491520\n1 end {word} 2\n\
+             2:1 set 327680 c97=327680\n2 end complete 1\n"
+        )?;
+        for block in [1, 3, 8] {
+            let case = format!(in rt.alloc(); "{word} block {block}")?;
+            let sources = failing_and_good(rt.alloc(), *fault).ok_or("out of memory")?;
+            reports(&rt, &case, sources, plan(1, block, 2)?, (&wanted, false))?;
+        }
+    }
+    Ok(())
 }
 
-#[test]
-fn the_lines_before_a_fault_are_answered(rt: HostRuntime) -> Result<(), Fail> {
-    for fault in &FAULTS {
-        for block in [1, 3, 8] {
-            answers_before(&rt, *fault, block)?;
+/// A reader: its bytes, how many bytes a read returns, and after how many reads it fails.
+type Reader<'a> = (&'a [u8], usize, usize);
+
+/// The batch of these readers, which has blocks of one line and of eight, has this report.
+fn read<R: Threads + Wait + Abort + AllocGlobal + Sync>(
+    rt: &R,
+    case: &str,
+    readers: &[Reader<'_>],
+    wanted: (&str, bool),
+) -> Result<(), Fail> {
+    let alloc = rt.alloc();
+    for block in [1, 8] {
+        let mut sources = Vec::new(alloc);
+        for (bytes, step, good_reads) in readers {
+            let reader = TricklingReader::new(bytes, *step, *good_reads);
+            sources.push(ReaderSource::new(alloc, reader))?;
         }
+        let terms = plain_terms(alloc).ok_or("out of memory")?;
+        let sources = with_terms(alloc, &terms, sources).ok_or("out of memory")?;
+        reports(rt, case, sources, plan(1, block, 2)?, wanted)?;
     }
     Ok(())
 }
@@ -82,73 +78,38 @@ const TWO_READERS: &str = "\
 2 end complete 1
 ";
 
-/// A source whose reader trickles.
-type Trickling<'a> = (ReaderSource<TricklingReader<'a>>, Arc<Terms>);
-
-/// A reader of `ab` and `c` that fails at its second read, and one of `a`; `None` if an allocation fails.
-fn two_readers<'a>(alloc: Global) -> Option<Vec<Trickling<'a>>> {
-    let first = ReaderSource::new(alloc, TricklingReader::new(b"ab\nc", 4, 1));
-    let second = ReaderSource::new(alloc, TricklingReader::new(b"a", 4, ALL));
-    two(alloc, first, second)
-}
-
 #[test]
-fn a_line_cut_off_by_a_fault_is_not_given(rt: HostRuntime) -> Result<(), Fail> {
-    for block in [1, 8] {
-        let plan = plan(1, block, 2)?;
-        let sources = two_readers(rt.alloc()).ok_or("out of memory")?;
-        reports(&rt, "two readers", sources, plan, (TWO_READERS, false))?;
-    }
-    Ok(())
+fn a_line_cut_off_by_an_error_is_not_given(rt: HostRuntime) -> Result<(), Fail> {
+    let readers: [Reader<'static>; 2] = [(b"ab\nc", 4, 1), (b"a", 4, ALL)];
+    read(&rt, "two readers", &readers, (TWO_READERS, false))
 }
 
-/// A run of one reader, which gives this many bytes at a time, has this report.
-fn reads_alone<R: Threads + Wait + Abort + AllocGlobal + Sync>(
-    rt: &R,
-    case: &str,
-    (bytes, step, good_reads): (&[u8], usize, usize),
-    wanted: (&str, bool),
-) -> Result<(), Fail> {
-    let plan = plan(1, 1, 1)?;
-    let reader = TricklingReader::new(bytes, step, good_reads);
-    let mut sources = Vec::new(rt.alloc());
-    let terms = plain_terms(rt.alloc()).ok_or("out of memory")?;
-    sources.push((ReaderSource::new(rt.alloc(), reader), terms))?;
-    reports(rt, case, sources, plan, wanted)
-}
-
-static ENDS: [&str; 4] = [
-    "1 end read 0\n",
-    "\
-1:1 set 491520 c97=327680 c98=163840
-1 end read 1
-",
-    "\
-1:1 set 491520 c97=327680 c98=163840
-1:2 set 491520 c99=491520
-1 end read 2
-",
-    "\
-1:1 set 491520 c97=327680 c98=163840
-1:2 set 491520 c99=491520
-1:3 set 163840 c98=163840
-1 end complete 3
-",
+/// The records of the lines of a text, and its end.
+static RECORDS: [&str; 3] = [
+    "1:1 set 491520 c97=327680 c98=163840\n",
+    "1:2 set 491520 c99=491520\n",
+    "1:3 set 163840 c98=163840\n",
 ];
 
-/// How many lines come before the read of each number fails, from the first on.
+/// How many lines come before the read of each number fails, starting at the first read.
 static BEFORE: [usize; 9] = [0, 0, 0, 1, 1, 2, 2, 3, 3];
 
 #[test]
 fn a_reader_fails_at_each_of_its_reads(rt: HostRuntime) -> Result<(), Fail> {
     for (good_reads, before) in BEFORE.iter().enumerate() {
         let case = format!(in rt.alloc(); "{good_reads} good reads")?;
-        let wanted = ENDS.get(*before).ok_or("no such end")?;
-        reads_alone(
+        let mut wanted = String::new(rt.alloc());
+        for record in RECORDS.iter().take(*before) {
+            wanted.push_str(record)?;
+        }
+        let finished = *before == 3;
+        let word = if finished { "complete" } else { "read" };
+        write!(wanted, "1 end {word} {before}\n")?;
+        read(
             &rt,
             &case,
-            (b"ab\nc\nb", 1, good_reads),
-            (wanted, *before == 3),
+            &[(b"ab\nc\nb", 1, good_reads)],
+            (&wanted, finished),
         )?;
     }
     Ok(())
@@ -159,11 +120,21 @@ fn a_reader_fails_at_each_of_its_reads(rt: HostRuntime) -> Result<(), Fail> {
 fn a_line_that_takes_too_many_reads_ends_its_lane(rt: HostRuntime) -> Result<(), Fail> {
     let mut text = vec![in rt.alloc(); b'a'; 1_048_575]?;
     let wanted = "1:1 refused too-long 1048575\n1 end complete 1\n";
-    reads_alone(&rt, "up to the end", (&text, 1, ALL), (wanted, true))?;
+    read(&rt, "up to the end", &[(&text, 1, ALL)], (wanted, true))?;
     text.push(b'\n')?;
-    reads_alone(&rt, "up to the line feed", (&text, 1, ALL), (wanted, true))?;
+    read(
+        &rt,
+        "up to the line feed",
+        &[(&text, 1, ALL)],
+        (wanted, true),
+    )?;
     text.insert(0, b'a')?;
-    reads_alone(&rt, "one more", (&text, 1, ALL), ("1 end bound 0\n", false))
+    read(
+        &rt,
+        "one more",
+        &[(&text, 1, ALL)],
+        ("1 end bound 0\n", false),
+    )
 }
 
 /// A text with an empty line, a refused one, spaces, and a last line without a line feed.
@@ -179,15 +150,15 @@ const REPORT: &str = "\
 1 end complete 6
 ";
 
-/// The long text has more bytes than a read gives.
+/// The long text has more bytes than a read returns.
 #[test]
 fn a_text_has_the_same_report_whatever_a_read_gives(rt: HostRuntime) -> Result<(), Fail> {
     let long = "ab\n".repeat(rt.alloc(), 1_500)?;
     let wanted = text_of_ab(rt.alloc(), &[1_500])?;
     for step in [1, 2, 3, 4096] {
         let case = format!(in rt.alloc(); "step {step}")?;
-        reads_alone(&rt, &case, (MIXED.as_bytes(), step, ALL), (REPORT, true))?;
-        reads_alone(&rt, &case, (long.as_bytes(), step, ALL), (&wanted, true))?;
+        read(&rt, &case, &[(MIXED.as_bytes(), step, ALL)], (REPORT, true))?;
+        read(&rt, &case, &[(long.as_bytes(), step, ALL)], (&wanted, true))?;
     }
     Ok(())
 }

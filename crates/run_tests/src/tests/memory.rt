@@ -1,18 +1,19 @@
 //! Failed allocations. If every allocation succeeds, a batch returns its whole report. The toolchain's option
-//! `--fail-alloc` lets one allocation fail. The first allocations make the arguments of the call. If one of the
-//! later ones fails, the batch returns an error, or a setter abandons its lane: the report then has the first
-//! results of this lane, and all results of the other lanes. The text that is printed states which case it was.
+//! `--fail-alloc` lets one allocation fail. The first allocations make the arguments of the call. If one of
+//! the later ones fails, the batch returns an error, or a setter abandons its lane: the report then has the
+//! first results of this lane, and all results of the other lanes. The text that is printed states which case
+//! it was.
 use super::plans::three_with_terms;
 use batch_support::plan;
 use lig_kern::Item;
 use line_lane::LaneEnd;
 use set_line::{Answer, LineRefusal, Outcome};
-use set_run::{LaneReport, ListSource, NoGate, Report, RunFault, run};
+use set_run::{LaneReport, ListSource, NoGate, RunFault, run};
 use std::process::Abort;
 use std::test::Fail;
 use test_support::items::{A, B, C};
 
-/// Whether an answer has these items, with this width, a step each.
+/// Whether a result has these items, with this width.
 fn is_set(answer: &Answer, wanted: (&[Item], i64)) -> bool {
     match answer.outcome() {
         Outcome::Set { items, width, .. } => items.as_slice() == wanted.0 && *width == wanted.1,
@@ -20,7 +21,7 @@ fn is_set(answer: &Answer, wanted: (&[Item], i64)) -> bool {
     }
 }
 
-/// Whether the answer is that of the line of this source at this place.
+/// Whether the result is that of this line of this source.
 fn is_right(source: u32, place: u32, answer: &Answer) -> bool {
     match (source, place) {
         (2, 1) => is_set(answer, (&[A, B, C], 983_040)),
@@ -33,42 +34,24 @@ fn is_right(source: u32, place: u32, answer: &Answer) -> bool {
     }
 }
 
-/// The answers of a lane are its first ones, and all if the lane is complete. Whether it is.
+/// The results of a lane are its first ones, and all if the lane is complete. Otherwise it is abandoned.
 fn is_complete<R: Abort>(rt: &R, source: u32, lane: &LaneReport<ListSource>) -> bool {
     let mut place = 0u32;
     for answer in lane.answers.as_slice() {
         place = place.wrapping_add(1);
         assert!(rt; is_right(source, place, answer), "{source}:{place}");
     }
-    let all = match source {
-        1 => 0,
-        2 => 1,
-        _ => 100,
-    };
-    match lane.end {
-        LaneEnd::Complete => {
-            assert_eq!(rt; place, all, "{source}");
-            true
-        }
-        end => {
-            assert_eq!(rt; end, LaneEnd::GaveUp, "{source}");
-            false
-        }
+    if lane.end != LaneEnd::Complete {
+        assert_eq!(rt; lane.end, LaneEnd::GaveUp, "{source}");
+        return false;
     }
-}
-
-/// How many of the three lanes were given up.
-fn given_up<R: Abort>(rt: &R, report: &Report<ListSource>) -> u32 {
-    let mut source = 0u32;
-    let mut given_up = 0u32;
-    for lane in report.lanes() {
-        source = source.wrapping_add(1);
-        if !is_complete(rt, source, lane) {
-            given_up = given_up.wrapping_add(1);
-        }
-    }
-    assert_eq!(rt; source, 3);
-    given_up
+    let all = [0, 1, 100];
+    assert_eq!(rt;
+        Some(&place),
+        all.get(source.wrapping_sub(1) as usize),
+        "{source}"
+    );
+    true
 }
 
 #[test]
@@ -77,15 +60,24 @@ fn a_refused_request_of_a_run(rt: HostRuntime) -> Result<(), Fail> {
         return Ok(println!(rt; "refused before the run")?);
     };
     let plan = plan(1, 1, 2)?;
-    let told = match run(&rt, rt.alloc(), sources, plan, &NoGate) {
-        Ok(report) => match given_up(&rt, &report) {
-            0 => "finished",
-            1 => "one lane was given up",
-            _ => panic!(rt; "more than one lane was given up"),
-        },
-        Err(RunFault::OutOfMemory) => "out of memory",
-        Err(RunFault::Thread) => "a thread was refused",
-        Err(RunFault::TooManySources) => panic!(rt; "too many sources"),
+    let report = match run(&rt, rt.alloc(), sources, plan, &NoGate) {
+        Ok(report) => report,
+        Err(RunFault::OutOfMemory) => return Ok(println!(rt; "out of memory")?),
+        Err(RunFault::Thread) => return Ok(println!(rt; "a thread was refused")?),
+        Err(RunFault::TooManySources) => panic!(&rt; "too many sources"),
     };
-    Ok(println!(rt; "{told}")?)
+    let (mut source, mut abandoned) = (0u32, 0u32);
+    for lane in report.lanes() {
+        source = source.wrapping_add(1);
+        if !is_complete(&rt, source, lane) {
+            abandoned = abandoned.wrapping_add(1);
+        }
+    }
+    assert_eq!(&rt; source, 3);
+    match abandoned {
+        0 => println!(rt; "finished")?,
+        1 => println!(rt; "one lane was given up")?,
+        _ => panic!(&rt; "more than one lane was given up"),
+    }
+    Ok(())
 }

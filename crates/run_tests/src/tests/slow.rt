@@ -1,54 +1,137 @@
-//! Sources, gates and collectors that take their time, so that the other threads of a run sleep.
-use batch_support::with_terms;
+//! Batches of sources and collectors that take their time, wait for each other, or refuse.
+use batch_support::{plan, with_terms};
 use line_lane::{LaneEnd, SourceFault};
 use set_line::{Answer, Line, Outcome, Terms};
-use set_run::{Collector, Gate, LineSource, Refusal, Stage};
+use set_run::{Collector, Gate, ItemOptions, ItemSource, Refusal, RunEnd, Stage, run_items};
 use std::alloc::Global;
-use std::sync::Arc;
-use std::thread;
+use std::process::Abort;
+use std::sync::atomic::{AtomicBool, AtomicU32, Ordering};
+use std::sync::{Arc, Wait};
+use std::test::Fail;
+use std::thread::Threads;
 use std::time::{Clock, Duration};
+use std::{array, thread};
 use test_support::line;
 use test_support::terms::plain_terms;
 
-/// A source that gives the line `ab` this many times, each after a pause.
+/// How often a source polls for something that it waits for, and how long it sleeps between two polls, in
+/// microseconds.
+const POLLS: u32 = 20_000;
+
+const POLL: u64 = 200;
+
+/// What a source waits for before it returns a line.
+#[derive(Clone, Copy, Debug, PartialEq, Eq)]
+pub enum Before {
+    /// The end of a pause of this many microseconds. Such a source is ready if there is no pause.
+    Pause(u64),
+    /// The results of its earlier lines. Such a source is never ready.
+    Results,
+    /// The refusal of the collector, before each line but the first, and a pause of this many microseconds.
+    Refusal(u64),
+}
+
+/// What the sources and the collector of a batch share.
+#[derive(Drop)]
+pub struct Shared {
+    /// The number of results collected of each source.
+    collected: [AtomicU32; 64],
+    refused: AtomicBool,
+    /// How often a source was asked for a line that comes after the refusal.
+    asked: AtomicU32,
+    /// A source waited in vain.
+    late: AtomicBool,
+}
+
+impl Shared {
+    pub fn new() -> Shared {
+        Shared {
+            collected: array::from_fn(|_| AtomicU32::new(0)),
+            refused: AtomicBool::new(false),
+            asked: AtomicU32::new(0),
+            late: AtomicBool::new(false),
+        }
+    }
+
+    pub fn asked(&self) -> u32 {
+        self.asked.load(Ordering::SeqCst)
+    }
+
+    pub fn is_late(&self) -> bool {
+        self.late.load(Ordering::SeqCst)
+    }
+
+    fn collect(&self, lane: usize) {
+        self.collected[lane % 64].fetch_add(1, Ordering::SeqCst);
+    }
+
+    /// Whether a source that was asked for so many lines before has waited long enough.
+    fn has_come(&self, before: Before, number: usize, given: u32) -> bool {
+        match before {
+            Before::Pause(_) => true,
+            Before::Results => self.collected[number % 64].load(Ordering::SeqCst) >= given,
+            Before::Refusal(_) => given == 0 || self.refused.load(Ordering::SeqCst),
+        }
+    }
+}
+
+/// A source that returns the line `ab` so many times.
 #[derive(Drop)]
 pub struct SlowSource<'a, R> {
     rt: &'a R,
     alloc: Global,
+    shared: &'a Shared,
+    number: usize,
+    before: Before,
+    given: u32,
     left: u32,
-    pause: u64,
-    failed: Option<SourceFault>,
 }
 
-impl<R: Clock> LineSource for SlowSource<'_, R> {
-    ghost use Rattle.std.specs.Prelude.{None};
+impl<R: Clock> SlowSource<'_, R> {
+    /// Waits as the source should before a line; after one vain wait of any source not again.
+    fn wait(&self) {
+        match self.before {
+            Before::Pause(micros) => rest(self.rt, micros),
+            Before::Refusal(micros) if self.given > 0 => rest(self.rt, micros),
+            _ => (),
+        }
+        for _ in 0..POLLS {
+            if self.shared.has_come(self.before, self.number, self.given) || self.shared.is_late() {
+                return;
+            }
+            rest(self.rt, POLL);
+        }
+        self.shared.late.store(true, Ordering::SeqCst);
+    }
+}
 
-    ghost to_come = { λ _. None };
+impl<R: Clock> ItemSource<Line> for SlowSource<'_, R> {
+    ghost use Rattle.std.specs.Prelude.{⊤};
 
-    ghost failed = { λ source. source.failed };
+    ghost next_gives = { λ before result after. ⊤ };
 
     ghost Origin = { Unit {0} };
 
     ghost origin = { λ _. tt };
 
-    fn next_line(&mut self) -> Result<Option<Line>, SourceFault> {
-        if let Some(fault) = self.failed {
-            return Err(fault);
+    fn next_item(&mut self) -> Result<Option<Line>, SourceFault> {
+        self.wait();
+        if matches!(self.before, Before::Refusal(_)) && self.given > 0 {
+            self.shared.asked.fetch_add(1, Ordering::SeqCst);
         }
-        rest(self.rt, self.pause);
         if self.left == 0 {
             return Ok(None);
         }
         self.left -= 1;
-        let Some(line) = line(self.alloc, b"ab") else {
-            self.failed = Some(SourceFault::OutOfMemory);
-            return Err(SourceFault::OutOfMemory);
-        };
-        Ok(Some(line))
+        self.given = self.given.saturating_add(1);
+        match line(self.alloc, b"ab") {
+            Some(line) => Ok(Some(line)),
+            None => Err(SourceFault::OutOfMemory),
+        }
     }
 
     fn is_ready(&self) -> bool {
-        self.pause == 0
+        self.before == Before::Pause(0)
     }
 }
 
@@ -59,59 +142,87 @@ fn rest<R: Clock>(rt: &R, micros: u64) {
     }
 }
 
-/// This many sources of this many lines, with a pause before each; `None` if an allocation fails.
-pub fn sources<'a, R: Clock>(
-    rt: &'a R,
-    alloc: Global,
-    count: usize,
-    (lines, pause): (u32, u64),
-) -> Option<Vec<(SlowSource<'a, R>, Arc<Terms>)>> {
-    let mut sources = Vec::with_capacity(alloc, count).ok()?;
-    for _ in 0..count {
-        let source = SlowSource {
-            rt,
-            alloc,
-            left: lines,
-            pause,
-            failed: None,
-        };
-        sources.push(source).ok()?;
-    }
-    with_terms(alloc, &plain_terms(alloc)?, sources)
+/// What the collecting thread does: how long it waits before it begins, and before it takes each event, in
+/// microseconds; how many events it takes before it refuses one, for which reason; and whether it ever waits
+/// for more events without a refusal.
+#[derive(Clone, Copy)]
+pub struct Manner {
+    pub late: u64,
+    pub pause: u64,
+    pub taken: u32,
+    pub refusal: Refusal,
+    pub waits: bool,
 }
 
-/// A gate that keeps the collecting thread waiting.
+/// It takes everything.
+pub const WILLING: Manner = Manner {
+    late: 0,
+    pause: 0,
+    taken: u32::MAX,
+    refusal: Refusal::Output,
+    waits: true,
+};
+
+/// A start barrier that keeps the collecting thread waiting for this many microseconds.
 #[derive(Drop)]
-pub struct LateGate<'a, R> {
-    pub rt: &'a R,
-    pub pause: u64,
-}
+struct LateGate<'a, R>(&'a R, u64);
 
 impl<R: Clock> Gate for LateGate<'_, R> {
     fn enter(&self, stage: Stage, _number: usize) {
         if stage == Stage::Collector {
-            rest(self.rt, self.pause);
+            rest(self.0, self.1);
         }
     }
 }
 
-/// Takes this many answers, each after a pause, and refuses what comes then.
+/// A collector of this manner, and what it was given.
 #[derive(Drop)]
 pub struct SlowCollector<'a, R> {
-    pub rt: &'a R,
-    pub pause: u64,
-    pub left: u32,
-    /// Answers and ends that it was given.
-    pub answers: u32,
-    pub ends: u32,
-    /// A line wasn't set as it should be, or a lane didn't end as it should.
+    rt: &'a R,
+    shared: &'a Shared,
+    manner: Manner,
+    pub answers: [u32; 64],
+    pub ended: [bool; 64],
+    pub refused: bool,
+    /// It was called again after it had refused something, a line wasn't set as it should be, or a lane
+    /// didn't end as it should or went on after its end.
     pub wrong: bool,
 }
 
-impl<R> Collector for SlowCollector<'_, R>
-where
-    R: Clock,
-{
+impl<R> SlowCollector<'_, R> {
+    /// The number of results, and that of ends.
+    pub fn counts(&self) -> (u32, u32) {
+        let mut counts = (0u32, 0u32);
+        for answers in &self.answers {
+            counts.0 = counts.0.saturating_add(*answers);
+        }
+        for ended in &self.ended {
+            counts.1 = counts.1.saturating_add(u32::from(*ended));
+        }
+        counts
+    }
+
+    fn refuses(&mut self) -> Result<(), Refusal> {
+        self.refused = true;
+        self.shared.refused.store(true, Ordering::SeqCst);
+        Err(self.manner.refusal)
+    }
+}
+
+impl<R: Clock> SlowCollector<'_, R> {
+    /// An event of a lane.
+    fn event(&mut self, lane: usize) -> Result<(), Refusal> {
+        self.wrong |= self.refused || self.ended[lane % 64];
+        rest(self.rt, self.manner.pause);
+        if self.manner.taken == 0 {
+            return self.refuses();
+        }
+        self.manner.taken -= 1;
+        Ok(())
+    }
+}
+
+impl<R: Clock> Collector for SlowCollector<'_, R> {
     ghost use Rattle.std.specs.Prelude.{⊤};
 
     type Item = Answer;
@@ -124,24 +235,85 @@ where
 
     ghost quiet = { λ c. ⊤ };
 
-    fn take(&mut self, _lane: usize, answer: Answer) -> Result<(), Refusal> {
-        if self.left == 0 {
-            return Err(Refusal::Output);
-        }
-        rest(self.rt, self.pause);
-        self.left -= 1;
-        self.answers = self.answers.saturating_add(1);
+    fn take(&mut self, lane: usize, answer: Answer) -> Result<(), Refusal> {
+        self.event(lane)?;
         self.wrong |= !matches!(answer.outcome(), Outcome::Set { width: 491_520, .. });
+        self.answers[lane] = self.answers[lane].saturating_add(1);
+        self.shared.collect(lane);
         Ok(())
     }
 
-    fn end(&mut self, _lane: usize, end: LaneEnd) -> Result<(), Refusal> {
-        self.ends = self.ends.saturating_add(1);
+    fn end(&mut self, lane: usize, end: LaneEnd) -> Result<(), Refusal> {
+        self.event(lane)?;
         self.wrong |= end != LaneEnd::Complete;
+        self.ended[lane] = true;
         Ok(())
     }
 
     fn about_to_wait(&mut self) -> Result<(), Refusal> {
-        Ok(())
+        self.wrong |= self.refused;
+        if self.manner.waits {
+            Ok(())
+        } else {
+            self.refuses()
+        }
     }
+}
+
+/// The sources of a batch, with their settings; `None` if an allocation fails.
+fn sources_of<'a, R: Clock>(
+    rt: &'a R,
+    alloc: Global,
+    count: usize,
+    (lines, before): (u32, Before),
+    shared: &'a Shared,
+) -> Option<Vec<(SlowSource<'a, R>, Arc<Terms>)>> {
+    let mut sources = Vec::with_capacity(alloc, count).ok()?;
+    for number in 0..count {
+        let source = SlowSource {
+            rt,
+            alloc,
+            shared,
+            number,
+            before,
+            given: 0,
+            left: lines,
+        };
+        sources.push(source).ok()?;
+    }
+    with_terms(alloc, &plain_terms(alloc)?, sources)
+}
+
+/// The slots and the block of a lane; and the sources, the workers, and the lanes of a source.
+pub type Layout = ((usize, usize), (usize, usize, usize));
+
+/// What came of a batch.
+pub type Ended<'a, R> = (SlowCollector<'a, R>, RunEnd<SlowSource<'a, R>>);
+
+/// Runs a batch of this layout, whose sources have so many lines and wait for this before each.
+pub fn run_slowly<'a, R: Threads + Wait + Clock + Abort + AllocGlobal + Sync>(
+    rt: &'a R,
+    &(size, (count, workers, lanes)): &Layout,
+    source: (u32, Before),
+    shared: &'a Shared,
+    manner: Manner,
+) -> Result<Ended<'a, R>, Fail> {
+    let plan = plan(size.0, size.1, workers)?;
+    let sources = sources_of(rt, rt.alloc(), count, source, shared).ok_or("out of memory")?;
+    if sources.len() > 64 {
+        return Err("too many sources".into());
+    }
+    let gate = &LateGate(rt, manner.late);
+    let options = ItemOptions { plan, gate, lanes };
+    let collector = SlowCollector {
+        rt,
+        shared,
+        manner,
+        answers: [0; 64],
+        ended: [false; 64],
+        refused: false,
+        wrong: false,
+    };
+    let (collector, ended) = run_items(rt, rt.alloc(), sources, options, collector);
+    Ok((collector, ended?))
 }

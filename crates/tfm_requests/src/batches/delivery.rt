@@ -3,21 +3,22 @@ ghost use Rattle.std.specs.Prelude.{◌≡◌, ◌≤◌, List, map, Err, IfErr,
 ghost use Rattle.std.specs.Io.KnownBytes.{Keeps};
 ghost use Rattle.set_run.specs.declared.report.LaneReport.{LaneReport as Lane};
 ghost use Rattle.set_run.specs.declared.run_fault.RunFault.{RunFault as Fault};
+ghost use Rattle.line_chunks.specs.Reading.{Told};
+ghost use Rattle.run_texts.specs.ChunkLanes.{AreReadReports};
 ghost use Rattle.run_texts.specs.Endings.{summary_status};
 ghost use Rattle.run_texts.specs.ReportText.{summary_of_run};
-ghost use Rattle.run_texts.specs.Setting.{AreOwnReports};
 ghost use Rattle.tfm_requests.specs.Jobs.{told_with_terms};
 ghost use Rattle.tfm_requests.specs.Requests.{IsDelivered, IsPrinted, style_of};
 ghost use Rattle.tfm_requests.specs.Status.{done_status, tool_status};
-ghost use Rattle.tfm_requests.specs.Told.{told_by};
+ghost use Rattle.tfm_requests.specs.Told.{told_reader};
 
 use crate::failures::done::Done;
 use command_line::Layout;
 use encodings::Encoding;
-use run_texts::{OutputOptions, Summary, ToolFault, set_each, status, stream_each};
+use run_texts::{OutputOptions, Summary, ToolFault, status, stream_readers};
 use set_line::Terms;
-use set_run::{LineSource, NoGate};
-use std::io::Write;
+use set_run::NoGate;
+use std::io::{Read, Write};
 use std::sync::{Arc, Wait};
 use std::thread::Threads;
 
@@ -41,21 +42,21 @@ pub(crate) struct Output<'a> {
     pub delivery: Delivery,
 }
 
-/// Sets the lines of all sources, each with its settings, in one batch, and writes the output. Returns the
+/// Sets the lines of all readers, each with its settings, in one batch, and writes the output. Returns the
 /// summary.
-fn deliver<R, S, O>(
+fn deliver<R, T, O>(
     rt: &R,
-    sources: Vec<(S, Arc<Terms>)>,
+    readers: Vec<(T, Arc<Terms>)>,
     output: &Output<'_>,
     out: &mut O,
 ) -> Result<Summary, ToolFault>
 where
     R: AllocGlobal + Threads + Wait + Sync,
-    S: LineSource + Send + Drop,
+    T: Read + Send + Drop,
     O: Write,
-    requires { vec_len sources ≤ 64 }
-    ensures text { IfOk result (λ summary. (reports : List (Lane S))
-        × AreOwnReports S.to_come S.failed S.origin sources.items reports
+    requires { vec_len readers ≤ 64 }
+    ensures text { IfOk result (λ summary. (reports : List (Lane Told))
+        × AreReadReports T.remaining output.now.layout.now.crlf readers.items reports
         × IsDelivered output.now.delivery (style_of output.now) reports (O.contents out.old) (O.contents out.new)
         × (summary ≡ summary_of_run output.now.encoding reports)) }
     ensures run { (fault : Fault) → result ≡ Err (ToolFault.Run fault) → out.new ≡ out.old }
@@ -66,35 +67,36 @@ where
         plan: layout.plan,
         version: layout.version,
         encoding: output.encoding,
+        crlf: layout.crlf,
         whole_reads: layout.whole_reads,
         gate: &NoGate,
     };
     match output.delivery {
-        Delivery::AtTheEnd => set_each(rt, rt.alloc(), sources, &options, out),
-        Delivery::AsTheyCome => stream_each(rt, rt.alloc(), sources, &options, out),
+        Delivery::AtTheEnd => run_texts::set_readers(rt, rt.alloc(), readers, &options, out),
+        Delivery::AsTheyCome => stream_readers(rt, rt.alloc(), readers, &options, out),
     }
 }
 
-/// Sets the lines of all sources, each with its settings, in one batch, writes the output, and flushes it.
-/// There must be at most 64 sources. After an error of the batch, nothing was written.
-pub(crate) fn set_sources<R, S, O>(
+/// Sets the lines of all readers, each with its settings, in one batch, writes the output, and flushes it.
+/// There must be at most 64 readers. After an error of the batch, nothing was written.
+pub(crate) fn set_readers<R, T, O>(
     rt: &R,
-    sources: Vec<(S, Arc<Terms>)>,
+    readers: Vec<(T, Arc<Terms>)>,
     output: &Output<'_>,
     out: &mut O,
 ) -> Result<Done, ToolFault>
 where
     R: AllocGlobal + Threads + Wait + Sync,
-    S: LineSource + Send + Drop,
+    T: Read + Send + Drop,
     O: Write,
-    requires { vec_len sources ≤ 64 }
+    requires { vec_len readers ≤ 64 }
     ensures text { IfOk result (λ done. IsPrinted output.now.delivery
-        (map (told_with_terms (told_by S.to_come S.failed)) sources.items)
+        (map (told_with_terms (told_reader T.remaining output.now.layout.now.crlf)) readers.items)
         (style_of output.now) (O.contents out.old) (O.contents out.new) (done_status done)) }
     ensures run { (fault : Fault) → result ≡ Err (ToolFault.Run fault) → out.new ≡ out.old }
     ensures status { IfErr result (λ fault. tool_status fault ≡ 5) }
 {
-    let summary = deliver(rt, sources, output, out)?;
+    let summary = deliver(rt, readers, output, out)?;
     flush(out)?;
     Ok(done_of(&summary))
 }

@@ -4,7 +4,7 @@ ghost use Rattle.tfm_requests.specs.Causes.{IsJobsCause};
 ghost use Rattle.tfm_requests.specs.Requests.{IsEachSet};
 ghost use Rattle.tfm_requests.specs.Status.{done_status, is_stop};
 
-use crate::batches::delivery::{Delivery, Output, set_sources};
+use crate::batches::delivery::{Delivery, Output, set_readers};
 use crate::batches::jobs::{all_terms, jobs_of};
 use crate::failures::done::Done;
 use crate::failures::failure::Failure;
@@ -37,11 +37,11 @@ where
     let given = jobs_of(rt.alloc(), asked.words.as_slice())?;
     let with_terms = all_terms(rt.alloc(), files, given.as_slice(), &asked.layout)?;
     let encoding = encoding_of(rt.alloc(), files, vector, asked.layout.encoding)?;
-    let sources = open_each(rt.alloc(), files, with_terms, &asked.layout)?;
+    let readers = open_each(rt.alloc(), files, with_terms, &asked.layout)?;
     let output = Output {
         layout: &asked.layout,
         encoding,
         delivery: Delivery::AtTheEnd,
     };
-    Ok(set_sources(rt, sources, &output, out)?)
+    Ok(set_readers(rt, readers, &output, out)?)
 }

@@ -8,21 +8,21 @@ ghost use Rattle.tfm_requests.specs.Jobs.{AreTermsFor, IsSourceWith, told_with_t
 ghost use Rattle.tfm_requests.specs.Known.{file_bytes_of, font_bytes_of, stream_bytes_of};
 ghost use Rattle.tfm_requests.specs.Requests.{IsSetFrom};
 ghost use Rattle.tfm_requests.specs.Status.{done_status, is_stop};
-ghost use Rattle.tfm_requests.specs.Told.{told_by};
+ghost use Rattle.tfm_requests.specs.Told.{told_reader};
 
-use crate::batches::delivery::{Delivery, Output, set_sources};
+use crate::batches::delivery::{Delivery, Output, set_readers};
 use crate::batches::jobs::font_terms;
 use crate::failures::done::Done;
 use crate::failures::errors::{FileError, FontError, RequestError};
 use crate::failures::failure::Failure;
 use crate::files::opening::Opens;
 use crate::files::reading::font_bytes;
-use crate::files::sources::{TextSource, open_each, text_source};
+use crate::files::sources::open_each;
 use crate::files::vectors::encoding_of;
 use command_line::{Layout, Setting};
 use run_texts::with_terms;
 use set_line::Terms;
-use set_run::{LineSource, MOST_SOURCES};
+use set_run::MOST_SOURCES;
 use std::alloc::{AllocError, Global};
 use std::io::{Read, Write};
 use std::sync::{Arc, Wait};
@@ -85,17 +85,16 @@ fn with_shared<'a>(
     with_terms(alloc, names, terms)
 }
 
-/// Opens the files of a request in order, and returns them as sources with these settings.
+/// Opens the files of a request in order, and returns each with these settings.
 fn open_all<F: Opens>(
     alloc: Global,
     files: &F,
     setting: &Setting<'_>,
     terms: &Arc<Terms>,
-) -> Result<Vec<(TextSource<F::File>, Arc<Terms>)>, FileError>
-    ensures { IfOk result (λ sources. AllZip (IsSourceWith setting.now.layout (arc_value terms.now))
+) -> Result<Vec<(F::File, Arc<Terms>)>, FileError>
+    ensures { IfOk result (λ readers. AllZip (IsSourceWith setting.now.layout (arc_value terms.now))
         (file_bytes_of (F.known files.now) setting.now.files.items)
-        (map (told_with_terms (told_by ⟦<TextSource<F::File> as LineSource>⟧.to_come
-        ⟦<TextSource<F::File> as LineSource>⟧.failed)) sources.items)) }
+        (map (told_with_terms (told_reader F.File.remaining setting.now.layout.crlf)) readers.items)) }
 {
     match with_shared(alloc, setting.files.as_slice(), terms) {
         Ok(named) => open_each(alloc, files, named, &setting.layout),
@@ -132,33 +131,28 @@ where
     }
     let terms = setting_terms(rt.alloc(), files, setting, input)?;
     let encoding = encoding_of(rt.alloc(), files, batch.vector, setting.layout.encoding)?;
-    let sources = open_all(rt.alloc(), files, setting, &terms)?;
+    let readers = open_all(rt.alloc(), files, setting, &terms)?;
     let output = Output {
         layout: &setting.layout,
         encoding,
         delivery: batch.delivery,
     };
-    Ok(set_sources(rt, sources, &output, out)?)
+    Ok(set_readers(rt, readers, &output, out)?)
 }
 
-/// Returns standard input as the only source, with these settings. Fails if an allocation fails.
-fn input_source<'a, I: Read>(
+/// Returns this reader as the only one, with these settings. Fails if an allocation fails.
+fn only_reader<T: Drop>(
     alloc: Global,
-    input: &'a mut I,
+    reader: T,
     terms: Arc<Terms>,
-    layout: &Layout,
-) -> Result<Vec<(TextSource<&'a mut I>, Arc<Terms>)>, FileError>
-    ensures source { IfOk result (λ sources. AllZip (IsSourceWith layout.now (arc_value terms))
-        (I.remaining input.old ∷ [])
-        (map (told_with_terms (told_by ⟦<TextSource<&'a mut I> as LineSource>⟧.to_come
-        ⟦<TextSource<&'a mut I> as LineSource>⟧.failed)) sources.items)) }
-    ensures few { IfOk result (λ sources. vec_len sources ≤ 64) }
+) -> Result<Vec<(T, Arc<Terms>)>, FileError>
+    ensures { IfOk result (λ readers. readers.items ≡ (reader, terms) ∷ []) }
 {
-    let mut sources = Vec::new(alloc);
-    sources
-        .push((text_source(alloc, input, layout), terms))
-        .map_err(|_| FileError::OutOfMemory)?;
-    Ok(sources)
+    let mut readers = Vec::new(alloc);
+    let Ok(()) = readers.push((reader, terms)) else {
+        return Err(FileError::OutOfMemory);
+    };
+    Ok(readers)
 }
 
 /// Does what `stream` requests. If no file is named, the lines are those of standard input, and the font must
@@ -193,11 +187,11 @@ where
     }
     let terms = setting_terms(rt.alloc(), files, setting, input)?;
     let encoding = encoding_of(rt.alloc(), files, batch.vector, setting.layout.encoding)?;
-    let sources = input_source(rt.alloc(), input, terms, &setting.layout)?;
+    let readers = only_reader(rt.alloc(), input, terms)?;
     let output = Output {
         layout: &setting.layout,
         encoding,
         delivery: batch.delivery,
     };
-    Ok(set_sources(rt, sources, &output, out)?)
+    Ok(set_readers(rt, readers, &output, out)?)
 }

@@ -51,12 +51,13 @@ pub struct Ways {
 impl Ways {
     /// Returns the ways of a file with this name, if only reads of the file `failing` fail.
     pub fn of(&self, name: &str, failing: &str) -> Ways {
-        let reads = if name == failing {
-            self.reads
-        } else {
-            usize::MAX
-        };
-        Ways { reads, ..*self }
+        if name == failing {
+            return *self;
+        }
+        Ways {
+            reads: usize::MAX,
+            ..*self
+        }
     }
 }
 
@@ -71,15 +72,10 @@ pub const FREE: Ways = Ways {
 };
 
 /// Ways with several numbers of bytes and of interruptions.
-pub const INTERRUPTED: &[Ways] = &[
-    FREE,
-    ways!(interruptions = 1),
-    ways!(interruptions = 100),
-    ways!(step = 1, interruptions = 1),
-    ways!(step = 7, interruptions = 3),
-    ways!(step = 10, interruptions = 5),
-    ways!(step = 4096, interruptions = 2),
-];
+pub const INTERRUPTED: &[Ways] = &table! {
+    FREE; ways!(interruptions = 1); ways!(interruptions = 100); ways!(step = 1, interruptions = 1);
+    ways!(step = 7, interruptions = 3); ways!(step = 10, interruptions = 5); ways!(step = 4096, interruptions = 2);
+};
 
 /// Fails with this case and this number unless `holds` is true.
 pub fn check<R: Abort>(rt: &R, holds: bool, case: &str, number: usize) {
@@ -231,8 +227,8 @@ impl<'a> NotedFiles<'a> {
         }
     }
 
-    /// Returns the openings in order, a hexadecimal digit for each: the number of the file in the list, starting
-    /// at 1, or F if no file has the name.
+    /// Returns the openings of the first nine files in order, a hexadecimal digit for each: the number of the file in the
+    /// list, starting at 1, or F if no file has the name.
     pub fn opened(&self) -> u64 {
         self.opened.load(Ordering::SeqCst)
     }
@@ -256,7 +252,9 @@ impl<'a> Opens for NotedFiles<'a> {
         for file in self.files {
             number = number.wrapping_add(1);
             if file.0 == name {
-                self.note(number);
+                if number < 10 {
+                    self.note(number);
+                }
                 return Ok(reader(file.1, &self.ways.of(name, self.failing)));
             }
         }

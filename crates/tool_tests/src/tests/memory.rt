@@ -2,10 +2,10 @@
 //! toolchain's option `--fail-alloc` lets one allocation fail. The first allocations make the arguments of the call. If
 //! a later one fails, nothing is written; or a lane is abandoned, and the whole output has an end line that says so; or
 //! `stream` ends with a whole line; or the memory only saves time. The text that is printed states which case it was.
-use super::early_ends::{COMPLETE, Ends, ONE_EARLY, ends_of};
 use super::requests::{LINES, SKIPPED, vector};
 use batch_support::small_plan;
 use command_line::{Layout, Setting};
+use run_texts::ReportOptions;
 use set_line::{Limit, Policy, Version};
 use set_run::{NoGate, ReaderSource};
 use std::alloc::Global;
@@ -16,9 +16,68 @@ use std::thread::Threads;
 use test_support::fonts::files::PLAIN;
 use test_support::{FailingWriter, TricklingReader};
 use tfm_tool::{
-    Done, Failure, FontSetting, InMemory, OutputOptions, Request, Requested, Summary, ToolFault,
-    perform, set_text, status,
+    Done, Failure, FontSetting, InMemory, Request, Requested, Summary, ToolFault, perform,
+    set_text, status,
 };
+
+/// Whether a line of a source is an end line for memory that was lacking, and counts this many records.
+fn is_early_end(line: &str, records: usize) -> bool {
+    let (_, end) = line.split_once(" end ").unwrap_or(("", ""));
+    let (reason, count) = end.split_once(" ").unwrap_or(("", ""));
+    matches!(reason, "memory" | "gave-up") && count.parse::<usize>() == Ok(records)
+}
+
+/// How many sources have no end line, and how many an end line for memory that was lacking. The other ones were read
+/// to their ends.
+type Ends = (usize, usize);
+
+/// Every source was read to its end.
+const COMPLETE: Option<Ends> = Some((0, 0));
+
+/// One source ends early, and the other ones were read to their ends.
+const ONE_EARLY: Option<Ends> = Some((0, 1));
+
+/// How many lines of a text belong to the source with this whole output, and how they end. `None` means that a line
+/// isn't the next one of the whole output, nor an early end, or that it follows the end.
+fn end_of(text: &str, whole: &str) -> Option<(usize, Ends)> {
+    let number = whole.chars().next()?;
+    let mut rest = whole.lines();
+    let mut count = 0usize;
+    let mut ends = (1, 0);
+    for line in text.lines() {
+        if !line.starts_with(number) {
+            continue;
+        }
+        if ends.0 == 0 {
+            return None;
+        }
+        if rest.next() != Some(line) {
+            if !is_early_end(line, count) {
+                return None;
+            }
+            ends = (0, 1);
+        } else if line.contains(" end complete ") {
+            ends = (0, 0);
+        }
+        count = count.wrapping_add(1);
+    }
+    Some((count, ends))
+}
+
+/// Returns how the sources end in a text of whole lines. Each source has its first records, and then at most one
+/// end line. The whole output of each source is given, and its number has one digit. Returns `None` for any other
+/// text. Nothing is allocated.
+fn ends_of(text: &str, wholes: &[&str]) -> Option<Ends> {
+    let mut lines = 0usize;
+    let mut ends = (0usize, 0usize);
+    for whole in wholes {
+        let (count, end) = end_of(text, whole)?;
+        lines = lines.wrapping_add(count);
+        ends = (ends.0.wrapping_add(end.0), ends.1.wrapping_add(end.1));
+    }
+    let cut = !text.is_empty() && !text.ends_with('\n');
+    (!cut && lines == text.lines().count()).then_some(ends)
+}
 
 /// The output for two sources, each of them: for `ab` and `c`, and for `a`.
 static OF_TWO: [&str; 2] = [
@@ -43,11 +102,9 @@ fn set_two<R: Threads + Wait + Sync + AllocGlobal>(
         limit: Limit::new(100)?,
         policy: Policy::Refuse,
     };
-    let options = OutputOptions {
+    let options = ReportOptions {
         plan: small_plan()?,
         version: Version::One,
-        encoding: None,
-        whole_reads: false,
         gate: &NoGate,
     };
     Some(set_text(rt, &font, sources, &options, out))
@@ -135,8 +192,9 @@ fn told_of(done: &Option<Result<Done, Failure>>, text: &str, wholes: &[&str]) ->
         }
         Some(Err(Failure::Tool(ToolFault::Run(_)))) if text.is_empty() => "the run is refused",
         Some(Err(failure)) if text.is_empty() && failure.status() == 5 => "out of memory",
-        Some(Err(Failure::Tool(ToolFault::OutOfMemory)))
-            if matches!(ends, Some(Ends { early: 0, .. })) => { "out of memory after whole lines" }
+        Some(Err(Failure::Tool(ToolFault::OutOfMemory))) if matches!(ends, Some((_, 0))) => {
+            "out of memory after whole lines"
+        }
         Some(_) => "another outcome",
     }
 }

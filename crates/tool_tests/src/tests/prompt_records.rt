@@ -1,6 +1,6 @@
 //! A stream whose input has a line only once the record of the line before was flushed, as for a program that sends
 //! one line after another at the other end of two pipes.
-use super::doubles::{NO_OUTPUT, carry_out, check};
+use super::doubles::{NO_OUTPUT, carry_out, check, words_of};
 use std::io::{ErrorKind, Read, Write};
 use std::sync::atomic::{AtomicU64, Ordering};
 use std::{io, thread};
@@ -10,23 +10,26 @@ use tfm_tool::InMemory;
 /// How often it is looked whether a record was flushed, at most: a stream that keeps records fails by that.
 const LOOKS: u64 = 20_000_000;
 
-/// A reader of lines of two bytes that waits, before each line, for the record of the line before.
+/// Pieces of a text, each with the number of records that are flushed before it is there.
+type Pieces<'a> = &'a [(&'a str, u64)];
+
+/// A reader that waits, before each piece, for records.
 #[derive(Drop)]
 struct WaitingReader<'a> {
-    lines: &'a [u8],
-    given: u64,
+    pieces: Pieces<'a>,
     flushed: &'a AtomicU64,
 }
 
 impl Read for WaitingReader<'_> {
     fn read(&mut self, buf: &mut [u8]) -> io::Result<usize> {
+        let [(piece, records), rest @ ..] = self.pieces else {
+            return Ok(0);
+        };
         for _ in 0..LOOKS {
-            if self.flushed.load(Ordering::SeqCst) >= self.given {
-                let count = self.lines.len().min(2).min(buf.len());
-                let (line, rest) = self.lines.split_at(count);
-                buf[..count].copy_from_slice(line);
-                self.lines = rest;
-                self.given = self.given.saturating_add(1);
+            if self.flushed.load(Ordering::SeqCst) >= *records {
+                let count = piece.len().min(buf.len());
+                buf[..count].copy_from_slice(&piece.as_bytes()[..count]);
+                self.pieces = rest;
                 return Ok(count);
             }
             thread::yield_now();
@@ -63,27 +66,36 @@ impl Write for CountingWriter<'_> {
 const RECORDS: &str = "1:1 set 327680 c97=327680\n1:2 set 163840 c98=163840\n\
     1:3 set 491520 c99=491520\n1 end complete 3\n";
 
-/// If the flush after the first record fails, each later one would succeed.
-// Mutant: `flush` of `Stream` (`stream.rt` of `run_texts`) ignores the error of the flush.
+/// Arguments, the pieces of the input, whether the first flush fails, after which each later one would succeed, and the
+/// exit status and the message. Each piece comes when all lines that the pieces before it complete have their records.
+static STREAMS: [(&str, Pieces<'static>, bool, u8, &str); 6] = table! {
+    "stream plain", &[("a\n", 0), ("b\n", 1), ("c\n", 2), ("", 3)], false, 0, "";
+    "stream plain", &[("a\n", 0), ("b\n", 1), ("c\n", 2), ("", 3)], true, 5, NO_OUTPUT;
+    "stream --block 8 plain", &[("a\nb", 0), ("\nc", 1), ("\n", 2), ("", 3)], false, 0, "";
+    "stream --block 2 --workers 1 plain", &[("a\nb\nc\n", 0), ("", 3)], false, 0, "";
+    "stream --block 1 --workers 3 plain", &[("a\nb\nc", 0), ("", 2)], false, 0, "";
+    "stream --crlf plain", &[("a\r", 0), ("\nb\r\nc", 0), ("\r", 2), ("\n", 2), ("", 3)], false, 0, "";
+};
+
+// Mutants: `flush` of `Stream` (`stream.rt` of `run_texts`) ignores the error of the flush; a chunk waits for more lines.
 #[test]
-fn each_record_is_flushed_before_the_next_line_is_there(rt: HostRuntime) {
+fn each_record_is_flushed_before_more_is_there(rt: HostRuntime) {
     let files = [("plain", PLAIN.as_slice())];
-    for (fails, status, message) in [(false, 0, ""), (true, 5, NO_OUTPUT)] {
+    for (words, pieces, fails, status, message) in &STREAMS {
+        let given = words_of(&rt, words, "");
         let flushed = AtomicU64::new(0);
         let mut input = WaitingReader {
-            lines: b"a\nb\nc\n",
-            given: 0,
+            pieces,
             flushed: &flushed,
         };
         let mut out = CountingWriter {
             text: Vec::new(rt.alloc()),
             flushed: &flushed,
-            fails,
+            fails: *fails,
         };
-        let files = InMemory::new(&files);
-        let done = carry_out(&rt, &files, &["stream", "plain"], &mut input, &mut out);
-        let whole = fails || out.text.as_slice() == RECORDS.as_bytes();
-        let holds = done.0 == status && done.1.as_str() == message && whole;
-        check(&rt, holds, done.1.as_str(), usize::from(done.0));
+        let done = carry_out(&rt, &InMemory::new(&files), &given, &mut input, &mut out);
+        let whole = *fails || out.text.as_slice() == RECORDS.as_bytes();
+        let holds = done.0 == *status && done.1.as_str() == *message && whole;
+        check(&rt, holds, words, usize::from(done.0));
     }
 }

@@ -7,6 +7,7 @@ use std::alloc::{AllocError, Global};
 use std::process::Abort;
 use std::sync::Wait;
 use std::thread::Threads;
+use test_support::fonts::examples::{endless, left_boundary, ligature, right_boundary};
 use test_support::fonts::files::{NO_CHARACTERS, PLAIN};
 use tfm_tool::InMemory;
 
@@ -39,8 +40,14 @@ pub fn vector(alloc: Global) -> Result<Vec<u8>, AllocError> {
 
 type NamedFile<'a> = (&'a str, &'a [u8]);
 
-/// The files of the requests. Their numbers are those of `opened`, starting at 1.
-fn files_with<'a>(vector: &'a [u8], long: &'a [u8]) -> [NamedFile<'a>; 9] {
+/// The files of the requests. Their numbers are those of `opened`, starting at 1; from 10 on they aren't noted. The fonts
+/// `right` and `left` have boundaries, `ligature` has one of a and b, and `endless` inserts a between two of them
+/// without end.
+fn files_with<'a>(
+    vector: &'a [u8],
+    long: &'a [u8],
+    fonts: &'a [Vec<u8>; 4],
+) -> [NamedFile<'a>; 19] {
     [
         ("plain", &PLAIN),
         ("cut", &NO_CHARACTERS[..47]),
@@ -51,6 +58,16 @@ fn files_with<'a>(vector: &'a [u8], long: &'a [u8]) -> [NamedFile<'a>; 9] {
         ("ab", b"ab\nc\n"),
         ("none", &NO_CHARACTERS),
         ("long", long),
+        ("right", &fonts[0]),
+        ("left", &fonts[1]),
+        ("ligature", &fonts[2]),
+        ("endless", &fonts[3]),
+        ("aa", b"aa\na"),
+        ("adb", b"adb\nad\nd a\na|b\n"),
+        ("ada", b"ada"),
+        ("first", b"ab"),
+        ("second", b"ab abc"),
+        ("empty", b"\n"),
     ]
 }
 
@@ -75,6 +92,12 @@ const AB_NOT_ENDED: &str =
 
 /// The fields of pairs. The font `plain` has no pairs.
 const FIELDS: &str = "left,right,action,value,left_character,right_character,value_character\n";
+
+/// The output for the file `ab` at twice the design size.
+const DOUBLED: &str =
+    "1:1 set 983040 c97=655360 c98=327680\n1:2 set 983040 c99=983040\n1 end complete 2\n";
+
+const LIMIT_1: &str = "tfmset: limit 1 out of range\n";
 
 const NOT_READ: &str = "tfmset: encoding not read\n";
 
@@ -101,10 +124,13 @@ macro_rules! with_65 {
 }
 
 /// Arguments, what fails, as `ways_of` and `ends` have it, the openings, and how the request ends.
-static REQUESTS: [(&str, &str, u64, Ended<'static>); 67] = rows! {
+static REQUESTS: [(&str, &str, u64, Ended<'static>); 71] = rows! {
     // Whole outputs.
     "counts none", "", 0x8 => 0, COUNTS, "";
     "list -", "", 0 => 0, LISTING, "";
+    "counts cut", "", 0x2 => 3, "", CUT;
+    "set --size 1310720 plain ab", "", 0x17 => 0, DOUBLED, "";
+    "each --size 1310720 plain 9 ab", "", 0x17 => 0, DOUBLED, "";
     "check plain cut", "", 0x12 => 1, "plain: accepted\ncut: refused: 8 truncated, 48 bytes needed\n", "";
     "pairs --format csv --encoding v.enc plain", "", 0x13 => 0, FIELDS, "";
     "set plain ab", "", 0x17 => 0, AB, "";
@@ -116,24 +142,34 @@ static REQUESTS: [(&str, &str, u64, Ended<'static>); 67] = rows! {
     "stream --encoding=v.enc plain lines", "", 0x136 => 1, RECORDS, "";
     "stream --encoding v.enc plain", "", 0x13 => 1, RECORDS, "";
     "each --encoding v.enc plain 9 lines", "", 0x136 => 1, RECORDS, "";
+    // The limit on steps, skipped characters, and a font and a limit for each file.
+    "stream --limit 100 endless aa", "", 0 =>
+        1, "1:1 refused steps 100\n1:2 set 327680 c97=327680\n1 end complete 2\n", "";
+    "set --missing skip right adb", "", 0 => 0,
+        "1:1 set 512000 c97=327680 m100 c98=163840 k20480\n\
+         1:2 set 327680 c97=327680 m100\n\
+         1:3 set 669013 m100 s218453 c97=327680 k-40960 c98=163840\n\
+         1:4 set 512000 c97=327680 m124 c98=163840 k20480\n1 end complete 4\n", "";
+    "stream --missing skip --record 2 left ada", "", 0 => 0,
+        "records 2\n1:1 set 573440 steps 2 k-40960 c97=327680 m100 k-40960 c97=327680\n1 end complete 1\n", "";
+    "each --record 2 ligature 1048576 first plain 4 second", "", 0x1 => 1,
+        "records 2\n1:1 set 491520 steps 2 c99=491520\n1 end complete 1\n2:1 refused steps 4\n2 end complete 1\n", "";
+    "each ligature 1048576 first plain 4 second", "", 0x1 =>
+        1, "1:1 set 491520 c99=491520\n1 end complete 1\n2:1 refused steps 4\n2 end complete 1\n", "";
+    "each --record 2 ligature 1048576 first plain 5 second", "", 0x1 => 0,
+        "records 2\n1:1 set 491520 steps 2 c99=491520\n1 end complete 1\n\
+         2:1 set 1693013 steps 5 c97=327680 c98=163840 s218453 c97=327680 c98=163840 c99=491520\n2 end complete 1\n", "";
+    "each --record 2 plain 9 empty", "", 0x1 => 0, "records 2\n1:1 set 0 steps 0\n1 end complete 1\n", "";
     // Interruptions change nothing.
     "set --encoding v.enc --missing skip plain lines", "interrupted", 0x136 => 0, SKIPPED, "";
     "each --crlf plain 9 ab", "interrupted", 0x17 => 0, AB, "";
     // The output fails.
-    "counts none", "output", 0x8 => 5, COUNTS, NO_OUTPUT;
-    "list -", "output", 0 => 5, LISTING, NO_OUTPUT;
     "pairs --format csv plain", "output", 0x1 => 5, FIELDS, NO_OUTPUT;
-    "check plain cut", "output", 0x1 => 5, "", NO_OUTPUT;
     "check plain cut", "flush", 0x12 => 5, "", NO_OUTPUT;
-    "set plain ab", "output", 0x17 => 5, AB, NO_OUTPUT;
     "set plain ab", "flush", 0x17 => 5, AB, NO_OUTPUT;
-    "stream plain ab", "output", 0x17 => 5, AB, NO_OUTPUT;
     "stream plain ab", "flush", 0x17 => 5, AB, NO_OUTPUT;
-    "each plain 9 ab", "output", 0x17 => 5, AB, NO_OUTPUT;
     "each plain 9 ab", "flush", 0x17 => 5, AB, NO_OUTPUT;
     // A read fails.
-    "counts none", "none", 0x8 => 4, "", NO_FONT;
-    "list -", "-", 0 => 4, "", NO_FONT;
     "check plain cut", "plain", 0x12 =>
         4, "plain: not read\ncut: refused: 8 truncated, 48 bytes needed\n", SOME_FONT;
     "pairs --encoding v.enc plain", "v.enc", 0x13 => 4, "", NOT_READ;
@@ -174,10 +210,12 @@ static REQUESTS: [(&str, &str, u64, Ended<'static>); 67] = rows! {
     with_65!("set --encoding no.enc no", " no"), "", 0 => 2, "", MANY;
     with_65!("stream --encoding no.enc no", " no"), "", 0 => 2, "", MANY;
     with_65!("each --encoding no.enc", " no 0 no"), "", 0 => 2, "", MANY;
-    "stream --encoding no.enc -", "", 0 => 2, "", "tfmset: font and text both on standard input\n";
     "stream --encoding v.enc -", "", 0 => 2, "", "tfmset: font and text both on standard input\n";
     "check no - plain -", "", 0 => 2, "", "tfmset: two fonts on standard input\n";
     "each --encoding short.enc cut 9", "", 0 => 2, "", "tfmset: words not in threes\n";
+    "each plain 0 ab", "", 0 => 2, "", LIMIT_1;
+    "each plain 16777217 ab", "", 0 => 2, "", LIMIT_1;
+    "each plain +5 ab", "", 0 => 2, "", LIMIT_1;
     "each --encoding short.enc cut 9 ab no 0 ab", "", 0 => 2, "", "tfmset: limit 2 out of range\n";
 };
 
@@ -225,19 +263,20 @@ fn ends<'a, R: Abort + Threads + Wait + Sync + AllocGlobal>(
 fn a_request_ends_with_its_first_error_or_its_output(rt: HostRuntime) {
     let vector = vector(rt.alloc()).expect(&rt, "memory");
     let (text, records) = many_lines(&rt);
-    let list = files_with(&vector, text.as_bytes());
+    let fonts = [
+        right_boundary(rt.alloc()).expect(&rt, "memory"),
+        left_boundary(rt.alloc()).expect(&rt, "memory"),
+        ligature(rt.alloc(), 0).expect(&rt, "memory"),
+        endless(rt.alloc(), 3).expect(&rt, "memory"),
+    ];
+    let list = files_with(&vector, text.as_bytes(), &fonts);
     for (words, failing, opened, wanted) in &REQUESTS {
         ends(&rt, &list, (words, failing), *wanted, *opened);
     }
     let wanted = (0, records.as_str(), "");
-    ends(&rt, &list, ("set plain long", "interrupted"), wanted, 0x19);
-    ends(
-        &rt,
-        &list,
-        ("stream plain long", "interrupted"),
-        wanted,
-        0x19,
-    );
+    for words in ["set plain long", "stream plain long"] {
+        ends(&rt, &list, (words, "interrupted"), wanted, 0x19);
+    }
 }
 
 /// With `each`, the name `-` is that of a file: here of a font, and of a line of 80 bytes that begins with a zero.

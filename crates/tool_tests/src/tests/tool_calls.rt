@@ -27,17 +27,11 @@ const REFUSED: &str = "1:1 refused missing 0 0\n1 end complete 1\n";
 const FIRST: &[Ways] = &[ways!(flushes = false), ways!(writes = 0)];
 
 /// The output fails when it is flushed, or after up to seven writes of ten bytes.
-const EIGHT: &[Ways] = &[
-    ways!(flushes = false),
-    ways!(step = 10, writes = 0),
-    ways!(step = 10, writes = 1),
-    ways!(step = 10, writes = 2),
-    ways!(step = 10, writes = 3),
-    ways!(step = 10, writes = 4),
-    ways!(step = 10, writes = 5),
-    ways!(step = 10, writes = 6),
-    ways!(step = 10, writes = 7),
-];
+const EIGHT: &[Ways] = &table! {
+    ways!(flushes = false); ways!(step = 10, writes = 0); ways!(step = 10, writes = 1); ways!(step = 10, writes = 2);
+    ways!(step = 10, writes = 3); ways!(step = 10, writes = 4); ways!(step = 10, writes = 5); ways!(step = 10, writes = 6);
+    ways!(step = 10, writes = 7);
+};
 
 /// Neither output accepts a byte.
 const SILENT: &[Ways] = &[ways!(writes = 0, flushes = false, errors = false)];
@@ -46,14 +40,9 @@ const SILENT: &[Ways] = &[ways!(writes = 0, flushes = false, errors = false)];
 const UNHEARD: &[Ways] = &[ways!(errors = false)];
 
 /// Small pieces.
-const PIECES: &[Ways] = &[
-    ways!(step = 1),
-    ways!(step = 2),
-    ways!(step = 3),
-    ways!(step = 7),
-    ways!(step = 80),
-    ways!(step = 4096),
-];
+const PIECES: &[Ways] = &table! {
+    ways!(step = 1); ways!(step = 2); ways!(step = 3); ways!(step = 7); ways!(step = 80); ways!(step = 4096);
+};
 
 /// Four lines: two are set, and two, which end with a carriage return, are refused.
 const LINES: &str = "ab\nad\r\n\r\nabc";
@@ -154,21 +143,27 @@ static CALLS: [Row; 43] = rows! {
          {\"source\":1,\"end\":\"complete\",\"lines\":4}\n", NOTED;
 };
 
-/// Returns the standard input of a row: one of two fonts, or this text.
-fn input_of(text: &str) -> &[u8] {
+/// Returns the standard input of a row: one of two fonts, the long line, or this text.
+fn input_of<'a>(text: &'a str, long: &'a str) -> &'a [u8] {
     match text {
         "NO_CHARACTERS" => &NO_CHARACTERS,
         "PLAIN" => &PLAIN,
+        "LONG" => long.as_bytes(),
         _ => text.as_bytes(),
     }
 }
 
-/// There are at most 1,048,576 reads, with those that are interrupted and that of the end.
-static BOUNDS: [Row; 4] = rows! {
+/// There are at most 1,048,576 reads of a font, with those that are interrupted and that of the end.
+static FONT_READS: [Row; 2] = rows! {
     "counts -", "NO_CHARACTERS", &[ways!(interruptions = 524_287)] => 0, COUNTS, "";
     "counts -", "NO_CHARACTERS", &[ways!(interruptions = 524_288)] => 4, "", NO_FONT;
-    "stream FONT", "", &[ways!(interruptions = 1_048_575)] => 0, "1 end complete 0\n", "";
+};
+
+/// The same for a line. The line of 70,000 bytes has 18 reads, and one more at its end.
+static LINE_READS: [Row; 3] = rows! {
     "stream FONT", "", &[ways!(interruptions = 1_048_576)] => 4, "1 end bound 0\n", NOT_ENDED;
+    "stream FONT", "LONG", &[ways!(interruptions = 55_187)] => 1, "1:1 refused too-long 70000\n1 end complete 1\n", "";
+    "stream FONT", "LONG", &[ways!(interruptions = 55_188)] => 4, "1 end bound 0\n", NOT_ENDED;
 };
 
 /// The calls of a table end as stated.
@@ -181,8 +176,9 @@ where
     R::File: Send,
 {
     let font = font_file(rt, calls.len(), id);
+    let long = "a".repeat(rt.alloc(), 70_000).expect(rt, "memory");
     for (words, input, all, wanted) in calls {
-        ends(rt, (words, &font), input_of(input), all, *wanted);
+        ends(rt, (words, &font), input_of(input, &long), all, *wanted);
     }
     fs::remove_file(rt, font.as_str()).expect(rt, "a file");
 }
@@ -193,27 +189,11 @@ fn a_call_ends_as_stated_whichever_way_reads_and_writes_go(rt: HostRuntime) {
 }
 
 #[test]
-fn interrupted_reads_count_among_the_1048576(rt: HostRuntime) {
-    all_end(&rt, &BOUNDS, process::id(rt.process()));
+fn a_font_has_at_most_1048576_reads(rt: HostRuntime) {
+    all_end(&rt, &FONT_READS, process::id(rt.process()));
 }
 
 #[test]
-fn a_font_has_at_most_1048576_reads(rt: HostRuntime) {
-    let mut input = Vec::from_slice(rt.alloc(), &NO_CHARACTERS).expect(&rt, "memory");
-    input.resize(1_048_575, 0).expect(&rt, "memory");
-    ends(
-        &rt,
-        ("counts -", ""),
-        &input,
-        &[ways!(step = 1)],
-        (0, COUNTS, ""),
-    );
-    input.push(0).expect(&rt, "memory");
-    ends(
-        &rt,
-        ("counts -", ""),
-        &input,
-        &[ways!(step = 1)],
-        (4, "", NO_FONT),
-    );
+fn a_line_has_at_most_1048576_reads(rt: HostRuntime) {
+    all_end(&rt, &LINE_READS, process::id(rt.process()));
 }

@@ -2,18 +2,18 @@ use Rattle.std.proofs.Common.{rules, arith, ◌≡◌, [], length, sym, ◌∙�
 use Rattle.std.specs.Prelude.{vec_len}
 use Rattle.line_lane.specs.Ends.{IsLane}
 use Rattle.dealt_lanes.specs.Lanes.{IsMet}
-use Rattle.dealt_lanes.proofs.Meeting.{no_length, three_first, three_more, three_none, three_second, three_third, zero_of}
+use Rattle.dealt_lanes.proofs.Meeting.{no_length, three_first, three_more, three_none, three_some, zero_of}
 use Rattle.dealt_lanes.proofs.settling.settle_each.Goals as goal
 
 pub take_first-setter-requires : goal.take_first-setter-requires
 take_first-setter-requires g c =
     let some : c.lanes.feeders.items ≡ [] → ⊥ = λ none. grind (arith, none, c.take_first-feeder.ensures) in
-    three_second IsLane c.lanes.feeders.items c.lanes.setters.items c.lanes.takers.items some c.lanes.invariant.lanes
+    (three_some IsLane c.lanes.feeders.items c.lanes.setters.items c.lanes.takers.items some c.lanes.invariant.lanes).0
 
 pub take_first-taker-requires : goal.take_first-taker-requires
 take_first-taker-requires g c =
     let some : c.lanes.feeders.items ≡ [] → ⊥ = λ none. grind (arith, none, c.take_first-feeder.ensures) in
-    three_third IsLane c.lanes.feeders.items c.lanes.setters.items c.lanes.takers.items some c.lanes.invariant.lanes
+    (three_some IsLane c.lanes.feeders.items c.lanes.setters.items c.lanes.takers.items some c.lanes.invariant.lanes).1
 
 pub settle_one-requires : goal.settle_one-requires
 settle_one-requires g c =

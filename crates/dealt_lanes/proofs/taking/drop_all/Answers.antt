@@ -1,20 +1,17 @@
-use Rattle.std.proofs.Common.{rules, ◌≡◌, ◌<◌, length, refl}
-use Rattle.dealt_lanes.specs.Takers.{IsDrainedOf}
-use Rattle.dealt_lanes.proofs.Rounds.{first_all, first_length, first_more}
+use Rattle.std.proofs.Common.{rules, ◌≡◌, ◌<◌, length}
+use Rattle.std.proofs.lemmas.List.Elements.{length_all_zip}
+use Rattle.dealt_lanes.specs.Takers.{IsDrained}
+use Rattle.dealt_lanes.proofs.Drained.{drained_refl, drained_trans}
+use Rattle.dealt_lanes.proofs.Zips.{zip_change, zip_refl}
 use Rattle.dealt_lanes.proofs.taking.drop_all.Goals as goal
 
 pub loop-lane-init : goal.loop-lane-init
-loop-lane-init g c = refl
+loop-lane-init g c = zip_refl IsDrained drained_refl c.args.takers.now.items
 
 pub loop-lane-preserved : goal.loop-lane-preserved
 loop-lane-preserved g c =
     let old = c.args.takers.now.items in let now = c.loop-lane.takers.items in
-    let i = c.loop-lane.lane in let new = c.drop_some-any.new.taker in
-    let long : length now ≡ length old = first_length (IsDrainedOf c.args.most) i old now c.loop-lane.invariant in
-    let below : i < length now = search (rules, long) in
-    first_more (IsDrainedOf c.args.most) i old now c.index_mut.result.now new c.index_mut.ensures.value below c.loop-lane.invariant
-    c.drop_some-any.ensures
-
-pub returns : goal.returns
-returns g c =
-    first_all (IsDrainedOf c.args.most) c.loop-lane.lane c.args.takers.now.items c.loop-lane.takers.items (search rules) c.loop-lane.invariant
+    let long : length old ≡ length now = length_all_zip IsDrained old now c.loop-lane.invariant in
+    let below : c.loop-lane.lane < length now = search (rules, long) in
+    zip_change IsDrained drained_trans old now c.loop-lane.lane c.index_mut.result.now c.drop_some-any.new.taker c.index_mut.ensures.value below
+    c.loop-lane.invariant c.drop_some-any.ensures

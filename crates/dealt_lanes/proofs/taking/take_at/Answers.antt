@@ -12,6 +12,3 @@ returns-clause-lanes g c =
 pub returns-clause-took : goal.returns-clause-took
 returns-clause-took g c =
     (c.index_mut.result.now, c.take.new.self, c.index_mut.ensures.value, refl, c.take.ensures.took)
-
-pub returns-clause-known : goal.returns-clause-known
-returns-clause-known g c = (c.index_mut.result.now, c.take.new.self, c.index_mut.ensures.value, refl, c.take.ensures.known)

@@ -2,7 +2,6 @@ use Rattle.std.proofs.Common.{arith, ◌≡◌, length}
 use Rattle.std.proofs.lemmas.List.Elements.{length_all_zip}
 use Rattle.line_lane.specs.Ends.{SameTaker}
 use Rattle.dealt_lanes.specs.Takers.{IsDrained}
-use Rattle.dealt_lanes.proofs.Drained.{drained_each}
 use Rattle.dealt_lanes.proofs.Endpoints.{drained_gathered, drained_same, some_of}
 use Rattle.dealt_lanes.proofs.SameEnds.{taker_refl}
 use Rattle.dealt_lanes.proofs.Zips.{zip_refl}
@@ -14,24 +13,20 @@ returns-then-is_none-clause-lanes g c = zip_refl SameTaker taker_refl c.args.sel
 pub invariant_of-self : goal.invariant_of-self
 invariant_of-self g c =
     let old = c.args.self.now in let new = c.drop_all.new.takers.items in
-    let zip = drained_each c.args.most old.takers.items new c.drop_all.ensures in
-    let long : length old.takers.items ≡ length new = length_all_zip IsDrained old.takers.items new zip in
+    let long : length old.takers.items ≡ length new = length_all_zip IsDrained old.takers.items new c.drop_all.ensures in
     record {
       below = omega (arith, long, old.below);
       gathered = (drained_gathered old.takers.items new old.turn old.end old.below (some_of old.end c.is_none.result c.is_none.ensures c.if-is_none.false)
-          zip old.gathered).1;
+          c.drop_all.ensures old.gathered).1;
     }
 
 pub returns-clause-lanes : goal.returns-clause-lanes
 returns-clause-lanes g c =
     let old = c.args.self.now.takers.items in let new = c.drop_all.new.takers.items in
-    drained_same old new (drained_each c.args.most old new c.drop_all.ensures)
+    drained_same old new c.drop_all.ensures
 
 pub returns-clause-gathered : goal.returns-clause-gathered
 returns-clause-gathered g c =
     let old = c.args.self.now in let new = c.drop_all.new.takers.items in
     (drained_gathered old.takers.items new old.turn old.end old.below (some_of old.end c.is_none.result c.is_none.ensures c.if-is_none.false)
-    (drained_each c.args.most old.takers.items new c.drop_all.ensures) old.gathered).0
-
-pub returns-clause-emptied : goal.returns-clause-emptied
-returns-clause-emptied g c = λ _. c.drop_all.ensures
+    c.drop_all.ensures old.gathered).0

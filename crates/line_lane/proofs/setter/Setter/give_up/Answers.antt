@@ -10,7 +10,7 @@ use Rattle.line_lane.proofs.setter.Setter.give_up.Goals as goal
 pub invariant_of-self-3-clause-in_hand : goal.invariant_of-self-3-clause-in_hand
 invariant_of-self-3-clause-in_hand g c =
     let old = c.args.self.now in
-    given_up_in_hand old.receiver.hand.items c.clear.new.self old.sender.hand c.finish.new.self (end_sent old.sender) old.in_hand.0
+    given_up_in_hand g.M.Making.slots old.receiver.hand.items c.clear.new.self old.sender.hand c.finish.new.self (end_sent old.sender) old.in_hand.0
     (ap (λ m. m.items) c.clear.ensures) (ap (λ m. m.items) c.finish.ensures) (sym c.has_made_end.ensures ∙ c.if-has_made_end.false)
 
 pub invariant_of-self-3-clause-orderly : goal.invariant_of-self-3-clause-orderly

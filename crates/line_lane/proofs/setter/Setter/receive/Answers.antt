@@ -1,11 +1,8 @@
-use Rattle.std.proofs.Common.{arith, length, refl, subst, sym, ap, ◌∙◌}
-use Rattle.std.specs.Prelude.{not}
+use Rattle.std.proofs.Common.{arith, ◌≤◌, length, refl, subst, sym, ap, ◌∙◌}
 use Rattle.line_lane.specs.Rings.{end_sent, items_received, end_received, messages_received}
 use Rattle.line_lane.specs.Turns.{IsOrderly}
 use Rattle.line_lane.specs.Ends.{state_of}
-use Rattle.line_lane.specs.Known.{HasNoneIf, answer_places, messages}
-use Rattle.line_lane.proofs.KnownLemmas.{none_if_same}
-use Rattle.line_lane.proofs.TurnLemmas.{message_filled, message_in_hand, message_state, before_end-unmade, undone-before_end, orderly_receipt, receipt-message, receipt-dropping, moves_on, moves_receiving}
+use Rattle.line_lane.proofs.TurnLemmas.{message_filled, message_in_hand, message_state, before_end-unmade, undone-before_end, orderly_receipt, receipt-dropping, unsent, moves_on, moves_receiving}
 use Rattle.line_lane.proofs.setter.Setter.receive.Goals as goal
 
 pub invariant_of-self-else-given_up-clause-in_hand : goal.invariant_of-self-else-given_up-clause-in_hand
@@ -13,9 +10,10 @@ invariant_of-self-else-given_up-clause-in_hand g c =
     let old = c.args.self.now in
     let source = undone-before_end (state_of old) c.requires.lines c.requires.ready c.requires.done old.orderly in
     let going = sym c.has_given_up-given_up.ensures ∙ c.if-given_up.false in
-    message_in_hand c.receive.new.self.hand old.sender.hand c.finish-self.new.answers (end_sent old.sender) c.finish-self.result
-    (c.receive.ensures.few c.if-not-receive.false) (old.orderly.4 c.requires.ready c.requires.lines) c.finish-self.ensures.items
-    c.finish-self.ensures.ready c.finish-self.ensures.ending (before_end-unmade (state_of old) c.requires.lines source going old.orderly)
+    message_in_hand g.M.Making.slots c.receive.new.self.hand old.sender.hand c.finish-self.new.answers (end_sent old.sender) c.finish-self.result
+    (subst (λ n. length c.receive.new.self.hand.items ≤ n) (sym g.met.M.Making.fits.0) (c.receive.ensures.few c.if-not-receive.false))
+    (old.orderly.4 c.requires.ready c.requires.lines) c.finish-self.ensures.items c.finish-self.ensures.ready c.finish-self.ensures.ending
+    (unsent (state_of old) (end_sent old.sender) old.sender.hand.ending refl (before_end-unmade (state_of old) c.requires.lines source going old.orderly))
 
 pub invariant_of-self-else-given_up-clause-orderly : goal.invariant_of-self-else-given_up-clause-orderly
 invariant_of-self-else-given_up-clause-orderly g c =
@@ -24,11 +22,11 @@ invariant_of-self-else-given_up-clause-orderly g c =
     let source = undone-before_end (state_of old) c.requires.lines c.requires.ready c.requires.done old.orderly in
     let going = sym c.has_given_up-given_up.ensures ∙ c.if-given_up.false in
     subst IsOrderly
-    (sym (message_state (state_of old) m c.finish-self.new.answers (end_sent old.sender) old.sender.hand.ending c.finish-self.result
-    (items_received c.receive.new.self) (end_received c.receive.new.self) (messages_received c.receive.new.self)
-    c.requires.lines source going refl old.orderly c.finish-self.ensures.items c.finish-self.ensures.ready c.finish-self.ensures.ending
-    (c.receive.ensures.items c.if-not-receive.false) (c.receive.ensures.ended c.if-not-receive.false) (c.receive.ensures.count c.if-not-receive.false)
-    ∙ receipt-message (state_of old) m going))
+    (sym (message_state (state_of old) m c.finish-self.new.answers (end_sent old.sender) c.finish-self.result
+    (items_received c.receive.new.self) (end_received c.receive.new.self) (messages_received c.receive.new.self) going
+    (unsent (state_of old) (end_sent old.sender) old.sender.hand.ending refl (before_end-unmade (state_of old) c.requires.lines source going old.orderly))
+    c.finish-self.ensures.items c.finish-self.ensures.ready c.finish-self.ensures.ending
+    (c.receive.ensures.items c.if-not-receive.false) (c.receive.ensures.ended c.if-not-receive.false) (c.receive.ensures.count c.if-not-receive.false)))
     (orderly_receipt (state_of old) m c.requires.lines c.requires.ready old.orderly)
 
 pub returns-then-given_up-clause-turn : goal.returns-then-given_up-clause-turn
@@ -39,7 +37,7 @@ returns-then-given_up-clause-turn g c =
     let up = sym c.has_given_up-given_up.ensures ∙ c.if-given_up.true in (
       c.requires.done,
       moves_on (state_of old) _ c.requires.ready
-          (moves_receiving (state_of old) _ m c.requires.lines source (c.receive.ensures.few c.if-not-receive.false)
+          (moves_receiving (state_of old) _ m c.requires.lines source (c.receive.ensures.eight c.if-not-receive.false)
           (receipt-dropping (state_of old) m (items_received c.receive.new.self) c.clear.new.self.items (end_received c.receive.new.self)
           (messages_received c.receive.new.self) up (c.receive.ensures.items c.if-not-receive.false)
           (c.receive.ensures.ended c.if-not-receive.false) (ap (λ x. x.items) c.clear.ensures) c.requires.lines
@@ -48,8 +46,11 @@ returns-then-given_up-clause-turn g c =
 
 pub invariant_of-self-else-given_up-clause-filled : goal.invariant_of-self-else-given_up-clause-filled
 invariant_of-self-else-given_up-clause-filled g c =
-    message_filled c.receive.new.self.hand c.args.self.now.sender.hand.ending c.finish-self.new.answers c.finish-self.result
+    message_filled c.receive.new.self.hand c.finish-self.new.answers c.finish-self.result
     (c.receive.ensures.filled c.if-not-receive.false) c.finish-self.ensures.ready c.finish-self.ensures.ending
+
+pub finish-self-requires : goal.finish-self-requires
+finish-self-requires g c = c.args.self.now.in_hand.1 c.requires.ready
 
 pub receive-requires : goal.receive-requires
 receive-requires g c =
@@ -72,12 +73,6 @@ returns-then-not-receive-clause-turn g c =
       c.requires.lines,
       undone-before_end (state_of old) c.requires.lines c.requires.ready c.requires.done old.orderly,
     )
-
-pub returns-then-not-receive-clause-known : goal.returns-then-not-receive-clause-known
-returns-then-not-receive-clause-known g c = (
-  none_if_same (answer_places c.args.self.now),
-  subst (λ r. HasNoneIf (not r) (messages c.args.self.now.receiver) (messages c.receive.new.self)) c.if-not-receive.true c.receive.ensures.known,
-)
 
 pub invariant_of-self-then-given_up : goal.invariant_of-self-then-given_up
 invariant_of-self-then-given_up g c =
@@ -107,10 +102,10 @@ returns-else-given_up-clause-turn g c =
     let going = sym c.has_given_up-given_up.ensures ∙ c.if-given_up.false in (
       c.requires.done,
       moves_on (state_of old) _ c.requires.ready
-          (moves_receiving (state_of old) _ m c.requires.lines source (c.receive.ensures.few c.if-not-receive.false)
-          (message_state (state_of old) m c.finish-self.new.answers (end_sent old.sender) old.sender.hand.ending c.finish-self.result
-          (items_received c.receive.new.self) (end_received c.receive.new.self) (messages_received c.receive.new.self)
-          c.requires.lines source going refl old.orderly c.finish-self.ensures.items c.finish-self.ensures.ready c.finish-self.ensures.ending
-          (c.receive.ensures.items c.if-not-receive.false) (c.receive.ensures.ended c.if-not-receive.false) (c.receive.ensures.count c.if-not-receive.false)
-          ∙ receipt-message (state_of old) m going)),
+          (moves_receiving (state_of old) _ m c.requires.lines source (c.receive.ensures.eight c.if-not-receive.false)
+          (message_state (state_of old) m c.finish-self.new.answers (end_sent old.sender) c.finish-self.result
+          (items_received c.receive.new.self) (end_received c.receive.new.self) (messages_received c.receive.new.self) going
+          (unsent (state_of old) (end_sent old.sender) old.sender.hand.ending refl (before_end-unmade (state_of old) c.requires.lines source going old.orderly))
+          c.finish-self.ensures.items c.finish-self.ensures.ready c.finish-self.ensures.ending
+          (c.receive.ensures.items c.if-not-receive.false) (c.receive.ensures.ended c.if-not-receive.false) (c.receive.ensures.count c.if-not-receive.false))),
     )

@@ -1,12 +1,9 @@
 use Rattle.std.proofs.Common.{ap, subst, sym, refl, ◌∙◌, ◌++◌, ◌+◌, length}
 use Rattle.std.proofs.lemmas.Bool.{true≢false}
-use Rattle.std.specs.Prelude.{not}
 use Rattle.line_lane.specs.Messages.{items_of}
 use Rattle.line_lane.specs.Rings.{end_sent, items_sent, messages_sent}
 use Rattle.line_lane.specs.Turns.{IsOrderly}
 use Rattle.line_lane.specs.Ends.{state_of}
-use Rattle.line_lane.specs.Known.{HasNoneIf, places, line_messages}
-use Rattle.line_lane.proofs.KnownLemmas.{none_if_same}
 use Rattle.line_lane.proofs.TurnLemmas.{moves_sending, orderly_send, ready-undone, sent_in_hand, sent_state}
 use Rattle.line_lane.proofs.setter.Setter.send.Goals as goal
 
@@ -19,12 +16,6 @@ invariant_of-self g c =
 pub returns-then-not-has_room-clause-turn : goal.returns-then-not-has_room-clause-turn
 returns-then-not-has_room-clause-turn g c =
     (rw (c.has_room.ensures.sent, c.has_room.ensures.hand) refl, ready-undone (state_of c.args.self.now) c.requires, c.requires)
-
-pub returns-then-not-has_room-clause-known : goal.returns-then-not-has_room-clause-known
-returns-then-not-has_room-clause-known g c = (
-  subst (λ r. HasNoneIf (not r) (places c.args.self.now.sender) (places c.has_room.new.self)) c.if-not-has_room.true c.has_room.ensures.known,
-  none_if_same (line_messages c.args.self.now),
-)
 
 pub send-requires : goal.send-requires
 send-requires g c =
@@ -42,7 +33,7 @@ invariant_of-self-2 g c =
     let looked = c.has_room.ensures in
     let sent = c.send.ensures in
     record {
-      in_hand = sent_in_hand old.receiver.hand.items old.sender.hand c.send.new.self.hand (end_sent c.send.new.self) old.in_hand.0 sent.hand;
+      in_hand = sent_in_hand g.M.Making.slots old.receiver.hand.items old.sender.hand c.send.new.self.hand (end_sent c.send.new.self) old.in_hand.0 sent.hand;
       orderly = subst IsOrderly
           (sym (sent_state (state_of old) (items_sent c.send.new.self) c.send.new.self.hand (end_sent c.send.new.self) (end_sent old.sender)
           old.sender.hand.ending (messages_sent c.send.new.self) refl (old.in_hand.2 c.requires)

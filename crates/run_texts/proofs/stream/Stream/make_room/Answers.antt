@@ -7,4 +7,4 @@ returns-clause-given g c = λ start events h.
     let s = c.args.self.now in
     let w = c.write_out.new.self in
     goes_on start s.out.ghost_name w.out.ghost_name s.version w.version s.counts.items w.counts.items (g.W.Write.contents s.out.now) (g.W.Write.contents w.out.now)
-    s.block.items w.block.items events c.write_out.ensures.same.0 c.write_out.ensures.same.1 (ap (λ counts. counts.items) c.write_out.ensures.same.2) c.write_out.ensures.goes h
+    s.buffer.items w.buffer.items events c.write_out.ensures.same.0 c.write_out.ensures.same.1 (ap (λ counts. counts.items) c.write_out.ensures.same.2) c.write_out.ensures.goes h

@@ -9,4 +9,4 @@ pub returns-clause-given : goal.returns-clause-given
 returns-clause-given g c =
     let after : Begun g.row.W.Denot g.row.K.Denot = record { stream = c.take.new.self; of = c.args.self.now.of } in
     gets_within (λ (begun : Begun g.row.W.Denot g.row.K.Denot). begun.stream) (IsStreamOf g.W.Write.contents g.K.Beginning.start) c.args.self.now after
-    (c.args.lane, Answered c.args.block) (is_ok c.take.result) (c.take.ensures.given g.K.Beginning.start)
+    (c.args.lane, Answered c.args.chunk) (is_ok c.take.result) (c.take.ensures.given g.K.Beginning.start)

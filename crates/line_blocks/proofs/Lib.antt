@@ -1,3 +1,0 @@
-pub mod StoredLemmas
-pub mod TextLemmas
-pub mod GatherLemmas

@@ -1,0 +1,7 @@
+pub mod FeedLemmas
+pub mod InputLemmas
+pub mod PendingLemmas
+pub mod ReadingLemmas
+pub mod ReturnLemmas
+pub mod TextLemmas
+pub mod WorkedRows

@@ -1,0 +1,6 @@
+pub mod Returns
+pub mod Chunks
+pub mod ChunkText
+pub mod Pending
+pub mod Skipping
+pub mod Reading

@@ -1,0 +1,17 @@
+//! Chunks: lines that were read together, and the text of their records.
+#![tactic(auto)]
+
+pub use chunk::Chunk;
+pub use chunk_reader::ChunkReader;
+pub use chunk_text::ChunkText;
+pub use record_maker::RecordMaker;
+
+mod chunk;
+mod chunk_reader;
+mod chunk_text;
+mod cutting;
+mod input;
+mod long_line;
+mod pending;
+mod record_maker;
+mod stored;

@@ -1,3 +1,0 @@
-pub mod ReturnLemmas
-pub mod BufferLemmas
-pub mod ReaderLemmas

@@ -1,0 +1,51 @@
+use Rattle.std.proofs.Common.{rules, arith, ◌≡◌, ◌<◌, true, false, length, refl, sym, subst, ◌∙◌}
+use Rattle.std.specs.Prelude.{is_ok, slice_set}
+use Rattle.set_run.specs.Collecting.{SameLane, TellsLanes}
+use Rattle.set_run.proofs.Zips.{zip_refl, zip_change, zip_length}
+use Rattle.set_run.proofs.SameEnds.{lane_refl, lane_trans}
+use Rattle.set_run.proofs.TakerLemmas.{tells_all_same, tells_all_then, tells_one}
+use Rattle.set_run.proofs.collecting.collector_thread.go_round.Goals as goal
+
+pub loop-lane-init : goal.loop-lane-init
+loop-lane-init g c = record {
+  same = zip_refl SameLane lane_refl c.args.lanes.now.items;
+  lanes = refl;
+  told = tells_all_same g.C.Collector.given c.args.lanes.now.items c.args.collector.now;
+  willing = c.requires.willing;
+}
+
+pub returns-in_err-took-clause-same : goal.returns-in_err-took-clause-same
+returns-in_err-took-clause-same g c =
+    zip_change SameLane lane_trans c.args.lanes.now.items c.loop-lane.lanes.items c.loop-lane.lane c.index_mut.result.now c.visit.new.self
+    c.index_mut.ensures.value (search rules) c.loop-lane.invariant.same c.visit.ensures.same
+
+pub returns-in_err-took-clause-told : goal.returns-in_err-took-clause-told
+returns-in_err-took-clause-told g c =
+    let ts = c.args.lanes.now.items in let now = c.loop-lane.lanes.items in
+    let long : length ts ≡ length now = zip_length SameLane ts now c.loop-lane.invariant.same in
+    let below : c.loop-lane.lane < length ts = search rules in
+    let here : c.loop-lane.lane < length now = omega (arith, long, below) in
+    let failed : false ≡ is_ok c.from_residual.result = search rules in
+    subst (λ ok. TellsLanes g.C.Collector.given ts c.args.collector.now ok (slice_set now c.loop-lane.lane c.visit.new.self) c.visit.new.collector)
+    failed
+    (tells_all_then g.C.Collector.given ts now (slice_set now c.loop-lane.lane c.visit.new.self) c.args.collector.now c.loop-lane.collector
+    c.visit.new.collector false (sym long) c.loop-lane.invariant.told
+    (tells_one g.C.Collector.given now c.loop-lane.lane c.index_mut.result.now c.visit.new.self c.loop-lane.collector
+    c.visit.new.collector false here c.index_mut.ensures.value c.in_err-took.ensures.told))
+
+pub loop-lane-preserved : goal.loop-lane-preserved
+loop-lane-preserved g c =
+    let ts = c.args.lanes.now.items in let now = c.loop-lane.lanes.items in
+    let long : length ts ≡ length now = zip_length SameLane ts now c.loop-lane.invariant.same in
+    let below : c.loop-lane.lane < length ts = search rules in
+    let here : c.loop-lane.lane < length now = omega (arith, long, below) in
+    record {
+      same = zip_change SameLane lane_trans ts now c.loop-lane.lane c.index_mut.result.now c.visit.new.self c.index_mut.ensures.value below
+          c.loop-lane.invariant.same c.visit.ensures.same;
+      lanes = c.visit.ensures.lanes ∙ c.loop-lane.invariant.lanes;
+      told = tells_all_then g.C.Collector.given ts now (slice_set now c.loop-lane.lane c.visit.new.self) c.args.collector.now c.loop-lane.collector
+          c.visit.new.collector true (sym long) c.loop-lane.invariant.told
+          (tells_one g.C.Collector.given now c.loop-lane.lane c.index_mut.result.now c.visit.new.self
+          c.loop-lane.collector c.visit.new.collector true here c.index_mut.ensures.value c.in_ok-took.ensures.told);
+      willing = c.in_ok-took.ensures.refused;
+    }
