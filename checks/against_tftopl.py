@@ -6,7 +6,8 @@ recipe; each instruction in order, with its skip or stop; the program of each ch
 and the pairs that `tfmset pairs` prints for the character; and each parameter. tftopl prints a multiple of
 2^-20 with enough decimals to read it back exactly. Then each byte of the first words, and of the first
 entries of the tables, of some fonts is changed. A table relates each message of tftopl to font errors, or
-gives the reason why the font is accepted here.
+gives the reason why the font is accepted here. tftopl doesn't print kerns that no instruction names, nor instructions
+that only redirect.
 """
 import os
 import re

@@ -1,4 +1,9 @@
-"""The library for C: header, linking, symbols, the functions that read a font, and where Python finds it."""
+"""The library for C: header, linking, symbols, the functions that read a font, and where Python finds it.
+
+The values of each sample font are those of its listing, and those of each pair of neighbours are found by a linear
+search in its program. By nm, the libraries define the functions of the header and no others, and a program that
+defines functions with names of the toolchain still calls its own.
+"""
 import ctypes
 import glob
 import itertools

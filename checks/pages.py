@@ -204,9 +204,9 @@ class Links(Case):
         self.same("found", ["docs/TEXTS.md: SCALE", "docs/TEXTS.md: NONE.md"], found)
 
     def test_names_of_pages(self):
-        """No file names a page that doesn't exist. The CHANGELOG may name pages that were removed."""
+        """No file names a page that doesn't exist."""
         contents = {path: read(path, "rb") for path in files(ROOT, (".git", "out", "__pycache__"))
-                    if path not in ("CHANGELOG.md", "checks/pages.py")}
+                    if path != "checks/pages.py"}
         wrong = [named_pages(path, text.decode("utf-8", "replace"))
                  for path, text in contents.items() if b"\0" not in text]
         self.none(sum(wrong, []), len(wrong), 101)

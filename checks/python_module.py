@@ -1,4 +1,8 @@
-"""The Python module: its arguments, the version of the library, the memory of the items, and links to the module."""
+"""The Python module: its arguments, the version of the library, the memory of the items, and links to the module.
+
+The arguments are subclasses of bytes and str, numbers, and sizes with a unit. Threads run during a call. Names that
+Python 3.8 lacks aren't used.
+"""
 import ast
 import os
 import shutil

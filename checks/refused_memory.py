@@ -6,7 +6,11 @@ an execution isn't affected any more; and then all starting at each number. Each
 with the exit status and the line of docs/ERRORS.md, and its output must fit: the records of each source are
 the first ones of an undisturbed execution, each once and in order, and the end line counts them; the findings
 of `check` before the failure are printed. If only one allocation failed, at most one lane is abandoned. Reads
-and writes that transfer only a few bytes change nothing.
+and writes that transfer only a few bytes, or are interrupted, change nothing.
+
+Openings, writes, and allocations that the C library makes for a new thread fail one at a time, and writes to a
+closed pipe from one on. On a full device the exit status stays 5 if an allocation fails. A batch whose last source
+never ends has to end, too.
 """
 import errno
 import itertools

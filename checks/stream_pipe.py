@@ -3,7 +3,8 @@
 The record of a line must be printed before the next line is sent, whatever `--block` is; `--workers` must set
 the number of threads; `--capacity` and `--block` must set how far a source is read ahead; memory must be
 bounded; and a closed pipe must end the program. What contracts state isn't tested here: that each line has
-its record, and which one.
+its record, and which one. How far a source is read ahead is seen while ptrace stops all other threads; where that
+isn't permitted, these tests are skipped.
 """
 import contextlib
 import ctypes
