@@ -89,25 +89,6 @@ class Help(Case):
         seen = re.findall(r"\[default: (\S+)\]", about)
         self.same(f"--{option['name']}: default", [default] if default else [], seen)
 
-    def test_options_of_the_readme(self):
-        """The table of options in the README has the commands, values, ranges and defaults of the command table."""
-        found = {row[0]: row[1:] for row in re.findall(
-            r"^\| (?:`-\w`, )?`--([\w-]+)(?: \w)?` \| (.*?) \| (.*?) \|(.*?)\|$", read("README.md"), re.M)}
-        self.same("options", sorted(TABLE.options), sorted(found))
-        for name, (commands, about, default) in found.items():
-            option = TABLE.options[name]
-            if "`" in commands:
-                self.same(f"--{name}: commands", sorted(TABLE.accepting(name)), sorted(re.findall(r"`(\w+)`", commands)))
-            bounds = "{:,} to {:,}".format(*option["range"]) if "range" in option else ""
-            self.assertIn(bounds, about)
-            self.none([f"--{name}: {value}" for value in option.get("choices", ()) if f"`{value}`" not in about])
-            values = option.get("default", "")
-            if isinstance(values, dict):
-                for command, value in values.items():
-                    self.assertRegex(default, rf"{value} for [^,]*`{command}`")
-            elif values:
-                self.same(f"--{name}: default", values, default.strip(" `").replace(",", ""))
-
     def test_generated_files(self):
         """The files that scripts/command_pages writes are up to date."""
         self.same("result", (0, "", ""), execute(ROOT + "/scripts/command_pages", "--check"))
