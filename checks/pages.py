@@ -352,6 +352,14 @@ class Scripts(Case):
         self.same("result", (0, ""), (status, err))
         self.same("labels", ["65", "111", "U+20AC"], re.findall(r"middle[^>]*>([^<]*)<", out))
 
+    def test_boxes_with_letters(self):
+        """examples/boxes draws letters in an encoding, the code of a character that has none, and amounts of kerns."""
+        self.file("listing", output(PROGRAM, "list", f"{EXAMPLES}/demo.tfm"))
+        record = b"1:1 set 900983 c14=550502 k-16384 c120=347340 k19660 c200=0\n"
+        status, out, err = self.script("boxes", "listing", "ot1", "655360", given=record)
+        self.same("result", (0, ""), (status, err))
+        self.same("labels", ["ffi", "-0.25", "x", "0.30", "200"], re.findall(r"middle[^>]*>([^<]*)<", out))
+
     @rows((name, name, given, message) for name, given, message in (
         ("JSON", '{"source":1}\n', "JSON is not read"), ("format 2", "records 2\n", "format 2 is not read"),
         ("a part that is cut", "1:1 set 5\n1:3 set 5\n", "part 1 is incomplete: 1:3 set 5"),

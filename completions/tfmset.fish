@@ -74,7 +74,7 @@ complete -c tfmset -n '__tfmset_is set each stream' -l crlf -d 'Leave out one ca
 complete -c tfmset -n '__tfmset_is pairs set each stream' -l encoding -rF -a 'bytes ot1 t1 ly1 latin1' -d 'Encoding of the font, for text in UTF-8'
 complete -c tfmset -n '__tfmset_is set each stream' -l workers -x -a '(seq 1 16)' -d 'Maximum threads that set lines'
 complete -c tfmset -n '__tfmset_is set each stream' -l capacity -x -d 'Slots per queue between threads, 1 to 65536'
-complete -c tfmset -n '__tfmset_is set each stream' -l block -x -a '(seq 1 8)' -d 'Lines per message; 8 is fastest'
+complete -c tfmset -n '__tfmset_is set each stream' -l block -x -a '(seq 1 8)' -d 'Lines per message; leave it out with stream, use 8 with set and each'
 complete -c tfmset -n '__tfmset_is set each stream' -l record -x -a '1 2 json' -d 'Record format'
 complete -c tfmset -n '__tfmset_is counts list pairs check set each stream' -s v -l verbose -d 'Print causes of errors on standard error'
 complete -c tfmset -n '__tfmset_is counts list pairs check set each stream' -s h -l help -d 'Print help'

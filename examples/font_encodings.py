@@ -1,7 +1,8 @@
 """The encodings OT1 (that of cmr10), T1 (that of ecrm1000), LY1 and Latin 1, as tables from codes to letters.
 
-`letters` looks codes up in them. A ligature has several letters, such as "ffi". A glyph for which Unicode has
-no character has its name. checks/pages.py compares the tables with TeX's 7t.enc, ec.enc and lm-texnansi.enc.
+`letters` and `boxes` look codes up in them. A ligature has several letters, such as "ffi". A glyph for which
+Unicode has no character has its name. checks/pages.py compares the tables with TeX's 7t.enc, ec.enc and
+lm-texnansi.enc.
 """
 
 ASCII = {code: chr(code) for code in range(33, 127)} | {39: "’", 96: "‘"}
