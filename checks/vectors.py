@@ -15,7 +15,7 @@ from lib.tfm import sample
 MOST_BYTES = 65536
 ENDS = rb"\r\n|\r|\n"
 TOKEN = re.compile(rb"%[^\r\n]*|[\0\t\n\f\r ]+|(/?[^\0\t\n\f\r ()<>\[\]{}/%]+|[()<>\[\]{}/])")
-NUMBER = re.compile(r"uni(?P<four>[0-9A-F]{4})|u(?P<more>[0-9A-F]{4}|[1-9A-F][0-9A-F]{4,5})")
+NUMBER = re.compile(r"uni(?P<four>[0-9A-F]{4})|u(?P<more>[0-9A-F]{4,6})")
 NAME, OPEN, CLOSE, DEF = rb"/[^/]+", rb"\[", rb"\]", rb"def"
 FORM = [NAME, OPEN, *[NAME] * 256, CLOSE, DEF]
 # The codes that a line never has: a line feed, and the space, which separates words.

@@ -1,53 +1,71 @@
--- The tables of glyphs, one after another, are the one of the definition.
-use Rattle.std.proofs.Common.{◌≡◌, ℕ, Bool, true, false, cond, List, [], ◌∷◌, ◌++◌, ◌+◌, ◌<◌, length, drop, get_or, map, Option, Some, refl, ap, sym, ◌∙◌}
-use Rattle.std.specs.Borrow.{Bor}
-use Rattle.std.specs.Prelude.{bytes_eq}
-use Rattle.std.proofs.lemmas.List.{drop_more}
-use Rattle.std.specs.Option.{option_or}
-use Rattle.encoding_vectors.specs.declared.glyphs.capital_a_to_d.TheConstants.{CAPITAL_A_TO_D}
-use Rattle.encoding_vectors.specs.declared.glyphs.capital_e_to_l.TheConstants.{CAPITAL_E_TO_L}
-use Rattle.encoding_vectors.specs.declared.glyphs.capital_m_to_s.TheConstants.{CAPITAL_M_TO_S}
-use Rattle.encoding_vectors.specs.declared.glyphs.capital_t_to_z.TheConstants.{CAPITAL_T_TO_Z}
-use Rattle.encoding_vectors.specs.declared.glyphs.a_and_b.TheConstants.{A_AND_B}
-use Rattle.encoding_vectors.specs.declared.glyphs.c_and_d.TheConstants.{C_AND_D}
-use Rattle.encoding_vectors.specs.declared.glyphs.e_and_f.TheConstants.{E_AND_F}
-use Rattle.encoding_vectors.specs.declared.glyphs.g_to_l.TheConstants.{G_TO_L}
-use Rattle.encoding_vectors.specs.declared.glyphs.m_to_o.TheConstants.{M_TO_O}
-use Rattle.encoding_vectors.specs.declared.glyphs.p_to_r.TheConstants.{P_TO_R}
-use Rattle.encoding_vectors.specs.declared.glyphs.s_and_t.TheConstants.{S_AND_T}
-use Rattle.encoding_vectors.specs.declared.glyphs.u_to_z.TheConstants.{U_TO_Z}
-use Rattle.encoding_vectors.specs.Glyphs.{glyph_characters}
-use Rattle.encoding_vectors.specs.Names.{character_beside}
-use Rattle.encoding_vectors.specs.Rows.{rows_of}
+-- The rows of glyphs are looked through one after another, and the parts of the list are in order.
+use Rattle.std.proofs.Common.{◌≡◌, ℕ, zero, suc, ◌+◌, ◌-◌, ◌/◌, ◌<◌, ◌≤◌, Bool, true, false, ◌&&◌, cond, List, [], ◌∷◌, length, take, drop, get_or, Some, None, arith, refl, ap, sym, ◌∙◌, add-one, length-drop, subst}
+use Rattle.std.specs.Prelude.{nat_le, bytes_eq}
+use Rattle.std.proofs.Math.Nat.{div-eq-sub-div, div-eq_of_lt}
+use Rattle.std.proofs.lemmas.Bool.{leb-true}
+use Rattle.std.proofs.lemmas.List.{drop-take, get_or_past, take-take}
+use Rattle.encoding_vectors.specs.declared.glyphs.list.TheConstants.{ROWS, STARTS}
+use Rattle.encoding_vectors.specs.Glyphs.{digits_beside, listed_digits, pieces, rows_in, rows_of}
 
--- a name in one table or in the tables after it
-pub beside_either : (rows others : List (List ℕ × ℕ)) (name : List ℕ) → character_beside (rows ++ others) name ≡ option_or (character_beside rows name) (character_beside others name)
-beside_either [] others name = refl
-beside_either (row ∷ rows) others name = by (beside_either rows others name) (bytes_eq name row.0)
-  where
-    by : character_beside (rows ++ others) name ≡ option_or (character_beside rows name) (character_beside others name)
-        → (b : Bool) → cond b (Some row.1) (character_beside (rows ++ others) name) ≡ option_or (cond b (Some row.1) (character_beside rows name)) (character_beside others name)
-    by rest true = refl
-    by rest false = rest
+-- ---- the rows of a text
 
--- one more table: a name in the tables before it, or in this one
-pub one_more : (rows others : List (List ℕ × ℕ)) (name : List ℕ) (before here result : Option ℕ)
-    → before ≡ character_beside rows name → here ≡ character_beside others name → result ≡ option_or before here → result ≡ character_beside (rows ++ others) name
-one_more rows others name before here result before_is here_is is =
-    is ∙ ap (λ o. option_or o here) before_is ∙ ap (option_or (character_beside rows name)) here_is ∙ sym (beside_either rows others name)
+-- a text with a row at its front
+pub row_there : (rows name : List ℕ) → length name + 6 ≤ length rows
+    → digits_beside (rows_in (length name) rows) name
+    ≡ cond (bytes_eq (take (length name) rows) name) (Some (take 4 (drop (length name + 1) rows))) (digits_beside (rows_in (length name) (drop (length name + 6) rows)) name)
+row_there rows name long =
+    let count = length name in let size = count + 6 in let rest = drop size rows in
+    let fewer : length rows / size ≡ suc (length rest / size) =
+    div-eq-sub-div {m = size} {n = length rows} (omega arith) long ∙ add-one ((length rows - size) / size) ∙ ap (λ n. suc (n / size)) (sym (length-drop size rows)) in
+    let front : take count (take size rows) ≡ take count rows = take-take count size rows (omega arith) in
+    let parts : size ≡ (count + 1) + 5 = omega arith in
+    let digits : take 4 (drop (count + 1) (take size rows)) ≡ take 4 (drop (count + 1) rows) =
+    ap (λ n. take 4 (drop (count + 1) (take n rows))) parts ∙ ap (take 4) (drop-take (count + 1) 5 rows) ∙ take-take 4 5 (drop (count + 1) rows) (omega arith) in
+    ap (λ n. digits_beside (pieces n size rows) name) fewer
+    ∙ ap (λ l. cond (bytes_eq l name) (Some (take 4 (drop (count + 1) (take size rows)))) (digits_beside (rows_in count rest) name)) front
+    ∙ ap (λ l. cond (bytes_eq (take count rows) name) (Some l) (digits_beside (rows_in count rest) name)) digits
 
--- the row at an index
-pub row_there : (rows : List (Bor (List ℕ) × ℕ)) (at : ℕ) (default : Bor (List ℕ) × ℕ) (name : List ℕ) → at < length rows
-    → character_beside (rows_of (drop at rows)) name
-    ≡ cond (bytes_eq name (get_or rows at default).0.now) (Some (get_or rows at default).1) (character_beside (rows_of (drop (at + 1) rows)) name)
-row_there rows at default name within = ap (λ l. character_beside (rows_of l) name) (drop_more rows at default within)
+-- a text that is too short for a row
+pub no_row : (rows name : List ℕ) → length rows < length name + 6 → digits_beside (rows_in (length name) rows) name ≡ None
+no_row rows name short = ap (λ n. digits_beside (pieces n (length name + 6) rows) name) (div-eq_of_lt short)
 
--- ---- all tables
+-- ---- the parts of the list
 
--- the names and characters of a table
-abbrev pub named : List (record { now : List ℕ } × ℕ) → List (List ℕ × ℕ)
-named rows = map (λ row. (row.0.now, row.1)) rows
+-- each number is at most the next one and this bound
+abbrev in_order : ℕ → List ℕ → Bool
+in_order bound [] = true
+in_order bound (first ∷ others) = (nat_le first (get_or others 0 bound) && nat_le first bound) && in_order bound others
 
-pub tables_agree : named CAPITAL_A_TO_D ++ named CAPITAL_E_TO_L ++ named CAPITAL_M_TO_S ++ named CAPITAL_T_TO_Z ++ named A_AND_B ++ named C_AND_D ++ named E_AND_F ++ named G_TO_L ++ named M_TO_O ++ named P_TO_R ++ named S_AND_T ++ named U_TO_Z ≡ glyph_characters
-unfolding glyph_characters
-tables_agree = refl
+both : (a b c : Bool) → (a && b) && c ≡ true → (a ≡ true) × (b ≡ true) × (c ≡ true)
+both true true c is = (refl, refl, is)
+both true false c is = cc
+both false b c is = cc
+
+next_there : (bound : ℕ) (numbers : List ℕ) (at : ℕ) → in_order bound numbers ≡ true → suc at < length numbers
+    → (get_or numbers at 0 ≤ get_or numbers (suc at) 0) × (get_or numbers (suc at) 0 ≤ bound)
+next_there bound [] at is within = absurd (omega arith)
+next_there bound (first ∷ []) at is within = absurd (omega arith)
+next_there bound (first ∷ (next ∷ others)) zero is within =
+    let p = both (nat_le first next) (nat_le first bound) (in_order bound (next ∷ others)) is in
+    let q = both (nat_le next (get_or others 0 bound)) (nat_le next bound) (in_order bound others) p.2 in (leb-true first next p.0, leb-true next bound q.1)
+next_there bound (first ∷ (next ∷ others)) (suc at) is within =
+    next_there bound (next ∷ others) at (both (nat_le first next) (nat_le first bound) (in_order bound (next ∷ others)) is).2 (omega arith)
+
+all_in_order : in_order 74150 STARTS ≡ true
+all_in_order = refl
+
+pub part_there : (count : ℕ) → count < 40 → (get_or STARTS count 0 ≤ get_or STARTS (count + 1) 0) × (get_or STARTS (count + 1) 0 ≤ 74150)
+part_there count few =
+    let next : suc count ≡ count + 1 = sym (add-one count) in
+    subst (λ n. (get_or STARTS count 0 ≤ get_or STARTS n 0) × (get_or STARTS n 0 ≤ 74150)) next (next_there 74150 STARTS count all_in_order (omega arith))
+
+-- no name in the list is longer
+pub too_long : (name : List ℕ) → 40 ≤ length name → listed_digits name ≡ None
+unfolding listed_digits rows_of
+too_long name long =
+    let count = length name in
+    let start = get_or STARTS count 0 in
+    let end : get_or STARTS (count + 1) 0 ≡ 0 = get_or_past STARTS (count + 1) 0 (omega arith) in
+    let none : get_or STARTS (count + 1) 0 - start ≡ 0 = omega (arith, end) in
+    let empty : rows_of count ≡ [] = ap (λ n. take n (drop start ROWS.now)) none in
+    ap (λ l. digits_beside (rows_in count l) name) empty ∙ no_row [] name (omega arith)

@@ -2,8 +2,8 @@
 -- scanner, and the characters those of the Adobe Glyph List.
 use Rattle.std.proofs.Common.{◌≡◌, [], ◌∷◌, ◌++◌, Some, None, refl, codes}
 use Rattle.encoding_vectors.specs.Bytes.{is_white, is_special, is_regular}
-use Rattle.encoding_vectors.specs.Glyphs.{glyph_characters}
-use Rattle.encoding_vectors.specs.Names.{character_of, numbered_character}
+use Rattle.encoding_vectors.specs.Glyphs.{listed_digits, rows_of}
+use Rattle.encoding_vectors.specs.Names.{character_of, numbered_character, written_character}
 use Rattle.encoding_vectors.specs.Tokens.{tokens_of}
 use Rattle.encoding_vectors.specs.Vectors.{fault_line, line_after, vector_form}
 
@@ -73,45 +73,57 @@ too_short = refl
 -- ---- names
 
 accented : character_of (codes "adieresis") ≡ Some 0xE4
-unfolding character_of numbered_character glyph_characters
+unfolding character_of numbered_character written_character listed_digits rows_of
 accented = refl
 
+ogonek : character_of (codes "uogonek") ≡ Some 0x173
+unfolding character_of numbered_character written_character listed_digits rows_of
+ogonek = refl
+
+longest : character_of (codes "whitediamondcontainingblacksmalldiamond") ≡ Some 0x25C8
+unfolding character_of numbered_character written_character listed_digits rows_of
+longest = refl
+
+several_characters : character_of (codes "dalethatafpatah") ≡ None
+unfolding character_of numbered_character written_character listed_digits rows_of
+several_characters = refl
+
 ligature : character_of (codes "ffl") ≡ Some 0xFB04
-unfolding character_of numbered_character glyph_characters
+unfolding character_of numbered_character written_character listed_digits rows_of
 ligature = refl
 
 no_glyph : character_of (codes ".notdef") ≡ None
-unfolding character_of numbered_character glyph_characters
+unfolding character_of numbered_character written_character listed_digits rows_of
 no_glyph = refl
 
 with_a_period : character_of (codes "A.sc") ≡ None
-unfolding character_of numbered_character glyph_characters
+unfolding character_of numbered_character written_character listed_digits rows_of
 with_a_period = refl
 
 four_digits : character_of (codes "uni20AC") ≡ Some 0x20AC
-unfolding character_of numbered_character
+unfolding character_of numbered_character written_character
 four_digits = refl
 
 lower_case : character_of (codes "uni20ac") ≡ None
-unfolding character_of numbered_character glyph_characters
+unfolding character_of numbered_character written_character listed_digits rows_of
 lower_case = refl
 
 surrogate : character_of (codes "uniD800") ≡ None
-unfolding character_of numbered_character glyph_characters
+unfolding character_of numbered_character written_character listed_digits rows_of
 surrogate = refl
 
 five_digits : character_of (codes "u1F600") ≡ Some 0x1F600
-unfolding character_of numbered_character
+unfolding character_of numbered_character written_character
 five_digits = refl
 
-leading_zero : character_of (codes "u01F60") ≡ None
-unfolding character_of numbered_character glyph_characters
+leading_zero : character_of (codes "u01F60") ≡ Some 0x1F60
+unfolding character_of numbered_character written_character
 leading_zero = refl
 
 largest : character_of (codes "u10FFFF") ≡ Some 0x10FFFF
-unfolding character_of numbered_character
+unfolding character_of numbered_character written_character
 largest = refl
 
 too_large : character_of (codes "u110000") ≡ None
-unfolding character_of numbered_character glyph_characters
+unfolding character_of numbered_character written_character listed_digits rows_of
 too_large = refl

@@ -3,6 +3,5 @@ pub mod Tokens
 pub mod Glyphs
 pub mod Names
 pub mod Vectors
-pub mod Rows
 pub mod Reading
 pub mod FaultText

@@ -1,66 +1,66 @@
-//! The characters of the names in the Adobe Glyph List and in encoding files of TeX.
-ghost use Rattle.std.specs.Prelude.{◌≡◌};
-ghost use Rattle.encoding_vectors.specs.Glyphs.{glyph_characters};
-ghost use Rattle.encoding_vectors.specs.Names.{character_beside};
-ghost use Rattle.encoding_vectors.specs.Rows.{rows_of};
+//! The characters of the names in the Adobe Glyph List and of some names of TeX.
+ghost use Rattle.std.specs.Prelude.{◌≡◌, ◌≤◌, ◌<◌, IfSome, MatchOption, None, Some, get_or, length};
+ghost use Rattle.encoding_vectors.specs.Glyphs.{digits_beside, listed_digits as listed_digits_of, rows_in, rows_of};
 
-use crate::glyphs::a_and_b::A_AND_B;
-use crate::glyphs::c_and_d::C_AND_D;
-use crate::glyphs::capital_a_to_d::CAPITAL_A_TO_D;
-use crate::glyphs::capital_e_to_l::CAPITAL_E_TO_L;
-use crate::glyphs::capital_m_to_s::CAPITAL_M_TO_S;
-use crate::glyphs::capital_t_to_z::CAPITAL_T_TO_Z;
-use crate::glyphs::e_and_f::E_AND_F;
-use crate::glyphs::g_to_l::G_TO_L;
-use crate::glyphs::m_to_o::M_TO_O;
-use crate::glyphs::p_to_r::P_TO_R;
-use crate::glyphs::s_and_t::S_AND_T;
-use crate::glyphs::u_to_z::U_TO_Z;
+use crate::glyphs::list::{ROWS, STARTS};
 
-mod a_and_b;
-mod c_and_d;
-mod capital_a_to_d;
-mod capital_e_to_l;
-mod capital_m_to_s;
-mod capital_t_to_z;
-mod e_and_f;
-mod g_to_l;
-mod m_to_o;
-mod p_to_r;
-mod s_and_t;
-mod u_to_z;
+mod list;
 
-/// The name of a glyph, and its character.
-pub(crate) type GlyphRow = (&'static str, char);
-
-/// Returns the character in the row of a name, or `None` if there is no such row.
-fn character_in(rows: &[GlyphRow], name: &[u8]) -> Option<char>
-    ensures { result ≡ character_beside (rows_of rows.now) name.now }
+/// Returns all rows.
+fn all_rows() -> &'static [u8]
+    ensures rows { result.now ≡ ROWS.now }
+    ensures len { length result.now ≡ 74150 }
 {
-    for (glyph, character) in rows {
-        if name == glyph.as_bytes() {
-            return Some(*character);
+    ROWS
+}
+
+/// Returns the offset of the first row of the names of so many bytes.
+fn start_of(count: usize) -> usize
+    requires { count < 41 }
+    ensures { result ≡ get_or STARTS count 0 }
+{
+    STARTS[count]
+}
+
+/// Returns the rows of the names of so many bytes.
+#[tactic(auto, using(crate::proofs::GlyphLemmas::part_there), unfolding(crate::specs::Glyphs::rows_of))]
+fn rows_with(count: usize) -> &'static [u8]
+    requires { count < 40 }
+    ensures { result.now ≡ rows_of count }
+{
+    let rows = all_rows();
+    let start = start_of(count);
+    let end = start_of(count + 1);
+    &rows[start..end]
+}
+
+/// Returns the digits in the row of a name, or `None` if there is no such row. The names in the rows have as
+/// many bytes as this one.
+fn digits_in<'a>(rows: &'a [u8], name: &[u8]) -> Option<&'a [u8]>
+    ensures digits { MatchOption result (digits_beside (rows_in (length name.now) rows.now) name.now ≡ None)
+        (λ digits. digits_beside (rows_in (length name.now) rows.now) name.now ≡ Some digits.now) }
+    ensures few { IfSome result (λ digits. length digits.now ≤ 6) }
+{
+    let count = name.len();
+    let mut rest = rows;
+    while rest.len() >= count + 6 {
+        if &rest[..count] == name {
+            return Some(&rest[count + 1..count + 5]);
         }
+        rest = rest.split_at(count + 6).1;
     }
     None
 }
 
-/// Returns the character of a name in the Adobe Glyph List or in an encoding file of TeX, if it is in one of
-/// the encodings of the crate `encodings`.
-pub(crate) fn glyph_character(name: &[u8]) -> Option<char>
-    ensures { result ≡ character_beside glyph_characters name.now }
+/// Returns the number of the character of a name in the list, in hexadecimal digits, or `None` for any other
+/// name.
+pub(crate) fn listed_digits(name: &[u8]) -> Option<&'static [u8]>
+    ensures digits { MatchOption result (listed_digits_of name.now ≡ None)
+        (λ digits. listed_digits_of name.now ≡ Some digits.now) }
+    ensures few { IfSome result (λ digits. length digits.now ≤ 6) }
 {
-    let capitals = character_in(&CAPITAL_A_TO_D, name)
-        .or(character_in(&CAPITAL_E_TO_L, name))
-        .or(character_in(&CAPITAL_M_TO_S, name))
-        .or(character_in(&CAPITAL_T_TO_Z, name));
-    capitals
-        .or(character_in(&A_AND_B, name))
-        .or(character_in(&C_AND_D, name))
-        .or(character_in(&E_AND_F, name))
-        .or(character_in(&G_TO_L, name))
-        .or(character_in(&M_TO_O, name))
-        .or(character_in(&P_TO_R, name))
-        .or(character_in(&S_AND_T, name))
-        .or(character_in(&U_TO_Z, name))
+    if name.len() >= 40 {
+        return None;
+    }
+    digits_in(rows_with(name.len()), name)
 }

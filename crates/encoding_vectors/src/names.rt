@@ -2,8 +2,8 @@
 ghost use Rattle.std.specs.Prelude.{◌≡◌};
 ghost use Rattle.encoding_vectors.specs.Names.{character_of};
 
-use crate::glyphs::glyph_character;
-use crate::numbers::numbered_character;
+use crate::glyphs::listed_digits;
+use crate::numbers::{numbered_character, written_character};
 
 /// Returns the character of a glyph's name, or `None` if it has none.
 #[tactic(auto, unfolding(crate::specs::Names::character_of))]
@@ -12,6 +12,6 @@ pub(crate) fn character_of(name: &[u8]) -> Option<char>
 {
     match numbered_character(name) {
         Some(character) => Some(character),
-        None => glyph_character(name),
+        None => written_character(listed_digits(name)?),
     }
 }

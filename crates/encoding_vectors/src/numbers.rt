@@ -1,7 +1,7 @@
 //! Characters whose numbers are in their names.
 ghost use Rattle.std.specs.Prelude.{◌≡◌, ◌<◌, ◌≤◌, ◌^◌, IfSome, MatchOption, None, Some, true, false, length, option_and_then};
 ghost use Rattle.std.specs.Char.{digit_value};
-ghost use Rattle.encoding_vectors.specs.Names.{as_character, digits_of_name, hex_number as hex_number_of, is_upper_hex, numbered_character};
+ghost use Rattle.encoding_vectors.specs.Names.{as_character, digits_of_name, hex_number as hex_number_of, is_upper_hex, numbered_character, written_character};
 
 use std::char;
 
@@ -43,10 +43,16 @@ fn digits_of(name: &[u8]) -> Option<&[u8]>
     if name.len() < 5 || name.len() > 7 || name[0] != b'u' {
         return None;
     }
-    if name.len() > 5 && name[1] == b'0' {
-        return None;
-    }
     Some(&name[1..])
+}
+
+/// Returns the character whose number hexadecimal digits in upper case write, or `None` if they write none.
+#[tactic(auto, unfolding(crate::specs::Names::written_character))]
+pub(crate) fn written_character(digits: &[u8]) -> Option<char>
+    requires { length digits.now ≤ 6 }
+    ensures { result ≡ written_character digits.now }
+{
+    char::from_u32(hex_number(digits)?)
 }
 
 /// Returns the character whose number a name states, or `None` if it states none.
@@ -54,5 +60,5 @@ fn digits_of(name: &[u8]) -> Option<&[u8]>
 pub(crate) fn numbered_character(name: &[u8]) -> Option<char>
     ensures { result ≡ numbered_character name.now }
 {
-    char::from_u32(hex_number(digits_of(name)?)?)
+    written_character(digits_of(name)?)
 }

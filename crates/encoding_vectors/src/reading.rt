@@ -101,9 +101,9 @@ fn read_all(text: &[u8], characters: &mut [Option<char>]) -> Result<(), usize>
 /// also those with ligatures for afm2tfm; a line ends with LF, CR or CR LF. White space and names are those
 /// of PostScript (PostScript Language Reference, section 3.2), except that a name has at least one character.
 ///
-/// The character of a name is that of the Adobe Glyph List, if it is in one of the encodings OT1, T1, LY1 or
-/// Latin 1; that of TeX's encoding files for these encodings, which have `dotlessj`, say, and Δ for `Delta`; or
-/// the one whose number is in the name, such as `uni20AC` or `u1F600`. Any other name, such as `.notdef`, has none.
+/// The character of a name is that of the Adobe Glyph List, if the list gives it one character; that of TeX
+/// for fourteen names, such as `dotlessj`, and `Delta`, which is Δ; or the one whose number is in the name,
+/// such as `uni20AC` or `u1F600`. Any other name, such as `.notdef`, has none.
 ///
 /// A text that isn't a vector is refused. A text of more than [`MOST_BYTES`] bytes is refused first, whatever
 /// its tokens are.

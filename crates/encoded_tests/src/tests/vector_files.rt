@@ -13,9 +13,13 @@ fn vector(alloc: Global, front: &[u8], count: usize, end: &[u8]) -> Result<Vec<u
 }
 
 /// Names, and their characters in the Adobe Glyph List, in encoding files of TeX, or by their numbers.
-static NAMES: [(&str, Option<char>); 16] = [
+static NAMES: [(&str, Option<char>); 20] = [
     ("A", Some('A')),
+    ("z", Some('z')),
     ("ae", Some('æ')),
+    ("uogonek", Some('ų')),
+    ("afii10017", Some('А')),
+    ("whitediamondcontainingblacksmalldiamond", Some('\u{25C8}')),
     ("Delta", Some('Δ')),
     ("dotlessj", Some('ȷ')),
     ("one.superior", Some('¹')),
@@ -26,7 +30,7 @@ static NAMES: [(&str, Option<char>); 16] = [
     ("uni20ac", None),
     ("uniD800", None),
     ("u1F600", Some('😀')),
-    ("u01F60", None),
+    ("u01F60", Some('\u{1F60}')),
     ("u110000", None),
     ("A.sc", None),
     ("f_f", None),
@@ -40,7 +44,7 @@ fn names_with_characters(rt: HostRuntime) -> Result<(), Fail> {
         text.extend_from_slice(name.as_bytes())?;
     }
     text.push(b' ')?;
-    let text = vector(rt.alloc(), &text, 240, b"] def")?;
+    let text = vector(rt.alloc(), &text, 236, b"] def")?;
     let read = read_vector(&text).ok().ok_or("refused")?;
     for ((name, wanted), seen) in NAMES.iter().zip(read) {
         assert!(rt; seen == *wanted, "{name}");
