@@ -36,6 +36,8 @@ PREAMBLE = r"""\DeclareFontFamily{%(name)s}{made}{}\DeclareFontShape{%(name)s}{m
 \renewcommand\rmdefault{made}\def\accent{\errmessage{accent}}
 """
 SPACE, RIGHT = 333 << 10, 24  # parameter 2 and the right boundary's code in the font that is made
+# Several characters, among them soft hyphens and non-breaking hyphens.
+SEVERAL = ("\u00ad\u00ad", "\u2011\u2011", "-\u2011-", "\u00ad\u2011\u00ad", "\u00ad \u00ad", "\u2011 \u2011", "x\u00ady")
 DECLARED = re.compile(r"^\s*\\DeclareUnicodeCharacter\{(\w+)\}", re.M)
 # In LY1: characters that have the code of another one, those that are built of others, and names of glyphs that the
 # Adobe Glyph List lacks. The non-joiner has code 10, and accents without a letter may have no codes.
@@ -150,7 +152,8 @@ class Characters(Case):
         self.need("latex", "kpsewhich", "cmr10", f"{name.lower()}enc.def")
         font = self.file("made.tfm", made_font())
         # LaTeX leaves out U+FEFF everywhere, and not only at the beginning of a file.
-        letters = sorted(declared(name).union(*(table(self, value) for value in values if value in NAMES)) - {"\ufeff"})
+        letters = declared(name).union(*(table(self, value) for value in values if value in NAMES)) - {"\ufeff"}
+        letters = [*sorted(letters), *SEVERAL]
         texts = [text for letter in letters for text in (letter, f"x{letter}y")]
         boxes = pairs(set_in_boxes(self, name, texts))
         self.none([], sum(pair is not None for pair in boxes), 120)
@@ -161,7 +164,7 @@ class Characters(Case):
                 is_compared = wanted and sum(item[0] == "c" for item in wanted[0][1]) < 2
                 if (is_compared or value in NAMES) and (wanted == seen) == (letter in listed):
                     what = "an exception" if letter in listed else f"{seen} instead of {wanted}"
-                    self.wrong.append(f"{value} {letter!r} U+{ord(letter):04X}: {what}")
+                    self.wrong.append(f"{value} {letter} {ascii(letter)}: {what}")
 
     def test_ly1(self):
         """LY1 has the characters at the codes of an encoding file, and those that LaTeX declares for it."""
