@@ -102,7 +102,7 @@ def set_in_box(box, encoding):
     for line in lines:
         inside = line == ".\\discretionary" or inside and line.startswith("..")
         found = re.fullmatch(rf"\.+\\(?:{encoding}/made/m/n/10 (?P<c>[^ ]+| )(?: \(ligature .*\))?|kern(?P<k>-?[\d.]+)"
-                             r"|glue (?P<s>[\d.]+)|penalty .*|hbox\([^)]*\)x[\d.]+)", line)
+                             r"|glue (?:0\.0|(?P<s>[\d.]+))|penalty .*|hbox\([^)]*\)x[\d.]+)", line)
         if not inside and (not found or found["s"] and scaled_points(found["s"]) != SPACE * 10 >> 4):
             return None
         for kind in "cks" if not inside else "":
