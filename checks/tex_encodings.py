@@ -1,202 +1,202 @@
-"""The encodings of lines in UTF-8, compared with LaTeX, with encoding files of dvips and with Python.
+"""The encodings of lines in UTF-8, compared with LaTeX, with an encoding file of dvips and with Python.
 
-The codes of a character are those of the box that LaTeX makes of it with its packages inputenc and fontenc,
-if this box has only characters of the font. For the other characters, and for LY1, whose definition for LaTeX
-is in a large package, the encoding files name the glyph at each code. Pages in five languages have the widths
-of LaTeX's boxes.
+The program and LaTeX, with its packages inputenc and fontenc, set each character that one of them knows, alone and
+between two letters, in a font that is made here. In this font a kern precedes each character and ends each run, so
+that a box shows how its characters were joined. If LaTeX's boxes have only characters, kerns and spaces of this font,
+the items have to be the same, and otherwise the character has to be uncoded. With an encoding vector only the
+characters are compared that LaTeX sets with at most one code. The exceptions are the rows of a table in docs/TEX.md.
+LaTeX's definition of LY1 is in a large package: an encoding file names the glyph at each code.
 """
+import fnmatch
 import glob
 import os
 import re
 import unicodedata
 
-from lib.base import PROGRAM, environment, execute, output, read, rows
+from lib.base import PROGRAM, Case, environment, execute, output, read, rows
 from lib.clib import DONE, NO_ROOM, RANGE, encode
-from lib.tfm import sample
+from lib.tfm import make, sample
 from library_lines import LinesCase
 
 WEIGHT = 4
 NOT_UTF8, UNCODED = 5, 6
 NAMES = ("ot1", "t1", "ly1", "latin1")
-FILES = {"ot1": "7t.enc", "t1": "ec.enc", "ly1": "lm-texnansi.enc"}
+# The values of --encoding that are compared with each encoding of LaTeX.
+VALUES = {"T1": "t1 ec.enc lm-ec.enc", "OT1": "ot1 7t.enc lm-rm.enc", "L7x": "lm-l7x.enc latin7x.enc",
+          "QX": "lm-qx.enc qx.enc", "T5": "lm-t5.enc"}
 PAGES = (("german", "T1", "ecrm1000"), ("french", "T1", "ecrm1000"), ("czech", "T1", "ecrm1000"),
          ("polish", "T1", "ecrm1000"), ("english", "OT1", "cmr10"))
-# ASCII characters that are commands of LaTeX, or whose codes in OT1 are other characters.
-COMMANDS = {"#": r"\#", "$": r"\$", "%": r"\%", "&": r"\&", '"': r"\textquotedbl", "<": r"\textless",
-            ">": r"\textgreater", "\\": r"\textbackslash", "^": r"\textasciicircum", "_": r"\textunderscore",
-            "{": r"\textbraceleft", "|": r"\textbar", "}": r"\textbraceright", "~": r"\textasciitilde"}
-# In OT1 these two commands set the accents at their codes, which are ˆ and ˜.
-ACCENTS = {"ot1": "^~", "t1": ""}
-# LaTeX takes these from TS1 since 2020. Their codes in T1 are those of its file t1enc.def.
-FROM_T1 = {"‰": ("perthousand", b"%\x18"), "‱": ("pertenthousand", b"%\x18\x18")}
-# Characters that have the code of another one.
-SET_AS = {"'": "’", "`": "‘", "\u00a0": " ", "Đ": "Ð", "ˆ": "^", "˜": "~", "‐": "-", "‑": "-", "‒": "–",
-          "―": "—"}
-# Glyphs that the lists don't name, or not by the letter; and the mark of a glyph that is there twice.
-GLYPHS = {"dotlessj": "ȷ", "Delta": "Δ", "Omega": "Ω", "Germandbls": "ẞ", "visiblespace": " ",
-          "one.superior": "¹", "two.superior": "²", "three.superior": "³"}
-AGAIN = re.compile(r"\.dup$")
-# Characters at codes of a font that lines can't have: 10 is a line feed, and 32 a space. LY1 has the
-# non-joiner at 10.
-LEFT_OUT = {"ot1": "Ω", "t1": "˙", "ly1": "\u200c"}
+# ASCII characters that LaTeX reads as commands, or that in OT1 are other characters. \\$ itself would end a run.
+COMMANDS = str.maketrans({
+    "#": r"\#", "$": r"\textdollar ", "%": r"\%", "&": r"\&", '"': r"\textquotedbl ", "<": r"\textless ",
+    ">": r"\textgreater ", "\\": r"\textbackslash ", "^": r"\textasciicircum ", "_": r"\textunderscore ",
+    "{": r"\textbraceleft ", "|": r"\textbar ", "}": r"\textbraceright ", "~": r"\textasciitilde "})
+# A character that \accent places isn't part of a run. The command is therefore an error here.
+PREAMBLE = r"""\DeclareFontFamily{%(name)s}{made}{}\DeclareFontShape{%(name)s}{made}{m}{n}{<-> made}{}
+\renewcommand\rmdefault{made}\def\accent{\errmessage{accent}}
+"""
+SPACE, RIGHT = 333 << 10, 24  # parameter 2 and the right boundary's code in the font that is made
+# Several characters, among them soft hyphens and non-breaking hyphens.
+SEVERAL = ("\u00ad\u00ad", "\u2011\u2011", "-\u2011-", "\u00ad\u2011\u00ad", "\u00ad \u00ad", "\u2011 \u2011", "x\u00ady")
 DECLARED = re.compile(r"^\s*\\DeclareUnicodeCharacter\{(\w+)\}", re.M)
-BOX = re.compile(r"> \\box0=\n(.*?)\n\n! OK", re.S)
-CHARACTER = r"\.\.?\\{}/cmr/m/n/10 (.*?)(?: \(ligature (.*)\))?"
+# In LY1: characters that have the code of another one, those that are built of others, and names of glyphs that the
+# Adobe Glyph List lacks. Accents without a letter may have no codes, and the non-joiner (Cf) is at code 10.
+ACCENTS = ("Cf", "Lm", "Sk")
+SET_AS = {"'": "’", "`": "‘", "\u00a0": " ", "ˆ": "^", "˜": "~", "‐": "-", "‑": "-", "‒": "–", "―": "—"}
+BUILT = {"ẞ": "SS", "\u00ad": ""}
+GLYPHS = {"dotlessj": "ȷ", "one.superior": "¹", "two.superior": "²", "three.superior": "³"}
 
 
-def declared():
-    """The characters that LaTeX knows: those of ASCII, and those that its files declare."""
+def latex(case, encoding, preamble, body):
+    """Runs LaTeX on the body of a document in this encoding, and returns its log."""
+    source = (f"\\documentclass{{article}}\\usepackage[{encoding}]{{fontenc}}\\usepackage[utf8]{{inputenc}}\n{preamble}"
+              "\\begin{document}\\newlinechar=-1 \\showboxbreadth=1000 \\showboxdepth=5 \\frenchspacing\n"
+              f"{body}\\end{{document}}\n")
+    case.file("boxes.tex", source.encode())
+    execute("latex", "-interaction=batchmode", "boxes.tex", cwd=case.room, timeout=300,
+            env=environment(max_print_line="100000", TEXMFVAR=case.room))
+    return read(os.path.join(case.room, "boxes.log"), "rb").decode("latin-1")
+
+
+def made_font():
+    """A font with all characters. Before each of them is a kern that depends on its code, and after the last one of a
+    run another one; x and y are a ligature."""
+    infos = [(1 + code % 255, 0, 1, 1 if code == ord("x") else 2) for code in range(256)]
+    kerns = [(128 * (code == 255), code, 128, code) for code in range(256)]
+    program = [(255, RIGHT, 0, 0), (0, ord("y"), 0, 28), *kerns, (255, 0, 0, 2)]
+    widths, amounts = range(1 << 18, 511 << 10, 1 << 10), range(1 << 12, 257 << 12, 1 << 12)
+    return make(infos, (0, *widths), program, amounts, (0, SPACE), first=0)
+
+
+def declared(name):
+    """The characters that LaTeX knows: those of ASCII, and those that its files and that of an encoding declare."""
     top = os.path.dirname(output("kpsewhich", "utf8enc.dfu").strip())
-    found = {chr(code) for code in range(33, 127)}
-    for path in glob.glob(top + "/*.dfu"):
-        text = read(path, "rb").decode("latin-1")
-        found |= {chr(int(number, 16)) for number in DECLARED.findall(text)}
-    return sorted(found)
+    found = set(map(chr, range(32, 127)))
+    for path in glob.glob(top + "/*.dfu") + execute("kpsewhich", f"{name.lower()}enc.dfu")[1].split():
+        found |= {chr(int(number, 16)) for number in DECLARED.findall(read(path, "rb").decode("latin-1"))}
+    return found
+
+
+def exceptions(value):
+    """The characters in the rows of docs/TEX.md that name a value of --encoding."""
+    listed = re.findall(r"^\| (.+?) \| (`.+?`) \|", read("docs/TEX.md"), re.M)
+    return {chr(int(number, 16)) for characters, values in listed for number in re.findall(r"U\+(\w+)", characters)
+            if any(fnmatch.fnmatch(value, each) for each in re.findall("`(.+?)`", values))}
 
 
 def code_of(shown):
-    """The code of a character of a box, or None for the codes 10 and 32, which no line has."""
+    """The code of a character of a box."""
     if shown.startswith("^^") and len(shown) > 2:
-        code = int(shown[2:], 16) if len(shown) == 4 else (ord(shown[2]) + 64) % 128
-    else:
-        code = ord(shown or "\n")
-    return None if code in (10, 32) else code
+        return int(shown[2:], 16) if len(shown) == 4 else (ord(shown[2]) + 64) % 128
+    return ord(shown)
 
 
-def codes_of_box(lines, font):
-    """The codes of the characters in a box, or None if it has anything else, such as an accent. A ligature
-    has the codes that it was made from. A hyphen that is set only at the end of a line is nothing."""
-    codes, inside = [], False
+def set_in_box(box, encoding):
+    """The width and the items of a box, or None if it has anything but characters, kerns and spaces of the font,
+    penalties, \\- and boxes that have nothing else. TeX prints points exactly."""
+    def scaled_points(text):
+        return round(float(text) * 65536)
+
+    first, *lines = box.split("\n")
+    items, inside = [], False
     for line in lines:
-        found = re.fullmatch(CHARACTER.format(font), line, re.S)
-        if inside and line.startswith(".."):
-            continue
-        inside = line == ".\\discretionary"
-        if found:
-            codes += map(ord, found.group(2)) if found.group(2) else [code_of(found.group(1))]
-        elif line.startswith(".\\glue") and not line.startswith(".\\glue 0.0"):
-            codes.append(32)
-        elif not inside and not re.fullmatch(r"\.\\(penalty.*|kern-?[\d.]+|hbox\([^)]*\)x[\d.]+)", line):
+        inside = line == ".\\discretionary" or inside and line.startswith("..")
+        found = re.fullmatch(rf"\.+\\(?:{encoding}/made/m/n/10 (?P<c>[^ ]+| )(?: \(ligature .*\))?|kern(?P<k>-?[\d.]+)"
+                             r"|glue (?:0\.0|(?P<s>[\d.]+))|penalty .*|hbox\([^)]*\)x[\d.]+)", line)
+        if not inside and (not found or found["s"] and scaled_points(found["s"]) != SPACE * 10 >> 4):
             return None
-    return None if None in codes else bytes(codes)
+        for kind in "cks" if not inside else "":
+            if found[kind]:
+                items.append(f"{kind}{code_of(found[kind]) if kind == 'c' else scaled_points(found[kind])}")
+    return scaled_points(first.rpartition("x")[2]), items
 
 
-class Encodings(LinesCase):
-    """Codes of characters, and widths of pages"""
+def set_in_boxes(case, encoding, texts):
+    """The width and the items of LaTeX's boxes, or None for each that isn't made of the font alone."""
+    body = "".join(f"\\setbox0=\\hbox{{{text.translate(COMMANDS)}}}\\showbox0\\setbox1=\\vbox{{\\leavevmode\\par}}\n"
+                   for text in texts)
+    log = latex(case, encoding, PREAMBLE % {"name": encoding}, "\\batchmode\n" + body)
+    parts = re.split(r"^> \\box0=\n", log, flags=re.M)
+    case.same("boxes", len(texts) + 1, len(parts))
+    return [None if re.search("^! (?!OK)", before, re.M) else set_in_box(part.split("\n\n! OK")[0], encoding)
+            for before, part in zip(parts, parts[1:])]
 
-    # Mutant: one number of T1_SINGLE in the installed library.
 
-    def latex(self, name, font, body):
-        """Runs LaTeX on the body of a document, and returns its log."""
-        source = (f"\\documentclass{{article}}\\usepackage[{font}]{{fontenc}}\\usepackage[utf8]{{inputenc}}\n"
-                  "\\begin{document}\\newlinechar=-1 \\showboxbreadth=1000 \\showboxdepth=5 \\frenchspacing\n"
-                  f"{body}\\end{{document}}\n")
-        self.file(name + ".tex", source.encode())
-        execute("latex", "-interaction=batchmode", name + ".tex", cwd=self.room, timeout=300,
-                env=environment(max_print_line="100000", TEXMFVAR=self.room))
-        return read(os.path.join(self.room, name + ".log"), "rb").decode("latin-1")
+def pairs(found):
+    """The results of the two texts of each character, or None if it was uncoded."""
+    return [None if None in pair else pair for pair in zip(found[::2], found[1::2])]
 
-    def table(self, name):
-        """The characters that have codes, each with its codes: those of a line that it alone makes."""
-        letters = [chr(number) for number in range(0x110000) if number != 10 and not 0xD800 <= number < 0xE000]
-        font = self.tfmset.Font(sample("no_characters"))
-        records = font.records("\n".join(letters), missing="skip", encoding=name).decode().splitlines()
-        self.same("records", len(letters), len(records))
-        found = {}
-        for letter, record in zip(letters, records):
-            items = record.split()[3:]
-            if f"u{ord(letter):04X}" not in items:
-                found[letter] = bytes(32 if item[0] == "s" else int(item[1:]) for item in items)
-        return found
 
-    def glyphs(self, name):
-        """The letter at each code, by the names in an encoding file. A name that isn't listed stays."""
-        letters = dict(GLYPHS)
-        for names in ("glyphlist.txt", "texglyphlist.txt"):
-            path = execute("kpsewhich", names)[1].strip()
-            for line in read(path).splitlines() if path else []:
-                glyph, _, codes = line.strip().split(",")[0].partition(";")
-                if codes and not line.startswith("#"):
-                    letters.setdefault(glyph, "".join(chr(int(code, 16)) for code in codes.split()))
-        path = execute("kpsewhich", FILES[name])[1].strip()
-        if not path or len(letters) < 1000:
-            self.lack(FILES[name])
-        listed = re.sub("%.*", "", read(path, "rb").decode("latin-1"))
-        found = re.findall(r"/([\w.]+)", listed[listed.index("["):])
-        return [letters.get(AGAIN.sub("", glyph), glyph) for glyph in found]
+def set_by_program(value, font, texts):
+    """The width and the items of each text, or None if it has an uncoded character."""
+    out = output(PROGRAM, "stream", "--missing", "skip", "--encoding", value, font,
+                 given="".join(text + "\n" for text in texts).encode())
+    fields = [None if " u" in record else re.sub(r"=\d+", "", record).split()[2:] for record in out.splitlines()[:-1]]
+    return [found and (int(found[0]), found[1:]) for found in fields]
 
-    @rows((name, name) for name in FILES)
-    def test_glyphs(self, name):
-        """A character with one code is the glyph at this code, and each glyph that is a character has codes."""
-        self.need("kpsewhich", "cmr10")
-        glyphs, table, count = self.glyphs(name), self.table(name), 0
-        for letter, codes in table.items():
-            if len(codes) == 1:
-                count += 1
-                seen = glyphs[codes[0]] if codes != b" " else " "
-                self.same(f"{letter!r} at {codes[0]}", True, seen in (letter, SET_AS.get(letter)))
-        for code, letter in enumerate(glyphs):
-            if len(letter) == 1 and letter not in table and letter not in LEFT_OUT[name]:
-                self.wrong.append(f"{letter!r} at {code} has no codes")
-        self.none([], count, 120)
 
-    def test_declared_for_ly1(self):
-        """Each character that LaTeX declares for LY1 has codes, unless it is built of a letter and an accent."""
-        self.need("latex", "kpsewhich", "cmr10")
-        table, glyphs = self.table("ly1"), self.glyphs("ly1")
+def table(case, value):
+    """The characters that have codes, each with its codes: those of a line that it alone makes."""
+    letters = [chr(number) for number in range(0x110000) if number != 10 and not 0xD800 <= number < 0xE000]
+    lines = set_by_program(value, case.file("font", sample("no_characters")), letters)
+    case.same("lines", len(letters), len(lines))
+    return {letter: bytes(32 if item[0] == "s" else int(item[1:]) for item in line[1])
+            for letter, line in zip(letters, lines) if line}
+
+
+class Characters(Case):
+    """Characters in each encoding"""
+
+    @rows((name, name, values.split()) for name, values in VALUES.items())
+    def test_latex(self, name, values):
+        """Each character is set as in LaTeX's boxes, or is uncoded."""
+        self.need("latex", "kpsewhich", "cmr10", f"{name.lower()}enc.def")
+        font = self.file("made.tfm", made_font())
+        # LaTeX leaves out U+FEFF everywhere, and not only at the beginning of a file.
+        letters = declared(name).union(*(table(self, value) for value in values if value in NAMES)) - {"\ufeff"}
+        letters = [*sorted(letters), *SEVERAL]
+        texts = [text for letter in letters for text in (letter, f"x{letter}y")]
+        boxes = pairs(set_in_boxes(self, name, texts))
+        self.none([], sum(pair is not None for pair in boxes), 120)
+        for value in values:
+            path = value if value in NAMES else output("kpsewhich", value).strip()
+            listed, found = exceptions(value), pairs(set_by_program(path, font, texts))
+            for letter, wanted, seen in zip(letters, boxes, found):
+                is_compared = wanted and sum(item[0] == "c" for item in wanted[0][1]) < 2
+                if (is_compared or value in NAMES) and (wanted == seen) == (letter in listed):
+                    what = "an exception" if letter in listed else f"{seen} instead of {wanted}"
+                    self.wrong.append(f"{value} {letter} {ascii(letter)}: {what}")
+
+    def test_ly1(self):
+        """LY1 has the characters at the codes of an encoding file, and those that LaTeX declares for it."""
+        self.need("kpsewhich", "latex")
+        codes_of, letters = table(self, "ly1"), dict(GLYPHS)
+        for glyph, number in re.findall(r"^(\w+);(\w+)\s*$", read(output("kpsewhich", "glyphlist.txt").strip()), re.M):
+            letters.setdefault(glyph, chr(int(number, 16)))
+        names = re.sub("%.*", "", read(output("kpsewhich", "lm-texnansi.enc").strip(), "rb").decode("latin-1"))
+        names = re.findall(r"/([\w.]+)", names[names.index("["):])
+        glyphs = [letters.get(name.removesuffix(".dup")) for name in names]
+        for letter, codes in codes_of.items():
+            built = BUILT.get(letter, unicodedata.normalize("NFKC", letter))
+            wanted = b"".join(codes_of[each] for each in built) if len(codes) != 1 else codes
+            same = len(codes) != 1 or codes == b" " or glyphs[codes[0]] in (letter, SET_AS.get(letter))
+            self.same(f"{letter!r}", (wanted, True), (codes, same))
         text = read(output("kpsewhich", "ly1enc.dfu").strip(), "rb").decode("latin-1")
-        letters = [chr(int(number, 16)) for number in DECLARED.findall(text)]
-        for letter in letters:
+        whole = [letter for letter in declared("LY1") & set(glyphs) if unicodedata.category(letter) not in ACCENTS]
+        for letter in whole + [chr(int(number, 16)) for number in DECLARED.findall(text)]:
             is_built = len(unicodedata.normalize("NFD", letter)) > 1 and letter not in glyphs
-            self.same(f"{letter!r} has codes", not is_built, letter in table)
-        self.none([], len(letters), 120)
-
-    @rows((name, name) for name in FILES)
-    def test_several_codes(self, name):
-        """The codes of a character with several codes are those of its letters."""
-        # The file t1enc.def is LaTeX's.
-        self.need("kpsewhich", "cmr10", *(["latex"] if name == "t1" else []))
-        table, others = self.table(name), {"ẞ": "SS", "¡": "!`", "¿": "?`", "\u00ad": ""}
-        several = {letter: codes for letter, codes in table.items() if len(codes) != 1}
-        for letter, codes in several.items():
-            if letter in FROM_T1:
-                path = output("kpsewhich", "t1enc.def").strip()
-                command, wanted = FROM_T1[letter]
-                text = r"\%" + r"\char 24" * (len(wanted) - 1) + " "
-                self.assertIn(f"{{\\text{command}}}{{T1}}\n   {{{text}}}", read(path))
-            else:
-                letters = others.get(letter, unicodedata.normalize("NFKC", letter))
-                wanted = b"".join(table[each] for each in letters)
-            self.same(repr(letter), wanted, codes)
-        self.none([], len(several), 14)
-
-    @rows((name, name) for name in ("t1", "ot1"))
-    def test_latex(self, name):
-        """Each character that LaTeX knows has the codes of LaTeX's box."""
-        self.need("latex", "kpsewhich", "cmr10")
-        table, glyphs, letters, font = self.table(name), self.glyphs(name), declared(), name.upper()
-        body = "".join(f"\\message{{[U+{ord(letter):04X}]}}\\setbox0=\\hbox{{{COMMANDS.get(letter, letter)}}}"
-                       "\\showbox0\\setbox1=\\vbox{\\leavevmode\\par}\n" for letter in letters)
-        parts = re.split(r"^\[U\+", self.latex("boxes", font, "\\batchmode\n" + body), flags=re.M)[1:]
-        self.same("boxes", len(letters), len(parts))
-        seen = {}
-        for letter, part in zip(letters, parts):
-            box, failed = BOX.search(part), re.search(r"^! (?!OK)", part, re.M)
-            lines = box.group(1).replace("/10 \n", "/10 ^^J").split("\n")[1:]
-            seen[letter] = None if failed else codes_of_box(lines, font)
-        self.none([], sum(codes is not None for codes in seen.values()), 120)
-        for letter in {*table, *seen} - set(ACCENTS[name]) - set(FROM_T1) - {" ", "\ufeff"}:
-            wanted, codes = seen.get(letter), table.get(letter)
-            if wanted is None and codes is not None and len(codes) == 1:
-                # LaTeX knows no such character, or sets it in another font. The font has its glyph.
-                wanted = codes if glyphs[codes[0]] == letter else None
-            self.same(f"{letter!r} U+{ord(letter):04X}", wanted, codes)
+            self.same(f"{letter!r} has codes", not is_built, letter in codes_of)
+        self.none([], len(whole), 190)
 
     def test_latin1(self):
         """The codes of Latin 1 are those of Python's codec, except that the soft hyphen vanishes."""
         wanted = {letter: letter.encode("latin-1") for letter in map(chr, range(256)) if letter != "\n"}
         wanted |= {"\u00a0": b" ", "\u00ad": b""}
-        self.same("latin1", wanted, self.table("latin1"))
+        self.same("latin1", wanted, table(self, "latin1"))
+
+
+class Pages(LinesCase):
+    """Widths of pages"""
 
     @rows((name, name, font, metric) for name, font, metric in PAGES)
     def test_page(self, name, font, metric):
@@ -205,7 +205,7 @@ class Encodings(LinesCase):
         text = read(f"checks/cases/encodings/{name}.txt", "rb").decode()
         body = "".join(f"\\setbox0=\\hbox{{{line}}}\\message{{[\\number\\wd0]}}\n"
                        for line in text.splitlines())
-        wanted = [int(number) for number in re.findall(r"\[(\d+)\]", self.latex(name, font, body))]
+        wanted = [int(number) for number in re.findall(r"\[(\d+)\]", latex(self, font, "", body))]
         self.none([], len(wanted), 12)
         path = execute("kpsewhich", metric + ".tfm")[1].strip()
         found, encoding = self.tfmset.Font.from_file(path), font.lower()
@@ -253,7 +253,7 @@ class Calls(LinesCase):
     @rows((name, name) for name in NAMES)
     def test_characters(self, name):
         """Each character has the codes of a line that it alone makes."""
-        table = Encodings.table(self, name)
+        table = table(self, name)
         for letter, codes in table.items():
             self.same(f"{letter!r}", (DONE, codes), encode(self.prefix, name, letter.encode(), 4)[:2])
         for letter in map(chr, (*range(11, 0xD800, 13), *range(0xE000, 0x110000, 997))):

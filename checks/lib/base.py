@@ -169,8 +169,9 @@ class Case(unittest.TestCase):
 
 
 def has(tool):
-    if tool == "cmr10":
-        return bool(shutil.which("kpsewhich")) and execute("kpsewhich", "cmr10.tfm")[0] == 0
+    if tool == "cmr10" or tool.endswith(".def"):
+        file = "cmr10.tfm" if tool == "cmr10" else tool
+        return bool(shutil.which("kpsewhich")) and execute("kpsewhich", file)[0] == 0
     if tool == "de_DE":
         return os.path.exists("/usr/share/i18n/locales/de_DE")
     return shutil.which(tool) is not None
