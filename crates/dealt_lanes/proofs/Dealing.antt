@@ -1,6 +1,6 @@
 -- One more item is dealt to the list in turn, or was taken from it.
 use Rattle.std.proofs.Common.{arith, ◌≡◌, ℕ, suc, ◌+◌, ◌%◌, ◌<◌, Bool, true, false, nat_eq, List, [], ◌∷◌, ◌++◌, length, map, get_or, refl, ap, sym, subst, ◌∙◌, length-append}
-use Rattle.std.specs.Prelude.{set, Result, Ok, Err, OnOk, IfOk, IfErr}
+use Rattle.std.specs.Prelude.{set}
 use Rattle.std.proofs.lemmas.Nat.{mod_below}
 use Rattle.std.proofs.lemmas.List.{get_or-set_same, get_or-set_other, map-set, length-map, length-set}
 use Rattle.std.proofs.Math.Nat.{suc-mod}
@@ -8,20 +8,6 @@ use Rattle.line_lane.proofs.FrontLemmas.{front_first, front_same}
 use Rattle.dealt_lanes.specs.InTurn.{AreInTurn, AreShares, StopAt, in_turn, share}
 use Rattle.dealt_lanes.proofs.Zips.{map_at}
 use Rattle.dealt_lanes.proofs.Shares.{equal, unequal, in_turn_are, share-here, share-there}
-
--- ---- results
-
-pub ok_weaker : {A B P Q : Type 0} (r : Result A B) → (P → Q) → OnOk r P → OnOk r Q
-ok_weaker (Ok x) f p = f p
-ok_weaker (Err e) f p = tt
-
-pub value_weaker : {A B : Type 0} (P Q : A → Type 0) (r : Result A B) → ((x : A) → P x → Q x) → IfOk r P → IfOk r Q
-value_weaker P Q (Ok x) f p = f x p
-value_weaker P Q (Err e) f p = tt
-
-pub err_weaker : {A B : Type 0} (P Q : B → Type 0) (r : Result A B) → ((e : B) → P e → Q e) → IfErr r P → IfErr r Q
-err_weaker P Q (Ok x) f p = tt
-err_weaker P Q (Err e) f p = f e p
 
 -- ---- the list in turn
 

@@ -1,10 +1,10 @@
 -- New lanes, of which nothing was fed or taken yet.
-use Rattle.std.proofs.Common.{arith, ◌≡◌, ℕ, zero, suc, ◌%◌, ◌<◌, List, [], ◌∷◌, length, map, get_or, None, refl, ap, sym, subst, ◌∙◌}
+use Rattle.std.proofs.Common.{arith, ◌≡◌, ℕ, ◌%◌, ◌<◌, List, [], ◌∷◌, length, map, get_or, None, refl, ap, sym, subst, ◌∙◌}
 use Rattle.std.proofs.lemmas.List.{length-map}
 use Rattle.std.specs.Prelude.{All, is_some, true}
 use Rattle.std.proofs.Math.Nat.{zero-mod}
 use Rattle.std.proofs.lemmas.Bool.{true≢false}
-use Rattle.std.proofs.lemmas.List.Elements.{All-head, All-tail, All-weaker}
+use Rattle.std.proofs.lemmas.List.Elements.{All-get_or, All-map, All-weaker}
 use Rattle.line_lane.specs.Ends.{fed, feeder_end, state_of, taken}
 use Rattle.line_lane.specs.Turns.{fresh}
 use Rattle.line_lane.specs.declared.making.Making.{Ghosts}
@@ -16,21 +16,17 @@ use Rattle.dealt_lanes.specs.Feeders.{HaveEnd, each_fed}
 use Rattle.dealt_lanes.specs.Takers.{AreGathered, each_taken}
 use Rattle.dealt_lanes.specs.Lanes.{AllThree, IsNew}
 use Rattle.dealt_lanes.proofs.Dealing.{in_turn_shares, stop_in_turn}
-use Rattle.dealt_lanes.proofs.Meeting.{three_each, three_lengths}
+use Rattle.dealt_lanes.proofs.Meeting.{three_each}
 
 module _ {E T : Type 0} where
-  empty_at : (f : E → List T) (ends : List E) (i : ℕ) → All (λ e. f e ≡ []) ends → get_or (map f ends) i [] ≡ []
-  empty_at f [] i empty = refl
-  empty_at f (e ∷ ends) zero empty = All-head (λ x. f x ≡ []) e ends empty
-  empty_at f (e ∷ ends) (suc i) empty = empty_at f ends i (All-tail (λ x. f x ≡ []) e ends empty)
-
   -- endpoints without items have no item in turn
   none_in_turn : (f : E → List T) (ends : List E) → 0 < length ends → All (λ e. f e ≡ []) ends
       → (in_turn (map f ends) ≡ []) × AreInTurn (map f ends) 0
   none_in_turn f ends some empty =
       let lists : List (List T) = map f ends in
       let long : length lists ≡ length ends = length-map ends f in
-      let have : AreShares lists [] = λ i within. empty_at f ends i empty in
+      let have : AreShares lists [] = λ i within.
+      All-get_or (λ l. l ≡ []) (map f ends) i [] within (All-map (λ l. l ≡ []) f ends empty) in
       let none : in_turn lists ≡ [] = in_turn_shares lists [] (omega (arith, long, some)) have in (
         none,
         (
@@ -56,9 +52,8 @@ module _ {M I O IS OS : Type 0} {ghosts : Ghosts M I O IS OS} where
       → 0 < length ss → AllThree (IsNew makes) fs ss ts
       → (0 < length fs) × (in_turn (each_fed fs) ≡ []) × AreInTurn (each_fed fs) 0 × HaveEnd None fs
   new_feeders makes fs ss ts some all =
-      let long = (three_lengths (IsNew makes) fs ss ts all).0 in
       let each = (each_new makes fs ss ts all).0 in
-      let below : 0 < length fs = omega (arith, long, some) in
+      let below : 0 < length fs = omega (arith, all.0, some) in
       let none = none_in_turn fed fs below (All-weaker (λ f. (fed f ≡ []) × (feeder_end f ≡ None)) (λ f. fed f ≡ []) (λ f is. is.0) fs each) in (
         below,
         none.0,
@@ -70,8 +65,7 @@ module _ {M I O IS OS : Type 0} {ghosts : Ghosts M I O IS OS} where
   pub new_takers : (makes : I → O) (fs : List (Feeder I IS)) (ss : List (Setter M I O IS OS ghosts)) (ts : List (Taker O OS))
       → 0 < length ss → AllThree (IsNew makes) fs ss ts → (0 < length ts) × (in_turn (each_taken ts) ≡ []) × AreGathered None ts 0
   new_takers makes fs ss ts some all =
-      let long = (three_lengths (IsNew makes) fs ss ts all).1 in
-      let below : 0 < length ts = omega (arith, long, some) in
+      let below : 0 < length ts = omega (arith, all.0, all.1, some) in
       let none = none_in_turn taken ts below (each_new makes fs ss ts all).2 in
       let wide : length (each_taken ts) ≡ length ts = length-map ts taken in (
         below,

@@ -5,8 +5,7 @@ use Rattle.std.specs.Option.{option_map}
 use Rattle.std.proofs.lemmas.Nat.{mod_below}
 use Rattle.std.proofs.lemmas.Option.{none-some}
 use Rattle.std.proofs.lemmas.List.{length-map}
-use Rattle.std.proofs.lemmas.List.Elements.{All-head, All-tail}
-use Rattle.line_lane.specs.Rings.{IsFirstOf}
+use Rattle.std.proofs.lemmas.List.Elements.{All-get_or}
 use Rattle.line_lane.specs.Lane.{lane_end_of, pipeline}
 use Rattle.line_lane.specs.Turns.{is_given_up}
 use Rattle.line_lane.specs.Settled.{IsSettled}
@@ -19,13 +18,14 @@ use Rattle.line_lane.specs.declared.ending.SourceEnd.{SourceEnd}
 use Rattle.line_lane.specs.declared.ending.LaneEnd.{LaneEnd}
 use Rattle.line_lane.specs.declared.ending.LaneEnd.TheVariants.{GaveUp}
 use Rattle.line_lane.proofs.FrontLemmas.{IsFront, first_front, front_pipeline, front_trans, pipeline_front}
-use Rattle.dealt_lanes.specs.InTurn.{AreFirstOfShares, AreInTurn, StopAt, in_turn, share, share_from}
+use Rattle.dealt_lanes.specs.InTurn.{AreInTurn, StopAt, in_turn, share, share_from}
 use Rattle.dealt_lanes.specs.Feeders.{HaveEnd, each_fed}
 use Rattle.dealt_lanes.specs.Takers.{AreGathered, each_taken}
 use Rattle.dealt_lanes.specs.Lanes.{AllThree, IsMet}
-use Rattle.dealt_lanes.specs.Settled.{AllMake, HaveAbandoned, each_seen}
-use Rattle.dealt_lanes.proofs.Meeting.{three_lengths}
+use Rattle.dealt_lanes.specs.Settled.{AllMake}
+use Rattle.dealt_lanes.proofs.SameEnds.{ends_at}
 use Rattle.dealt_lanes.proofs.Shares.{fronts, here, share-append, there}
+use Rattle.dealt_lanes.proofs.Zips.{map_at}
 
 -- ---- what is made of shares
 
@@ -58,30 +58,25 @@ module _ {T : Type 0} where
 
 -- ---- lane by lane
 
-module _ {M I O IS OS : Type 0} {ghosts : Ghosts M I O IS OS} where
-  -- the results of one lane
-  lane_results : (fs : List (Feeder I IS)) (ss : List (Setter M I O IS OS ghosts)) (ts : List (Taker O OS)) (makes : I → O) (i : ℕ) → AllThree IsMet fs ss ts
-      → AllMake makes ss → pipeline makes (get_or (each_fed fs) i []) (get_or (each_taken ts) i [])
-  lane_results [] [] [] makes i met make = refl
-  lane_results [] [] (t ∷ ts) makes i met make = elim met [ ]
-  lane_results [] (s ∷ ss) ts makes i met make = elim met [ ]
-  lane_results (f ∷ fs) [] ts makes i met make = elim met [ ]
-  lane_results (f ∷ fs) (s ∷ ss) [] makes i met make = elim met [ ]
-  lane_results (f ∷ fs) (s ∷ ss) (t ∷ ts) makes zero met make =
-      subst (λ m. pipeline m (fed f) (taken t)) (All-head (λ x. (state_of x).makes ≡ makes) s ss make) met.0.results
-  lane_results (f ∷ fs) (s ∷ ss) (t ∷ ts) makes (suc i) met make =
-      lane_results fs ss ts makes i met.1 (All-tail (λ x. (state_of x).makes ≡ makes) s ss make)
+-- the end of one feeder is that of all
+own_end : (all own : Option SourceEnd) (end : LaneEnd) → (is_some own ≡ true → own ≡ all) → option_map lane_end_of own ≡ Some end
+    → option_map lane_end_of all ≡ Some end
+own_end all None end same is = absurd (none-some end is)
+own_end all (Some e) end same is = ap (option_map lane_end_of) (sym (same refl)) ∙ is
 
-  -- the items that one setter has received
-  lane_seen : (fs : List (Feeder I IS)) (ss : List (Setter M I O IS OS ghosts)) (ts : List (Taker O OS)) (i : ℕ) → AllThree IsMet fs ss ts
-      → IsFirstOf (get_or (each_seen ss) i []) (get_or (each_fed fs) i [])
-  lane_seen [] [] [] i met = refl
-  lane_seen [] [] (t ∷ ts) i met = elim met [ ]
-  lane_seen [] (s ∷ ss) ts i met = elim met [ ]
-  lane_seen (f ∷ fs) [] ts i met = elim met [ ]
-  lane_seen (f ∷ fs) (s ∷ ss) [] i met = elim met [ ]
-  lane_seen (f ∷ fs) (s ∷ ss) (t ∷ ts) zero met = met.0.seen
-  lane_seen (f ∷ fs) (s ∷ ss) (t ∷ ts) (suc i) met = lane_seen fs ss ts i met.1
+module _ {M I O IS OS : Type 0} {ghosts : Ghosts M I O IS OS} where
+  make_at : (ss : List (Setter M I O IS OS ghosts)) (makes : I → O) (i : ℕ) (s : Setter M I O IS OS ghosts) → i < length ss → s ≡ get_or ss i s → AllMake makes ss
+      → (state_of s).makes ≡ makes
+  make_at ss makes i s below is make = ap (λ x. (state_of x).makes) is ∙ All-get_or (λ x. (state_of x).makes ≡ makes) ss i s below make
+
+  -- the results of one lane
+  lane_results : (fs : List (Feeder I IS)) (ss : List (Setter M I O IS OS ghosts)) (ts : List (Taker O OS)) (makes : I → O) (i : ℕ) → i < length fs
+      → AllThree IsMet fs ss ts → AllMake makes ss → pipeline makes (get_or (each_fed fs) i []) (get_or (each_taken ts) i [])
+  lane_results fs ss ts makes i below met make =
+      let (f, s, t, is_f, is_s, is_t, one) = met.2 i below in
+      subst (λ items. pipeline makes items (get_or (each_taken ts) i [])) (sym (map_at fed fs i f [] below is_f))
+      (subst (pipeline makes (fed f)) (sym (map_at taken ts i t [] (omega (arith, below, met.1)) is_t))
+      (subst (λ m. pipeline m (fed f) (taken t)) (make_at ss makes i s (omega (arith, below, met.0)) is_s make) one.results))
 
   -- a lane that is finished with an end other than `GaveUp`
   going_end : (f : Feeder I IS) (s : Setter M I O IS OS ghosts) (t : Taker O OS) (end : LaneEnd) → IsSettled f s t end → (end ≡ GaveUp → ⊥)
@@ -94,42 +89,17 @@ module _ {M I O IS OS : Type 0} {ghosts : Ghosts M I O IS OS} where
       by true gave_up ended all = absurd (going (gave_up refl))
       by false gave_up ended all = (ended refl, all refl)
 
-  lane_ended : (fs : List (Feeder I IS)) (ss : List (Setter M I O IS OS ghosts)) (ts : List (Taker O OS)) (makes : I → O) (i : ℕ) (end : LaneEnd)
-      → AllThree IsMet fs ss ts → AllMake makes ss → get_or (map taker_end ts) i None ≡ Some end → (end ≡ GaveUp → ⊥)
-      → (option_map lane_end_of (get_or (map feeder_end fs) i None) ≡ Some end) × (get_or (each_taken ts) i [] ≡ map makes (get_or (each_fed fs) i []))
-  lane_ended [] [] [] makes i end met make is going = absurd (none-some end is)
-  lane_ended [] [] (t ∷ ts) makes i end met make is going = elim met [ ]
-  lane_ended [] (s ∷ ss) ts makes i end met make is going = elim met [ ]
-  lane_ended (f ∷ fs) [] ts makes i end met make is going = elim met [ ]
-  lane_ended (f ∷ fs) (s ∷ ss) [] makes i end met make is going = elim met [ ]
-  lane_ended (f ∷ fs) (s ∷ ss) (t ∷ ts) makes zero end met make is going =
-      let facts = going_end f s t end (met.0.ended end is going) going in
-      (facts.0, facts.1 ∙ ap (λ m. map m (fed f)) (All-head (λ x. (state_of x).makes ≡ makes) s ss make))
-  lane_ended (f ∷ fs) (s ∷ ss) (t ∷ ts) makes (suc i) end met make is going =
-      lane_ended fs ss ts makes i end met.1 (All-tail (λ x. (state_of x).makes ≡ makes) s ss make) is going
-
-  lane_abandoned : (fs : List (Feeder I IS)) (ss : List (Setter M I O IS OS ghosts)) (ts : List (Taker O OS)) (i : ℕ) → AllThree IsMet fs ss ts
-      → get_or (map taker_end ts) i None ≡ Some GaveUp → HaveAbandoned ss
-  lane_abandoned [] [] [] i met is = absurd (none-some GaveUp is)
-  lane_abandoned [] [] (t ∷ ts) i met is = elim met [ ]
-  lane_abandoned [] (s ∷ ss) ts i met is = elim met [ ]
-  lane_abandoned (f ∷ fs) [] ts i met is = elim met [ ]
-  lane_abandoned (f ∷ fs) (s ∷ ss) [] i met is = elim met [ ]
-  lane_abandoned (f ∷ fs) (s ∷ ss) (t ∷ ts) zero met is = (0, s, omega arith, refl, met.0.gave_up is)
-  lane_abandoned (f ∷ fs) (s ∷ ss) (t ∷ ts) (suc i) met is =
-      let (k, x, below, at, up) = lane_abandoned fs ss ts i met.1 is in (suc k, x, omega (arith, below), at, up)
-
-module _ {I IS : Type 0} where
-  -- the end of one feeder is that of all
-  lane_end : (fs : List (Feeder I IS)) (i : ℕ) (all : Option SourceEnd) (end : LaneEnd) → HaveEnd all fs
-      → option_map lane_end_of (get_or (map feeder_end fs) i None) ≡ Some end → option_map lane_end_of all ≡ Some end
-  lane_end [] i all end have is = absurd (none-some end is)
-  lane_end (f ∷ fs) zero all end have is = by (feeder_end f) (All-head (λ x. is_some (feeder_end x) ≡ true → feeder_end x ≡ all) f fs have) is
-    where
-      by : (own : Option SourceEnd) → (is_some own ≡ true → own ≡ all) → option_map lane_end_of own ≡ Some end → option_map lane_end_of all ≡ Some end
-      by None same is = absurd (none-some end is)
-      by (Some e) same is = ap (option_map lane_end_of) (sym (same refl)) ∙ is
-  lane_end (f ∷ fs) (suc i) all end have is = lane_end fs i all end (All-tail (λ x. is_some (feeder_end x) ≡ true → feeder_end x ≡ all) f fs have) is
+  lane_ended : (fs : List (Feeder I IS)) (ss : List (Setter M I O IS OS ghosts)) (ts : List (Taker O OS)) (makes : I → O) (i : ℕ) (all : Option SourceEnd) (end : LaneEnd)
+      → i < length fs → AllThree IsMet fs ss ts → AllMake makes ss → HaveEnd all fs → get_or (map taker_end ts) i None ≡ Some end → (end ≡ GaveUp → ⊥)
+      → (option_map lane_end_of all ≡ Some end) × (get_or (each_taken ts) i [] ≡ map makes (get_or (each_fed fs) i []))
+  lane_ended fs ss ts makes i all end below met make have is going =
+      let (f, s, t, is_f, is_s, is_t, one) = met.2 i below in
+      let of_ts : i < length ts = omega (arith, below, met.1) in
+      let facts = going_end f s t end (one.ended end (sym (map_at taker_end ts i t None of_ts is_t) ∙ is) going) going in (
+        own_end all (feeder_end f) end (ends_at all fs i f is_f below have) facts.0,
+        map_at taken ts i t [] of_ts is_t ∙ facts.1 ∙ ap (λ m. map m (fed f)) (make_at ss makes i s (omega (arith, below, met.0)) is_s make)
+            ∙ ap (map makes) (sym (map_at fed fs i f [] below is_f)),
+      )
 
 -- ---- all lanes
 
@@ -139,12 +109,11 @@ module _ {M I O IS OS : Type 0} {ghosts : Ghosts M I O IS OS} where
       → AreInTurn (each_fed fs) at → StopAt (each_taken ts) turn → AllThree IsMet fs ss ts → AllMake makes ss
       → IsFront (in_turn (each_taken ts)) (map makes (in_turn (each_fed fs)))
   gathered_front fs ss ts at turn makes below dealt stop met make =
-      let lengths = three_lengths IsMet fs ss ts met in
       let k : ℕ = length fs in
       let items : List I = in_turn (each_fed fs) in
       let results : List O = in_turn (each_taken ts) in
       let wide : length (each_fed fs) ≡ k = length-map fs fed in
-      let long : length (each_taken ts) ≡ k = length-map ts taken ∙ lengths.1 ∙ sym lengths.0 in
+      let long : length (each_taken ts) ≡ k = length-map ts taken ∙ met.1 in
       fronts k 0 results (map makes items) (omega (arith, below)) (λ i within.
       let inside : i < length (each_taken ts) = omega (arith, long, within) in
       let there : i < length (each_fed fs) = omega (arith, wide, within) in
@@ -154,7 +123,7 @@ module _ {M I O IS OS : Type 0} {ghosts : Ghosts M I O IS OS} where
       let own : get_or (each_fed fs) i [] ≡ share k i items = dealt.0 i there ∙ ap (λ n. share n i items) wide in
       front_trans (share k i results) (get_or (each_taken ts) i []) (share_from k i 0 (map makes items)) first
       (subst (IsFront (get_or (each_taken ts) i [])) (ap (map makes) own ∙ sym (share-map makes k i 0 items))
-      (pipeline_front makes (get_or (each_fed fs) i []) (get_or (each_taken ts) i []) (lane_results fs ss ts makes i met make))))
+      (pipeline_front makes (get_or (each_fed fs) i []) (get_or (each_taken ts) i []) (lane_results fs ss ts makes i within met make))))
 
   pub gathered_pipeline : (fs : List (Feeder I IS)) (ss : List (Setter M I O IS OS ghosts)) (ts : List (Taker O OS)) (at turn : ℕ) (makes : I → O) → at < length fs
       → AreInTurn (each_fed fs) at → StopAt (each_taken ts) turn → AllThree IsMet fs ss ts → AllMake makes ss
@@ -167,35 +136,21 @@ module _ {M I O IS OS : Type 0} {ghosts : Ghosts M I O IS OS} where
       → AreGathered took ts turn → AllThree IsMet fs ss ts → AllMake makes ss → took ≡ Some end → (end ≡ GaveUp → ⊥)
       → (option_map lane_end_of all ≡ Some end) × (in_turn (each_taken ts) ≡ map makes (in_turn (each_fed fs)))
   gathered_whole fs ss ts at turn makes all took end below dealt have gathered met make is going =
-      let lengths = three_lengths IsMet fs ss ts met in
       let k : ℕ = length fs in
       let items : List I = in_turn (each_fed fs) in
       let results : List O = in_turn (each_taken ts) in
       let wide : length (each_fed fs) ≡ k = length-map fs fed in
-      let long : length (each_taken ts) ≡ k = length-map ts taken ∙ lengths.1 ∙ sym lengths.0 in
+      let long : length (each_taken ts) ≡ k = length-map ts taken ∙ met.1 in
       let some : 0 < k = omega (arith, below) in
       let here' : get_or (map taker_end ts) turn None ≡ Some end = gathered.2 (ap is_some is) ∙ is in
-      let facts = lane_ended fs ss ts makes turn end met make here' going in
       let next : turn ≡ length results % k = gathered.1.1 ∙ ap (λ n. length results % n) long in
-      let inside : turn < length (each_fed fs) = subst (λ n. n < length (each_fed fs)) (sym next)
-      (subst (λ n. length results % k < n) (sym wide) (mod_below (length results) k some)) in
+      let within : turn < k = subst (λ n. n < k) (sym next) (mod_below (length results) k some) in
+      let inside : turn < length (each_fed fs) = omega (arith, wide, within) in
+      let facts = lane_ended fs ss ts makes turn all end within met make have here' going in
       let own : share k turn results ≡ share k turn (map makes items) =
       ap (λ n. share n turn results) (sym long) ∙ sym gathered.1.2 ∙ facts.1
       ∙ ap (map makes) (dealt.0 turn inside ∙ ap (λ n. share n turn items) wide) ∙ sym (share-map makes k turn 0 items) in (
-        lane_end fs turn all end have facts.0,
+        facts.0,
         whole_share k results (map makes items) some (subst (λ n. share k n results ≡ share k n (map makes items)) next own)
             (gathered_front fs ss ts at turn makes below dealt gathered.1 met make),
       )
-
-  pub seen_shares : (fs : List (Feeder I IS)) (ss : List (Setter M I O IS OS ghosts)) (ts : List (Taker O OS)) (at : ℕ) → AreInTurn (each_fed fs) at
-      → AllThree IsMet fs ss ts → AreFirstOfShares (each_seen ss) (in_turn (each_fed fs))
-  seen_shares fs ss ts at dealt met i within =
-      let lengths = three_lengths IsMet fs ss ts met in
-      let items : List I = in_turn (each_fed fs) in
-      let same : length (each_fed fs) ≡ length (each_seen ss) = length-map fs fed ∙ lengths.0 ∙ sym (length-map ss (λ s. (state_of s).seen)) in
-      let inside : i < length (each_fed fs) = omega (arith, same, within) in
-      subst (IsFirstOf (get_or (each_seen ss) i [])) (dealt.0 i inside ∙ ap (λ n. share n i items) same) (lane_seen fs ss ts i met)
-
-  pub abandoned : (fs : List (Feeder I IS)) (ss : List (Setter M I O IS OS ghosts)) (ts : List (Taker O OS)) (turn : ℕ) (took : Option LaneEnd)
-      → AllThree IsMet fs ss ts → AreGathered took ts turn → took ≡ Some GaveUp → HaveAbandoned ss
-  abandoned fs ss ts turn took met gathered is = lane_abandoned fs ss ts turn met (gathered.2 (ap is_some is) ∙ is)

@@ -24,10 +24,6 @@ module _ {T : Type 0} where
   abbrev pub BeginWithShares : List (List T) → List T → Type 0
   BeginWithShares lists items = (i : ℕ) → i < length lists → IsFirstOf (share (length lists) i items) (get_or lists i [])
 
-  -- each list consists of the first of its share of these items
-  abbrev pub AreFirstOfShares : List (List T) → List T → Type 0
-  AreFirstOfShares lists items = (i : ℕ) → i < length lists → IsFirstOf (get_or lists i []) (share (length lists) i items)
-
   -- the number of items in all lists
   abbrev pub count_all : List (List T) → ℕ
   count_all [] = 0

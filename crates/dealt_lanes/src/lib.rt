@@ -11,7 +11,6 @@ pub use shared::Shared;
 
 mod dealer;
 mod feeding;
-mod first;
 mod gatherer;
 mod opening;
 mod settling;

@@ -17,7 +17,7 @@ use Rattle.line_lane.specs.declared.ending.SourceEnd.{SourceEnd}
 use Rattle.line_lane.specs.declared.ending.LaneEnd.{LaneEnd}
 use Rattle.line_lane.specs.declared.ending.LaneEnd.TheVariants.{Complete, SourceFailed, GaveUp}
 use Rattle.line_lane.specs.declared.making.Making.{Ghosts}
-use Rattle.line_lane.proofs.FrontLemmas.{IsFront, first_front, front_first, front_pipeline, front_trans, map_front}
+use Rattle.line_lane.proofs.FrontLemmas.{IsFront, first_front, front_pipeline, front_trans, map_front}
 
 module _ {I O : Type 0} where
   -- whatever an end still holds, what was taken are the answers of the first of the lines that were fed
@@ -34,14 +34,6 @@ module _ {I O : Type 0} where
       let fed_front = front_trans s.seen sent (sent ++ lines) (first_front s.seen sent seen) (lines, refl) in
       front_pipeline s.makes (sent ++ lines) taken
       (front_trans taken (map s.makes s.seen) (map s.makes (sent ++ lines)) of_seen (map_front s.makes s.seen (sent ++ lines) fed_front))
-
-module _ {M I O IS OS : Type 0} {ghosts : Ghosts M I O IS OS} where
-  -- what the setter saw are the first of the lines that were fed
-  pub seen_of : (f : Feeder I IS) (s : Setter M I O IS OS ghosts) (t : Taker O OS) → HaveMet f s t → IsFirstOf (state_of s).seen (fed f)
-  seen_of f s t met =
-      let seen = (state_of s).seen in
-      front_first seen (fed f)
-      (front_trans seen (items_sent f.sender) (fed f) (first_front seen (items_sent f.sender) met.first_lines) (open_lines f, refl))
 
 -- ---- a setter that is done
 
@@ -185,21 +177,6 @@ module _ {M I O IS OS : Type 0} {ghosts : Ghosts M I O IS OS} where
       let closed : is_some (feeder_end f) ≡ true = ap is_some (sym (met.source source)) ∙ source in
       settled_of f s t end met (all_true (is_some (feeder_end f)) (is_done (state_of s)) t.ended closed done ended) ending
 
-  -- that of a lane given up comes only from a setter that gave up
-  pub gave_up_of : (f : Feeder I IS) (s : Setter M I O IS OS ghosts) (t : Taker O OS) → HaveMet f s t → taker_end t ≡ Some GaveUp → is_given_up (state_of s).made ≡ true
-  gave_up_of f s t met ending =
-      let came : (hands_of t).ending ≡ Some GaveUp = ended-ending t.ended (hands_of t).ending GaveUp ending in
-      let sent : end_sent s.sender ≡ Some GaveUp = sym (met.ending (ap is_some came)) ∙ came in
-      ap (λ e. is_given_up (first_end e s.sender.hand.ending)) sent
-
-  pub over_same : (f g : Feeder I IS) (s u : Setter M I O IS OS ghosts) (t v : Taker O OS) → feeder_end g ≡ feeder_end f → state_of u ≡ state_of s → hands_of v ≡ hands_of t
-      → is_over g u v ≡ is_over f s t
-  over_same f g s u t v e st hands =
-      ap (λ x. is_some x && (is_done (state_of u) && (hands_of v).ended)) e
-      ∙ ap (λ x. is_some (feeder_end f) && (is_done x && (hands_of v).ended)) st
-      ∙ ap (λ x. is_some (feeder_end f) && (is_done (state_of s) && x.ended)) hands
-
-module _ {M I O IS OS : Type 0} {ghosts : Ghosts M I O IS OS} where
   -- the end of a lane whose ends are closed, done and ended
   pub over_ending : (f : Feeder I IS) (s : Setter M I O IS OS ghosts) (t : Taker O OS) (ending : Option LaneEnd) → is_some (feeder_end f) ≡ true
       → is_done (state_of s) ≡ true → t.ended ≡ true → ending ≡ (hands_of t).ending
@@ -207,7 +184,3 @@ module _ {M I O IS OS : Type 0} {ghosts : Ghosts M I O IS OS} where
   over_ending f s t None closed done ended is = absurd (true≢false (sym (t.all.2 ended) ∙ ap is_some (sym is)))
   over_ending f s t (Some end) closed done ended is =
       (all_true (is_some (feeder_end f)) (is_done (state_of s)) t.ended closed done ended, rw ended (sym is))
-
-module _ {O OS : Type 0} where
-  pub taker_end_same : (t v : Taker O OS) → hands_of v ≡ hands_of t → taker_end v ≡ taker_end t
-  taker_end_same t v hands = ap (λ x. if x.ended then x.ending else None) hands

@@ -2,8 +2,6 @@
 ghost use Rattle.std.specs.Prelude.{◌≡◌, true, false, Some, IfOk, IfErr, MatchOption};
 ghost use Rattle.line_lane.specs.Lane.{pipeline};
 ghost use Rattle.line_lane.specs.Ends.{IsLane, fed, state_of, taken, taker_end};
-ghost use Rattle.line_lane.specs.Rings.{IsFirstOf};
-ghost use Rattle.line_lane.specs.Turns.{is_given_up};
 ghost use Rattle.line_lane.specs.Settled.{AreAsBefore, HaveMet, IsSettled, is_over};
 ghost use Rattle.line_lane.specs.declared.ending.LaneEnd.{LaneEnd as End};
 ghost use Rattle.line_lane.specs.declared.ending.LaneEnd.TheVariants.{GaveUp};
@@ -65,8 +63,7 @@ fn look<M: Making>(feeder: &mut Feeder<M::In>, setter: &mut Setter<M>, taker: &m
 ///
 /// In both cases the results that were taken are those of the first items that were fed; if the lane is
 /// finished and wasn't abandoned, they are the results of all of them. If the taker has returned an end other
-/// than `GaveUp`, the lane is finished; if it has returned `GaveUp`, the lane is abandoned. The items that
-/// the setter received are the first of those that were fed.
+/// than `GaveUp`, the lane is finished.
 pub fn settle<M: Making>(
     feeder: Feeder<M::In>,
     setter: Setter<M>,
@@ -74,11 +71,9 @@ pub fn settle<M: Making>(
 ) -> Result<LaneEnd, Open<M>>
     requires { IsLane feeder setter taker }
     ensures pipeline { pipeline (state_of setter).makes (fed feeder) (taken taker) }
-    ensures seen { IsFirstOf (state_of setter).seen (fed feeder) }
     ensures settled { IfOk result (λ end. IsSettled feeder setter taker end) }
     ensures ended { (end : End) → taker_end taker ≡ Some end → (end ≡ GaveUp → ⊥)
         → IsSettled feeder setter taker end }
-    ensures gave_up { taker_end taker ≡ Some GaveUp → is_given_up (state_of setter).made ≡ true }
     ensures unsettled { IfErr result (λ back. (is_over feeder setter taker ≡ false)
         × AreAsBefore feeder setter taker back.feeder back.setter back.taker
         × IsLane back.feeder back.setter back.taker) }

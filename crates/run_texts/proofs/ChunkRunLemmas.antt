@@ -31,10 +31,6 @@ no_lines : (lines : List (List ℕ)) → map cut lines ≡ [] → lines ≡ []
 no_lines [] is = refl
 no_lines (line ∷ lines) is = absurd (search rules)
 
-left_empty : {T : Type 0} (xs ys : List T) → xs ++ ys ≡ [] → (xs ≡ []) × (ys ≡ [])
-left_empty [] ys none = (refl, none)
-left_empty (x ∷ xs) ys none = absurd (search rules)
-
 numbered-append : (first : ℕ) (xs ys : List ChunkLine) → numbered first (xs ++ ys) ≡ numbered first xs ++ numbered (first + length xs) ys
 numbered-append first [] ys = let at : first ≡ first + 0 = omega arith in ap (λ n. numbered n ys) at
 numbered-append first (x ∷ xs) ys =
@@ -69,7 +65,6 @@ abbrev AreOf : ℕ → List (List ℕ) → List ChunkValue → ℕ → Type 0
 AreOf first lines chunks next =
     (flat_map (λ chunk. chunk.lines) chunks ≡ map cut lines)
     × (first + length lines < 2 ^ 64 → (flat_map lines_of_chunk chunks ≡ numbered_cuts first lines) × (next ≡ first + length lines))
-    × (lines ≡ [] → chunks ≡ [])
 
 one_more : (first : ℕ) (own : List (List ℕ)) (chunk : ChunkValue) (now : ℕ) (lines : List (List ℕ)) (chunks : List ChunkValue) (next : ℕ)
     → IsChunkOf first own chunk now → AreOf now lines chunks next → AreOf first (own ++ lines) (chunk ∷ chunks) next
@@ -84,7 +79,6 @@ one_more first own chunk now lines chunks next one are = (
             ∙ sym (cuts-append first own lines),
         omega (arith, there.1, here.1, long),
       )),
-  (λ none. absurd (one.0 (left_empty own lines none).0)),
 )
 
 module _ {R : Type 0} (remaining : R → Option (List ℕ)) where
@@ -93,7 +87,7 @@ module _ {R : Type 0} (remaining : R → Option (List ℕ)) where
       → (lines : List (List ℕ)) × HasReturned gives_told (told remaining before) lines (told remaining after) × AreOf before.next lines chunks after.next
   chunks_read before [] after same =
       let at : before.next ≡ before.next + 0 = omega arith in
-      ([], ap (told remaining) same, (refl, (λ fits. (refl, ap (λ b. b.next) same ∙ at)), λ none. refl))
+      ([], ap (told remaining) same, (refl, λ fits. (refl, ap (λ b. b.next) same ∙ at)))
   chunks_read before (chunk ∷ chunks) after (now, (own, returned, is), rest) =
       let (lines, then, are) = chunks_read now chunks after rest in (
         own ++ lines,
@@ -131,9 +125,6 @@ module _ {R : Type 0} (remaining : R → Option (List ℕ)) where
               (told remaining now, all, chunks_end now lane.source made.last ended);
           complete = λ is. let whole = made.complete is in (no_more whole.0, whole.1);
           failed = λ fault is. let whole = made.failed fault is in (no_more whole.0, whole.1);
-          abandoned = λ is none.
-              let empty = left_empty lines others none in
-              made.abandoned is (ap (λ l. l ++ made.more) (are.2 empty.0) ∙ are_others.2 empty.1);
         },
       )
 

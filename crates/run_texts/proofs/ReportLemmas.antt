@@ -57,15 +57,8 @@ module _ {S : Type 0} (to_come : S → Option (List (List ℕ))) (failed : S →
   are_reported number [] (l ∷ lanes) closed whole = absurd closed
   are_reported number (s ∷ sources) [] closed whole = absurd closed
   are_reported number (s ∷ sources) (l ∷ lanes) closed whole = (
-    subst (λ (end : Option LaneEnd). IsTrueToSource (record {
-      terms = arc_value s.1;
-      before = to_come s.0;
-      failed = failed s.0;
-      answers = closed.1.0;
-      end = end;
-      after = to_come l.source;
-      fails = failed l.source;
-    })) (some_end l.end (All-head HasEnd l lanes whole)) closed.1.2,
+    subst (λ (end : Option LaneEnd). IsTrueToSource to_come failed (arc_value s.1) s.0 closed.1.0 (record { source = l.source; end = end }))
+        (some_end l.end (All-head HasEnd l lanes whole)) closed.1.2,
     are_reported (number + 1) sources lanes closed.2 (All-tail HasEnd l lanes whole),
   )
 

@@ -11,9 +11,9 @@ use Rattle.line_chunks.specs.Chunks.{ChunkValue, cut, lines_of_chunk, numbered_c
 use Rattle.line_chunks.specs.ChunkText.{ChunkTextValue, MakerValue, RecordStyle, chunk_text}
 use Rattle.line_chunks.specs.Reading.{ReadsFrom, Told, told, told_unread}
 use Rattle.line_chunks.specs.declared.chunk_reader.ChunkReader.{ChunkReader}
-use Rattle.set_run.specs.Closed.{HasNoOthers}
-use Rattle.set_run.specs.Events.{Event, answers_in, lane_events, of_lane}
-use Rattle.set_run.specs.Reports.{AreReported, IsClosed}
+use Rattle.set_run.specs.Closed.{AreClosedBy, AreCollectedBy}
+use Rattle.set_run.specs.Events.{Event}
+use Rattle.set_run.specs.Reports.{AreReported, IsTrueToSource}
 use Rattle.set_run.specs.declared.report.LaneReport.{LaneReport}
 use Rattle.set_run.specs.declared.run_end.ClosedLane.{ClosedLane}
 use Rattle.run_texts.specs.RunText.{refused_lines}
@@ -37,32 +37,22 @@ AreRecordsOf source style answers texts =
     → (refused_of texts ≡ refused_lines style.encoding answers) × (flat_map chunk_lines texts ≡ record_lines source 1 style answers))
 
 module _ {S : Type 0} (to_come : S → Option (List (List ℕ))) (failed : S → Option SourceFault) where
-  -- the texts of chunks of a closed lane have the records of some results, and with these results the lane
-  -- agrees with its source
-  abbrev pub IsClosedIn : ℕ → RecordStyle → TermsValue → S → List ChunkTextValue → ClosedLane S → Type 0
-  IsClosedIn number style terms source texts lane =
-      (answers : List AnswerValue) × AreRecordsOf number style answers texts × IsClosed to_come failed terms source answers lane
+  -- the texts of chunks of the closed lane with this index have the records of some results, and with these results
+  -- the lane agrees with its source
+  abbrev pub IsClosedIn : RecordStyle → ℕ → S × Arc TermsValue Global → List ChunkTextValue → ClosedLane S → Type 0
+  IsClosedIn style number source texts lane =
+      (answers : List AnswerValue) × AreRecordsOf (number + 1) style answers texts
+      × IsTrueToSource to_come failed (arc_value source.1) source.0 answers lane
 
-  -- the same for the closed lanes of sources, of which the first has the lane with this index; the events of
-  -- each lane are its results and then its end, if it has one
+  -- the closed lanes of sources, of which the first has the lane with this index
   abbrev pub AreClosedIn :
       RecordStyle → List (Event ChunkTextValue) → ℕ → List (S × Arc TermsValue Global) → List (ClosedLane S) → Type 0
-  AreClosedIn style events number [] [] = Unit {0}
-  AreClosedIn style events number [] (lane ∷ lanes) = ⊥
-  AreClosedIn style events number (source ∷ sources) [] = ⊥
-  AreClosedIn style events number (source ∷ sources) (lane ∷ lanes) =
-      (of_lane number events ≡ lane_events (answers_in number events) lane.end)
-      × IsClosedIn (number + 1) style (arc_value source.1) source.0 (answers_in number events) lane
-      × AreClosedIn style events (number + 1) sources lanes
+  AreClosedIn style events number sources lanes = AreClosedBy (IsClosedIn style) events number sources lanes
 
-  -- if a collector had received nothing before a batch with these sources, it has received the events of
-  -- these lanes and no others
+  -- what a collector of the texts of chunks has received in a batch with these sources
   abbrev pub IsCollectedIn :
       {C : Type 0} → RecordStyle → (C → List (Event ChunkTextValue) → Type 0) → List (S × Arc TermsValue Global) → List (ClosedLane S) → C → C → Type 0
-  IsCollectedIn style given sources lanes before after =
-      given before []
-      → (events : List (Event ChunkTextValue)) × given after events × AreClosedIn style events 0 sources lanes
-      × HasNoOthers events (length sources)
+  IsCollectedIn style given sources lanes before after = AreCollectedBy (IsClosedIn style) given sources lanes before after
 
 -- ---- readers
 

@@ -6,16 +6,13 @@ use Rattle.std.specs.Prelude.{⊤}
 use Rattle.set_line.specs.Terms.{TermsValue}
 use Rattle.set_line.specs.Answer.{AnswerValue, answer_of}
 use Rattle.line_lane.specs.Lane.{answers_of}
-use Rattle.line_lane.specs.Messages.{first_end}
 use Rattle.line_lane.specs.declared.fault.SourceFault.{SourceFault}
 use Rattle.line_lane.specs.declared.ending.SourceEnd.{SourceEnd}
 use Rattle.line_lane.specs.declared.ending.SourceEnd.TheVariants.{Complete as SourceComplete, Failed}
-use Rattle.line_lane.specs.declared.ending.LaneEnd.{LaneEnd}
-use Rattle.line_lane.specs.declared.ending.LaneEnd.TheVariants.{Complete, SourceFailed, GaveUp}
 use Rattle.set_run.specs.Calls.{HasEnded, HasReturned}
 use Rattle.set_run.specs.Sources.{GivesNext, HasGiven, HasNoMore, gives_line}
 use Rattle.set_run.specs.Closed.{IsClosedOf}
-use Rattle.set_run.specs.Reports.{AreAllAnswers, AreFirstAnswers, IsClosed}
+use Rattle.set_run.specs.Reports.{AreAllAnswers, AreFirstAnswers, IsTrueToSource}
 use Rattle.set_run.specs.declared.run_end.ClosedLane.{ClosedLane}
 
 -- ---- lines to come
@@ -82,13 +79,6 @@ module _ {S : Type 0} (to_come : S → Option (List (List ℕ))) (failed : S →
   returned_lines before (line ∷ lines) after (now, one, rest) =
       gave_first (to_come before) line (to_come now) lines (to_come after) one.2 (returned_lines now lines after rest)
 
-  -- a source that had failed returns no line
-  stays_failed : (before : S) (lines : List (List ℕ)) (after : S) (fault : SourceFault) → HasReturned (gives_line to_come failed) before lines after
-      → failed before ≡ Some fault → (lines ≡ []) × (failed after ≡ Some fault)
-  stays_failed before [] after fault same had = (refl, ap failed same ∙ had)
-  stays_failed before (line ∷ lines) after fault (now, one, rest) had =
-      let no : None ≡ Some fault = sym one.0 ∙ had in absurd (search rules)
-
   -- lines that are left, unless it failed
   left_of : (least : ℕ) (before now after : S) (last : Option SourceEnd) → HasGiven least (to_come before) (to_come now)
       → HasEnded (gives_line to_come failed) now last after → failed after ≡ None → HasGiven least (to_come before) (to_come after)
@@ -97,26 +87,9 @@ module _ {S : Type 0} (to_come : S → Option (List (List ℕ))) (failed : S →
   left_of least before now after (Some (Failed fault)) given ended none =
       let no : Some fault ≡ None = sym ended.0 ∙ none in absurd (search rules)
 
-  -- the error that it had
-  kept_fault : (now after : S) (last : Option SourceEnd) (fault : SourceFault) → HasEnded (gives_line to_come failed) now last after
-      → failed now ≡ Some fault → (failed after ≡ Some fault) × ((end : SourceEnd) → last ≡ Some end → end ≡ Failed fault)
-  kept_fault now after None fault ended had = (ap failed ended ∙ had, λ end is. absurd (search rules))
-  kept_fault now after (Some SourceComplete) fault ended had =
-      let no : None ≡ Some fault = sym ended.0 ∙ had in absurd (search rules)
-  kept_fault now after (Some (Failed other)) fault ended had =
-      let same : other ≡ fault = first_fault (failed now) had ended.1 in
-      (ended.0 ∙ ap Some same, λ end is. own end is ∙ ap Failed same)
-    where
-      first_fault : (f : Option SourceFault) → f ≡ Some fault → first_end f (Some other) ≡ Some other → other ≡ fault
-      first_fault None had' is = absurd (search rules)
-      first_fault (Some g) had' is = search (rules, had', is)
-
-      own : (end : SourceEnd) → Some (Failed other) ≡ Some end → end ≡ Failed other
-      own end is = search (rules, is)
-
   -- the closed lane of a source of lines
   pub closed_line : (terms : TermsValue) (source : S) (answers : List AnswerValue) (lane : ClosedLane S)
-      → IsClosedOf (gives_line to_come failed) (answer_of terms) source answers lane → IsClosed to_come failed terms source answers lane
+      → IsClosedOf (gives_line to_come failed) (answer_of terms) source answers lane → IsTrueToSource to_come failed terms source answers lane
   closed_line terms source answers lane made =
       let (now, returned, ended) = made.read in
       let all = made.items ++ made.more in
@@ -135,21 +108,4 @@ module _ {S : Type 0} (to_come : S → Option (List (List ℕ))) (failed : S →
         (λ fault is. (subst (λ e. HasEnded (gives_line to_come failed) now e lane.source) (made.failed fault is).1 ended).0),
         (λ none. left_of (length answers) source now lane.source made.last
             (gave_left (length answers) made.items made.more (to_come source) (to_come now) long gave) ended none),
-        (λ fault had.
-            let stays = stays_failed source all now fault returned had in
-            let kept = kept_fault now lane.source made.last fault ended stays.1 in
-            let none : made.items ≡ [] = no_first made.items made.more stays.0 in
-            (kept.0, made.made ∙ ap (answers_of terms) none, λ end is. lane_end end fault is stays.0 kept.1)),
       )
-    where
-      no_first : (xs ys : List (List ℕ)) → xs ++ ys ≡ [] → xs ≡ []
-      no_first [] ys none = refl
-      no_first (x ∷ xs) ys none = absurd (search rules)
-
-      lane_end : (end : LaneEnd) (fault : SourceFault) → lane.end ≡ Some end → made.items ++ made.more ≡ []
-          → ((last : SourceEnd) → made.last ≡ Some last → last ≡ Failed fault) → end ≡ SourceFailed fault
-      lane_end Complete fault is none kept =
-          let no : SourceComplete ≡ Failed fault = kept SourceComplete (made.complete is).1 in absurd (search rules)
-      lane_end (SourceFailed other) fault is none kept =
-          let own : Failed other ≡ Failed fault = kept (Failed other) (made.failed other is).1 in search (rules, own)
-      lane_end GaveUp fault is none kept = absurd (made.abandoned is none)

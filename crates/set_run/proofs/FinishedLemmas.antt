@@ -1,6 +1,7 @@
 -- The reports of a run whose answers were kept, and what a finished one says.
 use Rattle.std.proofs.Common.{arith, ◌≡◌, ℕ, zero, suc, ◌+◌, ◌<◌, List, [], ◌∷◌, ◌++◌, length, get_or, replicate, Option, Some, None, refl, ap, sym, subst, ◌∙◌}
 use Rattle.std.specs.Prelude.{map, All, IfOk, IfSome, Result, Ok}
+use Rattle.std.proofs.lemmas.List.Elements.{All-tail}
 use Rattle.std.specs.Arc.{arc_value}
 use Rattle.std.specs.declared.sync.Arc.{Arc}
 use Rattle.std.specs.declared.alloc.Global.{Global}
@@ -12,7 +13,7 @@ use Rattle.line_lane.specs.declared.ending.LaneEnd.{LaneEnd}
 use Rattle.line_lane.specs.declared.ending.LaneEnd.TheVariants.{Complete}
 use Rattle.set_run.specs.Events.{Event, answers_in}
 use Rattle.set_run.specs.Closed.{AreClosedOf, HasNoOthers}
-use Rattle.set_run.specs.Reports.{AreAllAnswers, AreAnswered, AreReported, AreReportsOf, IsTrueToSource, LaneSeen}
+use Rattle.set_run.specs.Reports.{AreAllAnswers, AreAnswered, AreReported, AreReportsOf, IsTrueToSource}
 use Rattle.set_run.specs.Sources.{gives_line}
 use Rattle.set_run.specs.declared.run_end.ClosedLane.{ClosedLane}
 use Rattle.set_run.specs.declared.report.LaneReport.{LaneReport}
@@ -27,9 +28,6 @@ all_lines : (terms : TermsValue) (answers : List AnswerValue) (before after : Op
 all_lines terms answers (Some lines) after all = all.0
 all_lines terms answers None after all = tt
 
-rest_too : {X : Type 0} (P : X → Type 0) (x : X) (xs : List X) → All P (x ∷ xs) → All P xs
-rest_too P x xs all k d below = all (suc k) d (omega (arith, below))
-
 module _ {S : Type 0} where
   -- if every lane is complete, each source has all its answers
   pub answered : (to_come : S → Option (List (List ℕ))) (failed : S → Option SourceFault) (sources : List (S × Arc TermsValue Global))
@@ -40,7 +38,7 @@ module _ {S : Type 0} where
   answered to_come failed (s ∷ sources) [] are all = elim are [ ]
   answered to_come failed (s ∷ sources) (r ∷ reports) are all = (
     all_lines (arc_value s.1) r.answers (to_come s.0) (to_come r.source) (are.0.1 (ap Some (all 0 r (omega arith)))).1,
-    answered to_come failed sources reports are.1 (rest_too (λ lane. lane.end ≡ Complete) r reports all),
+    answered to_come failed sources reports are.1 (All-tail (λ lane. lane.end ≡ Complete) r reports all),
   )
 
 module _ {S : Type 0} where
@@ -83,20 +81,10 @@ module _ {S : Type 0} where
       let zeroth : first + 0 ≡ first = omega arith in
       let own : answers_in first events ≡ r.answers =
       sym (of_lanes.1 ∙ have 0 (omega arith) ∙ ap (λ n. answers_in n events) zeroth)
-      in let seen : List AnswerValue → Option LaneEnd → S → LaneSeen =
-      λ answers end source. record {
-        terms = arc_value s.1;
-        before = to_come s.0;
-        failed = failed s.0;
-        answers = answers;
-        end = end;
-        after = to_come source;
-        fails = failed source;
-      }
-      in (
-        subst (λ answers. IsTrueToSource (seen answers (Some r.end) r.source)) own
-            (subst (λ end. IsTrueToSource (seen (answers_in first events) end r.source)) of_lanes.2
-            (subst (λ source. IsTrueToSource (seen (answers_in first events) c.end source)) (sym of_lanes.0)
+      in let true_to : List AnswerValue → ClosedLane S → Type 0 = IsTrueToSource to_come failed (arc_value s.1) s.0 in (
+        subst (λ answers. true_to answers (record { source = r.source; end = Some r.end })) own
+            (subst (λ (end : Option LaneEnd). true_to (answers_in first events) (record { source = r.source; end = end })) of_lanes.2
+            (subst (λ source. true_to (answers_in first events) (record { source = source; end = c.end })) (sym of_lanes.0)
             (closed_line to_come failed (arc_value s.1) s.0 (answers_in first events) c are.1))),
         reported_all to_come failed events (first + 1) sources lanes lists reports are.2 of_lanes.3 (
             λ i below.

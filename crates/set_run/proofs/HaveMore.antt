@@ -1,17 +1,12 @@
 -- Setters that several workers were given, and from which they are taken back.
 use Rattle.std.proofs.Common.{arith, ◌≡◌, ℕ, zero, suc, ◌+◌, ◌%◌, ◌<◌, List, [], ◌∷◌, ◌++◌, length, get_or, refl, ap, sym, subst, ◌∙◌, length-append}
 use Rattle.std.specs.Prelude.{set}
-use Rattle.std.proofs.lemmas.List.{get_or-set_same}
+use Rattle.std.proofs.lemmas.List.{get_or-set_same, length-set}
 use Rattle.set_run.specs.Workers.{CanTake, HasOneMore, HaveMore}
 
 module _ {T : Type 0} where
-  pub set_length : (xs : List (List T)) (i : ℕ) (x : List T) → length (set xs i x) ≡ length xs
-  set_length [] i x = refl
-  set_length (y ∷ xs) zero x = refl
-  set_length (y ∷ xs) (suc i) x = ap suc (set_length xs i x)
-
   pub one_length : (worker : ℕ) (s : T) (before after : List (List T)) → HasOneMore worker s before after → length after ≡ length before
-  one_length worker s before after one = ap length one.1 ∙ set_length before worker (get_or before worker [] ++ s ∷ [])
+  one_length worker s before after one = ap length one.1 ∙ length-set before worker (get_or before worker [] ++ s ∷ [])
 
   -- as many workers as before
   pub more_length : (first : ℕ) (ss : List T) (before after : List (List T)) → HaveMore first ss before after → length after ≡ length before

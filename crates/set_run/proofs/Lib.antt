@@ -3,7 +3,6 @@ pub mod GivenLemmas
 pub mod ReadingLemmas
 pub mod Zips
 pub mod SameEnds
-pub mod SeenLemmas
 pub mod WorkerLemmas
 pub mod EventLemmas
 pub mod TakerLemmas

@@ -1,17 +1,17 @@
 -- A level of a run: its lane begins, the levels below come back, and its lane ends.
 use Rattle.std.proofs.Common.{arith, ◌≡◌, ◌⊎◌, inl, inr, ℕ, ◌+◌, ◌*◌, ◌<◌, ◌≤◌, ◌%◌, zero, suc, Bool, true, false, List, [], ◌∷◌, ◌++◌, length, get_or, Option, None, refl, ap, sym, subst, ◌∙◌}
-use Rattle.std.proofs.lemmas.List.{length-append, map-append}
+use Rattle.std.proofs.lemmas.List.{length-append, length-set, map-append}
 use Rattle.std.specs.Prelude.{map, set, All, IsSome, IsTrue, is_none, Result, Ok, Err, IfOk, IfErr, IsOk, IsOkAnd, OnOk}
 use Rattle.std.specs.Result.{is_err}
 use Rattle.std.proofs.lemmas.Bool.{false≢true}
 use Rattle.std.specs.List.{AllZip}
-use Rattle.line_lane.specs.Ends.{SameFeeder}
+use Rattle.line_lane.specs.Ends.{SameFeeder, SameSetter}
 use Rattle.dealt_lanes.specs.Dealt.{SameDealer, dealer_lanes, gathered}
 use Rattle.line_lane.specs.declared.making.Making.{Ghosts}
 use Rattle.line_lane.specs.declared.setter.Setter.{Setter}
 use Rattle.line_lane.specs.declared.fault.SourceFault.{SourceFault}
 use Rattle.set_run.specs.Events.{Event, answers_in, lane_events, of_lane}
-use Rattle.set_run.specs.Workers.{HasOneMore, HaveMore, IsWorked}
+use Rattle.set_run.specs.Workers.{HasOneMore, HaveMore}
 use Rattle.set_run.specs.Collecting.{AllLanes, IsFreshTaker, IsTold, IsToldBy, IsToldFirst, SameLane}
 use Rattle.set_run.specs.Given.{HandsBack}
 use Rattle.set_run.specs.Closed.{AreBack, AreClosedOf, HasNoOthers, IsClosedOf}
@@ -24,9 +24,10 @@ use Rattle.set_run.specs.declared.collecting.lane_taker.LaneTaker.{LaneTaker}
 use Rattle.set_run.specs.declared.run_end.ClosedLane.{ClosedLane}
 use Rattle.set_run.specs.declared.run_fault.RunFault.{RunFault}
 use Rattle.set_run.specs.declared.run_fault.RunFault.TheVariants.{TooManySources, OutOfMemory, Thread}
-use Rattle.set_run.proofs.Zips.{zip_length, zip_last, zip_place, zip_there}
-use Rattle.set_run.proofs.SameEnds.{lanes_length, still_lanes}
-use Rattle.set_run.proofs.HaveMore.{back_at_index, one_length, set_length}
+use Rattle.std.proofs.lemmas.List.Elements.{All-cons, All-head, All-push, All-tail, length_all_zip}
+use Rattle.set_run.proofs.Zips.{zip_last, zip_place, zip_there}
+use Rattle.set_run.proofs.SameEnds.{still_lanes}
+use Rattle.set_run.proofs.HaveMore.{back_at_index, one_length}
 use Rattle.set_run.proofs.LaneLemmas.{closed_of}
 use Rattle.set_run.proofs.TakerLemmas.{told_first}
 
@@ -107,14 +108,14 @@ part_fits a b d e = omega arith
 module _ {M I O IS OS : Type 0} {ghosts : Ghosts M I O IS OS} where
   -- the setter that is taken back is that of the same lane, and the workers are as before
   same_at_worker : (i : ℕ) (s t : Setter M I O IS OS ghosts) (workers workers1 workers2 workers3 : List (List (Setter M I O IS OS ghosts))) → HasOneMore i s workers workers1
-      → AllZip (AllZip IsWorked) workers1 workers2 → HasOneMore i t workers3 workers2 → IsWorked s t × AllZip (AllZip IsWorked) workers workers3
+      → AllZip (AllZip SameSetter) workers1 workers2 → HasOneMore i t workers3 workers2 → SameSetter s t × AllZip (AllZip SameSetter) workers workers3
   same_at_worker i s t workers workers1 workers2 workers3 with_one same back =
       let x = get_or workers i [] in let y = get_or workers3 i [] in
-      let both : AllZip (AllZip IsWorked) (set workers i (x ++ s ∷ [])) (set workers3 i (y ++ t ∷ [])) =
-      subst (λ h. AllZip (AllZip IsWorked) h (set workers3 i (y ++ t ∷ []))) with_one.1
-      (subst (λ h. AllZip (AllZip IsWorked) workers1 h) back.1 same)
-      in let place = zip_place (AllZip IsWorked) [] workers workers3 i (x ++ s ∷ []) (y ++ t ∷ []) with_one.0 back.0 both in
-      let last = zip_last IsWorked x y s t place.0 in (last.1, place.1 last.0)
+      let both : AllZip (AllZip SameSetter) (set workers i (x ++ s ∷ [])) (set workers3 i (y ++ t ∷ [])) =
+      subst (λ h. AllZip (AllZip SameSetter) h (set workers3 i (y ++ t ∷ []))) with_one.1
+      (subst (λ h. AllZip (AllZip SameSetter) workers1 h) back.1 same)
+      in let place = zip_place (AllZip SameSetter) [] workers workers3 i (x ++ s ∷ []) (y ++ t ∷ []) with_one.0 back.0 both in
+      let last = zip_last SameSetter x y s t place.0 in (last.1, place.1 last.0)
 
 -- the last element, and those before it
 last_of : {A : Type 0} (R : A → A → Type 0) (xs ys : List A) (x : A) → AllZip R (xs ++ x ∷ []) ys → (init : List A) × (y : A) × (ys ≡ init ++ y ∷ [])
@@ -128,16 +129,16 @@ module _ {M I O IS OS : Type 0} {ghosts : Ghosts M I O IS OS} where
   -- workers that got more setters, and came back: the setters that are taken back are those of the same lanes, and
   -- the workers are as before
   same_many : (first : ℕ) (ss ts : List (Setter M I O IS OS ghosts)) (workers workers1 workers2 workers3 : List (List (Setter M I O IS OS ghosts)))
-      → length ts ≡ length ss → HaveMore first ss workers workers1 → AllZip (AllZip IsWorked) workers1 workers2 → HaveMore first ts workers3 workers2
-      → AllZip IsWorked ss ts × AllZip (AllZip IsWorked) workers workers3
+      → length ts ≡ length ss → HaveMore first ss workers workers1 → AllZip (AllZip SameSetter) workers1 workers2 → HaveMore first ts workers3 workers2
+      → AllZip SameSetter ss ts × AllZip (AllZip SameSetter) workers workers3
   same_many first [] [] workers workers1 workers2 workers3 long have same back =
-      (tt, subst (λ w. AllZip (AllZip IsWorked) w workers3) have (subst (AllZip (AllZip IsWorked) workers1) back same))
+      (tt, subst (λ w. AllZip (AllZip SameSetter) w workers3) have (subst (AllZip (AllZip SameSetter) workers1) back same))
   same_many first [] (t ∷ ts) workers workers1 workers2 workers3 long have same back = absurd (omega (arith, long))
   same_many first (s ∷ ss) [] workers workers1 workers2 workers3 long have same back = absurd (omega (arith, long))
   same_many first (s ∷ ss) (t ∷ ts) workers workers1 workers2 workers3 long (between, have, one) same (under, back, two) =
       let up : length workers1 ≡ length between = one_length (first % length between) s between workers1 one in
       let down : length workers2 ≡ length under = one_length (first % length under) t under workers2 two in
-      let wide : length workers1 ≡ length workers2 = zip_length (AllZip IsWorked) workers1 workers2 same in
+      let wide : length workers1 ≡ length workers2 = length_all_zip (AllZip SameSetter) workers1 workers2 same in
       let two' : HasOneMore (first % length between) t under workers2 =
       subst (λ k. HasOneMore (first % k) t under workers2) (sym down ∙ sym wide ∙ up) two in
       let here = same_at_worker (first % length between) s t between workers1 workers2 under one same two' in
@@ -146,20 +147,20 @@ module _ {M I O IS OS : Type 0} {ghosts : Ghosts M I O IS OS} where
 
   -- and there are such setters
   exist_many : (first : ℕ) (ss : List (Setter M I O IS OS ghosts)) (workers workers1 workers2 : List (List (Setter M I O IS OS ghosts)))
-      → HaveMore first ss workers workers1 → AllZip (AllZip IsWorked) workers1 workers2
+      → HaveMore first ss workers workers1 → AllZip (AllZip SameSetter) workers1 workers2
       → (ts : List (Setter M I O IS OS ghosts)) × (workers3 : List (List (Setter M I O IS OS ghosts)))
-      × (length ts ≡ length ss) × HaveMore first ts workers3 workers2 × AllZip IsWorked ss ts
+      × (length ts ≡ length ss) × HaveMore first ts workers3 workers2 × AllZip SameSetter ss ts
   exist_many first [] workers workers1 workers2 have same = ([], workers2, refl, refl, tt)
   exist_many first (s ∷ ss) workers workers1 workers2 (between, have, one) same =
       let i = first % length between in
-      let there = zip_there (AllZip IsWorked) [] between workers2 i (get_or between i [] ++ s ∷ []) one.0
-      (subst (λ x. AllZip (AllZip IsWorked) x workers2) one.1 same) in
-      let (init, t, is) = last_of IsWorked (get_or between i []) (get_or workers2 i []) s there in
+      let there = zip_there (AllZip SameSetter) [] between workers2 i (get_or between i [] ++ s ∷ []) one.0
+      (subst (λ x. AllZip (AllZip SameSetter) x workers2) one.1 same) in
+      let (init, t, is) = last_of SameSetter (get_or between i []) (get_or workers2 i []) s there in
       let up : length workers1 ≡ length between = one_length i s between workers1 one in
-      let wide : length workers1 ≡ length workers2 = zip_length (AllZip IsWorked) workers1 workers2 same in
+      let wide : length workers1 ≡ length workers2 = length_all_zip (AllZip SameSetter) workers1 workers2 same in
       let below : i < length workers2 = omega (arith, one.0, up, wide) in
       let under = set workers2 i init in
-      let shorter : length under ≡ length workers2 = set_length workers2 i init in
+      let shorter : length under ≡ length workers2 = length-set workers2 i init in
       let two : HasOneMore i t under workers2 = (omega (arith, below, shorter), back_at_index workers2 i init t below is) in
       let here = same_at_worker i s t between workers1 workers2 under one same two in
       let (ts, workers3, long, back, worked) = exist_many (first + 1) ss workers between under have here.1 in
@@ -180,21 +181,6 @@ module _ {O OS : Type 0} where
   first_lane a lanes lanes1 (b ∷ lanes3) more same = (b, lanes3, refl, (subst (λ l. AllZip SameLane l (b ∷ lanes3)) more same).0)
 
 -- ---- lanes, the last of which ends
-
--- all of a list with a first element
-all_more : {T : Type 0} (P : T → Type 0) (x : T) (xs : List T) → P x → All P xs → All P (x ∷ xs)
-all_more P x xs here rest zero d below = here
-all_more P x xs here rest (suc k) d below = rest k d (omega (arith, below))
-
-all_parts : {T : Type 0} (P : T → Type 0) (x : T) (xs : List T) → All P (x ∷ xs) → All P xs × P x
-all_parts P x xs all = ((λ k d below. all (suc k) d (omega (arith, below))), all 0 x (omega arith))
-
-all_append : {T : Type 0} (P : T → Type 0) (xs : List T) (x : T) → All P xs → P x → All P (xs ++ x ∷ [])
-all_append P [] x all one zero d below = one
-all_append P [] x all one (suc k) d below = absurd (omega (arith, below))
-all_append P (y ∷ ys) x all one zero d below = all 0 d (omega arith)
-all_append P (y ∷ ys) x all one (suc k) d below =
-    all_append P ys x (λ i e less. all (suc i) e (omega (arith, less))) one k d (omega (arith, below))
 
 module _ {S M I O : Type 0} where
   -- one more lane that has ended
@@ -239,14 +225,14 @@ module _ {S M I O IS OS : Type 0} {ghosts : Ghosts M I O IS OS} where
   pub as_many_lanes : (source : S × M) (count n : ℕ) (start back : Feeding S I IS) (before after : Held (Setter M I O IS OS ghosts) O OS)
       → Begins count n source start before after → SameDealer start.dealer back.dealer → dealer_lanes back.dealer ≡ count
   as_many_lanes source count n start back before after (is, (ss, l, long, fresh, with_more, more)) same =
-      sym (zip_length SameFeeder start.dealer.feeders.items back.dealer.feeders.items same)
-      ∙ lanes_length start.dealer.feeders.items ss l.gatherer.takers.items fresh.0 ∙ long
+      sym (length_all_zip SameFeeder start.dealer.feeders.items back.dealer.feeders.items same)
+      ∙ sym fresh.0.0 ∙ long
 
   -- once the levels below have come back, the lanes can end
   pub can_end : (source : S × M) (count n : ℕ) (start back : Feeding S I IS) (workers workers1 workers2 : List (List (Setter M I O IS OS ghosts)))
       (lanes lanes1 lanes2 : List (LaneTaker O OS))
       → Begins count n source start (record { workers = workers; lanes = lanes }) (record { workers = workers1; lanes = lanes1 })
-      → AllZip (AllZip IsWorked) workers1 workers2 → AllZip SameLane lanes1 lanes2 → SameDealer start.dealer back.dealer
+      → AllZip (AllZip SameSetter) workers1 workers2 → AllZip SameLane lanes1 lanes2 → SameDealer start.dealer back.dealer
       → CanEnd (dealer_lanes back.dealer) n back.dealer (record { workers = workers2; lanes = lanes2 })
   can_end source count n start back workers workers1 workers2 lanes lanes1 lanes2 begun same_workers same_all same =
       let (is, (ss, l, long, fresh, with_more, more)) = begun in
@@ -271,9 +257,9 @@ module _ {S M I O IS OS : Type 0} {ghosts : Ghosts M I O IS OS} where
   pub workers_back : (source : S × M) (count n : ℕ) (start back : Feeding S I IS) (closed closed' : List (ClosedLane S))
       (workers workers1 workers2 workers3 : List (List (Setter M I O IS OS ghosts))) (lanes lanes1 lanes2 lanes3 : List (LaneTaker O OS))
       → Begins count n source start (record { workers = workers; lanes = lanes }) (record { workers = workers1; lanes = lanes1 })
-      → AllZip (AllZip IsWorked) workers1 workers2 → SameDealer start.dealer back.dealer
+      → AllZip (AllZip SameSetter) workers1 workers2 → SameDealer start.dealer back.dealer
       → Ends (dealer_lanes back.dealer) n back closed closed' (record { workers = workers2; lanes = lanes2 }) (record { workers = workers3; lanes = lanes3 })
-      → AllZip (AllZip IsWorked) workers workers3
+      → AllZip (AllZip SameSetter) workers workers3
   workers_back source count n start back closed closed' workers workers1 workers2 workers3 lanes lanes1 lanes2 lanes3
       (is, (ss, l, long, fresh, with_more, more)) same_workers same (ts, d, one, as_long, taken, popped, ended, finished) =
       let before : Held (Setter M I O IS OS ghosts) O OS = record { workers = workers; lanes = lanes } in
@@ -288,7 +274,7 @@ module _ {S M I O IS OS : Type 0} {ghosts : Ghosts M I O IS OS} where
       (start back : Feeding S I IS) (closed closed' : List (ClosedLane S)) (workers workers1 workers2 workers3 : List (List (Setter M I O IS OS ghosts)))
       (lanes lanes1 : List (LaneTaker O OS)) (before : C) (collected collected' : Collected C O OS) → sources ≡ rest ++ source ∷ []
       → Begins count n source start (record { workers = workers; lanes = lanes }) (record { workers = workers1; lanes = lanes1 })
-      → AllZip (AllZip IsWorked) workers1 workers2 → HandsBack gives origin start back
+      → AllZip (AllZip SameSetter) workers1 workers2 → HandsBack gives origin start back
       → Gathers gives ghosts.makes origin places given refused rest lanes1 before closed collected
       → Ends (dealer_lanes back.dealer) n back closed closed' (record { workers = workers2; lanes = collected.lanes.items })
       (record { workers = workers3; lanes = collected'.lanes.items })
@@ -310,7 +296,7 @@ module _ {S M I O IS OS : Type 0} {ghosts : Ghosts M I O IS OS} where
         same = of_taker.0;
         told = λ has fresh_lanes.
             let (events, has', all, are, others) =
-            below.told has (subst (All IsFreshTaker) (sym more) (all_more IsFreshTaker l lanes fresh.4 fresh_lanes))
+            below.told has (subst (All IsFreshTaker) (sym more) (All-cons IsFreshTaker l lanes fresh.4 fresh_lanes))
             in let of_last : AllLanes IsToldFirst (length rest) events (d ∷ collected'.lanes.items) =
             subst (λ ts. AllLanes IsToldFirst (length rest) events ts) popped all
             in let facts = closed_of gives origin source start back ss ts l d one (of_lane (length rest) events) is fresh own.0 handed finished of_last.0
@@ -326,13 +312,13 @@ module _ {S M I O IS OS : Type 0} {ghosts : Ghosts M I O IS OS} where
               subst (λ k. HasNoOthers events k) (omega (arith, long, long_lanes)) others,
             );
         ended = λ none.
-            (all_parts (λ lane. IsSome lane.end) d collected'.lanes.items
-            (subst (All (λ lane. IsSome lane.end)) popped (below.ended (open_to collected'.refusal refl none)))).0;
+            All-tail (λ lane. IsSome lane.end) d collected'.lanes.items
+            (subst (All (λ lane. IsSome lane.end)) popped (below.ended (open_to collected'.refusal refl none)));
         whole = λ none.
-            let last = (all_parts (λ lane. IsSome lane.end) d collected'.lanes.items
-            (subst (All (λ lane. IsSome lane.end)) popped (below.ended (open_to collected'.refusal refl none)))).1 in
+            let last = All-head (λ lane. IsSome lane.end) d collected'.lanes.items
+            (subst (All (λ lane. IsSome lane.end)) popped (below.ended (open_to collected'.refusal refl none))) in
             subst (All (λ lane. IsSome lane.end)) (sym now)
-            (all_append (λ lane. IsSome lane.end) closed one (below.whole (open_to collected'.refusal refl none))
+            (All-push (λ lane. IsSome lane.end) closed one (below.whole (open_to collected'.refusal refl none))
             (subst (λ end. IsSome end) (sym finished.1) last));
         refuses = subst (λ c. refused c collected'.refusal) (sym own_collector)
             (subst (λ r. refused collected.collector r) (sym own_refusal) below.refuses);

@@ -1,17 +1,12 @@
 -- The lanes of a source when they are opened and when they are closed.
 -- This project's own.
-use Rattle.std.specs.Prelude.{◌≡◌, ◌*◌, ℕ, List, [], ◌∷◌, ◌++◌, All, length, None, Some}
-use Rattle.line_lane.specs.Lane.{pipeline}
-use Rattle.line_lane.specs.Ends.{state_of}
+use Rattle.std.specs.Prelude.{◌≡◌, ◌*◌, ℕ, List, [], ◌∷◌, ◌++◌, length, None}
 use Rattle.line_lane.specs.declared.making.Making.{Ghosts}
 use Rattle.line_lane.specs.declared.setter.Setter.{Setter}
-use Rattle.line_lane.specs.declared.ending.LaneEnd.{LaneEnd}
-use Rattle.line_lane.specs.declared.ending.LaneEnd.TheVariants.{GaveUp}
-use Rattle.dealt_lanes.specs.InTurn.{AreFirstOfShares}
-use Rattle.dealt_lanes.specs.Dealt.{dealer_end, dealt, gathered, gatherer_end}
-use Rattle.dealt_lanes.specs.Settled.{AllMake, AreDealtLanes, HaveAbandoned, IsWhole, each_seen}
+use Rattle.dealt_lanes.specs.Dealt.{dealer_end, dealt}
+use Rattle.dealt_lanes.specs.Settled.{AllMake, AreDealtLanes, AreSettled}
 use Rattle.dealt_lanes.specs.declared.dealer.Dealer.{Dealer}
-use Rattle.set_run.specs.Workers.{HadSeenAnItem, HaveMore}
+use Rattle.set_run.specs.Workers.{HaveMore}
 use Rattle.set_run.specs.Collecting.{IsFreshTaker}
 use Rattle.set_run.specs.declared.threads.source_thread.Feeding.{Feeding}
 use Rattle.set_run.specs.declared.collecting.lane_taker.LaneTaker.{LaneTaker}
@@ -23,8 +18,8 @@ pub record Held (T O OS : Type 0) : Type 0 where
   pub lanes : List (LaneTaker O OS)
 
 module _ {M I O IS OS : Type 0} {ghosts : Ghosts M I O IS OS} where
-  -- the endpoints of the lanes of one source with makers that make this: nothing was dealt or gathered, the dealer
-  -- isn't closed, and `HadSeenAnItem` holds for each setter
+  -- the endpoints of the lanes of one source with makers that make this: nothing was dealt or gathered, and the
+  -- dealer isn't closed
   abbrev pub IsFresh : (I → O) → Dealer I IS → List (Setter M I O IS OS ghosts) → LaneTaker O OS → Type 0
   IsFresh makes dealer setters lane =
       AreDealtLanes dealer setters lane.gatherer
@@ -32,23 +27,15 @@ module _ {M I O IS OS : Type 0} {ghosts : Ghosts M I O IS OS} where
       × (dealer_end dealer ≡ None)
       × AllMake makes setters
       × IsFreshTaker lane
-      × All (λ s. HadSeenAnItem (state_of s)) setters
 
 module _ {S M I O IS OS : Type 0} {ghosts : Ghosts M I O IS OS} where
   -- the lanes of a source were closed: its source is the one that the thread returned, and its end is the one that
-  -- the collector received. If all setters make the same, the results gathered are those of the first items
-  -- dealt. The items that each setter received are the first of those dealt to its lane. If an end other than
-  -- `GaveUp` was gathered, the results are those of all items, and the end is that of the dealer; if `GaveUp` was
-  -- gathered, a setter has abandoned its lane
+  -- the collector received. If all setters make the same, the results gathered agree with the items dealt
   abbrev pub IsFinished : Feeding S I IS → List (Setter M I O IS OS ghosts) → LaneTaker O OS → ClosedLane S → Type 0
   IsFinished feeding setters lane closed =
       (closed.source ≡ feeding.source)
       × (closed.end ≡ lane.end)
-      × ((makes : I → O) → AllMake makes setters → pipeline makes (dealt feeding.dealer) (gathered lane.gatherer))
-      × ((makes : I → O) → AllMake makes setters → (end : LaneEnd) → gatherer_end lane.gatherer ≡ Some end → (end ≡ GaveUp → ⊥)
-      → IsWhole makes feeding.dealer lane.gatherer end)
-      × AreFirstOfShares (each_seen setters) (dealt feeding.dealer)
-      × (gatherer_end lane.gatherer ≡ Some GaveUp → HaveAbandoned setters)
+      × ((makes : I → O) → AllMake makes setters → AreSettled makes feeding.dealer lane.gatherer)
 
   -- the lanes of a source are opened: the setters of its lanes, of which there are so many, are those that the
   -- workers have more, its gatherer precedes the others, and its dealer is next to the source

@@ -1,10 +1,6 @@
--- The setters of the lanes, worker by worker, and the properties of a setter that its turns keep.
+-- The setters of the lanes, worker by worker.
 -- This project's own.
-use Rattle.std.specs.Prelude.{◌≡◌, ◌<◌, ◌%◌, ◌+◌, ℕ, List, [], ◌∷◌, ◌++◌, true, length, get_or, set}
-use Rattle.line_lane.specs.Ends.{SameSetter, state_of}
-use Rattle.line_lane.specs.Turns.{SetterState, is_given_up}
-use Rattle.line_lane.specs.declared.making.Making.{Ghosts}
-use Rattle.line_lane.specs.declared.setter.Setter.{Setter}
+use Rattle.std.specs.Prelude.{◌≡◌, ◌<◌, ◌%◌, ◌+◌, ℕ, List, [], ◌∷◌, ◌++◌, length, get_or, set}
 
 module _ {T : Type 0} where
   -- the worker with this number has one more setter, as its last one, and the other workers are unchanged
@@ -23,13 +19,3 @@ module _ {T : Type 0} where
   abbrev pub CanTake : ℕ → ℕ → List (List T) → Type 0
   CanTake first count workers =
       (setters : List T) × (before : List (List T)) × (length setters ≡ count) × HaveMore first setters before workers
-
-module _ {I O : Type 0} where
-  -- the setter of an abandoned lane has received an item
-  abbrev pub HadSeenAnItem : SetterState I O → Type 0
-  HadSeenAnItem s = is_given_up s.made ≡ true → s.seen ≡ [] → ⊥
-
-module _ {M I O IS OS : Type 0} {ghosts : Ghosts M I O IS OS} where
-  -- the setter of the same lane, after some turns, which keep `HadSeenAnItem`
-  abbrev pub IsWorked : Setter M I O IS OS ghosts → Setter M I O IS OS ghosts → Type 0
-  IsWorked s t = SameSetter s t × (HadSeenAnItem (state_of s) → HadSeenAnItem (state_of t))

@@ -100,7 +100,7 @@ fn finish_source<S: Drop, M: Making>(
     let LaneTaker { gatherer, end, .. } = taker;
     // For the proof: the contract of `settle_lanes` states that the results gathered are those of the first
     // items dealt.
-    let _ = settle_lanes(dealer, setters, gatherer);
+    settle_lanes(dealer, setters, gatherer);
     ClosedLane { source, end }
 }
 

@@ -4,7 +4,7 @@ ghost use Rattle.std.specs.Prelude.{◌≡◌, ◌+◌, ◌*◌, ◌^◌, ◌<�
 ghost use Rattle.std.specs.List.{AllZip};
 ghost use Rattle.set_run.specs.Gathering.{Collects, Gathers};
 ghost use Rattle.set_run.specs.Lanes.{CanEnd, Ends};
-ghost use Rattle.set_run.specs.Workers.{IsWorked};
+ghost use Rattle.line_lane.specs.Ends.{SameSetter};
 ghost use Rattle.dealt_lanes.specs.Dealt.{dealer_lanes};
 ghost use Rattle.set_run.specs.declared.run_fault.RunFault.TheVariants.{TooManySources};
 
@@ -105,7 +105,7 @@ where
     <M::Out as Stored>::Slots: Send + 's,
     requires places { vec_len lanes ≤ C.lanes collector }
     requires willing { C.refused collector None }
-    ensures workers { IfOk result (λ back. AllZip (AllZip IsWorked) workers.items back.0.items) }
+    ensures workers { IfOk result (λ back. AllZip (AllZip SameSetter) workers.items back.0.items) }
     ensures room { IfOk result (λ back. vec_capacity workers ≤ vec_capacity back.0) }
     ensures collected { IfOk result (λ back.
         Collects C.lanes C.given C.refused lanes.items collector back.1) }
@@ -257,7 +257,7 @@ where
     requires willing { C.refused collector None }
     requires none { lanes.closed.items ≡ [] }
     requires room { vec_len sources ≤ vec_capacity lanes.closed }
-    ensures workers { IfOk result (λ back. AllZip (AllZip IsWorked) lanes.workers.items back.1.items) }
+    ensures workers { IfOk result (λ back. AllZip (AllZip SameSetter) lanes.workers.items back.1.items) }
     ensures count { IfOk result (λ back. vec_len back.0 ≡ vec_len sources) }
     ensures room { IfOk result (λ back. vec_capacity lanes.closed ≤ vec_capacity back.0) }
     ensures gathered { IfOk result (λ back. Gathers S.next_gives M.makes S.origin

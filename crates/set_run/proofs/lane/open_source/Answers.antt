@@ -1,9 +1,7 @@
-use Rattle.std.proofs.Common.{◌≡◌, refl, ap, sym, ◌∙◌}
-use Rattle.std.proofs.lemmas.Bool.{true≢false}
+use Rattle.std.proofs.Common.{◌≡◌, refl, ap}
 use Rattle.std.proofs.lemmas.List.Elements.{All-weaker}
-use Rattle.line_lane.specs.Turns.{fresh, is_given_up}
+use Rattle.line_lane.specs.Turns.{fresh}
 use Rattle.line_lane.specs.Ends.{state_of}
-use Rattle.set_run.specs.Workers.{HadSeenAnItem}
 use Rattle.set_run.proofs.lane.open_source.Goals as goal
 
 pub returns-clause-fresh : goal.returns-clause-fresh
@@ -15,6 +13,4 @@ returns-clause-fresh g c =
       e.dealer.1,
       All-weaker (λ s. state_of s ≡ fresh makes) (λ s. (state_of s).makes ≡ makes) (λ s is. ap (λ x. x.makes) is) c.in_ok-dealer.setters.items e.makers,
       (e.gatherer.0, e.gatherer.1, refl),
-      All-weaker (λ s. state_of s ≡ fresh makes) (λ s. HadSeenAnItem (state_of s))
-          (λ s is up. absurd (true≢false (sym up ∙ ap (λ x. is_given_up x.made) is))) c.in_ok-dealer.setters.items e.makers,
     )

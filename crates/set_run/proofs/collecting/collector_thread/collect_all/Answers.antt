@@ -1,7 +1,9 @@
 use Rattle.std.proofs.Common.{rules, arith, ◌≡◌, true, false, length, refl, sym, subst, ◌∙◌}
 use Rattle.std.specs.Prelude.{All, is_ok}
 use Rattle.set_run.specs.Collecting.{IsOver, SameLane, TellsLanes}
-use Rattle.set_run.proofs.Zips.{zip_refl, zip_trans, zip_length}
+use Rattle.std.proofs.lemmas.List.Elements.{length_all_zip}
+use Rattle.dealt_lanes.proofs.Zips.{zip_refl}
+use Rattle.set_run.proofs.Zips.{zip_trans}
 use Rattle.set_run.proofs.SameEnds.{lane_refl, lane_trans}
 use Rattle.set_run.proofs.TakerLemmas.{tells_all_kept, tells_all_same, tells_all_then}
 use Rattle.set_run.proofs.collecting.collector_thread.collect_all.Goals as goal
@@ -19,7 +21,7 @@ loop-init g c = record {
 pub go_round-requires-clause-lanes : goal.go_round-requires-clause-lanes
 go_round-requires-clause-lanes g c =
     let long : length c.args.lanes.now.items ≡ length c.loop.lanes.items =
-    zip_length SameLane c.args.lanes.now.items c.loop.lanes.items c.loop.invariant.same in
+    length_all_zip SameLane c.args.lanes.now.items c.loop.lanes.items c.loop.invariant.same in
     omega (arith, long, c.loop.invariant.lanes)
 
 pub returns-in_err-go_round-clause-same : goal.returns-in_err-go_round-clause-same
@@ -32,7 +34,7 @@ returns-in_err-go_round-clause-told g c =
     let failed : false ≡ is_ok c.from_residual.result = search rules in
     subst (λ ok. TellsLanes g.C.Collector.given ts c.args.collector.now ok c.go_round.new.lanes.items c.go_round.new.collector) failed
     (tells_all_then g.C.Collector.given ts now c.go_round.new.lanes.items c.args.collector.now c.loop.collector c.go_round.new.collector false
-    (sym (zip_length SameLane ts now c.loop.invariant.same)) c.loop.invariant.told c.in_err-go_round.ensures.told)
+    (sym (length_all_zip SameLane ts now c.loop.invariant.same)) c.loop.invariant.told c.in_err-go_round.ensures.told)
 
 pub loop-preserved-then-branch : goal.loop-preserved-then-branch
 loop-preserved-then-branch g c =
@@ -42,7 +44,7 @@ loop-preserved-then-branch g c =
       same = zip_trans SameLane lane_trans ts now c.go_round.new.lanes.items c.loop.invariant.same c.go_round.ensures.same;
       lanes = c.go_round.ensures.lanes ∙ c.loop.invariant.lanes;
       told = tells_all_then g.C.Collector.given ts now c.go_round.new.lanes.items c.args.collector.now c.loop.collector c.go_round.new.collector true
-          (sym (zip_length SameLane ts now c.loop.invariant.same)) c.loop.invariant.told c.in_ok-go_round.ensures.told;
+          (sym (length_all_zip SameLane ts now c.loop.invariant.same)) c.loop.invariant.told c.in_ok-go_round.ensures.told;
       willing = c.in_ok-go_round.ensures.refused;
     }
 
@@ -56,7 +58,7 @@ returns-then-have_ended-clause-told g c =
     tells_all_kept g.C.Collector.given ts c.go_round.new.lanes.items c.args.collector.now c.go_round.new.collector c.about_to_wait.new.self
     (is_ok c.about_to_wait.result)
     (tells_all_then g.C.Collector.given ts now c.go_round.new.lanes.items c.args.collector.now c.loop.collector c.go_round.new.collector true
-    (sym (zip_length SameLane ts now c.loop.invariant.same)) c.loop.invariant.told c.in_ok-go_round.ensures.told)
+    (sym (length_all_zip SameLane ts now c.loop.invariant.same)) c.loop.invariant.told c.in_ok-go_round.ensures.told)
     c.about_to_wait.ensures.given
 
 pub returns-in_err-wait-clause-same : goal.returns-in_err-wait-clause-same
@@ -69,7 +71,7 @@ returns-in_err-wait-clause-told g c =
     tells_all_kept g.C.Collector.given ts c.go_round.new.lanes.items c.args.collector.now c.go_round.new.collector c.wait.new.collector
     (is_ok c.from_residual-in_err-wait.result)
     (tells_all_then g.C.Collector.given ts now c.go_round.new.lanes.items c.args.collector.now c.loop.collector c.go_round.new.collector true
-    (sym (zip_length SameLane ts now c.loop.invariant.same)) c.loop.invariant.told c.in_ok-go_round.ensures.told)
+    (sym (length_all_zip SameLane ts now c.loop.invariant.same)) c.loop.invariant.told c.in_ok-go_round.ensures.told)
     c.wait.ensures.given
 
 pub loop-preserved : goal.loop-preserved
@@ -82,7 +84,7 @@ loop-preserved g c =
       told = tells_all_kept g.C.Collector.given ts c.go_round.new.lanes.items c.args.collector.now c.go_round.new.collector c.wait.new.collector
           true
           (tells_all_then g.C.Collector.given ts now c.go_round.new.lanes.items c.args.collector.now c.loop.collector c.go_round.new.collector true
-          (sym (zip_length SameLane ts now c.loop.invariant.same)) c.loop.invariant.told c.in_ok-go_round.ensures.told)
+          (sym (length_all_zip SameLane ts now c.loop.invariant.same)) c.loop.invariant.told c.in_ok-go_round.ensures.told)
           c.wait.ensures.given;
       willing = c.in_ok-wait.ensures.refused;
     }

@@ -2,9 +2,9 @@ use Rattle.std.proofs.Common.{arith, ap, ◌∙◌, ◌≡◌, ◌+◌, ◌≤�
 use Rattle.std.specs.List.{AllZip}
 use Rattle.std.proofs.lemmas.Result.{IfOk-weaker}
 use Rattle.set_run.specs.Gathering.{Collects}
-use Rattle.set_run.specs.Workers.{IsWorked}
+use Rattle.line_lane.specs.Ends.{SameSetter}
 use Rattle.set_run.proofs.SpawningLemmas.{after_below, both_ok, err_below, no_more, reserved}
-use Rattle.set_run.proofs.Zips.{zip_append, zip_length}
+use Rattle.std.proofs.lemmas.List.Elements.{AllZip-push, length_all_zip}
 use Rattle.set_run.proofs.threads.spawning.+start_workers.Goals as goal
 
 pub returns-then-is_err-clause-workers : goal.returns-then-is_err-clause-workers
@@ -50,9 +50,9 @@ pub come_back-requires : goal.come_back-requires
 come_back-requires g t c =
     let room : vec_len c.reserve.new.self + 1 ≤ vec_capacity c.reserve.new.self = reserved c.reserve.result _ c.is_err.result c.is_err.ensures.value c.if-is_err.false c.reserve.ensures.ok in
     IfOk-weaker c.start_workers-below.result _ _ (λ b both.
-    let long : length c.reserve.new.self.items ≡ length b.0.items = zip_length (AllZip IsWorked) c.reserve.new.self.items b.0.items both.0 in
+    let long : length c.reserve.new.self.items ≡ length b.0.items = length_all_zip (AllZip SameSetter) c.reserve.new.self.items b.0.items both.0 in
     omega (arith, long, room, both.1))
-    (both_ok c.start_workers-below.result (λ b. AllZip (AllZip IsWorked) c.reserve.new.self.items b.0.items) (λ b. vec_capacity c.reserve.new.self ≤ vec_capacity b.0)
+    (both_ok c.start_workers-below.result (λ b. AllZip (AllZip SameSetter) c.reserve.new.self.items b.0.items) (λ b. vec_capacity c.reserve.new.self ≤ vec_capacity b.0)
     c.start_workers-below.ensures.workers c.start_workers-below.ensures.room)
 
 pub returns-clause-workers : goal.returns-clause-workers
@@ -60,12 +60,12 @@ returns-clause-workers g t c =
     let was : c.args.workers.items ≡ c.reserve.new.self.items ++ c.in-Some.worker ∷ [] =
     c.in-Some.ensures.items ∙ ap (λ xs. xs ++ c.in-Some.worker ∷ []) (sym c.reserve.ensures.items) in
     let from : c.in-Ok.child.promise.0.value ≡ c.in-Some.worker = ap (λ p. p.0.value) c.in-Ok.ensures.ok ∙ c.of.ensures in
-    let kept : AllZip IsWorked c.in-Some.worker c.join-worker.result =
-    subst (λ w. AllZip IsWorked w c.join-worker.result) from c.join-worker.ensures in
-    after_below c.start_workers-below.result c.come_back.result (λ b. AllZip (AllZip IsWorked) c.reserve.new.self.items b.0.items) (λ b a. a.0.items ≡ b.0.items ++ c.join-worker.result ∷ []) _ c.start_workers-below.ensures.workers c.come_back.ensures.items (λ b a same is.
-    subst (λ xs. AllZip (AllZip IsWorked) xs a.0.items) (sym was)
-    (subst (λ ys. AllZip (AllZip IsWorked) (c.reserve.new.self.items ++ c.in-Some.worker ∷ []) ys) (sym is)
-    (zip_append (AllZip IsWorked) c.reserve.new.self.items b.0.items c.in-Some.worker c.join-worker.result same kept)))
+    let kept : AllZip SameSetter c.in-Some.worker c.join-worker.result =
+    subst (λ w. AllZip SameSetter w c.join-worker.result) from c.join-worker.ensures in
+    after_below c.start_workers-below.result c.come_back.result (λ b. AllZip (AllZip SameSetter) c.reserve.new.self.items b.0.items) (λ b a. a.0.items ≡ b.0.items ++ c.join-worker.result ∷ []) _ c.start_workers-below.ensures.workers c.come_back.ensures.items (λ b a same is.
+    subst (λ xs. AllZip (AllZip SameSetter) xs a.0.items) (sym was)
+    (subst (λ ys. AllZip (AllZip SameSetter) (c.reserve.new.self.items ++ c.in-Some.worker ∷ []) ys) (sym is)
+    (AllZip-push (AllZip SameSetter) c.reserve.new.self.items b.0.items c.in-Some.worker c.join-worker.result same kept)))
 
 pub returns-clause-collected : goal.returns-clause-collected
 returns-clause-collected g t c =

@@ -1,6 +1,6 @@
 -- the setter is of the same lane
-use Rattle.set_run.specs.Workers.{IsWorked}
+use Rattle.line_lane.specs.Ends.{SameSetter}
 use Rattle.set_run.proofs.threads.worker.take_turns.Given as goal
 
 abbrev pub invariant-loop-moves : goal.invariant-loop-moves
-invariant-loop-moves g l = IsWorked l.initial.setter l.setter
+invariant-loop-moves g l = SameSetter l.initial.setter l.setter
