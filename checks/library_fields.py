@@ -356,7 +356,7 @@ CODES = ("DONE", "FONT_REFUSED", "OUT_OF_MEMORY", "NO_ROOM", "OUT_OF_RANGE", "NO
 # The arguments of a call, except arrays and the last one, and what changes the code that it returns.
 ARGUMENTS = {"data": read(DEMO, "rb"), "size": 0, "limit": 99, "policy": 0, "encoding": b"t1", "text": b"ox",
              "version": 1, "source": 1, "first": 1, "code": 97, "left": 111, "right": 120, "room": 128}
-OTHERS = ({}, {"data": b"no font"}, {"room": 0}, {"size": 1 << 27}, {"encoding": b"T1"}, {"text": b"\xff"},
+OTHERS = ({}, {"data": b"no font"}, {"room": 0}, {"size": 1 << 27}, {"encoding": b"Ot1"}, {"text": b"\xff"},
           {"text": "€".encode()}, {"text": b"12pt"})
 FORMS = {"size": "text", "encode": "encoding text room", **dict.fromkeys(("check", "font"), "data size"),
          "metrics": "data size code", "pair": "data size left right", "pairs": "data size room",

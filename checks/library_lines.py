@@ -331,7 +331,7 @@ class Module(LinesCase):
                 self.call((RANGE, True), name, data, (0, 9, 0), (version, U64(most), U64(first)))
             for first in (0, most - 5):
                 self.call((DONE, False), name, data, (0, 9, 0), (1, U64(most), U64(first)))
-        for encoding in (b"", b"T1", b"t1\0", b"utf-8", b"\xff"):
+        for encoding in (b"", b"Ot1", b"t1\0", b"utf-8", b"\xff"):
             self.call((RANGE, True), "encoded_records", data, (0, 9, 0), (1, U64(1), U64(1)), encoding=encoding)
 
     def call(self, wanted, name, data, settings, numbers, text=b"ox\nab", encoding=b"latin1"):

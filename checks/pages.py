@@ -318,15 +318,15 @@ class Scripts(Case):
 
     @rows((name, name) for name in ENCODINGS)
     def test_the_program_is_the_inverse_of_letters(self, name):
-        # Every code with one letter, in a line of its own, except the codes of the line feed and the space.
+        # Every code with one letter that is set, in a line of its own, except the codes of the line feed and the space.
         letters = [(code, letter) for code, letter in sorted(ENCODINGS[name].items())
-                   if len(letter) == 1 and code not in (10, 32)]
+                   if len(letter) == 1 and code not in (10, 32) and letter not in RULES["not_set"].get(name, "")]
         lines = list(self.encoded(name, "".join(f"{letter}\n" for _, letter in letters)))
         records = "".join(f"1:1 set 0 {' '.join(f'c{ord(code)}=0' for code in line)}\n" for line, _ in lines)
         back = self.script("letters", name, given=records.encode())[1].replace("1:1 0.00 ", "").splitlines()
         wanted = [RULES["set_as"].get(name, {}).get(letter, letter) for _, letter in letters]
         self.same("letters", ([], wanted), ([line for line in lines if line[1]], back))
-        self.none([], len(lines), max(len(letters), 100))
+        self.none([], len(lines), max(len(letters), 90))
 
     @rows((f"{row['encoding']} {row['text']}", row) for row in RULES["encoded"])
     def test_encoded(self, row):

@@ -30,7 +30,7 @@ QUOTES = {32: " ", 39: "’", 96: "‘"}
 # that the encoding doesn't have.
 KNOWN = {
     "ot1": ALPHANUMERIC | QUOTES | {
-        0: "Γ", 11: None, 12: None, 13: None, 14: None, 15: None, 16: "ı", 25: "ß", 26: "æ", 27: "œ", 28: "ø",
+        0: None, 11: None, 12: None, 13: None, 14: None, 15: None, 16: "ı", 25: "ß", 26: "æ", 27: "œ", 28: "ø",
         29: "Æ", 30: "Œ", 31: "Ø", 34: "”", 92: "“", 123: "–", 124: "—", **dict.fromkeys(range(128, 256))},
     "t1": ALPHANUMERIC | QUOTES | LATIN | {
         16: "“", 17: "”", 18: "„", 19: "«", 20: "»", 21: "–", 22: "—", 25: "ı", 27: None, 28: None, 29: None,

@@ -245,7 +245,7 @@ class Calls(LinesCase):
                 ("t1", b"\xe2\x82\xac\xed\xa0\x80", NOT_UTF8, (0, 3, 0)),
                 ("t1", "ä\n€".encode(), UNCODED, (0, 3, 0x20AC)), ("ot1", b"a\\b", UNCODED, (0, 1, 92)),
                 ("latin1", "\U0001f600".encode(), UNCODED, (0, 0, 0x1F600)),
-                ("t1", "a\ufeff".encode(), UNCODED, (0, 1, 0xFEFF)), ("T1", b"a", RANGE, (9, 9, 9)),
+                ("t1", "a\ufeff".encode(), UNCODED, (0, 1, 0xFEFF)), ("Ot1", b"a", RANGE, (9, 9, 9)),
                 ("", b"a", RANGE, (9, 9, 9)), ("t1\0", b"a", RANGE, (9, 9, 9)),
                 ("t\xff", b"a", RANGE, (9, 9, 9))):
             self.same(f"{name} {text}", (status, None, report), encode(self.prefix, name, text, 9))

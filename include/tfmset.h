@@ -124,10 +124,11 @@ struct tfmset_encoded {
 
 /* Turns a text in UTF-8 into the codes of a font, which are the text for tfmset_set, tfmset_widths and
  * tfmset_records. `encoding` is the name of the font's encoding, which needs no zero byte at its end: "ot1"
- * (that of cmr10), "t1" (ecrm1000), "ly1", "latin1", or "bytes", with which the text may be any bytes, and is
- * copied. The codes of a character are those that LaTeX sets for it. Most characters have one code, some have
- * two or three, and the soft hyphen has none. A character that LaTeX puts together from an accent and a
- * letter has no codes. Line feeds are kept. A byte order mark at the front of the text is left out.
+ * (that of cmr10), "t1" (ecrm1000), "ly1", "latin1", or the same in capitals, or "bytes", with which the text
+ * may be any bytes, and is copied. The codes of a character are those by which LaTeX sets it. Most characters
+ * have one code, some have two or three, and the soft hyphen has none: its neighbours are neighbours in the
+ * array. A character that LaTeX takes from another font, or puts together from an accent and a letter, has no
+ * codes. Line feeds are kept. A byte order mark at the front of the text is left out.
  *
  * `codes` has `codes_length` bytes, and is always long enough if it is as long as the text. Returns
  *

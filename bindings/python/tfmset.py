@@ -234,7 +234,7 @@ def _named(encoding: str) -> bytes:
     """Returns the name of an encoding as the library expects it."""
     if not isinstance(encoding, str):
         raise TypeError("encoding must be a str")
-    if encoding not in ENCODINGS:
+    if encoding not in ENCODINGS and encoding not in map(str.upper, ENCODINGS):
         raise ValueError(f"encoding is {encoding!r}, but must be one of {', '.join(map(repr, ENCODINGS))}")
     return str.encode(encoding, "ascii", "replace")
 
@@ -242,12 +242,13 @@ def _named(encoding: str) -> bytes:
 def encode(text: str, encoding: str) -> bytes:
     """Returns the codes that the characters of a text have in a font, as LaTeX sets them.
 
-    `encoding` is one of ENCODINGS. Most characters have one code, some have two or three, and the soft hyphen
-    has none. Line feeds are kept, and a byte order mark (U+FEFF) at the front of the text is left out.
+    `encoding` is one of ENCODINGS, or the same in capitals. Most characters have one code, some have two or
+    three, and the soft hyphen has none: its neighbours are neighbours in the result. Line feeds are kept, and a
+    byte order mark (U+FEFF) at the front of the text is left out.
 
-    Raises EncodingError if a character has no codes: one that isn't in the encoding, or that LaTeX puts
-    together from an accent and a letter. Raises ValueError for any other name of an encoding, and TypeError
-    if an argument isn't a str.
+    Raises EncodingError if a character has no codes: one that isn't in the encoding, or that LaTeX takes from
+    another font or puts together from an accent and a letter. Raises ValueError for any other name of an
+    encoding, and TypeError if an argument isn't a str.
 
     >>> encode("Straße – “naïve”", "t1")
     b'Stra\\xffe \\x15 \\x10na\\xefve\\x11'
@@ -691,8 +692,9 @@ class Font:
         kind SKIPPED.
 
         `text` is bytes, which are codes of the font; or a str, with `encoding`, the encoding of the font: one
-        of ENCODINGS. Its codes are then those that `encode` returns. A character without codes raises
-        EncodingError, also with `missing="skip"`. In a refusal of a line of a str, `place` counts characters.
+        of ENCODINGS. Its codes are then those that `encode` returns, so that the neighbours of a soft hyphen are
+        neighbours, unlike in `records`. A character without codes raises EncodingError, also with
+        `missing="skip"`. In a refusal of a line of a str, `place` counts characters.
 
         Raises ValueError if `limit`, `missing` or `encoding` has any other value; EncodingError; and
         TypeError if `limit` isn't an int, or if `text` isn't bytes, a bytearray or a memoryview, or with

@@ -407,7 +407,7 @@ static int has_text(const uint8_t *at, size_t length, const char *wanted)
     return 0;
 }
 
-/* Lines with a character without codes, which is skipped, and with one that vanishes. */
+/* Lines with a character without codes, which is skipped, and with a soft hyphen. */
 static int uncoded_reports_failure(const struct expected *expected)
 {
     static const uint8_t lines[] = "af\342\202\254fi x\nsoft\302\255ly\n";

@@ -1,7 +1,8 @@
 -- Reading a text: its characters one after the other, and which of them have an entry in a table of single codes.
 use Rattle.std.proofs.Common.{◌≡◌, ℕ, zero, suc, ◌+◌, ◌-◌, ◌*◌, ◌<◌, ◌≤◌, true, List, [], ◌∷◌, ◌++◌, length, length-append, get_or, take, drop, flat_map, arith, refl, ap, sym, subst, ◌∙◌, append-nil}
 use lib.Utf8.{encode, low_scalar}
-use Rattle.std.specs.Prelude.{unwrap_or}
+use Rattle.std.specs.Prelude.{cond}
+use Rattle.std.specs.Option.{option_map_or}
 use Rattle.std.specs.Char.{IsScalar, encode_utf8}
 use Rattle.std.specs.List.{list_all}
 use Rattle.std.specs.Str.{chars, IsUtf8, IsAscii}
@@ -12,10 +13,10 @@ use Rattle.std.proofs.lemmas.Nat.{div-mul-add, mod-mul-add}
 use Rattle.std.proofs.lemmas.Str.{chars-append, chars-IsAscii, chars-nil, chars_past_char, encode_ascii, IsUtf8-append, IsUtf8-encode, IsUtf8-from_ascii, IsUtf8-nil, length-encode, len_utf8_bounds}
 use Rattle.encodings.specs.declared.encoding.Encoding.{Encoding}
 use Rattle.encodings.specs.Decoding.{IsIndexed, IsRead, IsSingle, is_plain, text_numbers}
-use Rattle.encodings.specs.Lines.{numbers_of}
+use Rattle.encodings.specs.Lines.{break_number, numbers_of, set_apart}
 use Rattle.encodings.specs.Lookup.{index_of, singles_in}
 pub use Rattle.encodings.proofs.PlaceLemmas.{shorter_text}
-use Rattle.encodings.proofs.TableLemmas.{index_low, index_of_punctuation, single_is, singles_end}
+use Rattle.encodings.proofs.TableLemmas.{index_low, index_of_punctuation, not_apart, single_is, singles_end}
 
 -- ---- texts that are read in parts
 
@@ -69,7 +70,9 @@ read_character encoding text rest old new c scalar is grown = record {
 
 single_numbers : (encoding : Encoding) (c code : ℕ) → c < 0x110000 → get_or (singles_in encoding) (index_of c) 256 ≡ code → code < 256 → numbers_of encoding c ≡ code ∷ []
 unfolding numbers_of
-single_numbers encoding c code character entry small = ap (λ o. unwrap_or o ((256 + c) ∷ [])) (single_is encoding c code character entry small)
+single_numbers encoding c code character entry small =
+    ap (λ o. option_map_or (set_apart c) o ((256 + c) ∷ [])) (single_is encoding c code character entry small)
+    ∙ ap (λ b. cond b (break_number ∷ code ∷ break_number ∷ []) (code ∷ [])) (not_apart encoding c (omega (arith, entry, small)))
 
 -- a character with a single code at the front of a text
 pub read_single : (encoding : Encoding) (singles text rest old new : List ℕ) (code len : ℕ) → singles ≡ singles_in encoding → IsSingle singles text code len → rest ≡ drop len text → new ≡ old ++ code ∷ [] → IsRead encoding text rest old new

@@ -7,6 +7,7 @@ use Rattle.std.specs.List.{list_all, list_any, range_with_len, position_or_len}
 use Rattle.std.specs.Option.{is_some, option_map_or, unwrap_or}
 use Rattle.std.proofs.lemmas.Bool.Decides.{nat_tests}
 use Rattle.std.proofs.lemmas.Bool.{eqb-true, leb-true}
+use Rattle.std.proofs.lemmas.Option.{same_Some}
 use Rattle.std.proofs.lemmas.List.Folds.{list_any-append}
 use Rattle.std.proofs.lemmas.Str.{encodes-chars, len_utf8_bounds, length-encode}
 use Rattle.std.proofs.lemmas.List.Sums.{passes_at_first}
@@ -18,11 +19,11 @@ use Rattle.encodings.specs.Codes.{codes_of, codes_beside, characters_of, others_
 use Rattle.encodings.specs.Lookup.{is_table}
 use Rattle.encodings.specs.Names.{encoding_named, name_of}
 use Rattle.encodings.specs.Vectors.{vector_characters}
-use Rattle.encodings.specs.Lines.{numbers_of, places_from, places_of, without_mark}
-use Rattle.encodings.specs.Laws.{character_at, IsOwn, ComesFromItsCharacter, text_codes, characters_at, ComesBack, IsItself, KeepsFeed, KeepsSpace, HasFewCodes}
+use Rattle.encodings.specs.Lines.{break_number, is_code, numbers_of, places_from, places_of, set_apart, without_mark}
+use Rattle.encodings.specs.Laws.{character_at, AreBytes, IsOwn, ComesFromItsCharacter, text_codes, characters_at, ComesBack, IsItself, KeepsFeed, KeepsSpace, HasFewCodes}
 use Rattle.encodings.proofs.PlaceLemmas.{characters_from, characters_in}
 use Rattle.encodings.proofs.TableLemmas.{at_member, by_table, in_range, no_row, no_own_code, neither, of_table, same, same_is}
-use Rattle.encodings.proofs.VectorLemmas.{of_vector, vector_comes, vector_feed, vector_few, vector_space}
+use Rattle.encodings.proofs.VectorLemmas.{of_vector, vector_bytes, vector_comes, vector_feed, vector_few, vector_space}
 
 -- ---- characters that have codes are in the tables
 
@@ -46,7 +47,7 @@ of_keys encoding p c codes table all is = by (list_any (λ x. nat_eq x c) (keys 
 -- ---- few codes
 
 abbrev few_at : Encoding → ℕ → Bool
-few_at encoding c = option_map_or (λ codes. nat_le (length codes) (len_utf8 c)) (codes_of encoding c) true
+few_at encoding c = option_map_or (λ codes. nat_le (length (set_apart c codes)) (len_utf8 c)) (codes_of encoding c) true
 
 few : (encoding : Encoding) → is_table encoding ≡ true → list_all (few_at encoding) (keys encoding) ≡ true
 unfolding codes_of characters_of others_of ot1_characters t1_characters ly1_characters shared_others ot1_others t1_others ly1_others
@@ -66,15 +67,55 @@ other_than c below b is = by (nat_eq c no) refl is
 few_in_table : (encoding : Encoding) (c : ℕ) (codes : List ℕ) → is_table encoding ≡ true → HasFewCodes encoding c codes
 few_in_table encoding c codes table is =
     let at = of_keys encoding (few_at encoding) c codes table (few encoding table) is in
-    leb-true (length codes) (len_utf8 c) (rw is at at)
+    leb-true (length (set_apart c codes)) (len_utf8 c) (rw is at at)
 
 few_in_vector : (vector : Bor VectorValue) (c : ℕ) (codes : List ℕ) → HasFewCodes (Vector vector) c codes
-few_in_vector vector c codes is =
-    omega (arith, vector_few (vector_characters vector.now.characters) c codes (sym (of_vector vector c) ∙ is), (len_utf8_bounds c).0)
+few_in_vector vector c codes is = by (nat_eq c 0xAD) refl (nat_eq c 0x2011) refl
+  where
+    few : length codes ≤ 1
+    few = vector_few (vector_characters vector.now.characters) c codes (sym (of_vector vector c) ∙ is)
 
--- Law: a character has at most as many codes as it has bytes in UTF-8
+    by : (s : Bool) → nat_eq c 0xAD ≡ s → (h : Bool) → nat_eq c 0x2011 ≡ h → length (cond (s || h) (break_number ∷ codes ++ break_number ∷ []) codes) ≤ len_utf8 c
+    by true soft h same =
+        let none : codes ≡ [] = same_Some _ _ (sym is ∙ ap (codes_of (Vector vector)) (eqb-true c 0xAD soft) ∙ of_vector vector 0xAD) in
+        omega (arith, ap length none, length-append codes (break_number ∷ []), ap len_utf8 (eqb-true c 0xAD soft))
+    by false other true hyphen = omega (arith, few, length-append codes (break_number ∷ []), ap len_utf8 (eqb-true c 0x2011 hyphen))
+    by false other false another = omega (arith, few, (len_utf8_bounds c).0)
+
+-- Law: a character has at most as many codes and breaks as it has bytes in UTF-8
 pub few_codes : (encoding : Encoding) (c : ℕ) (codes : List ℕ) → HasFewCodes encoding c codes
 few_codes encoding c codes = by_table (λ e. HasFewCodes e c codes) (λ e table. few_in_table e c codes table) (λ vector. few_in_vector vector c codes) encoding
+
+-- ---- codes are bytes
+
+abbrev bytes_at : Encoding → ℕ → Bool
+bytes_at encoding c = option_map_or (list_all is_code) (codes_of encoding c) true
+
+bytes : (encoding : Encoding) → is_table encoding ≡ true → list_all (bytes_at encoding) (keys encoding) ≡ true
+unfolding codes_of characters_of others_of ot1_characters t1_characters ly1_characters shared_others ot1_others t1_others ly1_others
+bytes Ot1 table = refl
+bytes T1 table = refl
+bytes Ly1 table = refl
+bytes Latin1 table = refl
+bytes (Vector vector) table = cc
+
+bytes_in_table : (encoding : Encoding) (c : ℕ) (codes : List ℕ) → is_table encoding ≡ true → AreBytes encoding c codes
+bytes_in_table encoding c codes table is =
+    let at = of_keys encoding (bytes_at encoding) c codes table (bytes encoding table) is in rw is at at
+
+-- Law: each code is a byte
+pub codes_are_bytes : (encoding : Encoding) (c : ℕ) (codes : List ℕ) → AreBytes encoding c codes
+codes_are_bytes encoding c codes = by_table (λ e. AreBytes e c codes) (λ e table. bytes_in_table e c codes table)
+    (λ vector is. vector_bytes vector.now.characters c codes (sym (of_vector vector c) ∙ is)) encoding
+
+-- the soft hyphen always has codes
+pub soft_coded : (encoding : Encoding) → codes_of encoding 0xAD ≡ Some []
+unfolding codes_of characters_of others_of ot1_characters t1_characters ly1_characters shared_others ot1_others t1_others ly1_others
+soft_coded Ot1 = refl
+soft_coded T1 = refl
+soft_coded Ly1 = refl
+soft_coded Latin1 = refl
+soft_coded (Vector vector) = refl
 
 -- ---- the line feed and the space
 
@@ -222,7 +263,7 @@ numbers_few : (encoding : Encoding) (c : ℕ) → length (numbers_of encoding c)
 unfolding numbers_of
 numbers_few encoding c = by (codes_of encoding c) refl
   where
-    by : (o : Option (List ℕ)) → codes_of encoding c ≡ o → length (unwrap_or o ((256 + c) ∷ [])) ≤ len_utf8 c
+    by : (o : Option (List ℕ)) → codes_of encoding c ≡ o → length (option_map_or (set_apart c) o ((256 + c) ∷ [])) ≤ len_utf8 c
     by None is = (len_utf8_bounds c).0
     by (Some codes) is = few_codes encoding c codes is
 

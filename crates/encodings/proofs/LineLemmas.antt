@@ -2,32 +2,16 @@
 use Rattle.std.proofs.Common.{◌≡◌, ℕ, ◌-◌, ◌≤◌, Bool, List, [], ◌∷◌, ◌++◌, length, map, flat_map, Some, None, refl, ap, sym, subst, ◌∙◌, append-nil}
 use Rattle.std.specs.Str.{chars, IsUtf8}
 use Rattle.std.specs.Str.Lossy.{utf8_valid_len}
-use Rattle.std.proofs.lemmas.List.{map-append}
 use Rattle.encodings.specs.declared.encoding.Encoding.{Encoding}
-use Rattle.encodings.specs.declared.places.Place.{Place}
 use Rattle.encodings.specs.Decoding.{IsRead, IsTextOf, text_numbers}
-use Rattle.encodings.specs.Lines.{Element, elements_at, elements_of, encoded, fault_in, numbers_of, places_of}
+use Rattle.encodings.specs.Lines.{encoded, fault_in, numbers_of, places_of}
 use Rattle.encodings.proofs.LawLemmas.{places_few}
 use Rattle.encodings.proofs.PlaceLemmas.{characters_from, characters_in, is_utf8_if, not_utf8}
 
--- ---- numbers without their offsets
-
-numbers_back : (offset : ℕ) (numbers : List ℕ) → map (λ element. element.number) (map (λ number. let element : Element = record { offset = offset; number = number } in element) numbers) ≡ numbers
-numbers_back offset [] = refl
-numbers_back offset (number ∷ numbers) = ap (λ l. number ∷ l) (numbers_back offset numbers)
-
--- the numbers of a line are those of its characters
-forgotten : (encoding : Encoding) (places : List Place) → flat_map (numbers_of encoding) (characters_in places) ≡ map (λ element. element.number) (flat_map (elements_at encoding) places)
-forgotten encoding [] = refl
-forgotten encoding (place ∷ places) =
-    ap (λ l. l ++ flat_map (numbers_of encoding) (characters_in places)) (sym (numbers_back place.offset (numbers_of encoding place.character)))
-    ∙ ap (λ l. map (λ element. element.number) (elements_at encoding place) ++ l) (forgotten encoding places)
-    ∙ sym (map-append (λ (element : Element). element.number) (elements_at encoding place) (flat_map (elements_at encoding) places))
-
 -- a line in UTF-8 has at most as many numbers as bytes
 pub encoded_few : (encoding : Encoding) (first : Bool) (line : List ℕ) → IsUtf8 line → length (encoded encoding first line) ≤ length line
-unfolding encoded elements_of
-encoded_few encoding first line utf8 = rw (← forgotten encoding (places_of first line)) (places_few encoding first line utf8)
+unfolding encoded
+encoded_few encoding first line utf8 = places_few encoding first line utf8
 
 -- ---- whether a line is UTF-8
 
@@ -50,12 +34,11 @@ text_read encoding text old new none read =
     (subst IsUtf8 (sym whole) read.utf8, read.numbers ∙ ap (λ l. l ++ text_numbers encoding read.front) none ∙ ap (text_numbers encoding) (sym whole))
 
 pub line_encoded : (encoding : Encoding) (first : Bool) (line text old new : List ℕ) → IsTextOf first line text → old ≡ [] → IsRead encoding text [] old new → new ≡ encoded encoding first line
-unfolding encoded elements_of
+unfolding encoded
 line_encoded encoding first line text old new is none read =
     let result = text_read encoding text old new none read in
     result.1
     ∙ ap (flat_map (numbers_of encoding)) (sym (characters_from (length line - length text) (chars text)) ∙ ap characters_in (is.places result.0))
-    ∙ forgotten encoding (places_of first line)
 
 pub line_few : (encoding : Encoding) (first : Bool) (line text old new : List ℕ) → IsTextOf first line text → old ≡ [] → IsRead encoding text [] old new → length new ≤ length line
 line_few encoding first line text old new is none read =

@@ -15,9 +15,9 @@ use Rattle.encodings.specs.declared.encoding.Encoding.TheVariants.{Ot1, T1, Ly1,
 use Rattle.encodings.specs.declared.lookup.TheConstants.{CODES}
 use Rattle.encodings.specs.declared.vector.Vector.{Vector as VectorValue}
 use Rattle.encodings.specs.Tables.{no, ot1_characters, t1_characters, ly1_characters, shared_others, ot1_others, t1_others, ly1_others}
-use Rattle.encodings.specs.Codes.{codes_of, codes_beside, listed_codes, own_code, characters_of, others_of}
+use Rattle.encodings.specs.Codes.{codes_of, codes_beside, is_apart, listed_codes, own_code, characters_of, others_of}
 use Rattle.encodings.specs.Vectors.{vector_characters}
-use Rattle.encodings.specs.VectorTables.{character_indexed, single_at, single_of, singles_of}
+use Rattle.encodings.specs.VectorTables.{character_indexed, single_at, single_of, single_with, singles_of}
 use Rattle.encodings.specs.Lookup.{is_punctuation, is_table, index_of, rows_of, looked_up, singles_in, others_in}
 pub use Rattle.encodings.proofs.VectorLemmas.{of_vector}
 
@@ -209,8 +209,8 @@ pub single_there : (xs : List ℕ) (index : ℕ) → index < 448 → get_or (sin
 unfolding singles_of
 single_there xs index below = get_or-map-range_with_len (single_at xs) 0 448 index index 256 below (omega arith)
 
-entry_of : (xs : List ℕ) (c : ℕ) → index_of c < 448 → character_indexed (index_of c) ≡ c → get_or (singles_of xs) (index_of c) 256 ≡ single_of (listed_codes xs c)
-entry_of xs c within is = single_there xs (index_of c) within ∙ ap (λ k. single_of (listed_codes xs k)) is
+entry_of : (xs : List ℕ) (c : ℕ) → index_of c < 448 → character_indexed (index_of c) ≡ c → get_or (singles_of xs) (index_of c) 256 ≡ single_with xs c
+entry_of xs c within is = single_there xs (index_of c) within ∙ ap (single_with xs) is
 
 alone : (o : Option (List ℕ)) (code : ℕ) → single_of o ≡ code → code < 256 → o ≡ Some (code ∷ [])
 alone None code is below = absurd (omega (arith, is))
@@ -218,11 +218,18 @@ alone (Some []) code is below = absurd (omega (arith, is))
 alone (Some (only ∷ [])) code is below = ap (λ k. Some (k ∷ [])) is
 alone (Some (first ∷ second ∷ codes)) code is below = absurd (omega (arith, is))
 
+alone_with : (xs : List ℕ) (c code : ℕ) → single_with xs c ≡ code → code < 256 → listed_codes xs c ≡ Some (code ∷ [])
+alone_with xs c code is below = by (is_apart c) is
+  where
+    by : (b : Bool) → cond b 256 (single_of (listed_codes xs c)) ≡ code → listed_codes xs c ≡ Some (code ∷ [])
+    by true is = absurd (omega (arith, is))
+    by false is = alone (listed_codes xs c) code is below
+
 single_listed : (xs : List ℕ) (c code : ℕ) → get_or (singles_of xs) (index_of c) 256 ≡ code → code < 256 → listed_codes xs c ≡ Some (code ∷ [])
 single_listed xs c code single below = by (nat_lt c 384) refl (is_punctuation c) refl
   where
     there : (index : ℕ) → index_of c ≡ index → index < 448 → character_indexed index ≡ c → listed_codes xs c ≡ Some (code ∷ [])
-    there index at within is = alone (listed_codes xs c) code (sym (entry_of xs c (omega (arith, at, within)) (ap character_indexed at ∙ is)) ∙ single) below
+    there index at within is = alone_with xs c code (sym (entry_of xs c (omega (arith, at, within)) (ap character_indexed at ∙ is)) ∙ single) below
 
     by : (b : Bool) → nat_lt c 384 ≡ b → (p : Bool) → is_punctuation c ≡ p → listed_codes xs c ≡ Some (code ∷ [])
     by true is p _ =
@@ -246,6 +253,24 @@ single_is encoding c code = by_table (λ e. c < 0x110000 → get_or (singles_in 
     (λ e table. single_in_table e c code table)
     (λ vector character. single_in_vector vector c code)
     encoding
+
+-- a character that is set apart has none there
+marked : (encoding : Encoding) → (get_or (singles_in encoding) 0xAD 256 ≡ 256) × (get_or (singles_in encoding) 401 256 ≡ 256)
+unfolding singles_in
+marked Ot1 = (refl, refl)
+marked T1 = (refl, refl)
+marked Ly1 = (refl, refl)
+marked Latin1 = (refl, refl)
+marked (Vector vector) =
+    let xs = vector_characters vector.now.characters in (single_there xs 0xAD (omega arith), single_there xs 401 (omega arith))
+
+pub not_apart : (encoding : Encoding) (c : ℕ) → get_or (singles_in encoding) (index_of c) 256 < 256 → is_apart c ≡ false
+not_apart encoding c single = by (nat_eq c 0xAD) refl (nat_eq c 0x2011) refl
+  where
+    by : (s : Bool) → nat_eq c 0xAD ≡ s → (h : Bool) → nat_eq c 0x2011 ≡ h → s || h ≡ false
+    by true soft h is = absurd (omega (arith, single, ap (λ k. get_or (singles_in encoding) (index_of k) 256) (eqb-true c 0xAD soft), (marked encoding).0))
+    by false other true hyphen = absurd (omega (arith, single, ap (λ k. get_or (singles_in encoding) (index_of k) 256) (eqb-true c 0x2011 hyphen), (marked encoding).1))
+    by false other false another = refl
 
 -- the codes of a character that has none there
 pub other_is : (encoding : Encoding) (c : ℕ) → is_table encoding ≡ true → c < 0x110000 → 256 ≤ get_or (singles_in encoding) (index_of c) 256 → codes_of encoding c ≡ codes_beside (rows_of (others_in encoding)) c

@@ -3,7 +3,7 @@ use Rattle.std.proofs.Common.{◌≡◌, ◌≢◌, ◌⊎◌, inl, inr, ℕ, su
 use Rattle.std.specs.Prelude.{◌==◌, nat_eq, nat_lt, unwrap_or, MatchOption}
 use Rattle.std.specs.Char.{IsScalar}
 use Rattle.std.specs.List.{list_all, list_any}
-use Rattle.std.specs.Option.{SomeIff, option_and_then, option_map, option_or}
+use Rattle.std.specs.Option.{SomeIff, option_and_then, option_map, option_map_or, option_or}
 use lib.Utf8.{scalar}
 use Rattle.std.proofs.lemmas.Bool.Decides.{nat_tests}
 use Rattle.std.proofs.lemmas.Bool.{and_parts, eqb-true, eq-eqb, le-ltb, lt-ltb, ltb-true}
@@ -16,7 +16,7 @@ use Rattle.encodings.specs.declared.encoding.Encoding.TheVariants.{Vector}
 use Rattle.encodings.specs.declared.vector.Vector.{Vector as VectorValue}
 use Rattle.encodings.specs.Tables.{no}
 use Rattle.encodings.specs.Codes.{IsMadeOf, characters_of, codes_beside, codes_of, listed_codes, own_code}
-use Rattle.encodings.specs.Lines.{numbers_of as numbers_in}
+use Rattle.encodings.specs.Lines.{is_code, numbers_of as numbers_in, set_apart}
 use Rattle.encodings.specs.Vectors.{character_beside, given_at, given_characters, is_fixed, lowest, number_at, numbers_of, own_at, own_characters, substitute_of, substitutes, unbroken, unless_fixed, vector_characters}
 
 abbrev is : ℕ → ℕ → Bool
@@ -348,6 +348,19 @@ vector_few xs c codes found = by (code_cases xs c codes found)
     by (inr (inr (inl soft))) = omega (arith, ap length soft.1)
     by (inr (inr (inr via))) = omega (arith, ap length via.at.alone)
 
+-- a code within the list is a byte
+one_byte : (numbers : List ℕ) (c code : ℕ) (codes : List ℕ) → IsAt (vector_characters numbers) c codes code → list_all is_code codes ≡ true
+one_byte numbers c code codes here = rw here.alone (rw (lt-ltb code 256 (omega (arith, here.within, vector_length numbers))) refl)
+
+pub vector_bytes : (numbers : List ℕ) (c : ℕ) (codes : List ℕ) → listed_codes (vector_characters numbers) c ≡ Some codes → list_all is_code codes ≡ true
+vector_bytes numbers c codes found = by (code_cases (vector_characters numbers) c codes found)
+  where
+    by : Cases (vector_characters numbers) c codes → list_all is_code codes ≡ true
+    by (inl here) = one_byte numbers c here.0 codes here.1
+    by (inr (inl space)) = rw space.1 refl
+    by (inr (inr (inl soft))) = rw soft.1 refl
+    by (inr (inr (inr via))) = one_byte numbers via.other via.code codes via.at
+
 abbrev has : List ℕ → ℕ → Bool
 has codes code = list_any (λ each. each == code) codes
 
@@ -398,7 +411,7 @@ feed_alone vector = by (codes_of (Vector vector) 10) refl
     here c codes ten (inr (inr (inl soft))) = absurd (omega (arith, ten, soft.0))
     here c codes ten (inr (inr (inr via))) = ap length via.at.alone
 
-    by : (o : Option (List ℕ)) → codes_of (Vector vector) 10 ≡ o → length (unwrap_or o ((256 + 10) ∷ [])) ≡ 1
+    by : (o : Option (List ℕ)) → codes_of (Vector vector) 10 ≡ o → length (option_map_or (set_apart 10) o ((256 + 10) ∷ [])) ≡ 1
     by None none = refl
     by (Some codes) found = here 10 codes refl (code_cases (vector_characters vector.now.characters) 10 codes (sym (of_vector vector 10) ∙ found))
 

@@ -8,6 +8,7 @@ use Rattle.encodings.specs.Tables.{no, ot1_characters, t1_characters, ly1_charac
 use Rattle.encodings.specs.Codes.{codes_of, characters_of, given_codes, others_of}
 use Rattle.encodings.specs.Vectors.{given_at, given_characters, numbers_of as given_numbers, own_at}
 use Rattle.encodings.specs.Lines.{elements_of, encoded, fault_in, numbers_of, places_of}
+use Rattle.encodings.specs.Parts.{parts_of}
 
 -- ---- single characters
 
@@ -36,10 +37,15 @@ ot1_accented : codes_of Ot1 0xE9 ≡ None
 unfolding codes_of characters_of others_of ot1_characters shared_others ot1_others
 ot1_accented = refl
 
--- ‰
-t1_per_mille : codes_of T1 0x2030 ≡ Some (37 ∷ 24 ∷ [])
+-- ‰, which LaTeX takes from another font
+t1_per_mille : codes_of T1 0x2030 ≡ None
 unfolding codes_of characters_of others_of t1_characters shared_others t1_others
 t1_per_mille = refl
+
+-- Γ, which LaTeX doesn't declare
+ot1_greek : codes_of Ot1 0x393 ≡ None
+unfolding codes_of characters_of others_of ot1_characters shared_others ot1_others
+ot1_greek = refl
 
 -- €
 ly1_euro : codes_of Ly1 0x20AC ≡ Some (1 ∷ [])
@@ -50,28 +56,39 @@ ly1_euro = refl
 
 -- é“
 t1_line : encoded T1 false (0xC3 ∷ 0xA9 ∷ 0xE2 ∷ 0x80 ∷ 0x9C ∷ []) ≡ 233 ∷ 16 ∷ []
-unfolding encoded elements_of places_of numbers_of chars codes_of characters_of others_of t1_characters shared_others t1_others
+unfolding encoded places_of numbers_of chars codes_of characters_of others_of t1_characters shared_others t1_others
 t1_line = refl
 
--- the same, with the offsets of both characters
+-- the codes of the second of these with its offset, where the first one has none
 ot1_elements : elements_of Ot1 false (0xC3 ∷ 0xA9 ∷ 0xE2 ∷ 0x80 ∷ 0x9C ∷ [])
-    ≡ record { offset = 0; number = 256 + 0xE9 } ∷ record { offset = 2; number = 92 } ∷ []
-unfolding elements_of places_of numbers_of chars codes_of characters_of others_of ot1_characters shared_others ot1_others
+    ≡ record { offset = 2; number = 92 } ∷ []
+unfolding elements_of places_of chars codes_of characters_of others_of ot1_characters shared_others ot1_others
 ot1_elements = refl
 
--- a no-break space and a soft hyphen
-t1_vanishing : encoded T1 false (0x61 ∷ 0xC2 ∷ 0xA0 ∷ 0xC2 ∷ 0xAD ∷ 0x62 ∷ []) ≡ 97 ∷ 32 ∷ 98 ∷ []
-unfolding encoded elements_of places_of numbers_of chars codes_of characters_of others_of t1_characters shared_others t1_others
-t1_vanishing = refl
+-- a no-break space
+t1_space : encoded T1 false (0x61 ∷ 0xC2 ∷ 0xA0 ∷ 0x62 ∷ []) ≡ 97 ∷ 32 ∷ 98 ∷ []
+unfolding encoded places_of numbers_of chars codes_of characters_of others_of t1_characters shared_others t1_others
+t1_space = refl
+
+-- a soft hyphen between two letters, without a code of its own
+t1_soft_hyphen : parts_of (encoded T1 false (0x66 ∷ 0xC2 ∷ 0xAD ∷ 0x69 ∷ []))
+    ≡ record { codes = 102 ∷ []; gap = Some 0xAD } ∷ record { codes = []; gap = Some 0xAD } ∷ record { codes = 105 ∷ []; gap = None } ∷ []
+unfolding encoded places_of numbers_of chars codes_of characters_of others_of t1_characters shared_others t1_others
+t1_soft_hyphen = refl
+
+-- a non-breaking hyphen, and a hyphen after it
+t1_hyphens : parts_of (encoded T1 false (0xE2 ∷ 0x80 ∷ 0x91 ∷ 0x2D ∷ []))
+    ≡ record { codes = []; gap = Some 0xAD } ∷ record { codes = 45 ∷ []; gap = Some 0xAD } ∷ record { codes = 45 ∷ []; gap = None } ∷ []
+unfolding encoded places_of numbers_of chars codes_of characters_of others_of t1_characters shared_others t1_others
+t1_hyphens = refl
 
 -- a byte order mark in the first line, and in a later one
 first_line : elements_of Latin1 true (0xEF ∷ 0xBB ∷ 0xBF ∷ 0x61 ∷ []) ≡ record { offset = 3; number = 97 } ∷ []
-unfolding elements_of places_of numbers_of chars codes_of characters_of others_of
+unfolding elements_of places_of chars codes_of characters_of others_of
 first_line = refl
 
-later_line : elements_of Latin1 false (0xEF ∷ 0xBB ∷ 0xBF ∷ 0x61 ∷ [])
-    ≡ record { offset = 0; number = 256 + 0xFEFF } ∷ record { offset = 3; number = 97 } ∷ []
-unfolding elements_of places_of numbers_of chars codes_of characters_of others_of
+later_line : encoded Latin1 false (0xEF ∷ 0xBB ∷ 0xBF ∷ 0x61 ∷ []) ≡ (256 + 0xFEFF) ∷ 97 ∷ []
+unfolding encoded places_of numbers_of chars codes_of characters_of others_of
 later_line = refl
 
 -- a byte that begins no character, and a character that is cut

@@ -1,9 +1,8 @@
 -- The codes of a character in an encoding.
--- Public source: the guide to LaTeX's encodings (encguide) for OT1, T1 and LY1, and ISO/IEC 8859-1 for Latin 1.
--- What becomes of the no-break space and of the soft hyphen is that of LaTeX's package inputenc, in a line that
--- isn't broken. Which code a character has in a vector, and which characters are set there as others, is
+-- Public source: that of Tables for OT1, T1 and LY1, and ISO/IEC 8859-1 for Latin 1; utf8enc.dfu of LaTeX for the
+-- no-break space, the soft hyphen and the non-breaking hyphen, in a line that isn't broken. Which code a character has in a vector, and which characters are set there as others, is
 -- defined in Vectors.
-use Rattle.std.specs.Prelude.{◌≡◌, ℕ, ◌<◌, List, [], ◌∷◌, ◌++◌, Option, Some, None, cond, nat_eq}
+use Rattle.std.specs.Prelude.{◌≡◌, ℕ, ◌<◌, Bool, ◌||◌, List, [], ◌∷◌, ◌++◌, Option, Some, None, cond, nat_eq}
 use Rattle.std.specs.List.{position, range_with_len}
 use Rattle.std.specs.Option.{option_and_then, option_map, option_or}
 use Rattle.encodings.specs.declared.encoding.Encoding.{Encoding}
@@ -51,6 +50,11 @@ unfoldable pub codes_of : Encoding → ℕ → Option (List ℕ)
 codes_of (Vector vector) character = listed_codes (vector_characters vector.now.characters) character
 codes_of encoding character =
     option_or (codes_beside (others_of encoding) character) (own_code (characters_of encoding) character)
+
+-- whether a character is set apart from its neighbours: the soft hyphen, where a run ends and another one begins, and
+-- the non-breaking hyphen, which is a run of its own
+abbrev pub is_apart : ℕ → Bool
+is_apart character = nat_eq character 0xAD || nat_eq character 0x2011
 
 -- ---- encodings that are made of characters
 

@@ -1,5 +1,5 @@
 -- The numbers of an encoded line as they are kept: the codes, and the characters without codes, each with the number of
--- codes before it. A gap is such a character.
+-- codes before it. A gap is such a character, or a soft hyphen, which stands for a break.
 -- This project's own representation; Lines defines the numbers.
 use Rattle.std.specs.Prelude.{◌≡◌, ℕ, ◌+◌, ◌-◌, ◌≤◌, true, List, [], ◌∷◌, ◌++◌, Option, Some, None, length, take, drop}
 use Rattle.std.specs.Borrow.{Bor}

@@ -2,12 +2,13 @@
 -- This project's own.
 use Rattle.std.specs.Prelude.{◌≡◌, ◌≢◌, ◌⊎◌, ℕ, ◌<◌, ◌≤◌, ◌==◌, true, List, [], ◌∷◌, length, map, flat_map, get_or, Some, None}
 use Rattle.std.specs.Char.{is_ascii_alphanumeric, len_utf8}
-use Rattle.std.specs.List.{All, list_any}
+use Rattle.std.specs.List.{All, list_all, list_any}
 use Rattle.std.specs.Option.{unwrap_or}
 use Rattle.encodings.specs.declared.encoding.Encoding.{Encoding}
 use Rattle.encodings.specs.Names.{encoding_named, name_of}
 use Rattle.encodings.specs.Tables.{no}
 use Rattle.encodings.specs.Codes.{codes_beside, codes_of, characters_of, others_of}
+use Rattle.encodings.specs.Lines.{is_code, set_apart}
 
 -- the character at a code
 abbrev pub character_at : Encoding → ℕ → ℕ
@@ -57,7 +58,11 @@ KeepsSpace encoding character codes =
     character < no → codes_of encoding character ≡ Some codes → Has codes 32
     → (character ≡ 32) ⊎ (character ≡ 0xA0)
 
--- a character has at most as many codes as bytes
+-- a character has at most as many codes and breaks as bytes
 abbrev pub HasFewCodes : Encoding → ℕ → List ℕ → Type 0
 HasFewCodes encoding character codes =
-    codes_of encoding character ≡ Some codes → length codes ≤ len_utf8 character
+    codes_of encoding character ≡ Some codes → length (set_apart character codes) ≤ len_utf8 character
+
+-- each code is a byte
+abbrev pub AreBytes : Encoding → ℕ → List ℕ → Type 0
+AreBytes encoding character codes = codes_of encoding character ≡ Some codes → list_all is_code codes ≡ true

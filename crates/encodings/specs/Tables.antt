@@ -1,9 +1,11 @@
--- The tables of OT1, T1 (the Cork encoding) and LY1 (TeX 'n ANSI): the characters by code, and the characters
--- that are set by several codes, by none, or by the code of another character.
--- Public source: the guide to LaTeX's encodings (encguide) and LaTeX's files ot1enc.def, t1enc.def and
--- ly1enc.def, which give the codes of symbols and of accented letters, and utf8enc.dfu, which gives the
--- characters of these; M. Ferguson, Report on multilingual activities, TUGboat 11 (1990), for the Cork
--- encoding; the encoding files 7t.enc, ec.enc and texnansi.enc of dvips, for the other characters.
+-- The tables of OT1, T1 (the Cork encoding) and LY1 (TeX 'n ANSI): the characters that LaTeX sets by nothing but codes
+-- of a font with this encoding. A character that LaTeX takes from another font, makes of an accent, a box or a kern, or
+-- doesn't declare isn't there. It doesn't matter which codes a font has.
+-- Public source: LaTeX2e 2022-11-01. Its files ot1enc.def and t1enc.def, and ly1enc.def for LY1, declare symbols and
+-- accented letters with their codes (\DeclareTextSymbol, \DeclareTextComposite); latex.ltx takes some of these
+-- declarations back (\UndeclareTextCommand: of \textdollar in OT1, and of \textperthousand and \textpertenthousand in
+-- T1); utf8enc.dfu declares the command that a character is. A character of ASCII that LaTeX reads as text has its own
+-- code, and isn't there if the code is another character's.
 use Rattle.std.specs.Prelude.{ℕ, List, [], ◌∷◌}
 
 -- marks a code that is no character's own: a number above all characters
@@ -12,23 +14,23 @@ no = 0x110000
 
 -- ---- characters by code
 
--- No character has code 10, which would end a line, and only the space has code 32; Ω of OT1 and ˙ and ␣ of
--- T1 are left out. The other codes without a character are those of ligatures, of parts of characters, and
--- of characters that have another code as well.
+-- No character has code 10, which would end a line, and only the space has code 32, so that ␣ of T1 is left out. The
+-- other codes without a character are those of ligatures, of accents and other parts of characters, of characters that
+-- LaTeX sets in other ways, and of characters that have another code as well.
 
 -- the characters of OT1 by code
 unfoldable pub ot1_characters : List ℕ
 ot1_characters =
-    -- 0x00: Γ Δ Θ Λ Ξ Π Σ Υ
-    0x393 ∷ 0x394 ∷ 0x398 ∷ 0x39B ∷ 0x39E ∷ 0x3A0 ∷ 0x3A3 ∷ 0x3A5
-    -- 0x08: Φ Ψ no no no no no no
-    ∷ 0x3A6 ∷ 0x3A8 ∷ no ∷ no ∷ no ∷ no ∷ no ∷ no
-    -- 0x10: ı ȷ no ´ ˇ ˘ ¯ ˚
-    ∷ 0x131 ∷ 0x237 ∷ no ∷ 0xB4 ∷ 0x2C7 ∷ 0x2D8 ∷ 0xAF ∷ 0x2DA
-    -- 0x18: ¸ ß æ œ ø Æ Œ Ø
-    ∷ 0xB8 ∷ 0xDF ∷ 0xE6 ∷ 0x153 ∷ 0xF8 ∷ 0xC6 ∷ 0x152 ∷ 0xD8
-    -- 0x20: space ! ” # $ % & ’
-    ∷ 0x20 ∷ 0x21 ∷ 0x201D ∷ 0x23 ∷ 0x24 ∷ 0x25 ∷ 0x26 ∷ 0x2019
+    -- 0x00: no no no no no no no no
+    no ∷ no ∷ no ∷ no ∷ no ∷ no ∷ no ∷ no
+    -- 0x08: no no no no no no no no
+    ∷ no ∷ no ∷ no ∷ no ∷ no ∷ no ∷ no ∷ no
+    -- 0x10: ı ȷ no no no no no no
+    ∷ 0x131 ∷ 0x237 ∷ no ∷ no ∷ no ∷ no ∷ no ∷ no
+    -- 0x18: no ß æ œ ø Æ Œ Ø
+    ∷ no ∷ 0xDF ∷ 0xE6 ∷ 0x153 ∷ 0xF8 ∷ 0xC6 ∷ 0x152 ∷ 0xD8
+    -- 0x20: space ! ” # no % & ’
+    ∷ 0x20 ∷ 0x21 ∷ 0x201D ∷ 0x23 ∷ no ∷ 0x25 ∷ 0x26 ∷ 0x2019
     -- 0x28: ( ) * + , - . /
     ∷ 0x28 ∷ 0x29 ∷ 0x2A ∷ 0x2B ∷ 0x2C ∷ 0x2D ∷ 0x2E ∷ 0x2F
     -- 0x30: 0 1 2 3 4 5 6 7
@@ -41,25 +43,25 @@ ot1_characters =
     ∷ 0x48 ∷ 0x49 ∷ 0x4A ∷ 0x4B ∷ 0x4C ∷ 0x4D ∷ 0x4E ∷ 0x4F
     -- 0x50: P Q R S T U V W
     ∷ 0x50 ∷ 0x51 ∷ 0x52 ∷ 0x53 ∷ 0x54 ∷ 0x55 ∷ 0x56 ∷ 0x57
-    -- 0x58: X Y Z [ “ ] ˆ ˙
-    ∷ 0x58 ∷ 0x59 ∷ 0x5A ∷ 0x5B ∷ 0x201C ∷ 0x5D ∷ 0x2C6 ∷ 0x2D9
+    -- 0x58: X Y Z [ “ ] no no
+    ∷ 0x58 ∷ 0x59 ∷ 0x5A ∷ 0x5B ∷ 0x201C ∷ 0x5D ∷ no ∷ no
     -- 0x60: ‘ a b c d e f g
     ∷ 0x2018 ∷ 0x61 ∷ 0x62 ∷ 0x63 ∷ 0x64 ∷ 0x65 ∷ 0x66 ∷ 0x67
     -- 0x68: h i j k l m n o
     ∷ 0x68 ∷ 0x69 ∷ 0x6A ∷ 0x6B ∷ 0x6C ∷ 0x6D ∷ 0x6E ∷ 0x6F
     -- 0x70: p q r s t u v w
     ∷ 0x70 ∷ 0x71 ∷ 0x72 ∷ 0x73 ∷ 0x74 ∷ 0x75 ∷ 0x76 ∷ 0x77
-    -- 0x78: x y z – — ˝ ˜ ¨
-    ∷ 0x78 ∷ 0x79 ∷ 0x7A ∷ 0x2013 ∷ 0x2014 ∷ 0x2DD ∷ 0x2DC ∷ 0xA8
+    -- 0x78: x y z – — no no no
+    ∷ 0x78 ∷ 0x79 ∷ 0x7A ∷ 0x2013 ∷ 0x2014 ∷ no ∷ no ∷ no
     ∷ []
 
 -- the characters of T1 by code
 unfoldable pub t1_characters : List ℕ
 t1_characters =
-    -- 0x00: no ´ no no ¨ ˝ ˚ ˇ
-    no ∷ 0xB4 ∷ no ∷ no ∷ 0xA8 ∷ 0x2DD ∷ 0x2DA ∷ 0x2C7
-    -- 0x08: ˘ ¯ no ¸ ˛ ‚ ‹ ›
-    ∷ 0x2D8 ∷ 0xAF ∷ no ∷ 0xB8 ∷ 0x2DB ∷ 0x201A ∷ 0x2039 ∷ 0x203A
+    -- 0x00: no no no no no no no no
+    no ∷ no ∷ no ∷ no ∷ no ∷ no ∷ no ∷ no
+    -- 0x08: no no no no no ‚ ‹ ›
+    ∷ no ∷ no ∷ no ∷ no ∷ no ∷ 0x201A ∷ 0x2039 ∷ 0x203A
     -- 0x10: “ ” „ « » – — zero width non-joiner
     ∷ 0x201C ∷ 0x201D ∷ 0x201E ∷ 0xAB ∷ 0xBB ∷ 0x2013 ∷ 0x2014 ∷ 0x200C
     -- 0x18: no ı ȷ no no no no no
@@ -125,14 +127,14 @@ t1_characters =
 -- the characters of LY1 by code
 unfoldable pub ly1_characters : List ℕ
 ly1_characters =
-    -- 0x00: no € no no ⁄ ˙ ˝ ˛
-    no ∷ 0x20AC ∷ no ∷ no ∷ 0x2044 ∷ 0x2D9 ∷ 0x2DD ∷ 0x2DB
+    -- 0x00: no € no no ⁄ no no no
+    no ∷ 0x20AC ∷ no ∷ no ∷ 0x2044 ∷ no ∷ no ∷ no
     -- 0x08: no no no no no no no no
     ∷ no ∷ no ∷ no ∷ no ∷ no ∷ no ∷ no ∷ no
-    -- 0x10: ı ȷ no ´ ˇ ˘ ¯ ˚
-    ∷ 0x131 ∷ 0x237 ∷ no ∷ 0xB4 ∷ 0x2C7 ∷ 0x2D8 ∷ 0xAF ∷ 0x2DA
-    -- 0x18: ¸ ß no œ no no Œ no
-    ∷ 0xB8 ∷ 0xDF ∷ no ∷ 0x153 ∷ no ∷ no ∷ 0x152 ∷ no
+    -- 0x10: ı ȷ no no no no no no
+    ∷ 0x131 ∷ 0x237 ∷ no ∷ no ∷ no ∷ no ∷ no ∷ no
+    -- 0x18: no ß no œ no no Œ no
+    ∷ no ∷ 0xDF ∷ no ∷ 0x153 ∷ no ∷ no ∷ 0x152 ∷ no
     -- 0x20: space ! " # $ % & ’
     ∷ 0x20 ∷ 0x21 ∷ 0x22 ∷ 0x23 ∷ 0x24 ∷ 0x25 ∷ 0x26 ∷ 0x2019
     -- 0x28: ( ) * + , - . /
@@ -159,8 +161,8 @@ ly1_characters =
     ∷ 0x78 ∷ 0x79 ∷ 0x7A ∷ 0x7B ∷ 0x7C ∷ 0x7D ∷ no ∷ no
     -- 0x80: Ł no ‚ ƒ „ … † ‡
     ∷ 0x141 ∷ no ∷ 0x201A ∷ 0x192 ∷ 0x201E ∷ 0x2026 ∷ 0x2020 ∷ 0x2021
-    -- 0x88: no ‰ Š ‹ no Ž ^ −
-    ∷ no ∷ 0x2030 ∷ 0x160 ∷ 0x2039 ∷ no ∷ 0x17D ∷ 0x5E ∷ 0x2212
+    -- 0x88: no ‰ Š ‹ no Ž ^ no
+    ∷ no ∷ 0x2030 ∷ 0x160 ∷ 0x2039 ∷ no ∷ 0x17D ∷ 0x5E ∷ no
     -- 0x90: ł no no “ ” • – —
     ∷ 0x142 ∷ no ∷ no ∷ 0x201C ∷ 0x201D ∷ 0x2022 ∷ 0x2013 ∷ 0x2014
     -- 0x98: no ™ š › no ž ~ Ÿ
@@ -194,7 +196,7 @@ ly1_characters =
 -- ---- other characters
 
 -- the same in OT1, T1 and LY1: the quotation marks that ' and ` are in TeX, the space and the hyphen at which
--- no line ends, the soft hyphen, which vanishes, and characters that are set as two or three letters
+-- no line ends, the soft hyphen, which has no code of its own, and characters that are set as two or three letters
 unfoldable pub shared_others : List (ℕ × List ℕ)
 shared_others =
     (0x27, 39 ∷ [])  -- '
@@ -239,8 +241,6 @@ t1_others =
     ∷ (0x2DC, 126 ∷ [])  -- ˜
     ∷ (0x2012, 21 ∷ [])  -- figure dash
     ∷ (0x2015, 22 ∷ [])  -- horizontal bar
-    ∷ (0x2030, 37 ∷ 24 ∷ [])  -- ‰
-    ∷ (0x2031, 37 ∷ 24 ∷ 24 ∷ [])  -- ‱
     ∷ []
 
 -- those of LY1 alone

@@ -11,7 +11,7 @@ use Rattle.encodings.specs.Tables.{no}
 
 -- ---- characters that have the same codes whatever a list has
 
--- the no-break space, which is a space, and the soft hyphen, which vanishes
+-- the no-break space, which is a space, and the soft hyphen, which has no code of its own
 abbrev pub unbroken : List (ℕ × List ℕ)
 unbroken = (0xA0, 32 ∷ []) ∷ (0xAD, []) ∷ []
 

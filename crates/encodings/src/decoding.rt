@@ -1,11 +1,11 @@
 //! Reads the characters of a text, and appends their numbers to a line.
-ghost use Rattle.std.specs.Prelude.{◌≡◌, ◌<◌, ◌≤◌, ◌++◌, true, [], length, take, IfSome, IsTrue, OnOk, OnSome};
+ghost use Rattle.std.specs.Prelude.{◌≡◌, ◌<◌, ◌≤◌, ◌++◌, ◌∷◌, true, [], length, take, IfSome, IsTrue, OnOk, OnSome};
 ghost use Rattle.std.specs.List.{list_all};
 ghost use Rattle.encodings.specs.Decoding.{IsIndexed, IsRead, IsSingle, is_plain as is_plain_in};
-ghost use Rattle.encodings.specs.Lines.{numbers_of};
+ghost use Rattle.encodings.specs.Lines.{break_number, numbers_of};
 
 use crate::cutting::split_character;
-use crate::tables::{PUNCTUATION, SingleCodes, single_codes};
+use crate::tables::{PUNCTUATION, SingleCodes, is_apart, single_codes};
 use crate::{EncodedLine, Encoding, codes_of};
 use std::alloc::AllocError;
 
@@ -93,6 +93,15 @@ fn push_singles<'a>(encoding: Encoding, text: &'a [u8], line: &mut EncodedLine) 
     Some(rest)
 }
 
+/// Appends the codes of a character between breaks.
+fn push_apart(codes: &[u8], line: &mut EncodedLine) -> Result<(), AllocError>
+    ensures { OnOk result (line.new ≡ line.old ++ break_number ∷ codes.now ++ break_number ∷ []) }
+{
+    line.push_break()?;
+    line.push_codes(codes)?;
+    line.push_break()
+}
+
 /// Appends the numbers of a character.
 #[tactic(auto, unfolding(crate::specs::Lines::numbers_of))]
 fn push_numbers(
@@ -103,6 +112,7 @@ fn push_numbers(
     ensures { OnOk result (line.new ≡ line.old ++ numbers_of encoding character) }
 {
     match codes_of(encoding, character) {
+        Some(codes) if is_apart(character) => push_apart(codes, line),
         Some(codes) => line.push_codes(codes),
         None => line.push_gap(character),
     }

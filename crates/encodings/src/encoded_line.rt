@@ -1,19 +1,20 @@
 ghost use Rattle.std.specs.Prelude.{◌≡◌, ◌+◌, ◌++◌, ◌∷◌, [], filter, OnOk};
-ghost use Rattle.encodings.specs.Lines.{has_gaps, is_code};
+ghost use Rattle.encodings.specs.Lines.{break_number, has_gaps, is_code};
 ghost use Rattle.encodings.specs.Parts.{parts_of};
 
 use crate::Parts;
 use std::alloc::{AllocError, Global};
 use std::marker::Model;
 
-/// A line as the codes of a font, with the characters that have no codes. It can be used again for another
-/// line, and keeps its memory.
+/// A line as the codes of a font, with the characters that have no codes, and with breaks, at which a run ends and
+/// another one begins. It can be used again for another line, and keeps its memory.
 ///
-/// Contracts see it as numbers: a code as itself, and a character without codes as 256 and its own number.
+/// Contracts see it as numbers: a code as itself, a character without codes as 256 and its own number, and a break
+/// as the number of a soft hyphen, which always has codes.
 #[derive(Debug, Drop)]
 pub struct EncodedLine {
     codes: Vec<u8>,
-    /// The characters that have no codes, each after the number of codes before it.
+    /// The characters that have no codes, and a soft hyphen for each break, each after the number of codes before it.
     gaps: Vec<(usize, char)>,
 }
 
@@ -75,7 +76,14 @@ impl EncodedLine {
         Ok(())
     }
 
-    /// Returns whether a character of the line has no codes.
+    /// Appends a break.
+    pub(crate) fn push_break(&mut self) -> Result<(), AllocError>
+        ensures { OnOk result (self.new ≡ self.old ++ break_number ∷ []) }
+    {
+        self.push_gap('\u{AD}')
+    }
+
+    /// Returns whether the line has a character without codes or a break.
     pub fn has_gaps(&self) -> bool
         ensures { result ≡ has_gaps self.now }
     {
@@ -89,7 +97,7 @@ impl EncodedLine {
         self.codes.as_slice()
     }
 
-    /// Returns the parts of the line, which end with its characters without codes.
+    /// Returns the parts of the line, which end with its characters without codes and its breaks.
     pub fn parts(&self) -> Parts<'_>
         ensures { result ≡ parts_of self.now }
     {

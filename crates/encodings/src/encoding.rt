@@ -25,15 +25,16 @@ impl Encoding {
     /// All encodings that have a name of their own.
     pub const ALL: [Encoding; 4] = [Encoding::Ot1, Encoding::T1, Encoding::Ly1, Encoding::Latin1];
 
-    /// Returns the encoding of this name: `ot1`, `t1`, `ly1` or `latin1`. Returns `None` for any other name.
+    /// Returns the encoding of this name: `ot1`, `t1`, `ly1` or `latin1`, or the same in capitals. Returns `None` for
+    /// any other name.
     pub fn from_name(name: &str) -> Option<Self>
         ensures { result ≡ encoding_named name.now }
     {
         match name {
-            "ot1" => Some(Encoding::Ot1),
-            "t1" => Some(Encoding::T1),
-            "ly1" => Some(Encoding::Ly1),
-            "latin1" => Some(Encoding::Latin1),
+            "ot1" | "OT1" => Some(Encoding::Ot1),
+            "t1" | "T1" => Some(Encoding::T1),
+            "ly1" | "LY1" => Some(Encoding::Ly1),
+            "latin1" | "LATIN1" => Some(Encoding::Latin1),
             _ => None,
         }
     }

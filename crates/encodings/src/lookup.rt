@@ -85,8 +85,8 @@ fn other_codes_of(encoding: Encoding, character: char) -> Option<&'static [u8]>
     }
 }
 
-/// Returns the codes of a character in an encoding, or `None` if it has none. A character that vanishes, such
-/// as the soft hyphen, has an empty list of codes.
+/// Returns the codes of a character in an encoding, or `None` if it has none. The soft hyphen has an empty list of
+/// codes; in an encoded line it is a break.
 #[tactic(auto, using(crate::proofs::TableLemmas::found))]
 pub fn codes_of(encoding: Encoding, character: char) -> Option<&'static [u8]>
     ensures { MatchOption result (codes_of_character encoding character ≡ None)

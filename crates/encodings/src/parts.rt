@@ -1,6 +1,7 @@
 ghost use Rattle.std.specs.Prelude.{◌≡◌, ◌+◌, length};
 ghost use Rattle.encodings.specs.Encoded.{AreBetween, with_gaps};
-ghost use Rattle.encodings.specs.Parts.{parts_of};
+ghost use Rattle.encodings.specs.Parts.{parts_of, uncoded_after};
+ghost use Rattle.encodings.specs.Visited.{value_of};
 
 use std::marker::Model;
 
@@ -9,8 +10,21 @@ use std::marker::Model;
 pub struct Part<'a> {
     /// Its codes.
     pub codes: &'a [u8],
-    /// The character after them that has no codes. The last part has none.
+    /// The character after them: one that has no codes, or a soft hyphen for a break. The last part has none.
     pub gap: Option<char>,
+}
+
+impl<'a> Part<'a> {
+    /// Returns the character without codes after the codes. After a break, and in the last part, there is none: the
+    /// right boundary may follow the codes.
+    pub fn uncoded(&self) -> Option<char>
+        ensures { result ≡ uncoded_after (value_of self.now) }
+    {
+        match self.gap? {
+            '\u{AD}' => None,
+            character => Some(character),
+        }
+    }
 }
 
 /// The parts of an encoded line that are still to be visited, in order.
@@ -20,7 +34,7 @@ pub struct Parts<'a> {
     codes: Option<&'a [u8]>,
     /// The number of codes before them.
     from: usize,
-    /// The characters without codes, each after the number of codes before it in the whole line.
+    /// The gaps between them, each after the number of codes before it in the whole line.
     gaps: &'a [(usize, char)],
 }
 
@@ -37,7 +51,7 @@ impl<'a> Model for Parts<'a> {
 }
 
 impl<'a> Parts<'a> {
-    /// Returns the parts of a line with these codes and characters without codes.
+    /// Returns the parts of a line with these codes and gaps.
     pub(crate) fn new(codes: &'a [u8], gaps: &'a [(usize, char)]) -> Self
         requires { AreBetween 0 (length codes.now) gaps.now }
         ensures { result ≡ parts_of (with_gaps 0 codes.now gaps.now) }

@@ -1,5 +1,6 @@
 //! The codes of characters as tables, from which they are looked up.
 ghost use Rattle.std.specs.Prelude.{◌≡◌};
+ghost use Rattle.encodings.specs.Codes.{is_apart as is_apart_in};
 ghost use Rattle.encodings.specs.Lookup.{others_in, singles_in};
 
 use crate::Encoding;
@@ -25,6 +26,13 @@ pub(crate) type SingleCodes = [u16; 448];
 
 /// A character, the number of its codes, and these codes with zeros after them.
 pub(crate) type OtherCodes = (char, u8, [u8; 3]);
+
+/// Returns whether a character is set apart from its neighbours: the soft hyphen or the non-breaking hyphen.
+pub(crate) fn is_apart(character: char) -> bool
+    ensures { result ≡ is_apart_in character }
+{
+    character == '\u{AD}' || character == '\u{2011}'
+}
 
 /// Returns the table of single codes.
 #[tactic(auto, unfolding(crate::specs::Lookup::singles_in))]

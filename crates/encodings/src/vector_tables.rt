@@ -1,8 +1,8 @@
 //! Makes the table of single codes of a vector.
 ghost use Rattle.std.specs.Prelude.{◌≡◌, ◌<◌, Some};
-ghost use Rattle.encodings.specs.VectorTables.{character_indexed as character_with, single_at as single_in, single_of, singles_of};
+ghost use Rattle.encodings.specs.VectorTables.{character_indexed as character_with, single_at as single_in, single_of, single_with as single_with_in, singles_of};
 
-use crate::tables::{PUNCTUATION, SingleCodes, X};
+use crate::tables::{PUNCTUATION, SingleCodes, X, is_apart};
 use crate::vector_codes::codes_in_vector;
 use std::char;
 
@@ -27,16 +27,23 @@ fn single_or_mark(codes: &[u8]) -> u16
     }
 }
 
-/// Returns the entry with an index where the characters by code have these numbers.
+/// Returns the entry of a character where the characters by code have these numbers.
+fn single_with(characters: &[u32; 256], character: char) -> u16
+    ensures { result ≡ single_with_in characters.now character }
+{
+    match codes_in_vector(characters, character) {
+        Some(codes) if !is_apart(character) => single_or_mark(codes),
+        _ => X,
+    }
+}
+
+/// Returns the entry with an index.
 fn single_at(characters: &[u32; 256], index: usize) -> u16
     requires { index < 448 }
     ensures { result ≡ single_in characters.now index }
 {
-    let Some(character) = character_indexed(index) else {
-        return X;
-    };
-    match codes_in_vector(characters, character) {
-        Some(codes) => single_or_mark(codes),
+    match character_indexed(index) {
+        Some(character) => single_with(characters, character),
         None => X,
     }
 }

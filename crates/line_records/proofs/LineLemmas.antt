@@ -20,7 +20,9 @@ use Rattle.set_line.proofs.OnwardLemmas.{part_then, run_set}
 use Rattle.set_line.proofs.OnwardLemmas as Onwards
 use Rattle.line_records.specs.Additions.{Addition, after, alone, byte_added, cut_added, ending_of, set_from, with_cut}
 use Rattle.line_records.specs.Kept.{set_after}
+use Rattle.line_records.specs.Results.{only_part}
 use Rattle.line_records.specs.Runs.{added_run, char_added, item_at, run_from, runs_from}
+use Rattle.line_records.proofs.KeptLemmas.{codes_set}
 use Rattle.line_records.proofs.RunLemmas.{chained, mapped, run_empty, run_result}
 
 -- ---- runs and the bytes between them
@@ -216,10 +218,10 @@ runs_onward font limit used before (run ∷ runs) (cut ∷ cuts) set is within =
 
 -- a line that is set byte by byte, within the limit, has this setting
 pub line_set : (terms : TermsValue) (line : List ℕ) (set : Setting) → set_from terms.font terms.policy Left line ≡ Some set
-    → set.steps ≤ terms.limit → set_after terms (setting 0 []) line ≡ Some set
-unfolding portions_in pieces_of set_after
+    → set.steps ≤ terms.limit → set_after terms (setting 0 []) (only_part line) ≡ Some set
+unfolding portions_in pieces_of
 line_set terms line set is within =
     let kept : has_refused terms.policy terms.font line ≡ false = none_refused terms.font terms.policy Left line set is in
-    rw kept (runs_onward terms.font terms.limit 0 [] (slice_split (is_cut terms.font) line) (filter (is_cut terms.font) line) set
+    codes_set terms (setting 0 []) line kept ∙ (runs_onward terms.font terms.limit 0 [] (slice_split (is_cut terms.font) line) (filter (is_cut terms.font) line) set
     (sym (in_runs terms.font terms.policy Left line kept) ∙ is) (omega arith)
     ∙ ap (λ n. Some (setting n set.items)) {x = 0 + set.steps} {y = set.steps} (omega arith))

@@ -16,7 +16,7 @@ use Rattle.set_line.specs.Pieces.{is_neither}
 use Rattle.encodings.specs.declared.encoding.Encoding.{Encoding}
 use Rattle.encodings.specs.declared.places.Place.{Place}
 use Rattle.encodings.specs.Codes.{codes_of}
-use Rattle.encodings.specs.Lines.{Element, elements_at, elements_of, fault_in, first_uncoded, numbers_of, places_of}
+use Rattle.encodings.specs.Lines.{Element, elements_at, elements_of, fault_in, first_uncoded, places_of}
 use Rattle.line_records.specs.Results.{missing_at, missing_code_in, uncoded_in, utf8_refusal}
 
 -- ---- character by character
@@ -30,16 +30,15 @@ find_mapped p f (x ∷ xs) = by (p (f x)) (find_mapped p f xs)
     by false rest = rest
 
 -- an element of a code of a character
-abbrev element : Place → ℕ → Element
+abbrev pub element : Place → ℕ → Element
 element place code = record { offset = place.offset; number = code }
 
-missing_here : (font : FontValue) (encoding : Encoding) (place : Place) (rest : List Place) (codes : List ℕ) → codes_of encoding place.character ≡ Some codes
+pub missing_here : (font : FontValue) (encoding : Encoding) (place : Place) (rest : List Place) (codes : List ℕ) → codes_of encoding place.character ≡ Some codes
     → missing_at font encoding (place ∷ rest) ≡ option_or (option_map (element place) (find (is_neither font) codes)) (missing_at font encoding rest)
-unfolding numbers_of
 missing_here font encoding place rest codes is =
     let p = λ (e : Element). is_neither font e.number in
     find-append p (elements_at encoding place) (flat_map (elements_at encoding) rest)
-    ∙ ap (λ o. option_or (find p (map (element place) (unwrap_or o ((256 + place.character) ∷ [])))) (missing_at font encoding rest)) is
+    ∙ ap (λ o. option_or (find p (map (element place) (unwrap_or o []))) (missing_at font encoding rest)) is
     ∙ ap (λ o. option_or o (missing_at font encoding rest)) (find_mapped p (element place) codes)
 
 -- the first character has a code that is missing

@@ -18,6 +18,7 @@ use Rattle.line_records.specs.Additions.{Addition, added_of, after, alone, byte_
 use Rattle.line_records.specs.Cells.{Fits, Style, symbol_of}
 use Rattle.line_records.specs.Written.{IsSmall, IsStep, IsWhole, IsWritten, joined}
 use Rattle.line_records.specs.Kept.{IsKept, IsThatOf, set_after}
+use Rattle.line_records.specs.Results.{only_part}
 use Rattle.line_records.specs.declared.keeping.Kept.{Kept}
 use Rattle.line_records.specs.declared.written.Written.{Written}
 use Rattle.line_records.proofs.AddingLemmas.{total_width-append}
@@ -150,7 +151,7 @@ step_back style before next size old middle new behind (Some after) long kept st
 -- a line that is written and within the limit
 pub set_as : (style : Style) (terms : TermsValue) (line room : List ℕ) (whole : Written) (kept : Kept) → IsWhole style line room whole → Fits style terms
     → whole.steps ≤ terms.limit → whole.length ≤ length room → IsThatOf whole kept
-    → IsKept style.version (set_after terms (setting 0 []) line) room (Some kept)
+    → IsKept style.version (set_after terms (setting 0 []) (only_part line)) room (Some kept)
 set_as style terms line room whole kept is fits within inside same = (
   is.set,
   set,
@@ -161,7 +162,7 @@ set_as style terms line room whole kept is fits within inside same = (
   },
 )
   where
-    set : set_after terms (setting 0 []) line ≡ Some is.set
+    set : set_after terms (setting 0 []) (only_part line) ≡ Some is.set
     set =
         line_set terms line is.set
         (ap (λ f. set_from f terms.policy Left line) (sym fits.0) ∙ ap (λ p. set_from style.font p Left line) (sym fits.1) ∙ is.is)

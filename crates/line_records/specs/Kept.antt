@@ -1,34 +1,45 @@
 -- A line while it is set part by part, and the texts of its items.
 -- This project's own representation; Results defines the result.
-use Rattle.std.specs.Option.{option_map_or}
-use Rattle.std.specs.Prelude.{⊤, ◌≡◌, ℕ, ◌+◌, ◌≤◌, Bool, List, [], ◌∷◌, flat_map, length, take, Option, Some, None, Result, Ok, Err, if◌then◌else◌}
+use Rattle.std.specs.List.{list_any}
+use Rattle.std.specs.Option.{is_none, option_map_or}
+use Rattle.std.specs.Prelude.{◌≡◌, ℕ, ◌+◌, ◌≤◌, Bool, true, false, not, ◌&&◌, ◌||◌, List, flat_map, length, take, Option, Some, None, Result, Ok, Err, if◌then◌else◌}
 use Rattle.lig_kern.specs.declared.item.Item.{Item}
 use Rattle.lig_kern.specs.Result.{Setting}
+use Rattle.tfm_tables.specs.Font.{FontValue}
+use Rattle.set_line.specs.declared.policy.Policy.{Policy}
+use Rattle.set_line.specs.declared.policy.Policy.TheVariants.{Refuse, Skip}
 use Rattle.set_line.specs.declared.version.Version.{Version}
 use Rattle.set_line.specs.declared.outcome.LineRefusal.TheVariants.{Steps}
 use Rattle.set_line.specs.declared.records.text_refusal.TextRefusal.{TextRefusal}
 use Rattle.set_line.specs.declared.records.text_refusal.TextRefusal.TheVariants.{Line}
 use Rattle.set_line.specs.Answer.{has_refused}
 use Rattle.set_line.specs.Onward.{onward, setting}
-use Rattle.set_line.specs.Pieces.{portions_of}
 use Rattle.set_line.specs.Record.{text_in}
 use Rattle.set_line.specs.Terms.{TermsValue}
 use Rattle.set_line.specs.Width.{total_width}
 use Rattle.encodings.specs.declared.encoding.Encoding.{Encoding}
-use Rattle.encodings.specs.Parts.{PartValue, joined, parts_of}
+use Rattle.encodings.specs.Parts.{PartValue, uncoded_after}
 use Rattle.line_records.specs.declared.keeping.Kept.{Kept}
 use Rattle.line_records.specs.declared.written.Written.{Written}
-use Rattle.line_records.specs.Results.{HasSums, line_result, refusal_in}
+use Rattle.line_records.specs.Results.{HasSums, line_portions, line_result, refusal_in}
 
--- the setting of numbers after the setting so far, if none is refused and the steps are within the limit
-unfoldable pub set_after : TermsValue → Setting → List ℕ → Option Setting
-set_after terms so_far numbers =
-    if has_refused terms.policy terms.font numbers then None else onward terms.font terms.limit so_far (portions_of terms.font numbers)
+-- whether missing characters are refused
+abbrev pub refuses : Policy → Bool
+refuses Refuse = true
+refuses Skip = false
 
--- parts that are all parts of a line, or all from one of them on, or none
-abbrev pub AreParts : List PartValue → Type 0
-AreParts [] = ⊤
-AreParts (part ∷ parts) = parts_of (joined (part ∷ parts)) ≡ part ∷ parts
+-- whether a code, or the character without codes after the codes, is refused
+abbrev pub refused_before : Policy → FontValue → List ℕ → Option ℕ → Bool
+refused_before policy font codes uncoded = has_refused policy font codes || (refuses policy && not (is_none uncoded))
+
+-- whether a part has something that is refused
+abbrev pub refused_in : Policy → FontValue → PartValue → Bool
+refused_in policy font part = refused_before policy font part.codes (uncoded_after part)
+
+-- the setting of parts after the setting so far, if nothing is refused and the steps are within the limit
+unfoldable pub set_after : TermsValue → Setting → List PartValue → Option Setting
+set_after terms so_far parts =
+    if list_any (refused_in terms.policy terms.font) parts then None else onward terms.font terms.limit so_far (line_portions terms.font parts)
 
 -- lists have the texts of these items, their width and, with the number of characters without codes, their number
 pub record AreListed (version : Version) (all items : List Item) (gaps : ℕ) (written : List ℕ) : Type 0 where
@@ -45,7 +56,7 @@ IsReached version reached items gaps texts None = reached ≡ None
 
 -- the number of characters without codes in a part
 abbrev pub gaps_in : PartValue → ℕ
-gaps_in part = option_map_or (λ character. 1) part.gap 0
+gaps_in part = option_map_or (λ character. 1) (uncoded_after part) 0
 
 -- the texts of the items of a line that is set are at the front of a list
 pub record HasKept (version : Version) (set : Setting) (texts : List ℕ) (kept : Kept) : Type 0 where

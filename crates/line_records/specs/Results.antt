@@ -1,10 +1,10 @@
 -- The result of a line, of bytes or in UTF-8: the first that applies of too long, not UTF-8, a character without
 -- codes, a missing character, set and too many steps.
--- This project's own; how a list of codes is set is defined in Answer of `set_line`, and a character without codes
--- is set as a missing code is: it is skipped.
-use Rattle.std.specs.Prelude.{◌≡◌, ℕ, Bool, true, false, nat_lt, List, length, flat_map, Option, Some, None, Result, Ok, Err, if◌then◌else◌}
+-- This project's own; how a list of codes is set is defined in Answer of `set_line`, a character without codes is set
+-- as a missing code is: it is skipped, and the codes on each side of a break are set as those of two lines are.
+use Rattle.std.specs.Prelude.{◌≡◌, ℕ, ◌+◌, Bool, true, false, nat_lt, List, [], ◌∷◌, ◌++◌, length, flat_map, Option, Some, None, Result, Ok, Err, if◌then◌else◌}
 use Rattle.std.specs.List.{find}
-use Rattle.std.specs.Option.{option_map, option_map_or, option_or}
+use Rattle.std.specs.Option.{is_none, option_map, option_map_or, option_or}
 use Rattle.tfm_tables.specs.Font.{FontValue}
 use Rattle.lig_kern.specs.Result.{Setting}
 use Rattle.set_line.specs.declared.policy.Policy.{Policy}
@@ -16,7 +16,7 @@ use Rattle.set_line.specs.declared.outcome.Outcome.{Outcome}
 use Rattle.set_line.specs.declared.outcome.Outcome.TheVariants.{Set, Refused}
 use Rattle.set_line.specs.declared.version.Version.{Version}
 use Rattle.set_line.specs.Answer.{refusal_of, setting_of_portions}
-use Rattle.set_line.specs.Pieces.{is_neither, portions_of}
+use Rattle.set_line.specs.Pieces.{Portion, is_neither, portions_in, skipped}
 use Rattle.set_line.specs.Record.{TextResult, text_in, text_record}
 use Rattle.set_line.specs.Record.TextResult.{refused, set}
 use Rattle.set_line.specs.Terms.{TermsValue}
@@ -24,6 +24,7 @@ use Rattle.set_line.specs.Width.{total_width}
 use Rattle.encodings.specs.declared.encoding.Encoding.{Encoding}
 use Rattle.encodings.specs.declared.places.Place.{Place}
 use Rattle.encodings.specs.Lines.{Element, elements_at, elements_of, encoded, fault_in, first_uncoded, places_of}
+use Rattle.encodings.specs.Parts.{PartValue, parts_of, uncoded_after}
 use Rattle.line_records.specs.declared.result.Sums.{Sums}
 use Rattle.line_records.specs.declared.result.LineResult.{LineResult}
 use Rattle.line_records.specs.declared.result.LineResult.TheVariants.{Set as SetResult, Refused as RefusedResult}
@@ -39,11 +40,11 @@ abbrev pub uncoded_in : Policy → Encoding → List Place → Option TextRefusa
 uncoded_in Refuse encoding places = option_map (λ place. Uncoded place.offset place.character) (first_uncoded encoding places)
 uncoded_in Skip encoding places = None
 
--- the first of these characters' numbers that is neither a space nor a character of the font
+-- the first of these characters' codes that is neither a space nor a character of the font
 abbrev pub missing_at : FontValue → Encoding → List Place → Option Element
 missing_at font encoding places = find (λ element. is_neither font element.number) (flat_map (elements_at encoding) places)
 
--- the refusal for the first number that is neither a space nor a character of the font, if missing characters are
+-- the refusal for the first code that is neither a space nor a character of the font, if missing characters are
 -- refused: its offset is that of the character it comes from
 abbrev pub missing_code_in : Policy → FontValue → List Element → Option TextRefusal
 missing_code_in Refuse font elements =
@@ -64,21 +65,34 @@ refusal_in terms (Some encoding) first line = utf8_refusal terms encoding first 
 
 -- ---- the result
 
--- the numbers of a line: its bytes, or with an encoding the codes of its characters, and the number of a character
--- without codes, above all codes, in its place
-abbrev pub numbers_in : Option Encoding → Bool → List ℕ → List ℕ
-numbers_in None first line = line
-numbers_in (Some encoding) first line = encoded encoding first line
+-- codes as the only part of a line
+abbrev pub only_part : List ℕ → List PartValue
+only_part codes = record { codes = codes; gap = None } ∷ []
 
--- the setting of numbers, or the refusal because they take too many steps
-abbrev pub set_within : TermsValue → List ℕ → Result Setting TextRefusal
-set_within terms numbers =
-    option_map_or Ok (setting_of_portions terms.font terms.limit (portions_of terms.font numbers)) (Err (Line (Steps terms.limit)))
+-- the parts of a line: its bytes, or with an encoding the parts of the encoded line
+abbrev pub parts_in : Option Encoding → Bool → List ℕ → List PartValue
+parts_in None first line = only_part line
+parts_in (Some encoding) first line = parts_of (encoded encoding first line)
+
+-- the portions of codes, and of the character without codes after them, if there is one: the right boundary doesn't
+-- precede it, and it is skipped as the number 256 and its own
+abbrev pub portions_before : FontValue → List ℕ → Option ℕ → List Portion
+portions_before font codes uncoded =
+    portions_in (is_none uncoded) font codes ++ option_map_or (λ character. skipped (256 + character) ∷ []) uncoded []
+
+-- the portions of the parts of a line, in order
+abbrev pub line_portions : FontValue → List PartValue → List Portion
+line_portions font parts = flat_map (λ part. portions_before font part.codes (uncoded_after part)) parts
+
+-- the setting of parts, or the refusal because they take too many steps
+abbrev pub set_within : TermsValue → List PartValue → Result Setting TextRefusal
+set_within terms parts =
+    option_map_or Ok (setting_of_portions terms.font terms.limit (line_portions terms.font parts)) (Err (Line (Steps terms.limit)))
 
 -- the result of a line: its setting or its refusal
 unfoldable pub line_result : TermsValue → Option Encoding → Bool → List ℕ → Result Setting TextRefusal
 line_result terms encoding first line =
-    option_map_or Err (refusal_in terms encoding first line) (set_within terms (numbers_in encoding first line))
+    option_map_or Err (refusal_in terms encoding first line) (set_within terms (parts_in encoding first line))
 
 -- whether a line was refused
 abbrev pub is_refused : Result Setting TextRefusal → Bool

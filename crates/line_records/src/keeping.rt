@@ -1,12 +1,13 @@
 //! Sets a line, and keeps the texts of its items.
-ghost use Rattle.std.specs.Prelude.{◌≡◌, ◌≤◌, ◌^◌, ◌<◌, ◌+◌, ℕ, List, [], IfOk, IfSome, true, length};
-ghost use Rattle.encodings.specs.Parts.{joined, part_numbers};
+ghost use Rattle.std.specs.Prelude.{◌≡◌, ◌≤◌, ◌^◌, ◌<◌, ◌+◌, ℕ, List, [], ◌∷◌, IfOk, IfSome, true, length};
+ghost use Rattle.encodings.specs.Parts.{joined};
 ghost use Rattle.encodings.specs.Visited.{value_of};
 ghost use Rattle.lig_kern.specs.declared.item.Item.{Item as ItemValue};
 ghost use Rattle.set_line.specs.Answer.{has_refused};
 ghost use Rattle.set_line.specs.Onward.{AreFew, setting};
 ghost use Rattle.line_records.specs.Cells.{Fits, style_of};
-ghost use Rattle.line_records.specs.Kept.{AreListed, AreParts, IsKept, IsReached, IsThatOf, gaps_in, set_after};
+ghost use Rattle.line_records.specs.Kept.{AreListed, IsKept, IsReached, IsThatOf, gaps_in, set_after};
+ghost use Rattle.line_records.specs.Results.{only_part};
 
 use crate::Sums;
 use crate::table::PairTable;
@@ -51,18 +52,18 @@ fn set_part(
         (AreFew used lists.old.items.items part.entry.codes.now lists.new.items.items)) }
     ensures reached { IfOk result (λ steps. (all : List ItemValue) (gaps : ℕ)
         → AreListed version all lists.old.items.items gaps lists.old.texts.items
-        → IsReached version (set_after terms.now (setting used all) (part_numbers (value_of part.entry)))
+        → IsReached version (set_after terms.now (setting used all) (value_of part.entry ∷ []))
         lists.new.items.items (gaps + gaps_in (value_of part.entry)) lists.new.texts.items steps) }
 {
-    terms.font().codes_are_bytes();
     let from = lists.items.len();
-    let right = part.gap.is_none();
+    let skipped = part.uncoded();
+    let right = skipped.is_none();
     let Some(steps) = set_stretch(terms, part.codes, right, used, &mut lists.items)? else {
         return Ok(None);
     };
     let (_, added) = lists.items.split_at(from);
     append_items(&mut lists.texts, added, version)?;
-    match (part.gap, terms.policy()) {
+    match (skipped, terms.policy()) {
         (None, _) => Ok(Some(steps)),
         (Some(_), Policy::Refuse) => Ok(None),
         (Some(character), Policy::Skip) => {
@@ -80,12 +81,10 @@ pub(crate) fn set_parts(
     parts: Parts<'_>,
     lists: &mut Lists,
 ) -> Result<Option<Kept>, AllocError>
-    requires parts { AreParts parts }
-    requires few { length (joined parts) ≤ 65535 }
+    requires { length (joined parts) ≤ 65535 }
     ensures { IfOk result (IsKept version
-        (set_after terms.now (setting 0 []) (joined parts.entry)) lists.new.texts.items) }
+        (set_after terms.now (setting 0 []) parts.entry) lists.new.texts.items) }
 {
-    terms.font().codes_are_bytes();
     lists.items.clear();
     lists.texts.clear();
     let mut steps = 0;
@@ -95,7 +94,7 @@ pub(crate) fn set_parts(
             return Ok(None);
         };
         steps = after;
-        gaps += usize::from(part.gap.is_some());
+        gaps += usize::from(part.uncoded().is_some());
     }
     let sums = Sums {
         width: total_width(&lists.items),
@@ -149,7 +148,7 @@ fn set_plainly(
     requires short { length codes.now ≤ 65535 }
     ensures table { table.new ≡ table.old }
     ensures kept { IfSome result (IsKept table.old.version
-        (set_after terms.now (setting 0 []) codes.now) texts.new.items) }
+        (set_after terms.now (setting 0 []) (only_part codes.now)) texts.new.items) }
 {
     match write_line(table, terms, codes, texts) {
         Ok(whole) if whole.steps <= terms.limit().get() as usize => Some(Some(as_kept(whole))),
@@ -171,7 +170,7 @@ pub(crate) fn set_codes(
     requires short { length codes.now ≤ 65535 }
     ensures table { table.new ≡ table.old }
     ensures kept { IfOk result (IsKept version
-        (set_after terms.now (setting 0 []) codes.now) lists.new.texts.items) }
+        (set_after terms.now (setting 0 []) (only_part codes.now)) lists.new.texts.items) }
 {
     if let Some(table) = table {
         if let Some(kept) = set_plainly(table, terms, codes, &mut lists.texts) {

@@ -59,7 +59,6 @@ fn try_keep(
         Err(EncodeFault::NotUtf8(_)) => return Ok(None),
         Err(EncodeFault::OutOfMemory) => return Err(OutOfMemory),
     }
-    terms.font().codes_are_bytes();
     if rooms.codes.has_gaps() {
         return Ok(set_parts(terms, version, rooms.codes.parts(), &mut rooms.lists)?);
     }

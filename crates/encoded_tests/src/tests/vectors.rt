@@ -3,14 +3,15 @@ use encodings::{EncodedLine, Encoding, character_at, encode_line};
 use std::process::Abort;
 use std::test::Fail;
 
-/// Characters with their codes, a line, the codes that it has, and whether it has a character without codes.
+/// Characters with their codes, a line, the codes that it has, and whether it has a character without codes or a
+/// break.
 static LINES: [(&[(u8, char)], &str, &[u8], bool); 11] = [
     // two codes of a character, and codes 10 and 32
     (&[(65, 'x'), (66, 'x'), (33, 'é')], "xé", b"A!", false),
     (&[(10, 'x'), (32, 'x'), (33, 'x')], "x ", b"! ", false),
     (&[(10, 'x'), (32, 'x')], " x", b" ", true),
     // the no-break space and the soft hyphen, also if they are listed
-    (&[(1, '\u{AD}'), (2, '\u{A0}')], "\u{AD}\u{A0}", b" ", false),
+    (&[(1, '\u{AD}'), (2, '\u{A0}')], "\u{AD}\u{A0}", b" ", true),
     // characters that are set as others
     (&[(39, '’'), (96, '‘')], "`'’‘", b"`''`", false),
     (&[(45, '-'), (21, '–')], "\u{2011}\u{2012}—", b"-\x15", true),

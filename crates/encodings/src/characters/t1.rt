@@ -3,10 +3,10 @@ use crate::characters::X;
 
 /// The characters, by code; [`X`] for a code that is no character's own.
 pub(crate) static T1_CHARACTERS: [u32; 256] = [
-    // 0x00: no ´ no no ¨ ˝ ˚ ˇ
-    X, 0xB4, X, X, 0xA8, 0x2DD, 0x2DA, 0x2C7,
-    // 0x08: ˘ ¯ no ¸ ˛ ‚ ‹ ›
-    0x2D8, 0xAF, X, 0xB8, 0x2DB, 0x201A, 0x2039, 0x203A,
+    // 0x00: no no no no no no no no
+    X, X, X, X, X, X, X, X,
+    // 0x08: no no no no no ‚ ‹ ›
+    X, X, X, X, X, 0x201A, 0x2039, 0x203A,
     // 0x10: “ ” „ « » – — zero width non-joiner
     0x201C, 0x201D, 0x201E, 0xAB, 0xBB, 0x2013, 0x2014, 0x200C,
     // 0x18: no ı ȷ no no no no no

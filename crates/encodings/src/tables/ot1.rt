@@ -8,7 +8,7 @@ pub(crate) static OT1_SINGLE: SingleCodes = [
     // U+0010 to U+001F
     X, X, X, X, X, X, X, X, X, X, X, X, X, X, X, X,
     // U+0020 to U+002F
-    32, 33, X, 35, 36, 37, 38, 39, 40, 41, 42, 43, 44, 45, 46, 47,
+    32, 33, X, 35, X, 37, 38, 39, 40, 41, 42, 43, 44, 45, 46, 47,
     // U+0030 to U+003F
     48, 49, 50, 51, 52, 53, 54, 55, 56, 57, 58, 59, X, 61, X, 63,
     // U+0040 to U+004F
@@ -24,9 +24,9 @@ pub(crate) static OT1_SINGLE: SingleCodes = [
     // U+0090 to U+009F
     X, X, X, X, X, X, X, X, X, X, X, X, X, X, X, X,
     // U+00A0 to U+00AF
-    32, X, X, X, X, X, X, X, 127, X, X, X, X, X, X, 22,
+    32, X, X, X, X, X, X, X, X, X, X, X, X, X, X, X,
     // U+00B0 to U+00BF
-    X, X, X, X, 19, X, X, X, 24, X, X, X, X, X, X, X,
+    X, X, X, X, X, X, X, X, X, X, X, X, X, X, X, X,
     // U+00C0 to U+00CF
     X, X, X, X, X, X, 29, X, X, X, X, X, X, X, X, X,
     // U+00D0 to U+00DF
@@ -54,7 +54,7 @@ pub(crate) static OT1_SINGLE: SingleCodes = [
     // U+2000 to U+200F
     X, X, X, X, X, X, X, X, X, X, X, X, X, X, X, X,
     // U+2010 to U+201F
-    45, 45, 123, 123, 124, 124, X, X, 96, 39, X, X, 92, 34, X, X,
+    45, X, 123, 123, 124, 124, X, X, 96, 39, X, X, 92, 34, X, X,
     // U+2020 to U+202F
     X, X, X, X, X, X, X, X, X, X, X, X, X, X, X, X,
     // U+2030 to U+203F
@@ -62,7 +62,7 @@ pub(crate) static OT1_SINGLE: SingleCodes = [
 ];
 
 /// The codes of all other characters that have codes.
-pub(crate) static OT1_OTHERS: [OtherCodes; 35] = [
+pub(crate) static OT1_OTHERS: [OtherCodes; 19] = [
     ('\u{A1}', 2, [33, 96, 0]), // ¡
     ('\u{AD}', 0, [0, 0, 0]), // soft hyphen
     ('\u{BF}', 2, [63, 96, 0]), // ¿
@@ -73,24 +73,8 @@ pub(crate) static OT1_OTHERS: [OtherCodes; 35] = [
     ('\u{1CB}', 2, [78, 106, 0]), // ǋ
     ('\u{1CC}', 2, [110, 106, 0]), // ǌ
     ('\u{237}', 1, [17, 0, 0]), // ȷ
-    ('\u{2C6}', 1, [94, 0, 0]), // ˆ
-    ('\u{2C7}', 1, [20, 0, 0]), // ˇ
-    ('\u{2D8}', 1, [21, 0, 0]), // ˘
-    ('\u{2D9}', 1, [95, 0, 0]), // ˙
-    ('\u{2DA}', 1, [23, 0, 0]), // ˚
-    ('\u{2DC}', 1, [126, 0, 0]), // ˜
-    ('\u{2DD}', 1, [125, 0, 0]), // ˝
-    ('\u{393}', 1, [0, 0, 0]), // Γ
-    ('\u{394}', 1, [1, 0, 0]), // Δ
-    ('\u{398}', 1, [2, 0, 0]), // Θ
-    ('\u{39B}', 1, [3, 0, 0]), // Λ
-    ('\u{39E}', 1, [4, 0, 0]), // Ξ
-    ('\u{3A0}', 1, [5, 0, 0]), // Π
-    ('\u{3A3}', 1, [6, 0, 0]), // Σ
-    ('\u{3A5}', 1, [7, 0, 0]), // Υ
-    ('\u{3A6}', 1, [8, 0, 0]), // Φ
-    ('\u{3A8}', 1, [9, 0, 0]), // Ψ
     ('\u{1E9E}', 2, [83, 83, 0]), // ẞ
+    ('\u{2011}', 1, [45, 0, 0]), // non-breaking hyphen
     ('\u{FB00}', 2, [102, 102, 0]), // ﬀ
     ('\u{FB01}', 2, [102, 105, 0]), // ﬁ
     ('\u{FB02}', 2, [102, 108, 0]), // ﬂ

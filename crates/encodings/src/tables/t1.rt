@@ -24,9 +24,9 @@ pub(crate) static T1_SINGLE: SingleCodes = [
     // U+0090 to U+009F
     X, X, X, X, X, X, X, X, X, X, X, X, X, X, X, X,
     // U+00A0 to U+00AF
-    32, 189, X, 191, X, X, X, 159, 4, X, X, 19, X, X, X, 9,
+    32, 189, X, 191, X, X, X, 159, X, X, X, 19, X, X, X, X,
     // U+00B0 to U+00BF
-    X, X, X, X, 1, X, X, X, 11, X, X, 20, X, X, X, 190,
+    X, X, X, X, X, X, X, X, X, X, X, 20, X, X, X, 190,
     // U+00C0 to U+00CF
     192, 193, 194, 195, 196, 197, 198, 199, 200, 201, 202, 203, 204, 205, 206, 207,
     // U+00D0 to U+00DF
@@ -54,7 +54,7 @@ pub(crate) static T1_SINGLE: SingleCodes = [
     // U+2000 to U+200F
     X, X, X, X, X, X, X, X, X, X, X, X, 23, X, X, X,
     // U+2010 to U+201F
-    45, 45, 21, 21, 22, 22, X, X, 96, 39, 13, X, 16, 17, 18, X,
+    45, X, 21, 21, 22, 22, X, X, 96, 39, 13, X, 16, 17, 18, X,
     // U+2020 to U+202F
     X, X, X, X, X, X, X, X, X, X, X, X, X, X, X, X,
     // U+2030 to U+203F
@@ -62,7 +62,7 @@ pub(crate) static T1_SINGLE: SingleCodes = [
 ];
 
 /// The codes of all other characters that have codes.
-pub(crate) static T1_OTHERS: [OtherCodes; 28] = [
+pub(crate) static T1_OTHERS: [OtherCodes; 22] = [
     ('\u{AD}', 0, [0, 0, 0]), // soft hyphen
     ('\u{1C4}', 2, [68, 154, 0]), // Ǆ
     ('\u{1C5}', 2, [68, 186, 0]), // ǅ
@@ -75,15 +75,9 @@ pub(crate) static T1_OTHERS: [OtherCodes; 28] = [
     ('\u{1CC}', 2, [110, 106, 0]), // ǌ
     ('\u{237}', 1, [26, 0, 0]), // ȷ
     ('\u{2C6}', 1, [94, 0, 0]), // ˆ
-    ('\u{2C7}', 1, [7, 0, 0]), // ˇ
-    ('\u{2D8}', 1, [8, 0, 0]), // ˘
-    ('\u{2DA}', 1, [6, 0, 0]), // ˚
-    ('\u{2DB}', 1, [12, 0, 0]), // ˛
     ('\u{2DC}', 1, [126, 0, 0]), // ˜
-    ('\u{2DD}', 1, [5, 0, 0]), // ˝
     ('\u{1E9E}', 1, [223, 0, 0]), // ẞ
-    ('\u{2030}', 2, [37, 24, 0]), // ‰
-    ('\u{2031}', 3, [37, 24, 24]), // ‱
+    ('\u{2011}', 1, [45, 0, 0]), // non-breaking hyphen
     ('\u{FB00}', 2, [102, 102, 0]), // ﬀ
     ('\u{FB01}', 2, [102, 105, 0]), // ﬁ
     ('\u{FB02}', 2, [102, 108, 0]), // ﬂ

@@ -150,10 +150,15 @@ static LINES: [Row; 58] = rows! { BYTES;
 };
 
 /// Lines in UTF-8.
-static TEXTS: [Row; 22] = rows! { UTF8;
+static TEXTS: [Row; 25] = rows! { UTF8;
     Letters; "äå" => "set 20 steps 2 c228=10 k-10 c229=20";
-    // the soft hyphen has no codes, so that ä and å are neighbours
-    Letters, policy: Skip; "ä\u{AD}å" => "set 20 steps 2 c228=10 k-10 c229=20";
+    // at a soft hyphen a run ends with the right boundary, and another one begins with the left boundary
+    Letters; "ä\u{AD}å\u{AD}" => "set 30 steps 2 c228=10 c229=20";
+    RightBoundary, policy: Skip; "b\u{AD}b€" =>
+        "set 348160 steps 3 c98=163840 k20480 c98=163840 u20AC";
+    LeftBoundary; "a\u{AD}\u{AD}a" =>
+        "set 573440 steps 2 k-40960 c97=327680 k-40960 c97=327680";
+    Letters; "\u{AD}" => "set 0 steps 0";
     Letters, policy: Skip; "ä€å" => "set 30 steps 2 c228=10 u20AC c229=20";
     Letters, policy: Skip; "åb €" => "set 70 steps 1 c229=20 m98 s50 u20AC";
     Letters, policy: Skip; "\u{80}\u{FFFF}" => "set 0 steps 0 u0080 uFFFF";

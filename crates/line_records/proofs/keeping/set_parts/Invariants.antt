@@ -2,7 +2,7 @@ use Rattle.std.proofs.Common.{◌≡◌, ◌≤◌, ◌+◌, ◌*◌, List, [], 
 use Rattle.lig_kern.specs.declared.item.Item.{Item}
 use Rattle.set_line.specs.Onward.{setting}
 use Rattle.encodings.specs.Parts.{joined}
-use Rattle.line_records.specs.Kept.{AreListed, AreParts, set_after}
+use Rattle.line_records.specs.Kept.{AreListed, set_after}
 use Rattle.line_records.proofs.keeping.set_parts.Given as goal
 
 abbrev pub invariant-loop-part : goal.invariant-loop-part
@@ -11,10 +11,9 @@ invariant-loop-part l = record {
   is_finite : (goal.iterator-loop-part).is_finite l.part-iterator;
   within : l.steps ≤ l.terms.limit;
   most : l.steps ≤ 16777216;
-  parts : AreParts l.part-iterator;
   few : length l.lists.items.items + length (joined l.part-iterator) ≤ 2 * l.steps + length (joined l.fn.parts);
   gaps : l.gaps + length (joined l.part-iterator) ≤ length (joined l.fn.parts);
   reached : (all : List Item)
-      × (set_after l.terms (setting 0 []) (joined l.fn.parts) ≡ set_after l.terms (setting l.steps all) (joined l.part-iterator))
+      × (set_after l.terms (setting 0 []) l.fn.parts ≡ set_after l.terms (setting l.steps all) l.part-iterator)
       × AreListed l.version all l.lists.items.items l.gaps l.lists.texts.items;
 }
