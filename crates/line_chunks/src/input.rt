@@ -7,18 +7,14 @@ ghost use Rattle.line_chunks.specs.Skipping.{TakesLong};
 use crate::long_line::LongLine;
 use crate::pending::Pending;
 use line_lane::SourceFault;
+use set_line::MOST_BYTES;
+use set_run::{MOST_READS, READ_SIZE};
 use std::alloc::Global;
 use std::io::{ErrorKind, Read};
 
-/// The largest number of bytes of one read.
-const READ_SIZE: usize = 4096;
-
-/// The largest number of reads for one line.
-const MOST_READS: u32 = 1_048_576;
-
 /// A line that has more bytes than this, before its line feed, is too long to be set, even if the last one is a
 /// carriage return that belongs to the line ending.
-const LONGEST: usize = 65_536;
+const LONGEST: usize = MOST_BYTES + 1;
 
 /// A reader, and its bytes that aren't in a chunk yet.
 #[derive(Drop)]

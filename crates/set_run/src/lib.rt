@@ -14,7 +14,7 @@ pub use run_plan::{Plan, Workers};
 pub use running::run;
 pub use running_items::{ItemOptions, MOST_SOURCES, run_items};
 pub use sources::list_source::ListSource;
-pub use sources::reader_source::ReaderSource;
+pub use sources::reader_source::{MOST_READS, READ_SIZE, ReaderSource};
 pub use sources::{ItemSource, LineSource};
 
 mod collecting;

@@ -4,6 +4,8 @@ ghost use Rattle.set_line.specs.Lines.{lines_of};
 ghost use Rattle.set_run.specs.Sources.{gives_line};
 
 use self::buffer::Buffer;
+pub use self::buffer::READ_SIZE;
+pub use self::raw_line::MOST_READS;
 use self::raw_line::{RawLine, next_raw_line};
 use self::state::ReaderState;
 use crate::LineSource;

@@ -10,7 +10,7 @@ use std::io::{ErrorKind, Read};
 use std::marker::Model;
 
 /// The largest number of bytes of one read.
-const READ_SIZE: usize = 4096;
+pub const READ_SIZE: usize = 4096;
 
 /// The bytes of the last read that aren't in a line yet: those of `space` from `start` to before `end`.
 #[derive(Drop)]

@@ -8,7 +8,7 @@ use std::alloc::Global;
 use std::io::Read;
 
 /// The largest number of reads for one line.
-const MAX_READS: u32 = 1_048_576;
+pub const MOST_READS: u32 = 1_048_576;
 
 /// The bytes before a line feed or before the end of the reader.
 #[derive(Drop)]
@@ -34,7 +34,7 @@ pub(crate) fn next_raw_line<R: Read>(
     if buffer.move_line(&mut line)? {
         return Ok(RawLine::Ended(line));
     }
-    for _ in 0..MAX_READS {
+    for _ in 0..MOST_READS {
         if buffer.refill(alloc, reader)? {
             return Ok(RawLine::Last(line));
         }
