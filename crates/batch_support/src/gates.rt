@@ -29,6 +29,21 @@ impl CountingGate {
             self.collectors.load(Ordering::SeqCst),
         )
     }
+
+    /// Returns whether each of this many sources and of this many workers, and the collecting thread, entered it once.
+    /// Of more than 16 threads of a kind only the first 16 are counted.
+    pub fn was_entered_by(&self, sources: usize, workers: usize) -> bool {
+        self.entries() == (ones(sources), ones(workers), 1)
+    }
+}
+
+/// Returns this many hexadecimal digits 1, of which there are at most 16.
+fn ones(count: usize) -> u64 {
+    let mut digits = 0u64;
+    for _ in 0..count.min(16) {
+        digits = digits.wrapping_mul(16).wrapping_add(1);
+    }
+    digits
 }
 
 impl Gate for CountingGate {

@@ -1,4 +1,4 @@
-//! The tests of `line_lane`, over its public calls alone.
+//! The tests of `line_lane` and `dealt_lanes`, over their public calls alone.
 #![tactic(auto)]
 
 #[cfg(test)]

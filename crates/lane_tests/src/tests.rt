@@ -1,9 +1,13 @@
-mod answers;
-mod bounds;
+/// The rows of a table.
+macro_rules! table {
+    ($($($part:expr),+;)+) => {
+        [$(($($part),+)),+]
+    };
+}
+
 mod call_by_call;
+mod dealt;
 mod lane;
 mod memory;
-mod one_slot;
-mod script;
+mod numbers;
 mod threads;
-mod two_lanes;

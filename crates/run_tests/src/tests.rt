@@ -1,11 +1,15 @@
+/// The rows of a table.
+macro_rules! table {
+    ($($($part:expr),+;)+) => {
+        [$(($($part),+)),+]
+    };
+}
+
 mod collectors;
-mod failing;
-mod many_lines;
 mod meeting;
 mod memory;
-mod plans;
 mod readers;
-mod reports;
+mod runs;
 mod slow;
 mod stopping;
 mod waking;

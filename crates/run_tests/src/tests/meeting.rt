@@ -1,6 +1,6 @@
 //! The threads of a batch run concurrently, and each line goes through the rings of its lane: a start barrier
 //! holds threads until others came by, and sources report when they are asked.
-use super::reports::{says, text_of_ab};
+use super::runs::{says, text_of_ab};
 use batch_support::{CountingGate, plan, with_terms};
 use line_lane::SourceFault;
 use set_line::{Line, Terms};
@@ -204,8 +204,11 @@ fn threads_run_concurrently_and_lines_go_through_the_rings(rt: HostRuntime) -> R
             &meeting,
         )?;
         let wanted = text_of_ab(rt.alloc(), &[*lines, *lines])?;
-        says(&rt, case, &report, (&wanted, true))?;
-        assert!(&rt; !meeting.failed.load(Ordering::SeqCst), "{case}");
+        says(&rt, case, &report, &wanted)?;
+        assert!(&rt;
+            report.is_finished() && !meeting.failed.load(Ordering::SeqCst),
+            "{case}"
+        );
         let asked = (*lines as u64).wrapping_add(1);
         assert_eq!(&rt;
             (meeting.asked(0), meeting.asked(1)),

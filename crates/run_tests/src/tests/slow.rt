@@ -1,7 +1,7 @@
 //! Batches of sources and collectors that take their time, wait for each other, or refuse.
 use batch_support::{plan, with_terms};
 use line_lane::{LaneEnd, SourceFault};
-use set_line::{Answer, Line, Outcome, Terms};
+use set_line::{Answer, Line, Terms};
 use set_run::{Collector, Gate, ItemOptions, ItemSource, Refusal, RunEnd, Stage, run_items};
 use std::alloc::Global;
 use std::process::Abort;
@@ -57,6 +57,10 @@ impl Shared {
         self.asked.load(Ordering::SeqCst)
     }
 
+    pub fn is_refused(&self) -> bool {
+        self.refused.load(Ordering::SeqCst)
+    }
+
     pub fn is_late(&self) -> bool {
         self.late.load(Ordering::SeqCst)
     }
@@ -70,7 +74,7 @@ impl Shared {
         match before {
             Before::Pause(_) => true,
             Before::Results => self.collected[number % 64].load(Ordering::SeqCst) >= given,
-            Before::Refusal(_) => given == 0 || self.refused.load(Ordering::SeqCst),
+            Before::Refusal(_) => given == 0 || self.is_refused(),
         }
     }
 }
@@ -143,14 +147,13 @@ fn rest<R: Clock>(rt: &R, micros: u64) {
 }
 
 /// What the collecting thread does: how long it waits before it begins, and before it takes each event, in
-/// microseconds; how many events it takes before it refuses one, for which reason; and whether it ever waits
-/// for more events without a refusal.
+/// microseconds; how many events it takes before it refuses one; and whether it ever waits for more events
+/// without a refusal.
 #[derive(Clone, Copy)]
 pub struct Manner {
     pub late: u64,
     pub pause: u64,
     pub taken: u32,
-    pub refusal: Refusal,
     pub waits: bool,
 }
 
@@ -159,7 +162,6 @@ pub const WILLING: Manner = Manner {
     late: 0,
     pause: 0,
     taken: u32::MAX,
-    refusal: Refusal::Output,
     waits: true,
 };
 
@@ -175,44 +177,25 @@ impl<R: Clock> Gate for LateGate<'_, R> {
     }
 }
 
-/// A collector of this manner, and what it was given.
+/// A collector of this manner, which counts the results and the complete lanes that it was given. It is proved that
+/// these are in order, and that a collector isn't called again after a refusal.
 #[derive(Drop)]
 pub struct SlowCollector<'a, R> {
     rt: &'a R,
     shared: &'a Shared,
     manner: Manner,
-    pub answers: [u32; 64],
-    pub ended: [bool; 64],
-    pub refused: bool,
-    /// It was called again after it had refused something, a line wasn't set as it should be, or a lane
-    /// didn't end as it should or went on after its end.
-    pub wrong: bool,
-}
-
-impl<R> SlowCollector<'_, R> {
-    /// The number of results, and that of ends.
-    pub fn counts(&self) -> (u32, u32) {
-        let mut counts = (0u32, 0u32);
-        for answers in &self.answers {
-            counts.0 = counts.0.saturating_add(*answers);
-        }
-        for ended in &self.ended {
-            counts.1 = counts.1.saturating_add(u32::from(*ended));
-        }
-        counts
-    }
-
-    fn refuses(&mut self) -> Result<(), Refusal> {
-        self.refused = true;
-        self.shared.refused.store(true, Ordering::SeqCst);
-        Err(self.manner.refusal)
-    }
+    pub results: u32,
+    pub ends: u32,
 }
 
 impl<R: Clock> SlowCollector<'_, R> {
+    fn refuses(&self) -> Result<(), Refusal> {
+        self.shared.refused.store(true, Ordering::SeqCst);
+        Err(Refusal::Output)
+    }
+
     /// An event of a lane.
-    fn event(&mut self, lane: usize) -> Result<(), Refusal> {
-        self.wrong |= self.refused || self.ended[lane % 64];
+    fn event(&mut self) -> Result<(), Refusal> {
         rest(self.rt, self.manner.pause);
         if self.manner.taken == 0 {
             return self.refuses();
@@ -235,23 +218,22 @@ impl<R: Clock> Collector for SlowCollector<'_, R> {
 
     ghost quiet = { λ c. ⊤ };
 
-    fn take(&mut self, lane: usize, answer: Answer) -> Result<(), Refusal> {
-        self.event(lane)?;
-        self.wrong |= !matches!(answer.outcome(), Outcome::Set { width: 491_520, .. });
-        self.answers[lane] = self.answers[lane].saturating_add(1);
+    fn take(&mut self, lane: usize, _answer: Answer) -> Result<(), Refusal> {
+        self.event()?;
+        self.results = self.results.saturating_add(1);
         self.shared.collect(lane);
         Ok(())
     }
 
-    fn end(&mut self, lane: usize, end: LaneEnd) -> Result<(), Refusal> {
-        self.event(lane)?;
-        self.wrong |= end != LaneEnd::Complete;
-        self.ended[lane] = true;
+    fn end(&mut self, _lane: usize, end: LaneEnd) -> Result<(), Refusal> {
+        self.event()?;
+        self.ends = self
+            .ends
+            .saturating_add(u32::from(end == LaneEnd::Complete));
         Ok(())
     }
 
     fn about_to_wait(&mut self) -> Result<(), Refusal> {
-        self.wrong |= self.refused;
         if self.manner.waits {
             Ok(())
         } else {
@@ -309,10 +291,8 @@ pub fn run_slowly<'a, R: Threads + Wait + Clock + Abort + AllocGlobal + Sync>(
         rt,
         shared,
         manner,
-        answers: [0; 64],
-        ended: [false; 64],
-        refused: false,
-        wrong: false,
+        results: 0,
+        ends: 0,
     };
     let (collector, ended) = run_items(rt, rt.alloc(), sources, options, collector);
     Ok((collector, ended?))

@@ -42,8 +42,7 @@ fn each_thread_returns_once_the_batch_is_stopped(rt: HostRuntime) -> Result<(), 
             };
             let (collector, run) = run_slowly(&rt, layout, source, &shared, manner)?;
             assert_eq!(&rt; run.refusal, Some(Refusal::Output), "{name}");
-            assert_eq!(&rt; collector.counts(), (taken, 0), "{name}");
-            assert!(&rt; !collector.wrong, "{name}");
+            assert_eq!(&rt; (collector.results, collector.ends), (taken, 0), "{name}");
         }
     }
     Ok(())

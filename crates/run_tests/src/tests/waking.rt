@@ -50,8 +50,8 @@ fn each_thread_that_sleeps_is_woken(rt: HostRuntime) -> Result<(), Fail> {
             let sources = u32::try_from(count).unwrap_or(0);
             let wanted = (sources.wrapping_mul(lines), sources);
             assert_eq!(&rt; run.refusal, None, "{who}");
-            assert_eq!(&rt; collector.counts(), wanted, "{who}");
-            assert!(&rt; !collector.wrong && !shared.is_late(), "{who}");
+            assert_eq!(&rt; (collector.results, collector.ends), wanted, "{who}");
+            assert!(&rt; !shared.is_late(), "{who}");
         }
     }
     Ok(())

@@ -10,11 +10,11 @@ use std::sync::Wait;
 use std::thread::Threads;
 use test_support::fonts::files::PLAIN;
 use test_support::{FailingWriter, TricklingReader, lines_of_source};
-use tfm_tool::{FontSetting, Summary, ToolFault, set_each, set_text};
+use tfm_tool::{FontSetting, Summary, ToolFault, set_text};
 
-/// The functions that set the lines of a batch, here with the font `plain`, and write their output. The first two take
-/// sources of lines, and no option `crlf`.
-const FUNCTIONS: [&str; 4] = ["set_text", "set_each", "set_readers", "stream_readers"];
+/// The functions that set the lines of a batch, here with the font `plain`, and write their output. The first one takes
+/// sources of lines, and no option `crlf`; it calls `set_each`.
+const FUNCTIONS: [&str; 3] = ["set_text", "set_readers", "stream_readers"];
 
 /// A function, and the options of its batches. The policy is that of the font `plain`.
 #[derive(Drop)]
@@ -54,13 +54,13 @@ fn batch_of<'a, R: Abort>(
 impl Batch<'_> {
     /// Whether the function takes readers.
     fn reads(&self) -> bool {
-        matches!(self.function, "set_readers" | "stream_readers")
+        self.function != "set_text"
     }
 }
 
 type BatchReader<'a> = Interrupted<TricklingReader<'a>>;
 
-/// Calls the function, which takes sources of lines, for these readers.
+/// Calls `set_text` for these readers.
 fn report<R: Abort + Threads + Wait + Sync + AllocGlobal>(
     rt: &R,
     batch: &Batch<'_>,
@@ -78,12 +78,7 @@ fn report<R: Abort + Threads + Wait + Sync + AllocGlobal>(
         version: Version::One,
         gate: batch.gate,
     };
-    if batch.function == "set_text" {
-        return set_text(rt, font, sources, &options, out);
-    }
-    let terms = terms_of(rt.alloc(), font).expect(rt, "the settings");
-    let sources = with_terms(rt.alloc(), &terms, sources).expect(rt, "memory");
-    set_each(rt, rt.alloc(), sources, &options, out)
+    set_text(rt, font, sources, &options, out)
 }
 
 /// Calls the function for these readers.
@@ -185,15 +180,6 @@ static CASES: [(&[(&str, usize)], &str, u64, bool); 5] = table! {
          5:1 set 327680 c97=327680\n5:2 set 491520 c99=491520\n5 end read 2\n", 0, true;
 };
 
-/// Returns this many hexadecimal digits 1.
-fn ones(count: usize) -> u64 {
-    let mut digits = 0u64;
-    for _ in 0..count {
-        digits = digits.wrapping_mul(16).wrapping_add(1);
-    }
-    digits
-}
-
 /// If there are readers, the thread of each, each worker and the collecting thread passes the start barrier once. A
 /// source of lines has one lane, and there is at most one worker for each lane.
 #[test]
@@ -211,7 +197,7 @@ fn each_reader_has_its_records_and_its_end(rt: HostRuntime) {
                 let summary = has_output(&rt, &batch, failing_readers(&rt, given), text);
                 check(&rt, summary == Some(wanted), text, layout.2);
                 let most = if batch.reads() { 16 } else { given.len() };
-                let entered = gate.entries() == (ones(given.len()), ones(layout.2.min(most)), 1);
+                let entered = gate.was_entered_by(given.len(), layout.2.min(most));
                 check(&rt, given.is_empty() || entered, text, layout.2);
             }
         }
@@ -339,8 +325,7 @@ fn are_set<R: Abort + Threads + Wait + Sync + AllocGlobal>(rt: &R, texts: &[&[u8
     }
 }
 
-// Mutants of `line_chunks`: a carriage return is stripped at the end of a reader, only if it is in the same read as the
-// line feed, or from a line feed of its own; two are stripped.
+// Mutant of `line_chunks`: a carriage return is stripped at the end of a reader.
 #[test]
 fn lines_end_with_line_feeds_or_with_cr_lf(rt: HostRuntime) {
     are_set(&rt, &TEXTS, false);
@@ -350,8 +335,8 @@ fn lines_end_with_line_feeds_or_with_cr_lf(rt: HostRuntime) {
 /// Functions, and numbers of writes after which the output isn't complete, for readers of 2,400, 5, 0 and 9 lines. The
 /// output that is kept has two buffers of the first reader, and one of each other reader, a report has one, and a stream
 /// has two parts at least.
-static WRITES: [(&str, usize); 4] = table! {
-    "set_text", 1; "set_each", 1; "set_readers", 5; "stream_readers", 2;
+static WRITES: [(&str, usize); 3] = table! {
+    "set_text", 1; "set_readers", 5; "stream_readers", 2;
 };
 
 #[test]

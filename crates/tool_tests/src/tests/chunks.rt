@@ -189,9 +189,8 @@ fn is_refused<R: Abort + AllocGlobal>(rt: &R, text: &str, crlf: bool, length: us
     check(rt, holds, &wanted, length);
 }
 
-// Mutants of `line_chunks`: a line is too long one byte earlier or later, or with its carriage return; the length of a
-// line that is too long has the carriage return, or is that of the first reads alone; after it the lines of the same
-// read are lost, or have the wrong numbers.
+// Mutants of `line_chunks`: the length of a line that is too long has the carriage return at the end of the read before
+// the line feed; after it the lines of the same read are lost.
 #[test]
 fn a_line_of_65536_bytes_is_refused_with_its_length(rt: HostRuntime) {
     for (count, ending, crlf, length) in &LENGTHS {

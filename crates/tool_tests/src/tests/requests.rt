@@ -7,7 +7,7 @@ use std::alloc::{AllocError, Global};
 use std::process::Abort;
 use std::sync::Wait;
 use std::thread::Threads;
-use test_support::fonts::examples::{endless, left_boundary, ligature, right_boundary};
+use test_support::fonts::examples::{endless, left_boundary, right_boundary};
 use test_support::fonts::files::{NO_CHARACTERS, PLAIN};
 use tfm_tool::InMemory;
 
@@ -41,13 +41,12 @@ pub fn vector(alloc: Global) -> Result<Vec<u8>, AllocError> {
 type NamedFile<'a> = (&'a str, &'a [u8]);
 
 /// The files of the requests. Their numbers are those of `opened`, starting at 1; from 10 on they aren't noted. The fonts
-/// `right` and `left` have boundaries, `ligature` has one of a and b, and `endless` inserts a between two of them
-/// without end.
+/// `right` and `left` have boundaries, and `endless` inserts a between two of them without end.
 fn files_with<'a>(
     vector: &'a [u8],
     long: &'a [u8],
-    fonts: &'a [Vec<u8>; 4],
-) -> [NamedFile<'a>; 19] {
+    fonts: &'a [Vec<u8>; 3],
+) -> [NamedFile<'a>; 16] {
     [
         ("plain", &PLAIN),
         ("cut", &NO_CHARACTERS[..47]),
@@ -60,13 +59,10 @@ fn files_with<'a>(
         ("long", long),
         ("right", &fonts[0]),
         ("left", &fonts[1]),
-        ("ligature", &fonts[2]),
-        ("endless", &fonts[3]),
+        ("endless", &fonts[2]),
         ("aa", b"aa\na"),
         ("adb", b"adb\nad\nd a\na|b\n"),
         ("ada", b"ada"),
-        ("first", b"ab"),
-        ("second", b"ab abc"),
         ("empty", b"\n"),
     ]
 }
@@ -97,8 +93,6 @@ const FIELDS: &str = "left,right,action,value,left_character,right_character,val
 const DOUBLED: &str =
     "1:1 set 983040 c97=655360 c98=327680\n1:2 set 983040 c99=983040\n1 end complete 2\n";
 
-const LIMIT_1: &str = "tfmset: limit 1 out of range\n";
-
 const NOT_READ: &str = "tfmset: encoding not read\n";
 
 const AT_LINE_4: &str = "tfmset: encoding refused: line 4\n";
@@ -107,24 +101,8 @@ const AT_LINE_3: &str = "tfmset: encoding refused: line 3\n";
 
 const CUT: &str = "tfmset: font refused: 8 truncated, 48 bytes needed\n";
 
-const MANY: &str = "tfmset: more than 64 files\n";
-
-/// A text, and another one 65 times.
-macro_rules! with_65 {
-    ($command:literal, $file:literal) => {
-        concat!(
-            $command,
-            $file, $file, $file, $file, $file, $file, $file, $file, $file, $file, $file, $file, $file,
-            $file, $file, $file, $file, $file, $file, $file, $file, $file, $file, $file, $file, $file,
-            $file, $file, $file, $file, $file, $file, $file, $file, $file, $file, $file, $file, $file,
-            $file, $file, $file, $file, $file, $file, $file, $file, $file, $file, $file, $file, $file,
-            $file, $file, $file, $file, $file, $file, $file, $file, $file, $file, $file, $file, $file,
-        )
-    };
-}
-
 /// Arguments, what fails, as `ways_of` and `ends` have it, the openings, and how the request ends.
-static REQUESTS: [(&str, &str, u64, Ended<'static>); 71] = rows! {
+static REQUESTS: [(&str, &str, u64, Ended<'static>); 62] = rows! {
     // Whole outputs.
     "counts none", "", 0x8 => 0, COUNTS, "";
     "list -", "", 0 => 0, LISTING, "";
@@ -142,7 +120,7 @@ static REQUESTS: [(&str, &str, u64, Ended<'static>); 71] = rows! {
     "stream --encoding=v.enc plain lines", "", 0x136 => 1, RECORDS, "";
     "stream --encoding v.enc plain", "", 0x13 => 1, RECORDS, "";
     "each --encoding v.enc plain 9 lines", "", 0x136 => 1, RECORDS, "";
-    // The limit on steps, skipped characters, and a font and a limit for each file.
+    // The limit on steps, and skipped characters.
     "stream --limit 100 endless aa", "", 0 =>
         1, "1:1 refused steps 100\n1:2 set 327680 c97=327680\n1 end complete 2\n", "";
     "set --missing skip right adb", "", 0 => 0,
@@ -152,13 +130,6 @@ static REQUESTS: [(&str, &str, u64, Ended<'static>); 71] = rows! {
          1:4 set 512000 c97=327680 m124 c98=163840 k20480\n1 end complete 4\n", "";
     "stream --missing skip --record 2 left ada", "", 0 => 0,
         "records 2\n1:1 set 573440 steps 2 k-40960 c97=327680 m100 k-40960 c97=327680\n1 end complete 1\n", "";
-    "each --record 2 ligature 1048576 first plain 4 second", "", 0x1 => 1,
-        "records 2\n1:1 set 491520 steps 2 c99=491520\n1 end complete 1\n2:1 refused steps 4\n2 end complete 1\n", "";
-    "each ligature 1048576 first plain 4 second", "", 0x1 =>
-        1, "1:1 set 491520 c99=491520\n1 end complete 1\n2:1 refused steps 4\n2 end complete 1\n", "";
-    "each --record 2 ligature 1048576 first plain 5 second", "", 0x1 => 0,
-        "records 2\n1:1 set 491520 steps 2 c99=491520\n1 end complete 1\n\
-         2:1 set 1693013 steps 5 c97=327680 c98=163840 s218453 c97=327680 c98=163840 c99=491520\n2 end complete 1\n", "";
     "each --record 2 plain 9 empty", "", 0x1 => 0, "records 2\n1:1 set 0 steps 0\n1 end complete 1\n", "";
     // Interruptions change nothing.
     "set --encoding v.enc --missing skip plain lines", "interrupted", 0x136 => 0, SKIPPED, "";
@@ -207,15 +178,9 @@ static REQUESTS: [(&str, &str, u64, Ended<'static>); 71] = rows! {
     "set --encoding v.enc plain lines no", "", 0x136F => 4, "", "tfmset: file 2 not read\n";
     "each --encoding v.enc plain 9 no plain 9 ab", "", 0x113F => 4, "", "tfmset: file 1 not read\n";
     // An error of the arguments: nothing is opened.
-    with_65!("set --encoding no.enc no", " no"), "", 0 => 2, "", MANY;
-    with_65!("stream --encoding no.enc no", " no"), "", 0 => 2, "", MANY;
-    with_65!("each --encoding no.enc", " no 0 no"), "", 0 => 2, "", MANY;
     "stream --encoding v.enc -", "", 0 => 2, "", "tfmset: font and text both on standard input\n";
     "check no - plain -", "", 0 => 2, "", "tfmset: two fonts on standard input\n";
     "each --encoding short.enc cut 9", "", 0 => 2, "", "tfmset: words not in threes\n";
-    "each plain 0 ab", "", 0 => 2, "", LIMIT_1;
-    "each plain 16777217 ab", "", 0 => 2, "", LIMIT_1;
-    "each plain +5 ab", "", 0 => 2, "", LIMIT_1;
     "each --encoding short.enc cut 9 ab no 0 ab", "", 0 => 2, "", "tfmset: limit 2 out of range\n";
 };
 
@@ -266,7 +231,6 @@ fn a_request_ends_with_its_first_error_or_its_output(rt: HostRuntime) {
     let fonts = [
         right_boundary(rt.alloc()).expect(&rt, "memory"),
         left_boundary(rt.alloc()).expect(&rt, "memory"),
-        ligature(rt.alloc(), 0).expect(&rt, "memory"),
         endless(rt.alloc(), 3).expect(&rt, "memory"),
     ];
     let list = files_with(&vector, text.as_bytes(), &fonts);

@@ -2,5 +2,5 @@
 use Rattle.line_lane.specs.Ends.{SameFeeder}
 use Rattle.lane_tests.proofs.tests.threads.feed_all.Given as goal
 
-abbrev pub invariant-loop-line : goal.invariant-loop-line
-invariant-loop-line g l = SameFeeder l.initial.feeder l.feeder
+abbrev pub invariant-loop : goal.invariant-loop
+invariant-loop g l = SameFeeder l.initial.feeder l.feeder

@@ -1,6 +1,0 @@
--- the same end
-use Rattle.line_lane.specs.Ends.{SameFeeder}
-use Rattle.lane_tests.proofs.tests.threads.feed.Given as goal
-
-abbrev pub invariant-loop : goal.invariant-loop
-invariant-loop g l = SameFeeder l.initial.feeder l.feeder
