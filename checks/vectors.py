@@ -57,10 +57,11 @@ def codes_of(vector, number):
     """The codes of a character in a vector, or None."""
     if number in FIXED:
         return FIXED[number]
-    for wanted in (number, SUBSTITUTES.get(number, number)):
-        for code, each in enumerate(vector):
-            if each == wanted and code not in NEVER:
-                return bytes([code])
+    order = number, SUBSTITUTES.get(number, number)
+    for wanted in reversed(order) if number in (0x27, 0x60) else order:
+        codes = [code for code, each in enumerate(vector) if each == wanted and code not in NEVER]
+        if codes:
+            return bytes([wanted if wanted in codes else codes[0]])
     return None
 
 

@@ -1,6 +1,6 @@
--- Vectors: the characters of a list by code, each at its lowest code, and the codes of a character among them.
+-- Vectors: the characters of a list by code, each at the code that sets it, and the codes of a character among them.
 use Rattle.std.proofs.Common.{◌≡◌, ◌≢◌, ◌⊎◌, inl, inr, ℕ, suc, ◌+◌, ◌<◌, ◌≤◌, Bool, true, false, List, [], ◌∷◌, ◌&&◌, ◌||◌, not, cond, Option, Some, None, length, get_or, position, Bor, arith, refl, ap, sym, subst, ◌∙◌}
-use Rattle.std.specs.Prelude.{◌==◌, nat_eq, nat_lt, unwrap_or, MatchOption}
+use Rattle.std.specs.Prelude.{◌==◌, is_some, nat_eq, nat_lt, unwrap_or, MatchOption}
 use Rattle.std.specs.Char.{IsScalar}
 use Rattle.std.specs.List.{list_all, list_any}
 use Rattle.std.specs.Option.{SomeIff, option_and_then, option_map, option_map_or, option_or}
@@ -17,7 +17,7 @@ use Rattle.encodings.specs.declared.vector.Vector.{Vector as VectorValue}
 use Rattle.encodings.specs.Tables.{no}
 use Rattle.encodings.specs.Codes.{IsMadeOf, characters_of, codes_beside, codes_of, listed_codes, own_code}
 use Rattle.encodings.specs.Lines.{is_code, numbers_of as numbers_in, set_apart}
-use Rattle.encodings.specs.Vectors.{character_beside, given_at, given_characters, is_fixed, lowest, number_at, numbers_of, own_at, own_characters, substitute_of, substitutes, unbroken, unless_fixed, vector_characters}
+use Rattle.encodings.specs.Vectors.{character_beside, given_at, given_characters, is_at_own, is_fixed, is_listed, is_place, is_quoted, lowest, number_at, numbers_of, own_at, own_characters, substitute_of, substitutes, unbroken, unless_fixed, vector_characters}
 
 abbrev is : ℕ → ℕ → Bool
 is c each = nat_eq each c
@@ -49,14 +49,6 @@ none_found xs c none = by (nat_lt (lowest xs c) (length xs)) refl none
     by : (b : Bool) → nat_lt (lowest xs c) (length xs) ≡ b → cond b (Some (lowest xs c)) None ≡ None → length xs ≤ lowest xs c
     by true below none = absurd (none-some _ (sym none))
     by false above none = grind (arith, nat_tests)
-
-lowest_within : (xs : List ℕ) (c : ℕ) → lowest xs c ≤ length xs
-lowest_within [] c = omega arith
-lowest_within (x ∷ xs) c = by (nat_eq x c) (lowest_within xs c)
-  where
-    by : (b : Bool) → lowest xs c ≤ length xs → cond (not b) (1 + lowest xs c) 0 ≤ suc (length xs)
-    by true rest = omega arith
-    by false rest = omega arith
 
 -- ---- characters that are set by other codes than their own
 
@@ -105,7 +97,7 @@ other_unfixed c other found = by (is_fixed other) (beside_all (λ each. not (is_
     by true not_is = cc
     by false not_is = refl
 
--- ---- each character at its lowest code
+-- ---- each character at the code that sets it
 
 own_length : (xs : List ℕ) → length (own_characters xs) ≡ length xs
 unfolding own_characters
@@ -115,65 +107,101 @@ own_there : (xs : List ℕ) (code : ℕ) → code < length xs → get_or (own_ch
 unfolding own_characters
 own_there xs code within = get_or-map-range_with_len (own_at xs) 0 (length xs) code code no within (omega arith)
 
-own_if_lowest : (xs : List ℕ) (code : ℕ) → lowest xs (get_or xs code no) ≡ code → own_at xs code ≡ get_or xs code no
-own_if_lowest xs code same = rw (eq-eqb _ _ same) refl
+own_if_place : (xs : List ℕ) (code : ℕ) → is_place xs code ≡ true → is_quoted xs (get_or xs code no) ≡ false → own_at xs code ≡ get_or xs code no
+own_if_place xs code place plain = rw (place, plain) refl
 
 own_each : (xs : List ℕ) → ((k : ℕ) → k < length xs → get_or xs k no ≡ own_at xs k) → xs ≡ own_characters xs
 unfolding own_characters
 own_each xs each = fill_by_all (own_at xs) xs (length xs) no refl each
 
--- a code has the character of the list, or none
-own_or_none : (xs : List ℕ) (code : ℕ) → ((own_at xs code ≡ get_or xs code no) × (lowest xs (get_or xs code no) ≡ code)) ⊎ (own_at xs code ≡ no)
-own_or_none xs code = by (nat_eq (lowest xs (get_or xs code no)) code) refl
+-- a code has the character of the list, which it sets, or none
+abbrev OwnOrNone : List ℕ → ℕ → Type 0
+OwnOrNone xs code = ((own_at xs code ≡ get_or xs code no) × (is_place xs code ≡ true) × (is_quoted xs (get_or xs code no) ≡ false)) ⊎ (own_at xs code ≡ no)
+
+own_or_none : (xs : List ℕ) (code : ℕ) → OwnOrNone xs code
+own_or_none xs code = by (is_place xs code) refl (is_quoted xs (get_or xs code no)) refl
   where
-    by : (b : Bool) → nat_eq (lowest xs (get_or xs code no)) code ≡ b
-        → ((cond b (get_or xs code no) no ≡ get_or xs code no) × (lowest xs (get_or xs code no) ≡ code)) ⊎ (cond b (get_or xs code no) no ≡ no)
-    by true same = inl (refl, eqb-true _ _ same)
-    by false other = inr refl
+    by : (b : Bool) → is_place xs code ≡ b → (q : Bool) → is_quoted xs (get_or xs code no) ≡ q
+        → ((cond (b && not q) (get_or xs code no) no ≡ get_or xs code no) × (is_place xs code ≡ true) × (is_quoted xs (get_or xs code no) ≡ false)) ⊎ (cond (b && not q) (get_or xs code no) no ≡ no)
+    by true place false plain = inl (refl, place, plain)
+    by true place true quoted = inr refl
+    by false other q quoted = inr refl
 
--- the lowest code of a character doesn't change
-own_lowest : (xs : List ℕ) (c : ℕ) → c ≢ no → lowest (own_characters xs) c ≡ lowest xs c
-own_lowest xs c some = position_or_len_is (is c) (own_characters xs) (lowest xs c) no most before there
+-- a code that sets its character is the character's number, or the character isn't there and this is its lowest code
+place_is : (xs : List ℕ) (k c : ℕ) → get_or xs k no ≡ c → is_place xs k ≡ true → (c ≡ k) ⊎ ((is_at_own xs c ≡ false) × (lowest xs c ≡ k))
+place_is xs k c here place = by (nat_eq c k) refl (is_at_own xs c) refl (nat_eq (lowest xs c) k) refl (rw here at place)
   where
-    most : lowest xs c ≤ length (own_characters xs)
-    most = omega (arith, own_length xs, lowest_within xs c)
+    by : (b : Bool) → nat_eq c k ≡ b → (o : Bool) → is_at_own xs c ≡ o → (l : Bool) → nat_eq (lowest xs c) k ≡ l → b || (not o && l) ≡ true → (c ≡ k) ⊎ ((is_at_own xs c ≡ false) × (lowest xs c ≡ k))
+    by true same o own l low place = inl (eqb-true c k same)
+    by false other false away true low place = inr (away, eqb-true _ _ low)
+    by false other true own l low place = cc
+    by false other false away false low place = cc
 
-    at : (k : ℕ) → k < lowest xs c → k < length xs → ((own_at xs k ≡ get_or xs k no) × (lowest xs (get_or xs k no) ≡ k)) ⊎ (own_at xs k ≡ no) → nat_eq (get_or (own_characters xs) k no) c ≡ false
-    at k below within (inl here) = ap (λ x. nat_eq x c) (own_there xs k within ∙ here.0) ∙ fails_before_first (is c) xs k no below
-    at k below within (inr none) = ap (λ x. nat_eq x c) (own_there xs k within ∙ none) ∙ other_than no c (λ same. some (sym same))
+own_there_is : (xs : List ℕ) (c : ℕ) → c < length xs → get_or xs c no ≡ c → is_at_own xs c ≡ true
+own_there_is xs c within here = rw (lt-ltb c (length xs) within, eq-eqb _ _ here) refl
 
-    before : (k : ℕ) → k < lowest xs c → nat_eq (get_or (own_characters xs) k no) c ≡ false
-    before k below = at k below (omega (arith, lowest_within xs c)) (own_or_none xs k)
+-- only one code sets a character
+one_place : (xs : List ℕ) (j k c : ℕ) → j < length xs → k < length xs → get_or xs j no ≡ c → get_or xs k no ≡ c → is_place xs j ≡ true → is_place xs k ≡ true → j ≡ k
+one_place xs j k c inside within one other place another = by (place_is xs j c one place) (place_is xs k c other another)
+  where
+    by : (c ≡ j) ⊎ ((is_at_own xs c ≡ false) × (lowest xs c ≡ j)) → (c ≡ k) ⊎ ((is_at_own xs c ≡ false) × (lowest xs c ≡ k)) → j ≡ k
+    by (inl first) (inl second) = sym first ∙ second
+    by (inl first) (inr second) = absurd (cc (own_there_is xs c (omega (arith, first)) (ap (λ n. get_or xs n no) first ∙ one), second.0))
+    by (inr first) (inl second) = absurd (cc (own_there_is xs c (omega (arith, second)) (ap (λ n. get_or xs n no) second ∙ other), first.0))
+    by (inr first) (inr second) = sym first.1 ∙ second.1
 
-    there : lowest xs c < length (own_characters xs) → nat_eq (get_or (own_characters xs) (lowest xs c) no) c ≡ true
-    there inside =
-        let within : lowest xs c < length xs = omega (arith, own_length xs) in
-        let here : get_or xs (lowest xs c) no ≡ c = eqb-true _ _ (passes_at_first (is c) xs no within) in
-        eq-eqb _ c (own_there xs (lowest xs c) within ∙ own_if_lowest xs (lowest xs c) (ap (lowest xs) here) ∙ here)
+-- a code that has its own character sets it
+own_is : (xs : List ℕ) (k c : ℕ) → k < length xs → get_or (own_characters xs) k no ≡ c → c ≢ no → (get_or xs k no ≡ c) × (is_place xs k ≡ true) × (is_quoted xs c ≡ false)
+own_is xs k c within here some = by (own_or_none xs k)
+  where
+    by : OwnOrNone xs k → (get_or xs k no ≡ c) × (is_place xs k ≡ true) × (is_quoted xs c ≡ false)
+    by (inl own) =
+        let same : get_or xs k no ≡ c = sym own.0 ∙ sym (own_there xs k within) ∙ here in (same, own.1, rw same at own.2)
+    by (inr none) = absurd (some (sym here ∙ own_there xs k within ∙ none))
 
-own_position : (xs : List ℕ) (c : ℕ) → c ≢ no → position (is c) (own_characters xs) ≡ position (is c) xs
-own_position xs c some = rw (own_length xs, own_lowest xs c some) refl
-
--- a code's own character is at no lower code
+-- a code's own character is at no other code
 own_alone : (xs : List ℕ) (code : ℕ) → code < length (own_characters xs) → get_or (own_characters xs) code no ≢ no → lowest (own_characters xs) (get_or (own_characters xs) code no) ≡ code
-own_alone xs code inside some = by (own_or_none xs code)
+own_alone xs code inside some = first_at (own_characters xs) (get_or (own_characters xs) code no) code inside before refl
   where
     within : code < length xs
     within = omega (arith, own_length xs)
 
-    by : ((own_at xs code ≡ get_or xs code no) × (lowest xs (get_or xs code no) ≡ code)) ⊎ (own_at xs code ≡ no) → lowest (own_characters xs) (get_or (own_characters xs) code no) ≡ code
-    by (inl here) = own_lowest xs _ some ∙ ap (lowest xs) (own_there xs code within ∙ here.0) ∙ here.1
-    by (inr none) = absurd (some (own_there xs code within ∙ none))
+    before : (k : ℕ) → k < code → nat_eq (get_or (own_characters xs) k no) (get_or (own_characters xs) code no) ≡ false
+    before k below = other_than _ _ (λ same.
+        let c = get_or (own_characters xs) code no in
+        let one = own_is xs k c (omega (arith, within)) same some in
+        let other = own_is xs code c within refl some in
+        absurd (omega (arith, below, one_place xs k code c (omega (arith, within)) within one.0 other.0 one.1 other.1)))
 
--- the codes of a character don't change
-own_codes : (xs : List ℕ) (c : ℕ) → c ≢ no → listed_codes (own_characters xs) c ≡ listed_codes xs c
-own_codes xs c some =
-    ap (λ (o : Option ℕ). option_or (codes_beside unbroken c) (option_or (option_map (λ code. code ∷ []) o) (as_other (own_characters xs) c))) (own_position xs c some)
-    ∙ ap (λ o. option_or (codes_beside unbroken c) (option_or (own_code xs c) o)) (by (substitute_of c) refl)
+-- a character that no code of a list has, none has as its own
+none_left : (xs : List ℕ) (c : ℕ) → c ≢ no → is_listed xs c ≡ false → is_listed (own_characters xs) c ≡ false
+none_left xs c some none = by (position (is c) (own_characters xs)) refl
   where
-    by : (o : Option ℕ) → substitute_of c ≡ o → option_and_then (own_code (own_characters xs)) o ≡ option_and_then (own_code xs) o
-    by None none = refl
-    by (Some other) found = ap (option_map (λ (code : ℕ). code ∷ [])) (own_position xs other (λ same. absurd (omega (arith, same, other_character c other found))))
+    absent : (o : Option ℕ) → is_some o ≡ false → o ≡ None
+    absent None is = refl
+    absent (Some at) is = cc
+
+    by : (o : Option ℕ) → position (is c) (own_characters xs) ≡ o → is_some o ≡ false
+    by None is = refl
+    by (Some at) found =
+        let here = found_is (own_characters xs) c at found in
+        let within : at < length xs = omega (arith, here.0, own_length xs) in
+        let past : length xs ≤ lowest xs c = none_found xs c (absent _ none) in
+        absurd (cc (eq-eqb _ _ (own_is xs at c within here.1 some).0, fails_before_first (is c) xs at no (omega (arith, past, within))))
+
+still_plain : (xs : List ℕ) (c : ℕ) → is_quoted xs c ≡ false → is_quoted (own_characters xs) c ≡ false
+still_plain xs c plain = by (nat_eq c 0x27) (nat_eq c 0x60) (is_listed xs 0x2019) refl (is_listed xs 0x2018) refl plain
+  where
+    by : (a b : Bool) → (r : Bool) → is_listed xs 0x2019 ≡ r → (l : Bool) → is_listed xs 0x2018 ≡ l → (a && r) || (b && l) ≡ false
+        → (a && is_listed (own_characters xs) 0x2019) || (b && is_listed (own_characters xs) 0x2018) ≡ false
+    by false false r right l left plain = refl
+    by true false false right l left plain = rw (none_left xs 0x2019 (λ same. absurd (omega (arith, same))) right) refl
+    by false true r right false left plain = none_left xs 0x2018 (λ same. absurd (omega (arith, same))) left
+    by true true false right false left plain = rw (none_left xs 0x2019 (λ same. absurd (omega (arith, same))) right) (none_left xs 0x2018 (λ same. absurd (omega (arith, same))) left)
+    by true false true right l left plain = cc
+    by true true true right l left plain = cc
+    by false true r right true left plain = cc
+    by true true false right true left plain = cc
 
 -- ---- the characters at the 256 codes
 
@@ -200,18 +228,6 @@ given_space numbers = refl
 given_else : (numbers : List ℕ) (code : ℕ) → code ≢ 10 → code ≢ 32 → given_at numbers code ≡ unless_fixed (get_or numbers code no)
 unfolding given_at
 given_else numbers code not_feed not_space = rw (other_than code 10 not_feed, other_than code 32 not_space) refl
-
--- a character that isn't fixed, or none
-unless_other : (number c : ℕ) → is_fixed c ≡ true → c ≢ no → unless_fixed number ≢ c
-unless_other number c fixed some = by (scalar number) (is_fixed number) refl
-  where
-    by : (s q : Bool) → is_fixed number ≡ q → cond (s && not q) number no ≢ c
-    by true true same = λ equal. some (sym equal)
-    by true false other = λ equal. cc (ap is_fixed equal, fixed, other)
-    by false q other = λ equal. some (sym equal)
-
-unspaced : (number : ℕ) → unless_fixed number ≢ 0x20
-unspaced number = unless_other number 0x20 refl (λ equal. omega (arith, equal))
 
 unless_unbroken : (number : ℕ) → codes_beside unbroken (unless_fixed number) ≡ None
 unless_unbroken number = by (scalar number) (is_fixed number) refl
@@ -243,21 +259,6 @@ given_unbroken numbers code = by (feed_or_other numbers code)
     by (inr (inl space)) = ap (codes_beside unbroken) space.1
     by (inr (inr other)) = ap (codes_beside unbroken) other.2 ∙ unless_unbroken (get_or numbers code no)
 
--- only code 32 has the space
-spaced : (numbers : List ℕ) (code : ℕ) → given_at numbers code ≡ 0x20 → code ≡ 32
-spaced numbers code same = by (feed_or_other numbers code)
-  where
-    by : ((code ≡ 10) × (given_at numbers code ≡ no)) ⊎ (((code ≡ 32) × (given_at numbers code ≡ 0x20)) ⊎ ((code ≢ 10) × (code ≢ 32) × (given_at numbers code ≡ unless_fixed (get_or numbers code no)))) → code ≡ 32
-    by (inl feed) = absurd (omega (arith, sym feed.1 ∙ same))
-    by (inr (inl space)) = space.0
-    by (inr (inr other)) = absurd (unspaced (get_or numbers code no) (sym other.2 ∙ same))
-
-space_lowest : (numbers : List ℕ) → lowest (given_characters numbers) 0x20 ≡ 32
-space_lowest numbers =
-    first_at (given_characters numbers) 0x20 32 (omega (arith, given_length numbers))
-    (λ k below. other_than _ 0x20 (λ same. absurd (omega (arith, spaced numbers k (sym (given_there numbers k (omega arith)) ∙ same)))))
-    (given_there numbers 32 (omega arith) ∙ given_space numbers)
-
 -- ---- the characters of a vector
 
 pub vector_length : (numbers : List ℕ) → length (vector_characters numbers) ≡ 256
@@ -269,7 +270,7 @@ vector_there numbers code below = own_there (given_characters numbers) code (ome
 vector_at_feed : (numbers : List ℕ) → get_or (vector_characters numbers) 10 no ≡ no
 vector_at_feed numbers = vector_there numbers 10 (omega arith) ∙ by (own_or_none (given_characters numbers) 10)
   where
-    by : ((own_at (given_characters numbers) 10 ≡ get_or (given_characters numbers) 10 no) × (lowest (given_characters numbers) (get_or (given_characters numbers) 10 no) ≡ 10)) ⊎ (own_at (given_characters numbers) 10 ≡ no)
+    by : OwnOrNone (given_characters numbers) 10
         → own_at (given_characters numbers) 10 ≡ no
     by (inl here) = here.0 ∙ given_there numbers 10 (omega arith) ∙ given_feed numbers
     by (inr none) = none
@@ -277,12 +278,12 @@ vector_at_feed numbers = vector_there numbers 10 (omega arith) ∙ by (own_or_no
 vector_at_space : (numbers : List ℕ) → get_or (vector_characters numbers) 32 no ≡ 0x20
 vector_at_space numbers =
     let space : get_or (given_characters numbers) 32 no ≡ 0x20 = given_there numbers 32 (omega arith) ∙ given_space numbers in
-    vector_there numbers 32 (omega arith) ∙ own_if_lowest (given_characters numbers) 32 (ap (lowest (given_characters numbers)) space ∙ space_lowest numbers) ∙ space
+    vector_there numbers 32 (omega arith) ∙ own_if_place (given_characters numbers) 32 (rw space refl) (rw space refl) ∙ space
 
 vector_unbroken : (numbers : List ℕ) (code : ℕ) → code < 256 → codes_beside unbroken (get_or (vector_characters numbers) code no) ≡ None
 vector_unbroken numbers code below = ap (codes_beside unbroken) (vector_there numbers code below) ∙ by (own_or_none (given_characters numbers) code)
   where
-    by : ((own_at (given_characters numbers) code ≡ get_or (given_characters numbers) code no) × (lowest (given_characters numbers) (get_or (given_characters numbers) code no) ≡ code)) ⊎ (own_at (given_characters numbers) code ≡ no)
+    by : OwnOrNone (given_characters numbers) code
         → codes_beside unbroken (own_at (given_characters numbers) code) ≡ None
     by (inl here) = ap (codes_beside unbroken) (here.0 ∙ given_there numbers code below) ∙ given_unbroken numbers code
     by (inr none) = ap (codes_beside unbroken) none
@@ -433,15 +434,35 @@ own_again : (xs : List ℕ) → own_characters (own_characters xs) ≡ own_chara
 own_again xs = sym (own_each (own_characters xs) each)
   where
     each : (k : ℕ) → k < length (own_characters xs) → get_or (own_characters xs) k no ≡ own_at (own_characters xs) k
-    each k within = by (nat_eq (get_or (own_characters xs) k no) no) refl (own_or_none (own_characters xs) k)
+    each k inside = by (nat_eq (get_or (own_characters xs) k no) no) refl (own_or_none (own_characters xs) k)
       where
-        by : (b : Bool) → nat_eq (get_or (own_characters xs) k no) no ≡ b
-            → ((own_at (own_characters xs) k ≡ get_or (own_characters xs) k no) × (lowest (own_characters xs) (get_or (own_characters xs) k no) ≡ k)) ⊎ (own_at (own_characters xs) k ≡ no)
-            → get_or (own_characters xs) k no ≡ own_at (own_characters xs) k
+        within : k < length xs
+        within = omega (arith, own_length xs)
+
+        by : (b : Bool) → nat_eq (get_or (own_characters xs) k no) no ≡ b → OwnOrNone (own_characters xs) k → get_or (own_characters xs) k no ≡ own_at (own_characters xs) k
         by b mark (inl here) = sym here.0
         by true mark (inr none) = eqb-true _ no mark ∙ sym none
-        by false other (inr none) =
-            sym (own_if_lowest (own_characters xs) k (own_alone xs k within (λ same. cc (eq-eqb (get_or (own_characters xs) k no) no same, other))))
+        by false other (inr none) = sym (own_if_place (own_characters xs) k place (still_plain xs (get_or (own_characters xs) k no) (own_is xs k (get_or (own_characters xs) k no) within refl some).2))
+          where
+            some : get_or (own_characters xs) k no ≢ no
+            some same = cc (eq-eqb (get_or (own_characters xs) k no) no same, other)
+
+            low : nat_eq (lowest (own_characters xs) (get_or (own_characters xs) k no)) k ≡ true
+            low = eq-eqb _ _ (own_alone xs k inside some)
+
+            place : is_place (own_characters xs) k ≡ true
+            place = here (nat_eq (get_or (own_characters xs) k no) k) refl (is_at_own (own_characters xs) (get_or (own_characters xs) k no)) refl
+              where
+                here : (s : Bool) → nat_eq (get_or (own_characters xs) k no) k ≡ s → (o : Bool) → is_at_own (own_characters xs) (get_or (own_characters xs) k no) ≡ o
+                    → s || (not o && nat_eq (lowest (own_characters xs) (get_or (own_characters xs) k no)) k) ≡ true
+                here true same o own = refl
+                here false differs false away = low
+                here false differs true own =
+                    let both = and_parts _ _ own in
+                    let there : get_or (own_characters xs) (get_or (own_characters xs) k no) no ≡ get_or (own_characters xs) k no = eqb-true _ _ both.1 in
+                    let alone = own_alone xs (get_or (own_characters xs) k no) (ltb-true _ _ both.0) (λ mark. some (sym there ∙ mark)) in
+                    let number : get_or (own_characters xs) k no ≡ k = sym alone ∙ ap (lowest (own_characters xs)) there ∙ eqb-true _ _ low in
+                    absurd (cc (eq-eqb _ _ number, differs))
 
 unless_twice : (number : ℕ) → unless_fixed (unless_fixed number) ≡ unless_fixed number
 unless_twice number = by (scalar number && not (is_fixed number)) refl
@@ -454,7 +475,7 @@ given_again : (numbers : List ℕ) → given_characters (vector_characters numbe
 given_again numbers = sym (given_each (vector_characters numbers) (vector_length numbers) each)
   where
     kept : (k : ℕ) → k ≢ 10 → k ≢ 32
-        → ((own_at (given_characters numbers) k ≡ get_or (given_characters numbers) k no) × (lowest (given_characters numbers) (get_or (given_characters numbers) k no) ≡ k)) ⊎ (own_at (given_characters numbers) k ≡ no)
+        → OwnOrNone (given_characters numbers) k
         → k < 256 → unless_fixed (own_at (given_characters numbers) k) ≡ own_at (given_characters numbers) k
     kept k not_feed not_space (inl here) below =
         let is : own_at (given_characters numbers) k ≡ unless_fixed (get_or numbers k no) = here.0 ∙ given_there numbers k below ∙ given_else numbers k not_feed not_space in
@@ -487,7 +508,7 @@ made_of given vector same =
     let kept : vector_characters vector.now.characters ≡ vector_characters (numbers_of given) = ap vector_characters same ∙ vector_again (numbers_of given) in
     record {
       characters = kept;
-      codes = λ c below. of_vector vector c ∙ ap (λ l. listed_codes l c) kept ∙ own_codes (given_characters (numbers_of given)) c (λ none. absurd (omega (arith, none)));
+      codes = λ c below. of_vector vector c ∙ ap (λ l. listed_codes l c) kept;
     }
 
 -- a code that has a character is its code
@@ -580,28 +601,50 @@ pub given_filled : (numbers given : List ℕ) → length given ≡ 256 → ((k :
 unfolding given_characters
 given_filled numbers given long each = fill_by_all (given_at numbers) given 256 0 long each
 
-pub own_kept : (xs : List ℕ) (code low number : ℕ) → code < length xs → number ≡ get_or xs code 0 → Some low ≡ position (is number) xs → low ≡ code → number ≡ own_at xs code
-own_kept xs code low number within here found same =
+pub own_kept : (xs : List ℕ) (code number : ℕ) → code < length xs → number ≡ get_or xs code 0 → is_place xs code ≡ true → is_quoted xs number ≡ false → number ≡ own_at xs code
+own_kept xs code number within here place plain =
     let there : number ≡ get_or xs code no = here ∙ sym (get_or_default xs code no 0 within) in
-    let at = found_is xs number low (sym found) in
-    there ∙ sym (own_if_lowest xs code (ap (lowest xs) (sym there) ∙ at.2 ∙ same))
+    there ∙ sym (own_if_place xs code place (ap (is_quoted xs) (sym there) ∙ plain))
 
-own_no : (xs : List ℕ) (code : ℕ) → lowest xs (get_or xs code no) ≢ code → no ≡ own_at xs code
-own_no xs code differs = rw (other_than (lowest xs (get_or xs code no)) code differs) refl
+pub own_gone : (xs : List ℕ) (code : ℕ) → is_place xs code ≡ false → no ≡ own_at xs code
+own_gone xs code other = rw other refl
 
-pub own_lower : (xs : List ℕ) (code low number : ℕ) → code < length xs → number ≡ get_or xs code 0 → Some low ≡ position (is number) xs → low ≢ code → no ≡ own_at xs code
-own_lower xs code low number within here found differs =
+pub own_quoted : (xs : List ℕ) (code number : ℕ) → code < length xs → number ≡ get_or xs code 0 → is_quoted xs number ≡ true → no ≡ own_at xs code
+own_quoted xs code number within here quoted =
     let there : number ≡ get_or xs code no = here ∙ sym (get_or_default xs code no 0 within) in
-    let at = found_is xs number low (sym found) in
-    own_no xs code (λ same. differs (sym at.2 ∙ ap (lowest xs) there ∙ same))
+    by (is_place xs code) (ap (is_quoted xs) (sym there) ∙ quoted)
+  where
+    by : (b : Bool) → is_quoted xs (get_or xs code no) ≡ true → no ≡ cond (b && not (is_quoted xs (get_or xs code no))) (get_or xs code no) no
+    by true is = rw is refl
+    by false is = refl
 
-pub own_nowhere : (xs : List ℕ) (code number : ℕ) → code < length xs → number ≡ get_or xs code 0 → None ≡ position (is number) xs → no ≡ own_at xs code
-own_nowhere xs code number within here none =
-    let there : number ≡ get_or xs code no = here ∙ sym (get_or_default xs code no 0 within) in
+pub ruleset own = (own_kept, own_gone, own_quoted)
+
+-- whether a code sets its character
+pub place_self : (xs : List ℕ) (code number : ℕ) → code < length xs → number ≡ get_or xs code 0 → number ≡ code → is_place xs code ≡ true
+place_self xs code number within here same =
+    let there : get_or xs code no ≡ code = get_or_default xs code no 0 within ∙ sym here ∙ same in rw (eq-eqb _ _ there) refl
+
+place_other : (xs : List ℕ) (code number : ℕ) → code < length xs → number ≡ get_or xs code 0 → number ≢ code
+    → is_place xs code ≡ (not (is_at_own xs number) && nat_eq (lowest xs number) code)
+place_other xs code number within here differs =
+    let there : get_or xs code no ≡ number = get_or_default xs code no 0 within ∙ sym here in rw (there, other_than number code differs) refl
+
+pub place_elsewhere : (xs : List ℕ) (code number : ℕ) → code < length xs → number ≡ get_or xs code 0 → number ≢ code → is_at_own xs number ≡ true → is_place xs code ≡ false
+place_elsewhere xs code number within here differs own = place_other xs code number within here differs ∙ rw own refl
+
+pub place_low : (xs : List ℕ) (code number low : ℕ) → code < length xs → number ≡ get_or xs code 0 → number ≢ code → is_at_own xs number ≡ false
+    → Some low ≡ position (is number) xs → nat_eq low code ≡ is_place xs code
+place_low xs code number low within here differs away found =
+    sym (place_other xs code number within here differs ∙ rw away (ap (λ n. nat_eq n code) (found_is xs number low (sym found)).2))
+
+pub place_none : (xs : List ℕ) (code number : ℕ) → code < length xs → number ≡ get_or xs code 0 → None ≡ position (is number) xs → is_place xs code ≡ false
+place_none xs code number within here none =
     let past = none_found xs number (sym none) in
-    own_no xs code (λ same. absurd (omega (arith, past, ap (lowest xs) there ∙ same)))
+    let there : nat_eq (get_or xs code no) number ≡ true = eq-eqb _ _ (get_or_default xs code no 0 within ∙ sym here) in
+    absurd (cc (there, fails_before_first (is number) xs code no (omega (arith, past, within))))
 
-pub ruleset own = (own_kept, own_lower, own_nowhere)
+pub ruleset places = (place_self, place_elsewhere, place_low, place_none)
 
 pub own_filled : (xs own : List ℕ) → length xs ≡ 256 → length own ≡ 256 → ((k : ℕ) → k < 256 → get_or own k 0 ≡ own_at xs k) → own ≡ own_characters xs
 unfolding own_characters
@@ -634,7 +677,7 @@ vector_listed numbers code below = subst (λ n. nat_eq n no || scalar n ≡ true
         here (inr (inl space)) = rw space.1 refl
         here (inr (inr other)) = rw other.2 (unless_listed (get_or numbers code no))
 
-    by : ((own_at (given_characters numbers) code ≡ get_or (given_characters numbers) code no) × (lowest (given_characters numbers) (get_or (given_characters numbers) code no) ≡ code)) ⊎ (own_at (given_characters numbers) code ≡ no)
+    by : OwnOrNone (given_characters numbers) code
         → nat_eq (own_at (given_characters numbers) code) no || scalar (own_at (given_characters numbers) code) ≡ true
     by (inl same) = subst (λ n. nat_eq n no || scalar n ≡ true) (sym (same.0 ∙ given_there numbers code below)) given
     by (inr none) = rw none refl

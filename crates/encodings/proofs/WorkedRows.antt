@@ -6,7 +6,7 @@ use Rattle.std.specs.Str.Lossy.{utf8_valid_len}
 use Rattle.encodings.specs.declared.encoding.Encoding.TheVariants.{Ot1, T1, Ly1, Latin1}
 use Rattle.encodings.specs.Tables.{no, ot1_characters, t1_characters, ly1_characters, shared_others, ot1_others, t1_others, ly1_others}
 use Rattle.encodings.specs.Codes.{codes_of, characters_of, given_codes, others_of}
-use Rattle.encodings.specs.Vectors.{given_at, given_characters, numbers_of as given_numbers, own_at}
+use Rattle.encodings.specs.Vectors.{given_at, given_characters, numbers_of as given_numbers, own_at, own_characters}
 use Rattle.encodings.specs.Lines.{elements_of, encoded, fault_in, numbers_of, places_of}
 use Rattle.encodings.specs.Parts.{parts_of}
 
@@ -104,89 +104,99 @@ cut_character = refl
 
 -- A at codes 1 and 2
 lowest_code : given_codes (None ∷ Some 0x41 ∷ Some 0x41 ∷ []) 0x41 ≡ Some (1 ∷ [])
-unfolding given_numbers given_characters given_at
+unfolding given_numbers given_characters given_at own_characters
 lowest_code = refl
 
 no_second_code : own_at (given_characters (given_numbers (None ∷ Some 0x41 ∷ Some 0x41 ∷ []))) 2 ≡ no
-unfolding given_numbers given_characters given_at
+unfolding given_numbers given_characters given_at own_characters
 no_second_code = refl
 
 -- the space at code 0, and nothing at 32
 space_alone : given_codes (Some 0x20 ∷ []) 0x20 ≡ Some (32 ∷ [])
-unfolding given_numbers given_characters given_at
+unfolding given_numbers given_characters given_at own_characters
 space_alone = refl
 
 space_kept : own_at (given_characters (given_numbers (Some 0x20 ∷ []))) 32 ≡ 0x20
-unfolding given_numbers given_characters given_at
+unfolding given_numbers given_characters given_at own_characters
 space_kept = refl
 
 -- the line feed at code 0, and A at code 10
 feed_listed : given_codes (Some 10 ∷ []) 10 ≡ Some (0 ∷ [])
-unfolding given_numbers given_characters given_at
+unfolding given_numbers given_characters given_at own_characters
 feed_listed = refl
 
 never_ten : given_codes (None ∷ None ∷ None ∷ None ∷ None ∷ None ∷ None ∷ None ∷ None ∷ None ∷ Some 0x41 ∷ []) 0x41 ≡ None
-unfolding given_numbers given_characters given_at
+unfolding given_numbers given_characters given_at own_characters
 never_ten = refl
 
 -- a no-break space and a soft hyphen, also if they are at codes 0 and 1
 no_break_space : given_codes [] 0xA0 ≡ Some (32 ∷ [])
-unfolding given_numbers given_characters given_at
+unfolding given_numbers given_characters given_at own_characters
 no_break_space = refl
 
 no_break_space_listed : given_codes (Some 0xA0 ∷ []) 0xA0 ≡ Some (32 ∷ [])
-unfolding given_numbers given_characters given_at
+unfolding given_numbers given_characters given_at own_characters
 no_break_space_listed = refl
 
 no_break_space_at_no_code : own_at (given_characters (given_numbers (Some 0xA0 ∷ []))) 0 ≡ no
-unfolding given_numbers given_characters given_at
+unfolding given_numbers given_characters given_at own_characters
 no_break_space_at_no_code = refl
 
 soft_hyphen : given_codes [] 0xAD ≡ Some []
-unfolding given_numbers given_characters given_at
+unfolding given_numbers given_characters given_at own_characters
 soft_hyphen = refl
 
 soft_hyphen_listed : given_codes (None ∷ Some 0xAD ∷ []) 0xAD ≡ Some []
-unfolding given_numbers given_characters given_at
+unfolding given_numbers given_characters given_at own_characters
 soft_hyphen_listed = refl
 
--- ' where ’ is at code 1, and where ' itself is at code 2
+-- a character at code 1 and at its own number, 3
+own_number : given_codes (None ∷ Some 3 ∷ None ∷ Some 3 ∷ []) 3 ≡ Some (3 ∷ [])
+unfolding given_numbers given_characters given_at own_characters
+own_number = refl
+
+-- ' where ’ is at code 1, also where ' itself is at code 2
 straight_mark : given_codes (None ∷ Some 0x2019 ∷ []) 0x27 ≡ Some (1 ∷ [])
-unfolding given_numbers given_characters given_at
+unfolding given_numbers given_characters given_at own_characters
 straight_mark = refl
 
-straight_mark_listed : given_codes (None ∷ Some 0x2019 ∷ Some 0x27 ∷ []) 0x27 ≡ Some (2 ∷ [])
-unfolding given_numbers given_characters given_at
+straight_mark_listed : given_codes (None ∷ Some 0x2019 ∷ Some 0x27 ∷ []) 0x27 ≡ Some (1 ∷ [])
+unfolding given_numbers given_characters given_at own_characters
 straight_mark_listed = refl
 
 -- ’ where only ' is at a code
 curved_mark : given_codes (Some 0x27 ∷ []) 0x2019 ≡ None
-unfolding given_numbers given_characters given_at
+unfolding given_numbers given_characters given_at own_characters
 curved_mark = refl
 
 -- ` where ‘ is at codes 1 and 2
 grave_accent : given_codes (None ∷ Some 0x2018 ∷ Some 0x2018 ∷ []) 0x60 ≡ Some (1 ∷ [])
-unfolding given_numbers given_characters given_at
+unfolding given_numbers given_characters given_at own_characters
 grave_accent = refl
+
+-- ` at code 0, and ‘ at code 1
+grave_accent_listed : given_codes (Some 0x60 ∷ Some 0x2018 ∷ []) 0x60 ≡ Some (1 ∷ [])
+unfolding given_numbers given_characters given_at own_characters
+grave_accent_listed = refl
 
 -- both hyphens where - is at code 0, the figure dash where – is, and the horizontal bar where — is
 hyphen : given_codes (Some 0x2D ∷ []) 0x2010 ≡ Some (0 ∷ [])
-unfolding given_numbers given_characters given_at
+unfolding given_numbers given_characters given_at own_characters
 hyphen = refl
 
 non_breaking_hyphen : given_codes (Some 0x2D ∷ []) 0x2011 ≡ Some (0 ∷ [])
-unfolding given_numbers given_characters given_at
+unfolding given_numbers given_characters given_at own_characters
 non_breaking_hyphen = refl
 
 figure_dash : given_codes (Some 0x2013 ∷ []) 0x2012 ≡ Some (0 ∷ [])
-unfolding given_numbers given_characters given_at
+unfolding given_numbers given_characters given_at own_characters
 figure_dash = refl
 
 horizontal_bar : given_codes (Some 0x2014 ∷ []) 0x2015 ≡ Some (0 ∷ [])
-unfolding given_numbers given_characters given_at
+unfolding given_numbers given_characters given_at own_characters
 horizontal_bar = refl
 
 -- a hyphen where neither is at a code
 no_hyphen : given_codes (Some 0x41 ∷ []) 0x2010 ≡ None
-unfolding given_numbers given_characters given_at
+unfolding given_numbers given_characters given_at own_characters
 no_hyphen = refl

@@ -9,7 +9,7 @@ use Rattle.encodings.specs.declared.encoding.Encoding.{Encoding}
 use Rattle.encodings.specs.declared.encoding.Encoding.TheVariants.{Ot1, T1, Ly1, Latin1, Vector}
 use Rattle.encodings.specs.Tables.{no, ot1_characters, t1_characters, ly1_characters}
 use Rattle.encodings.specs.Tables.{shared_others, ot1_others, t1_others, ly1_others}
-use Rattle.encodings.specs.Vectors.{given_characters, numbers_of, substitute_of, unbroken, vector_characters}
+use Rattle.encodings.specs.Vectors.{numbers_of, substitute_of, unbroken, vector_characters}
 
 -- the characters of an encoding by code
 unfoldable pub characters_of : Encoding → List ℕ
@@ -59,12 +59,12 @@ is_apart character = nat_eq character 0xAD || nat_eq character 0x2011
 -- ---- encodings that are made of characters
 
 -- the codes of a character where a list gives the codes their characters: the code of the space for a
--- no-break space, and an empty list for a soft hyphen; for any other character the lowest code that has it,
--- or if there is none, the lowest one that has the character as which it is set
+-- no-break space, and an empty list for a soft hyphen; for any other character the code that sets it in the list,
+-- or if there is none, the one that sets the character as which it is set
 abbrev pub given_codes : List (Option ℕ) → ℕ → Option (List ℕ)
-given_codes given character = listed_codes (given_characters (numbers_of given)) character
+given_codes given character = listed_codes (vector_characters (numbers_of given)) character
 
--- an encoding has the characters of a list, each at its lowest code, and gives each character these codes
+-- an encoding has the characters of a list, each at the code that sets it, and gives each character these codes
 pub record IsMadeOf (given : List (Option ℕ)) (encoding : Encoding) : Type 0 where
   pub characters : characters_of encoding ≡ vector_characters (numbers_of given)
   pub codes : (character : ℕ) → character < no → codes_of encoding character ≡ given_codes given character

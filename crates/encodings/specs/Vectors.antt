@@ -1,11 +1,11 @@
 -- Characters by code as a list gives them, and the characters of an encoding that is made of them.
 -- Public source: the manual of dvips, "Encoding file format", where a vector names the characters of 256
 -- codes; LaTeX's package inputenc, in a line that isn't broken, for the no-break space and the soft hyphen;
--- the guide to LaTeX's encodings (encguide) and utf8enc.dfu for the characters that are set as others. Which
--- characters codes 10 and 32 have, which code a character has that is listed twice, and that a listed
--- character is set by its own code, is this project's own.
-use Rattle.std.specs.Prelude.{ℕ, Bool, List, [], ◌∷◌, Option, Some, None, cond, not, ◌&&◌, ◌||◌, nat_eq, length, map, get_or, unwrap_or}
-use Rattle.std.specs.List.{list_any, position_or_len, range_with_len}
+-- LaTeX's files t1enc.def and utf8enc.dfu for the characters that are set as others. Which characters codes 10 and
+-- 32 have, which code a character has that is listed twice, and that a listed character is set by its own code
+-- unless it is ' or `, is this project's own.
+use Rattle.std.specs.Prelude.{ℕ, Bool, List, [], ◌∷◌, Option, Some, None, cond, is_some, not, ◌&&◌, ◌||◌, nat_eq, nat_lt, length, map, get_or, unwrap_or}
+use Rattle.std.specs.List.{list_any, position, position_or_len, range_with_len}
 use lib.Utf8.{scalar}
 use Rattle.encodings.specs.Tables.{no}
 
@@ -49,13 +49,32 @@ given_characters numbers = map (given_at numbers) (range_with_len 0 256)
 abbrev pub lowest : List ℕ → ℕ → ℕ
 lowest characters character = position_or_len (λ each. nat_eq each character) characters
 
--- the character at a code, unless a lower code has it, too
+-- whether a list has a character, and whether at the code that is its own number
+abbrev pub is_listed : List ℕ → ℕ → Bool
+is_listed characters character = is_some (position (λ each. nat_eq each character) characters)
+
+abbrev pub is_at_own : List ℕ → ℕ → Bool
+is_at_own characters character = nat_lt character (length characters) && nat_eq (get_or characters character no) character
+
+-- whether a code sets the character there: the code that is the character's own number, if the character is there, and
+-- otherwise its lowest code
+abbrev pub is_place : List ℕ → ℕ → Bool
+is_place characters code =
+    let character = get_or characters code no in
+    nat_eq character code || (not (is_at_own characters character) && nat_eq (lowest characters character) code)
+
+-- whether a character is ' or `, which LaTeX sets as ’ and ‘, in a list that has the latter
+abbrev pub is_quoted : List ℕ → ℕ → Bool
+is_quoted characters character =
+    (nat_eq character 0x27 && is_listed characters 0x2019) || (nat_eq character 0x60 && is_listed characters 0x2018)
+
+-- the character at a code, if the code sets it
 abbrev pub own_at : List ℕ → ℕ → ℕ
 own_at characters code =
     let character = get_or characters code no in
-    cond (nat_eq (lowest characters character) code) character no
+    cond (is_place characters code && not (is_quoted characters character)) character no
 
--- each character at its lowest code alone
+-- each character at the code that sets it alone
 unfoldable pub own_characters : List ℕ → List ℕ
 own_characters characters = map (own_at characters) (range_with_len 0 (length characters))
 

@@ -78,7 +78,7 @@ fn character_in_table(encoding: Encoding, code: u8) -> Option<char>
 }
 
 /// Returns the character at a code of an encoding, or `None` if the code is no character's own. A vector may list
-/// a character for several codes: it is the lowest code's own character.
+/// a character for several codes: it is the own character of the code that sets it.
 #[tactic(auto, using(crate::proofs::CharacterLemmas::of_vector))]
 pub fn character_at(encoding: Encoding, code: u8) -> Option<char>
     ensures { result ≡ character_of encoding code }

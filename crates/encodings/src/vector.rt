@@ -11,7 +11,7 @@ use std::marker::Model;
 /// The characters of an encoding that is made of the characters of 256 codes.
 #[derive(Debug, Drop, PartialEq, Eq, Hash)]
 pub struct Vector {
-    /// The numbers of the characters by code, each at its lowest code alone.
+    /// The numbers of the characters by code, each at the code that sets it alone.
     pub(crate) characters: [u32; 256],
     /// The codes that are tried first for the characters whose numbers have these lowest ten bits.
     pub(crate) hints: [u8; 1024],

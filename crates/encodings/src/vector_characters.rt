@@ -1,6 +1,6 @@
 //! The characters of a vector by code.
 ghost use Rattle.std.specs.Prelude.{◌≡◌, ◌<◌, position, nat_eq};
-ghost use Rattle.encodings.specs.Vectors.{given_at as given_in, given_characters, is_fixed as is_fixed_in, number_at as number_in, numbers_of, own_at as own_in, own_characters, unless_fixed as unless_fixed_number};
+ghost use Rattle.encodings.specs.Vectors.{given_at as given_in, given_characters, is_at_own as is_at_own_in, is_fixed as is_fixed_in, is_place as is_place_in, is_quoted as is_quoted_in, number_at as number_in, numbers_of, own_at as own_in, own_characters, unless_fixed as unless_fixed_number};
 
 use crate::characters::X;
 use std::char;
@@ -86,20 +86,58 @@ pub(crate) fn lowest_code(characters: &[u32; 256], number: u32) -> Option<u8>
     None
 }
 
-/// Returns the number of the character at a code, or the mark if a lower code has it, too.
+/// Returns whether the code that is the number of a character has this character.
+fn is_at_own(characters: &[u32; 256], number: u32) -> bool
+    ensures { result ≡ is_at_own_in characters.now number }
+{
+    (number as usize) < 256 && characters[number as usize] == number
+}
+
+/// Returns whether a code sets the character there: the code that is the character's number, if the character is
+/// there, and otherwise its lowest code.
+#[tactic(auto, using(crate::proofs::VectorLemmas::places))]
+fn is_place(characters: &[u32; 256], code: usize) -> bool
+    requires { code < 256 }
+    ensures { result ≡ is_place_in characters.now code }
+{
+    let number = characters[code];
+    if number as usize == code {
+        return true;
+    }
+    if is_at_own(characters, number) {
+        return false;
+    }
+    match lowest_code(characters, number) {
+        Some(lowest) => usize::from(lowest) == code,
+        None => false,
+    }
+}
+
+/// Returns whether a character is `'` or a grave accent, and the characters have ’ or ‘, as which it is then set.
+fn is_quoted(characters: &[u32; 256], number: u32) -> bool
+    ensures { result ≡ is_quoted_in characters.now number }
+{
+    match number {
+        0x27 => lowest_code(characters, 0x2019).is_some(),
+        0x60 => lowest_code(characters, 0x2018).is_some(),
+        _ => false,
+    }
+}
+
+/// Returns the number of the character at a code, or the mark if the code doesn't set it.
 #[tactic(auto, using(crate::proofs::VectorLemmas::own))]
 fn own_at(characters: &[u32; 256], code: usize) -> u32
     requires { code < 256 }
     ensures { result ≡ own_in characters.now code }
 {
     let number = characters[code];
-    match lowest_code(characters, number) {
-        Some(lowest) if usize::from(lowest) == code => number,
-        _ => X,
+    if is_place(characters, code) && !is_quoted(characters, number) {
+        return number;
     }
+    X
 }
 
-/// Returns the numbers of the characters, each at its lowest code alone.
+/// Returns the numbers of the characters, each at the code that sets it alone.
 #[tactic(auto, using(crate::proofs::VectorLemmas::own_filled))]
 pub(crate) fn own_numbers(characters: &[u32; 256]) -> [u32; 256]
     ensures { result ≡ own_characters characters.now }

@@ -1,5 +1,5 @@
 -- The codes of a text while they are written.
-use Rattle.std.proofs.Common.{◌≡◌, ◌⊎◌, ℕ, ◌+◌, ◌-◌, ◌^◌, ◌<◌, ◌≤◌, Bool, true, false, List, [], ◌∷◌, length, Some, None, flat_map, arith, refl, ap, sym, ◌∙◌, subst, length-append}
+use Rattle.std.proofs.Common.{◌≡◌, ◌⊎◌, ℕ, ◌+◌, ◌-◌, ◌^◌, ◌<◌, ◌≤◌, Bool, true, false, List, [], ◌∷◌, ◌++◌, length, Some, None, flat_map, arith, refl, ap, sym, ◌∙◌, subst, length-append}
 use Rattle.std.specs.Prelude.{cond, codes as bytes_of, nat_eq, ◌≢◌, Option, ⊤, if◌then◌else◌}
 use Rattle.std.specs.Option.{option_map, option_map_or, unwrap_or}
 use Rattle.std.specs.Str.Lossy.{utf8_valid_len}
@@ -11,9 +11,9 @@ use Rattle.std.proofs.lemmas.Str.{IsUtf8-from_is_utf8}
 use Rattle.encodings.specs.declared.encoding.Encoding.{Encoding}
 use Rattle.encodings.specs.declared.encoding.Encoding.TheVariants.{Ot1, T1, Ly1, Latin1, Vector}
 use Rattle.encodings.specs.declared.places.Place.{Place}
-use Rattle.encodings.specs.Codes.{characters_of, codes_of, others_of}
-use Rattle.encodings.specs.Lines.{fault_in, numbers_of, places_of}
-use Rattle.encodings.specs.Names.{encoding_named, name_of}
+use Rattle.encodings.specs.Codes.{characters_of, codes_of, is_apart, others_of}
+use Rattle.encodings.specs.Lines.{break_number, fault_in, numbers_of, places_of, set_apart}
+use Rattle.encodings.specs.Names.{capital_name_of, encoding_named, name_of}
 use Rattle.encodings.specs.Tables.{ot1_characters, t1_characters, ly1_characters, shared_others, ot1_others, t1_others, ly1_others}
 use Rattle.encodings.proofs.LawLemmas.{places_few}
 use Rattle.encodings.proofs.PlaceLemmas.{characters_in}
@@ -42,6 +42,10 @@ no_name name bad =
       other_name name (name_of T1) refl bad,
       other_name name (name_of Ly1) refl bad,
       other_name name (name_of Latin1) refl bad,
+      other_name name (capital_name_of Ot1) refl bad,
+      other_name name (capital_name_of T1) refl bad,
+      other_name name (capital_name_of Ly1) refl bad,
+      other_name name (capital_name_of Latin1) refl bad,
     ) refl
 
 -- a name other than `bytes`
@@ -73,9 +77,13 @@ few_at : (encoding : Encoding) (character : ℕ) → length (unwrap_or (text_cod
 unfolding numbers_of
 few_at encoding character = by (nat_eq character 10) refl
   where
-    found : (o : Option (List ℕ)) → length (unwrap_or o []) ≤ length (unwrap_or o ((256 + character) ∷ []))
+    apart : (b : Bool) (made : List ℕ) → length made ≤ length (cond b (break_number ∷ made ++ break_number ∷ []) made)
+    apart true made = omega (arith, length-append made (break_number ∷ []))
+    apart false made = omega arith
+
+    found : (o : Option (List ℕ)) → length (unwrap_or o []) ≤ length (option_map_or (set_apart character) o ((256 + character) ∷ []))
     found None = omega arith
-    found (Some made) = omega arith
+    found (Some made) = apart (is_apart character) made
 
     by : (b : Bool) → nat_eq character 10 ≡ b → length (unwrap_or (cond b (Some (10 ∷ [])) (codes_of encoding character)) []) ≤ length (numbers_of encoding character)
     by true is = omega (arith, ap (λ c. length (numbers_of encoding c)) (eqb-true character 10 is), feed_numbers encoding)

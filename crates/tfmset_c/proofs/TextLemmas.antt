@@ -18,7 +18,8 @@ use Rattle.set_line.specs.Pieces.{portions_of}
 use Rattle.set_line.specs.Terms.{TermsValue}
 use Rattle.line_records.specs.declared.result.LineResult.{LineResult}
 use Rattle.line_records.specs.declared.result.LineResult.TheVariants.{Set as SetResult, Refused as RefusedResult}
-use Rattle.line_records.specs.Results.{IsResult, line_record, line_result, refusal_in, set_within}
+use Rattle.line_records.specs.Results.{IsResult, only_part, line_record, line_result, refusal_in, set_within}
+use Rattle.line_records.proofs.KeptLemmas.{alone_portions}
 use Rattle.tfmset_c.specs.Arrays.{ArePut, IsFilled, IsPartly, IsUnderWay}
 use Rattle.tfmset_c.specs.Texts.{IsOf, held, item_told, items_in, items_told, line_told, lines_told, outcomes_of, records_told}
 use Rattle.tfmset_c.specs.declared.lines.TfmsetCounts.{TfmsetCounts}
@@ -137,10 +138,11 @@ bytes_result terms first line = by (refusal_of terms line)
     within None set is = refused_is (Steps terms.limit) set is
     within (Some setting) set is = set_is setting set is
 
-    by : (o : Option LineRefusal) (set : LineResult) → IsResult (option_map_or Err (option_map Line o) (set_within terms line)) set
+    by : (o : Option LineRefusal) (set : LineResult) → IsResult (option_map_or Err (option_map Line o) (set_within terms (only_part line))) set
         → IsOf (option_map_or Refused o (set_or_refused terms line)) set
     by (Some refusal) set is = refused_is refusal set is
-    by None set is = within (setting_of_portions terms.font terms.limit (portions_of terms.font line)) set is
+    by None set is = within (setting_of_portions terms.font terms.limit (portions_of terms.font line)) set
+        (subst (λ ps. IsResult (option_map_or Ok (setting_of_portions terms.font terms.limit ps) (Err (Line (Steps terms.limit)))) set) (alone_portions terms.font line) is)
 
 -- ---- records
 

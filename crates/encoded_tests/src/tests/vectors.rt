@@ -5,7 +5,7 @@ use std::test::Fail;
 
 /// Characters with their codes, a line, the codes that it has, and whether it has a character without codes or a
 /// break.
-static LINES: [(&[(u8, char)], &str, &[u8], bool); 11] = [
+static LINES: [(&[(u8, char)], &str, &[u8], bool); 14] = [
     // two codes of a character, and codes 10 and 32
     (&[(65, 'x'), (66, 'x'), (33, 'é')], "xé", b"A!", false),
     (&[(10, 'x'), (32, 'x'), (33, 'x')], "x ", b"! ", false),
@@ -16,8 +16,12 @@ static LINES: [(&[(u8, char)], &str, &[u8], bool); 11] = [
     (&[(39, '’'), (96, '‘')], "`'’‘", b"`''`", false),
     (&[(45, '-'), (21, '–')], "\u{2011}\u{2012}—", b"-\x15", true),
     (&[(39, '‘')], "‘'", b"'", true),
-    // the same where they are listed
-    (&[(39, '’'), (13, '\'')], "'’", b"\r'", false),
+    // the same where they are listed, too
+    (&[(39, '’'), (13, '\'')], "'’", b"''", false),
+    (&[(0, '`'), (96, '‘')], "``", b"``", false),
+    (&[(13, '\''), (96, '`')], "'`", b"\r`", false),
+    // two codes of a character, of which one is its number
+    (&[(29, 'Æ'), (198, 'Æ'), (26, 'x'), (27, 'x')], "Æx", b"\xC6\x1A", false),
     (&[], "\u{A0}\u{AD} \n", b"  ", true),
     // all lengths in UTF-8
     (&[(0, 'A'), (1, 'é')], "éAé", b"\x01\x00\x01", false),
