@@ -1,10 +1,10 @@
 -- The numbers of a whole line, and lines that aren't UTF-8.
-use Rattle.std.proofs.Common.{◌≡◌, ℕ, ◌-◌, ◌≤◌, Bool, List, [], ◌∷◌, ◌++◌, length, map, flat_map, Some, None, refl, ap, sym, subst, ◌∙◌, append-nil}
+use Rattle.std.proofs.Common.{◌≡◌, ℕ, ◌-◌, ◌≤◌, Bool, List, [], ◌++◌, length, flat_map, Some, None, refl, ap, sym, subst, ◌∙◌, append-nil}
 use Rattle.std.specs.Str.{chars, IsUtf8}
 use Rattle.std.specs.Str.Lossy.{utf8_valid_len}
 use Rattle.encodings.specs.declared.encoding.Encoding.{Encoding}
 use Rattle.encodings.specs.Decoding.{IsRead, IsTextOf, text_numbers}
-use Rattle.encodings.specs.Lines.{encoded, fault_in, numbers_of, places_of}
+use Rattle.encodings.specs.Lines.{encoded, fault_in, numbers_of}
 use Rattle.encodings.proofs.LawLemmas.{places_few}
 use Rattle.encodings.proofs.PlaceLemmas.{characters_from, characters_in, is_utf8_if, not_utf8}
 

@@ -146,7 +146,7 @@ refused_either font encoding (place ∷ places) =
     by : (o : Option (List ℕ)) → codes_of encoding place.character ≡ o
         → list_any (refused_number Refuse font) (flat_map (numbers_of encoding) (map (λ each. each.character) places)) ≡ not (is_none (first_uncoded encoding places)) || not (is_none (missing_at font encoding places))
         → list_any (refused_number Refuse font) (option_map_or (set_apart place.character) o ((256 + place.character) ∷ []))
-            || list_any (refused_number Refuse font) (flat_map (numbers_of encoding) (map (λ each. each.character) places))
+        || list_any (refused_number Refuse font) (flat_map (numbers_of encoding) (map (λ each. each.character) places))
         ≡ not (is_none (cond (is_none (codes_of encoding place.character)) (Some place) (first_uncoded encoding places))) || not (is_none (missing_at font encoding (place ∷ places)))
     by None is later =
         ap (λ b. (b || false) || list_any (refused_number Refuse font) (flat_map (numbers_of encoding) (map (λ each. each.character) places))) (refused_uncoded font encoding place.character is)

@@ -21,7 +21,12 @@ static LINES: [(&[(u8, char)], &str, &[u8], bool); 14] = [
     (&[(0, '`'), (96, '‘')], "``", b"``", false),
     (&[(13, '\''), (96, '`')], "'`", b"\r`", false),
     // two codes of a character, of which one is its number
-    (&[(29, 'Æ'), (198, 'Æ'), (26, 'x'), (27, 'x')], "Æx", b"\xC6\x1A", false),
+    (
+        &[(29, 'Æ'), (198, 'Æ'), (26, 'x'), (27, 'x')],
+        "Æx",
+        b"\xC6\x1A",
+        false,
+    ),
     (&[], "\u{A0}\u{AD} \n", b"  ", true),
     // all lengths in UTF-8
     (&[(0, 'A'), (1, 'é')], "éAé", b"\x01\x00\x01", false),
