@@ -44,9 +44,10 @@ impl Encoding {
     /// are ignored.
     ///
     /// Code 32 is the space, whatever the list has there, and no other code is. Code 10 has no character,
-    /// since it would end a line. A character that is listed for several other codes is set by the code that is its
-    /// own number, if this is one of them, and otherwise by the lowest of them. Whatever the list has, a no-break space is set as code 32 and a soft hyphen has an empty list of
-    /// codes, as in OT1, T1 and LY1; neither is the character of any code.
+    /// since it would end a line. A character that is listed for several other codes is set by the code that is
+    /// its own number, if this is one of them, and otherwise by the lowest of them. Whatever the list has, a
+    /// no-break space is set as code 32 and a soft hyphen has an empty list of codes, as in OT1, T1 and LY1;
+    /// neither is the character of any code.
     ///
     /// `'` and the grave accent (U+0060) are set by the codes of ’ and ‘, if these are listed. Four characters that
     /// have no code are set by the code of another character, if this has one: the hyphens U+2010 and U+2011 as
