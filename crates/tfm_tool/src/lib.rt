@@ -11,6 +11,7 @@ pub use tfm_requests::{
     counts_text, list_text, perform,
 };
 
+mod coding;
 mod notes;
 mod program;
 mod summary;

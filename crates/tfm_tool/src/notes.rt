@@ -1,4 +1,6 @@
 //! What `--verbose` adds on standard error: the causes of errors, with names, and a summary of a batch.
+use crate::coding::Header;
+use encodings::Encoding;
 use font_texts::push_escaped_text;
 use std::alloc::Global;
 use std::io;
@@ -14,7 +16,9 @@ pub(crate) struct Notes {
     verbose: bool,
     /// Whether lines that end with a carriage return are counted.
     returns_counted: bool,
-    /// The lines about errors of files, complete.
+    /// The encoding of the request with `--verbose`, with which the coding schemes of its fonts are compared.
+    encoding: Option<Encoding>,
+    /// The lines about errors of files and about coding schemes, complete.
     causes: Mutex<Vec<u8>>,
     /// The number of lines that end with a carriage return.
     returns: AtomicU64,
@@ -22,12 +26,13 @@ pub(crate) struct Notes {
 
 impl Notes {
     /// Returns the notes of a request before it is carried out. With `--verbose` and without `--crlf`, lines
-    /// that end with a carriage return are counted.
-    pub fn new(alloc: Global, verbose: bool, crlf: bool) -> Self {
+    /// that end with a carriage return are counted. With `--verbose` and an encoding, coding schemes are compared.
+    pub fn new(alloc: Global, verbose: bool, crlf: bool, encoding: Option<Encoding>) -> Self {
         Notes {
             alloc,
             verbose,
             returns_counted: verbose && !crlf,
+            encoding: if verbose { encoding } else { None },
             causes: Mutex::new(Vec::new(alloc)),
             returns: AtomicU64::new(0),
         }
@@ -41,6 +46,11 @@ impl Notes {
     /// Returns whether lines that end with a carriage return are counted.
     pub fn counts_returns(&self) -> bool {
         self.returns_counted
+    }
+
+    /// Returns whether coding schemes are compared with the encoding of the request.
+    pub fn compares_coding(&self) -> bool {
+        self.encoding.is_some()
     }
 
     /// Returns a copy of a name for later notes, or `None` if there will be none, or if an allocation fails.
@@ -69,6 +79,20 @@ impl Notes {
         }
     }
 
+    /// Notes that the coding scheme of the font of this name states another encoding than that of the request, if
+    /// it does. If an allocation fails, nothing is noted.
+    pub fn note_coding<R: Wait>(&self, rt: &R, name: &[u8], header: &Header) {
+        let Some(encoding) = self.encoding else {
+            return;
+        };
+        if let Some(stated) = header.other_than(self.alloc, encoding) {
+            let mut line = Vec::new(self.alloc);
+            if push_coding(&mut line, name, stated, encoding).is_ok() {
+                let _ = self.causes.lock(rt).extend_from_slice(line.as_slice());
+            }
+        }
+    }
+
     /// Counts lines that end with a carriage return.
     pub fn count_returns(&self, count: u64) {
         if count > 0 {
@@ -82,6 +106,7 @@ impl Notes {
             alloc: _,
             verbose: _,
             returns_counted: _,
+            encoding: _,
             causes,
             returns,
         } = self;
@@ -94,4 +119,20 @@ fn push_line(line: &mut Vec<u8>, name: &[u8], error: &io::Error) -> io::Result<(
     line.extend_from_slice(b"tfmset: ")?;
     push_escaped_text(line, name)?;
     writeln!(line, ": {error}")
+}
+
+/// Appends a line with the name of a font, the encoding that its coding scheme states, and that of the request.
+fn push_coding(
+    line: &mut Vec<u8>,
+    name: &[u8],
+    stated: &str,
+    encoding: Encoding,
+) -> io::Result<()> {
+    line.extend_from_slice(b"tfmset: ")?;
+    push_escaped_text(line, name)?;
+    let given = encoding.name();
+    writeln!(
+        line,
+        ": its coding scheme is that of {stated}, and --encoding is {given}"
+    )
 }

@@ -4,7 +4,8 @@ use crate::tally::Tally;
 use std::io;
 use std::io::Write;
 
-/// Writes the causes of errors, one line each: those of files, with their names, and that of standard output.
+/// Writes the causes of errors and the notes about coding schemes, one line each, with the names of files, and the
+/// cause of an error of standard output.
 /// Then writes how many lines end with a carriage return, if there are any.
 pub(crate) fn say_causes<E: Write>(
     notes: Notes,

@@ -10,6 +10,7 @@ use crate::summary::{say_causes, say_summary};
 use crate::tally::Tally;
 use crate::watched::{Called, WatchedFiles, WatchedReader, WatchedWriter, Written};
 use command_line::{Request, Requested};
+use encodings::Encoding;
 use std::io::{Read, Write};
 use std::marker::Brand;
 use std::rt::Files;
@@ -37,6 +38,16 @@ fn crlf_of(request: &Request<'_>) -> Option<bool> {
     match request {
         Request::Set(setting) | Request::Stream(setting) => Some(setting.layout.crlf),
         Request::Each(jobs) => Some(jobs.layout.crlf),
+        _ => None,
+    }
+}
+
+/// Returns the encoding of a request, if it has one.
+fn encoding_of(request: &Request<'_>) -> Option<Encoding> {
+    match request {
+        Request::Pairs(asked) => asked.layout.encoding,
+        Request::Set(setting) | Request::Stream(setting) => setting.layout.encoding,
+        Request::Each(jobs) => jobs.layout.encoding,
         _ => None,
     }
 }
@@ -100,7 +111,8 @@ where
 {
     let verbose = is_verbose(&requested.request);
     let crlf = crlf_of(&requested.request);
-    let notes = Notes::new(rt.alloc(), verbose, crlf.unwrap_or(true));
+    let encoding = encoding_of(&requested.request);
+    let notes = Notes::new(rt.alloc(), verbose, crlf.unwrap_or(true), encoding);
     let written = Written {
         out,
         tally: Tally::new(),

@@ -1,6 +1,7 @@
 //! Files, readers and a writer that pass everything on, and note errors and counts for `--verbose`.
 ghost use Rattle.std.specs.Prelude.{◌≡◌};
 
+use crate::coding::Header;
 use crate::notes::Notes;
 use crate::tally::Tally;
 use std::io;
@@ -77,6 +78,8 @@ pub(crate) struct WatchedReader<'r, 'n, R, T> {
     counts: bool,
     /// The last byte that was read.
     last: u8,
+    /// The header of a font whose coding scheme is compared.
+    header: Option<Header>,
 }
 
 impl<'r, 'n, R, T: Read> WatchedReader<'r, 'n, R, T> {
@@ -91,6 +94,11 @@ impl<'r, 'n, R, T: Read> WatchedReader<'r, 'n, R, T> {
             name: notes.name(name),
             counts: has_lines && notes.counts_returns(),
             last: 0,
+            header: if !has_lines && notes.compares_coding() {
+                Some(Header::new())
+            } else {
+                None
+            },
         }
     }
 
@@ -121,6 +129,21 @@ impl<'r, 'n, R: Wait, T: Read> WatchedReader<'r, 'n, R, T> {
             self.notes.note(self.rt, name.as_slice(), error);
         }
     }
+
+    /// Compares the coding scheme of a font when these further bytes complete it.
+    fn compare(&mut self, bytes: &[u8])
+        ensures { self.new.reader ≡ self.old.reader }
+    {
+        let Some(header) = &mut self.header else {
+            return;
+        };
+        if !header.take(bytes) {
+            return;
+        }
+        if let Some(name) = &self.name {
+            self.notes.note_coding(self.rt, name.as_slice(), header);
+        }
+    }
 }
 
 impl<R: Wait, T: Read> Read for WatchedReader<'_, '_, R, T> {
@@ -132,6 +155,7 @@ impl<R: Wait, T: Read> Read for WatchedReader<'_, '_, R, T> {
                 if self.counts {
                     self.count(&buffer[..count]);
                 }
+                self.compare(&buffer[..count]);
                 Ok(count)
             }
             Err(error) => {

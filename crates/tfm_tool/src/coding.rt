@@ -1,0 +1,88 @@
+//! The coding scheme in the header of a font, compared with the encoding of a request.
+use encodings::Encoding;
+use std::alloc::Global;
+
+/// The number of bytes up to the end of the coding scheme (TFtoPL §10): the counts, the check sum, the design size,
+/// and a text of at most 39 bytes with its length.
+const END: usize = 72;
+
+/// Coding schemes of fonts of TeX, in capitals, and the names of their encodings.
+const SCHEMES: [(&str, &str); 11] = [
+    ("TEX TEXT", "OT1"),
+    ("EXTENDED TEX FONT ENCODING - LATIN", "T1"),
+    ("EC ENCODING /CORK/", "T1"),
+    ("LY1 ENCODING /TEX'N'ANSI, Y&Y/", "LY1"),
+    ("L7X ENCODING /LITHUANIAN/", "L7x"),
+    ("QX ENCODING", "QX"),
+    ("T5 ENCODING /VIETNAMESE/", "T5"),
+    ("TEX MATH ITALIC", "OML"),
+    ("TEX MATH SYMBOLS", "OMS"),
+    ("TEX MATH EXTENSION", "OMX"),
+    ("TEXBASE1ENCODING", "8r"),
+];
+
+/// Returns the name of an encoding in `SCHEMES`, or `None` for one that is made of an encoding vector.
+fn name_of(encoding: Encoding) -> Option<&'static str> {
+    match encoding {
+        Encoding::Ot1 => Some("OT1"),
+        Encoding::T1 => Some("T1"),
+        Encoding::Ly1 => Some("LY1"),
+        Encoding::Latin1 => Some("Latin 1"),
+        Encoding::Vector(_) => None,
+    }
+}
+
+/// The bytes of a font up to the end of its coding scheme, as far as they were read.
+#[derive(Drop)]
+pub(crate) struct Header {
+    bytes: [u8; END],
+    length: usize,
+}
+
+impl Header {
+    /// Returns the header of a font of which nothing was read.
+    pub fn new() -> Self {
+        Header {
+            bytes: [0; END],
+            length: 0,
+        }
+    }
+
+    /// Takes further bytes of the font. Returns whether the last byte of the coding scheme is among them.
+    pub fn take(&mut self, bytes: &[u8]) -> bool {
+        let Some(space) = self.bytes.get_mut(self.length..) else {
+            return false;
+        };
+        let count = bytes.len().min(space.len());
+        space[..count].copy_from_slice(&bytes[..count]);
+        self.length = self.length.saturating_add(count);
+        count > 0 && self.length == END
+    }
+
+    /// Returns the name of the encoding that the coding scheme states, if it is known.
+    fn stated(&self, alloc: Global) -> Option<&'static str> {
+        let words = 256 * usize::from(self.bytes[2]) + usize::from(self.bytes[3]);
+        if words < 12 {
+            return None;
+        }
+        let length = usize::from(self.bytes[32]);
+        let scheme = self.bytes.get(33..33 + length)?;
+        let scheme = scheme.to_ascii_uppercase(alloc).ok()?;
+        for at in 0..SCHEMES.len() {
+            let (text, name) = SCHEMES[at];
+            if scheme.as_slice() == text.as_bytes() {
+                return Some(name);
+            }
+        }
+        None
+    }
+
+    /// Returns the name of the encoding that the coding scheme states, if it is known and isn't this one.
+    pub fn other_than(&self, alloc: Global, encoding: Encoding) -> Option<&'static str> {
+        let stated = self.stated(alloc)?;
+        if name_of(encoding)? == stated {
+            return None;
+        }
+        Some(stated)
+    }
+}
