@@ -42,6 +42,8 @@ DECLARED = re.compile(r"^\s*\\DeclareUnicodeCharacter\{(\w+)\}", re.M)
 # In LY1: characters that have the code of another one, those that are built of others, and names of glyphs that the
 # Adobe Glyph List lacks. Accents without a letter may have no codes, and the non-joiner (Cf) is at code 10.
 ACCENTS = ("Cf", "Lm", "Sk")
+# Characters that LaTeX takes from the encoding TS1, although LY1 has their glyphs.
+COMPANIONS = "¬±×÷"
 SET_AS = {"'": "’", "`": "‘", "\u00a0": " ", "ˆ": "^", "˜": "~", "‐": "-", "‑": "-", "‒": "–", "―": "—"}
 BUILT = {"ẞ": "SS", "\u00ad": ""}
 GLYPHS = {"dotlessj": "ȷ", "one.superior": "¹", "two.superior": "²", "three.superior": "³"}
@@ -182,7 +184,8 @@ class Characters(Case):
             same = len(codes) != 1 or codes == b" " or glyphs[codes[0]] in (letter, SET_AS.get(letter))
             self.same(f"{letter!r}", (wanted, True), (codes, same))
         text = read(output("kpsewhich", "ly1enc.dfu").strip(), "rb").decode("latin-1")
-        whole = [letter for letter in declared("LY1") & set(glyphs) if unicodedata.category(letter) not in ACCENTS]
+        whole = [letter for letter in declared("LY1") & set(glyphs)
+                 if unicodedata.category(letter) not in ACCENTS and letter not in COMPANIONS]
         for letter in whole + [chr(int(number, 16)) for number in DECLARED.findall(text)]:
             is_built = len(unicodedata.normalize("NFD", letter)) > 1 and letter not in glyphs
             self.same(f"{letter!r} has codes", not is_built, letter in codes_of)
