@@ -256,10 +256,10 @@ class Calls(LinesCase):
     @rows((name, name) for name in NAMES)
     def test_characters(self, name):
         """Each character has the codes of a line that it alone makes."""
-        table = table(self, name)
-        for letter, codes in table.items():
+        codes_of = table(self, name)
+        for letter, codes in codes_of.items():
             self.same(f"{letter!r}", (DONE, codes), encode(self.prefix, name, letter.encode(), 4)[:2])
         for letter in map(chr, (*range(11, 0xD800, 13), *range(0xE000, 0x110000, 997))):
-            if letter not in table and letter != "\ufeff":
+            if letter not in codes_of and letter != "\ufeff":
                 seen = encode(self.prefix, name, letter.encode(), 4)
                 self.same(f"{letter!r}", (UNCODED, None, (0, 0, ord(letter))), seen)
