@@ -14,11 +14,11 @@ use Rattle.lig_kern.specs.declared.action.Action.TheVariants.{Kern, Lig}
 use Rattle.lig_kern.specs.declared.item.Item.{Item}
 use Rattle.lig_kern.specs.declared.item.Item.TheVariants.{Char as CharItem}
 use Rattle.lig_kern.specs.Matching.{action_between}
-use Rattle.lig_kern.specs.Rewriting.{Element, of_symbol, of_kern, items_of, item_of, right_end, character_width}
-use Rattle.lig_kern.specs.Result.{Setting, IsResultOf, result_after, result_of, setting_after}
+use Rattle.lig_kern.specs.Rewriting.{Element, of_symbol, of_kern, items_of, item_of, opening, after_steps, right_end, step_from, symbols_of, character_width}
+use Rattle.lig_kern.specs.Result.{Setting, IsResultFrom, IsResultOf, result_after, result_from, result_within, setting_from}
 use Rattle.lig_kern.specs.Ahead.{finish, turn_of, turn_by, put_in}
-use Rattle.lig_kern.specs.Laws.{HasOneResult, HasFewItems, FindsResult, HasNoMatches, SetsAsItself, plain_items}
-use Rattle.lig_kern.proofs.Onward.{result_is}
+use Rattle.lig_kern.specs.Laws.{HasOneResult, HasFewItems, FindsResult, FindsResultFrom, HasNoMatches, SetsAsItself, plain_items}
+use Rattle.lig_kern.proofs.Onward.{result_from_is, result_is}
 use Rattle.lig_kern.proofs.TurnLemmas.{StaysWithin, bit, between_within, items_of-append}
 
 -- ---- one result
@@ -51,10 +51,17 @@ finish_once font (suc n) (suc m) current (next ∷ rest) xs ys a b =
     by (Some us) a' x None b' y once = absurd (search rules)
     by (Some us) a' x (Some vs) b' y once = ap suc (once us vs a' b')
 
-same_steps : (font : FontValue) (run : List ℕ) (right : Bool) (n m : ℕ) (xs ys : List Item)
-    → result_after font run right n ≡ Some xs → result_after font run right m ≡ Some ys → n ≡ m
-same_steps font run right n m xs ys a b =
-    finish_once font n m Left (map Char run ++ right_end font right) xs ys (sym (result_is font run right n) ∙ a) (sym (result_is font run right m) ∙ b)
+-- a list without symbols has its result at once
+nothing_at_once : (font : FontValue) (n : ℕ) (xs : List Item) → result_from font [] n ≡ Some xs → n ≡ 0
+unfolding result_from opening after_steps step_from
+nothing_at_once font zero xs a = refl
+nothing_at_once font (suc n) xs a = absurd (search rules)
+
+same_steps : (font : FontValue) (symbols : List Symbol) (n m : ℕ) (xs ys : List Item)
+    → result_from font symbols n ≡ Some xs → result_from font symbols m ≡ Some ys → n ≡ m
+same_steps font [] n m xs ys a b = omega (arith, nothing_at_once font n xs a, nothing_at_once font m ys b)
+same_steps font (first ∷ rest) n m xs ys a b =
+    finish_once font n m first rest xs ys (sym (result_from_is font first rest n) ∙ a) (sym (result_from_is font first rest m) ∙ b)
 
 abbrev setting : ℕ → List Item → Setting
 setting n xs = record { steps = n; items = xs }
@@ -62,14 +69,14 @@ setting n xs = record { steps = n; items = xs }
 -- Law: a run has at most one result, because each step is determined by the configuration before it
 pub one_result : (font : FontValue) (run : List ℕ) (right : Bool) → HasOneResult font run right
 one_result font run right = λ a b is_a is_b.
-    let steps : a.steps ≡ b.steps = same_steps font run right a.steps b.steps a.items b.items is_a is_b in
+    let steps : a.steps ≡ b.steps = same_steps font (symbols_of font run right) a.steps b.steps a.items b.items is_a is_b in
     let items : Some a.items ≡ Some b.items = sym is_a ∙ ap (result_after font run right) steps ∙ is_b in
     ap (λ n. setting n a.items) steps ∙ ap (setting b.steps) (grind (arith, items))
 
 -- ---- the result within a limit
 
-abbrev has_result : FontValue → List ℕ → Bool → ℕ → Bool
-has_result font run right n = is_some (result_after font run right n)
+abbrev has_result : FontValue → List Symbol → ℕ → Bool
+has_result font symbols n = is_some (result_from font symbols n)
 
 -- a number that a search of a range finds is in the range and passes the test
 found_in_range : (p : ℕ → Bool) (from count : ℕ) → IfSome (find p (range_with_len from count)) (λ k. (k < from + count) × (p k ≡ true))
@@ -103,53 +110,56 @@ find_none p from (suc count) never =
     rw fails (find_none p (from + 1) count (λ k low high. never k (omega arith) (omega arith)))
 
 -- no smaller number of steps than the result's leads to a result
-none_before : (font : FontValue) (run : List ℕ) (right : Bool) (result : Setting) → IsResultOf font run right result
-    → (j : ℕ) → j < result.steps → has_result font run right j ≡ false
-none_before font run right result is j below = by (result_after font run right j) refl
+none_before : (font : FontValue) (symbols : List Symbol) (result : Setting) → IsResultFrom font symbols result
+    → (j : ℕ) → j < result.steps → has_result font symbols j ≡ false
+none_before font symbols result is j below = by (result_from font symbols j) refl
   where
-    by : (o : Option (List Item)) → result_after font run right j ≡ o → is_some o ≡ false
+    by : (o : Option (List Item)) → result_from font symbols j ≡ o → is_some o ≡ false
     by None e = refl
-    by (Some items) e = absurd (omega (arith, same_steps font run right j result.steps items result.items e is))
+    by (Some items) e = absurd (omega (arith, same_steps font symbols j result.steps items result.items e is))
 
-found_result : (font : FontValue) (run : List ℕ) (right : Bool) (limit : ℕ) (result : Setting) → IsResultOf font run right result → result.steps ≤ limit
-    → result_of font run right limit ≡ Some result
-unfolding result_of
-found_result font run right limit result is within =
-    let found : find (has_result font run right) (range_with_len 0 (limit + 1)) ≡ Some result.steps =
-    find_only (has_result font run right) 0 (limit + 1) result.steps (omega arith) (omega arith) (ap is_some is) (none_before font run right result is) in
+found_result : (font : FontValue) (symbols : List Symbol) (limit : ℕ) (result : Setting) → IsResultFrom font symbols result → result.steps ≤ limit
+    → result_within font symbols limit ≡ Some result
+unfolding result_within
+found_result font symbols limit result is within =
+    let found : find (has_result font symbols) (range_with_len 0 (limit + 1)) ≡ Some result.steps =
+    find_only (has_result font symbols) 0 (limit + 1) result.steps (omega arith) (omega arith) (ap is_some is) (none_before font symbols result is) in
     rw found (rw is refl)
 
-of_found : (font : FontValue) (run : List ℕ) (right : Bool) (limit : ℕ) (result : Setting) (o : Option ℕ)
-    → IfSome o (λ k. (k < 0 + (limit + 1)) × (has_result font run right k ≡ true)) → option_and_then (setting_after font run right) o ≡ Some result
-    → IsResultOf font run right result × (result.steps ≤ limit)
-of_found font run right limit result None h e = absurd (search rules)
-of_found font run right limit result (Some k) h e = by (result_after font run right k) refl e
+of_found : (font : FontValue) (symbols : List Symbol) (limit : ℕ) (result : Setting) (o : Option ℕ)
+    → IfSome o (λ k. (k < 0 + (limit + 1)) × (has_result font symbols k ≡ true)) → option_and_then (setting_from font symbols) o ≡ Some result
+    → IsResultFrom font symbols result × (result.steps ≤ limit)
+of_found font symbols limit result None h e = absurd (search rules)
+of_found font symbols limit result (Some k) h e = by (result_from font symbols k) refl e
   where
-    by : (o : Option (List Item)) → result_after font run right k ≡ o → option_map (λ items. setting k items) o ≡ Some result
-        → IsResultOf font run right result × (result.steps ≤ limit)
+    by : (o : Option (List Item)) → result_from font symbols k ≡ o → option_map (λ items. setting k items) o ≡ Some result
+        → IsResultFrom font symbols result × (result.steps ≤ limit)
     by None is e' = absurd (search rules)
     by (Some items) is e' =
         let whole : setting k items ≡ result = grind (arith, e') in
-        let family : Setting → Type 0 = λ r. IsResultOf font run right r × (r.steps ≤ limit) in
+        let family : Setting → Type 0 = λ r. IsResultFrom font symbols r × (r.steps ≤ limit) in
         subst family whole (is, omega (arith, h.0))
 
-none_at : (font : FontValue) (run : List ℕ) (right : Bool) (limit n : ℕ) (o : Option (List Item)) → result_after font run right n ≡ o
-    → result_of font run right limit ≡ None → n ≤ limit → o ≡ None
-none_at font run right limit n None is none within = refl
-none_at font run right limit n (Some items) is none within =
-    let found : result_of font run right limit ≡ Some (setting n items) = found_result font run right limit (setting n items) is within in
+none_at : (font : FontValue) (symbols : List Symbol) (limit n : ℕ) (o : Option (List Item)) → result_from font symbols n ≡ o
+    → result_within font symbols limit ≡ None → n ≤ limit → o ≡ None
+none_at font symbols limit n None is none within = refl
+none_at font symbols limit n (Some items) is none within =
+    let found : result_within font symbols limit ≡ Some (setting n items) = found_result font symbols limit (setting n items) is within in
     absurd (grind (arith, found, none))
 
-pub finds_result : (font : FontValue) (run : List ℕ) (right : Bool) (limit : ℕ) → FindsResult font run right limit
-unfolding result_of
-finds_result font run right limit = record {
-  found = λ result is within. found_result font run right limit result is within;
-  is_result = λ result found. of_found font run right limit result (find (has_result font run right) (range_with_len 0 (limit + 1)))
-      (found_in_range (has_result font run right) 0 (limit + 1)) found;
-  none = λ never. ap (option_and_then (setting_after font run right))
-      (find_none (has_result font run right) 0 (limit + 1) (λ k from below. ap is_some (never k (omega arith))));
-  none_within = λ none n within. none_at font run right limit n (result_after font run right n) refl none within;
+pub finds_result_from : (font : FontValue) (symbols : List Symbol) (limit : ℕ) → FindsResultFrom font symbols limit
+unfolding result_within
+finds_result_from font symbols limit = record {
+  found = λ result is within. found_result font symbols limit result is within;
+  is_result = λ result found. of_found font symbols limit result (find (has_result font symbols) (range_with_len 0 (limit + 1)))
+      (found_in_range (has_result font symbols) 0 (limit + 1)) found;
+  none = λ never. ap (option_and_then (setting_from font symbols))
+      (find_none (has_result font symbols) 0 (limit + 1) (λ k from below. ap is_some (never k (omega arith))));
+  none_within = λ none n within. none_at font symbols limit n (result_from font symbols n) refl none within;
 }
+
+pub finds_result : (font : FontValue) (run : List ℕ) (right : Bool) (limit : ℕ) → FindsResult font run right limit
+finds_result font run right limit = finds_result_from font (symbols_of font run right) limit
 
 -- ---- no matches
 

@@ -1,6 +1,6 @@
 -- The steps from a current symbol and the symbols ahead of it, and the proof that they rewrite the whole list
 -- of elements.
-use Rattle.std.proofs.Common.{◌≡◌, ℕ, suc, zero, ◌+◌, Bool, true, false, List, [], ◌∷◌, ◌++◌, length, map, take, drop, Option, Some, None, IfSome, arith, refl, ap, sym, ◌∙◌, append_assoc, length-append, eq-eqb}
+use Rattle.std.proofs.Common.{◌≡◌, ℕ, suc, zero, ◌+◌, Bool, true, false, List, [], ◌∷◌, ◌++◌, length, map, take, drop, Option, Some, None, IfSome, arith, refl, ap, sym, ◌∙◌, append_assoc, length-append}
 use Rattle.std.specs.List.{slice_get}
 use Rattle.std.specs.Option.{option_map, option_and_then}
 use Rattle.std.proofs.lemmas.Option.{slice_get_past, slice_get-get_or}
@@ -14,7 +14,7 @@ use Rattle.lig_kern.specs.declared.action.Action.TheVariants.{Kern, Lig}
 use Rattle.lig_kern.specs.declared.item.Item.{Item}
 use Rattle.lig_kern.specs.Matching.{action_between}
 use Rattle.lig_kern.specs.Rewriting.{Configuration, Element, Splice, of_symbol, of_kern, opening, right_end, kept, splice_by, spliced, step_from, after_steps, final_items, is_final, items_of}
-use Rattle.lig_kern.specs.Result.{result_after}
+use Rattle.lig_kern.specs.Result.{result_after, result_from}
 use Rattle.lig_kern.specs.Ahead.{finish, put_in, turn_by, turn_of}
 use Rattle.lig_kern.proofs.TurnLemmas.{StaysWithin, bit, between_within, items_of-append}
 
@@ -142,7 +142,7 @@ pub settled_at : (font : FontValue) (n : ℕ) (done : List Element) (current : S
 unfolding after_steps finish turn_of
 settled_at font zero done current [] =
     let long : length (done ++ of_symbol current ∷ []) ≡ length done + 1 = length-append done _ in
-    let last : is_final (at done current []) ≡ true = eq-eqb (length done + 1) _ (sym long) in
+    let last : is_final (at done current []) ≡ true = grind (arith, long) in
     rw last (ap Some (items_of-append font done (of_symbol current ∷ [])))
 settled_at font zero done current (next ∷ rest) =
     let long : length (done ++ of_symbol current ∷ map of_symbol (next ∷ rest)) ≡ length done + length (of_symbol current ∷ map of_symbol (next ∷ rest)) = length-append done _ in
@@ -160,10 +160,9 @@ settled_at font (suc n) done current (next ∷ rest) =
 
 -- ---- the opening configuration
 
-pub opening_is : (font : FontValue) (run : List ℕ) (right : Bool) → opening font run right ≡ at [] Left (map Char run ++ right_end font right)
-unfolding opening
-opening_is font run right = refl
+pub result_from_is : (font : FontValue) (first : Symbol) (rest : List Symbol) (n : ℕ) → result_from font (first ∷ rest) n ≡ finish font n first rest
+unfolding result_from opening items_of
+result_from_is font first rest n = settled_at font n [] first rest ∙ option_map-none (finish font n first rest)
 
 pub result_is : (font : FontValue) (run : List ℕ) (right : Bool) (n : ℕ) → result_after font run right n ≡ finish font n Left (map Char run ++ right_end font right)
-unfolding result_after opening items_of
-result_is font run right n = settled_at font n [] Left (map Char run ++ right_end font right) ∙ option_map-none (finish font n Left (map Char run ++ right_end font right))
+result_is font run right n = result_from_is font Left (map Char run ++ right_end font right) n

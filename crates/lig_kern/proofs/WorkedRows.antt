@@ -11,7 +11,7 @@ use Rattle.lig_kern.specs.declared.item.Item.{Item}
 use Rattle.lig_kern.specs.declared.item.Item.TheVariants.{Char, Kern}
 use Rattle.lig_kern.specs.Matching.{match_of, operation_of, action_of, action_between}
 use Rattle.lig_kern.specs.Rewriting.{opening, right_end, step_from, after_steps, items_of}
-use Rattle.lig_kern.specs.Result.{result_after}
+use Rattle.lig_kern.specs.Result.{result_after, result_from}
 
 -- ---- the fonts, of size 10 pt, with the characters a, b and c
 
@@ -92,85 +92,85 @@ kern_ahead = Kern (pos 20480)
 
 -- LIG: both are deleted, and c is current
 ligature : result_after (ligature_font 0) (97 ∷ 98 ∷ []) true 2 ≡ Some (c ∷ [])
-unfolding counts_of table_of entry_at is_coded char_info_of exists measure_of kern_at kern_index_of step_at program_of right_code_of left_start_of begin_at start_of chain_from address_of address_between match_of operation_of action_of action_between opening right_end step_from after_steps items_of result_after
+unfolding counts_of table_of entry_at is_coded char_info_of exists measure_of kern_at kern_index_of step_at program_of right_code_of left_start_of begin_at start_of chain_from address_of address_between match_of operation_of action_of action_between opening right_end step_from after_steps items_of result_from
 ligature = refl
 
 -- LIG/: b is kept, and c is current
 ligature_keeps_the_right_one : result_after (ligature_font 1) (97 ∷ 98 ∷ []) true 3 ≡ Some (c ∷ kern_ahead ∷ b ∷ [])
-unfolding counts_of table_of entry_at is_coded char_info_of exists measure_of kern_at kern_index_of step_at program_of right_code_of left_start_of begin_at start_of chain_from address_of address_between match_of operation_of action_of action_between opening right_end step_from after_steps items_of result_after
+unfolding counts_of table_of entry_at is_coded char_info_of exists measure_of kern_at kern_index_of step_at program_of right_code_of left_start_of begin_at start_of chain_from address_of address_between match_of operation_of action_of action_between opening right_end step_from after_steps items_of result_from
 ligature_keeps_the_right_one = refl
 
 -- /LIG: a is kept and is current
 ligature_keeps_the_left_one : result_after (ligature_font 2) (97 ∷ 98 ∷ []) true 3 ≡ Some (a ∷ kern_back ∷ c ∷ [])
-unfolding counts_of table_of entry_at is_coded char_info_of exists measure_of kern_at kern_index_of step_at program_of right_code_of left_start_of begin_at start_of chain_from address_of address_between match_of operation_of action_of action_between opening right_end step_from after_steps items_of result_after
+unfolding counts_of table_of entry_at is_coded char_info_of exists measure_of kern_at kern_index_of step_at program_of right_code_of left_start_of begin_at start_of chain_from address_of address_between match_of operation_of action_of action_between opening right_end step_from after_steps items_of result_from
 ligature_keeps_the_left_one = refl
 
 -- /LIG/: both are kept, and a is current
 ligature_keeps_both : result_after (ligature_font 3) (97 ∷ 98 ∷ []) true 4 ≡ Some (a ∷ kern_back ∷ c ∷ kern_ahead ∷ b ∷ [])
-unfolding counts_of table_of entry_at is_coded char_info_of exists measure_of kern_at kern_index_of step_at program_of right_code_of left_start_of begin_at start_of chain_from address_of address_between match_of operation_of action_of action_between opening right_end step_from after_steps items_of result_after
+unfolding counts_of table_of entry_at is_coded char_info_of exists measure_of kern_at kern_index_of step_at program_of right_code_of left_start_of begin_at start_of chain_from address_of address_between match_of operation_of action_of action_between opening right_end step_from after_steps items_of result_from
 ligature_keeps_both = refl
 
 -- LIG/>: b is kept and is current
 ligature_passes_to_the_right_one : result_after (ligature_font 5) (97 ∷ 98 ∷ []) true 2 ≡ Some (c ∷ b ∷ [])
-unfolding counts_of table_of entry_at is_coded char_info_of exists measure_of kern_at kern_index_of step_at program_of right_code_of left_start_of begin_at start_of chain_from address_of address_between match_of operation_of action_of action_between opening right_end step_from after_steps items_of result_after
+unfolding counts_of table_of entry_at is_coded char_info_of exists measure_of kern_at kern_index_of step_at program_of right_code_of left_start_of begin_at start_of chain_from address_of address_between match_of operation_of action_of action_between opening right_end step_from after_steps items_of result_from
 ligature_passes_to_the_right_one = refl
 
 -- /LIG>: a is kept, and c is current
 ligature_passes_the_left_one : result_after (ligature_font 6) (97 ∷ 98 ∷ []) true 2 ≡ Some (a ∷ c ∷ [])
-unfolding counts_of table_of entry_at is_coded char_info_of exists measure_of kern_at kern_index_of step_at program_of right_code_of left_start_of begin_at start_of chain_from address_of address_between match_of operation_of action_of action_between opening right_end step_from after_steps items_of result_after
+unfolding counts_of table_of entry_at is_coded char_info_of exists measure_of kern_at kern_index_of step_at program_of right_code_of left_start_of begin_at start_of chain_from address_of address_between match_of operation_of action_of action_between opening right_end step_from after_steps items_of result_from
 ligature_passes_the_left_one = refl
 
 -- /LIG/>: both are kept, and c is current
 ligature_passes_one : result_after (ligature_font 7) (97 ∷ 98 ∷ []) true 3 ≡ Some (a ∷ c ∷ kern_ahead ∷ b ∷ [])
-unfolding counts_of table_of entry_at is_coded char_info_of exists measure_of kern_at kern_index_of step_at program_of right_code_of left_start_of begin_at start_of chain_from address_of address_between match_of operation_of action_of action_between opening right_end step_from after_steps items_of result_after
+unfolding counts_of table_of entry_at is_coded char_info_of exists measure_of kern_at kern_index_of step_at program_of right_code_of left_start_of begin_at start_of chain_from address_of address_between match_of operation_of action_of action_between opening right_end step_from after_steps items_of result_from
 ligature_passes_one = refl
 
 -- /LIG/>>: both are kept, and b is current
 ligature_passes_two : result_after (ligature_font 11) (97 ∷ 98 ∷ []) true 2 ≡ Some (a ∷ c ∷ b ∷ [])
-unfolding counts_of table_of entry_at is_coded char_info_of exists measure_of kern_at kern_index_of step_at program_of right_code_of left_start_of begin_at start_of chain_from address_of address_between match_of operation_of action_of action_between opening right_end step_from after_steps items_of result_after
+unfolding counts_of table_of entry_at is_coded char_info_of exists measure_of kern_at kern_index_of step_at program_of right_code_of left_start_of begin_at start_of chain_from address_of address_between match_of operation_of action_of action_between opening right_end step_from after_steps items_of result_from
 ligature_passes_two = refl
 
 -- an op code that isn't listed means LIG
 unlisted_code : result_after (ligature_font 127) (97 ∷ 98 ∷ []) true 2 ≡ Some (c ∷ [])
-unfolding counts_of table_of entry_at is_coded char_info_of exists measure_of kern_at kern_index_of step_at program_of right_code_of left_start_of begin_at start_of chain_from address_of address_between match_of operation_of action_of action_between opening right_end step_from after_steps items_of result_after
+unfolding counts_of table_of entry_at is_coded char_info_of exists measure_of kern_at kern_index_of step_at program_of right_code_of left_start_of begin_at start_of chain_from address_of address_between match_of operation_of action_of action_between opening right_end step_from after_steps items_of result_from
 unlisted_code = refl
 
 -- with one step fewer no final configuration is reached
 not_before : result_after (ligature_font 3) (97 ∷ 98 ∷ []) true 3 ≡ None
-unfolding counts_of table_of entry_at is_coded char_info_of exists measure_of kern_at kern_index_of step_at program_of right_code_of left_start_of begin_at start_of chain_from address_of address_between match_of operation_of action_of action_between opening right_end step_from after_steps items_of result_after
+unfolding counts_of table_of entry_at is_coded char_info_of exists measure_of kern_at kern_index_of step_at program_of right_code_of left_start_of begin_at start_of chain_from address_of address_between match_of operation_of action_of action_between opening right_end step_from after_steps items_of result_from
 not_before = refl
 
 -- one step more can't be made
 not_after : result_after (ligature_font 3) (97 ∷ 98 ∷ []) true 5 ≡ None
-unfolding counts_of table_of entry_at is_coded char_info_of exists measure_of kern_at kern_index_of step_at program_of right_code_of left_start_of begin_at start_of chain_from address_of address_between match_of operation_of action_of action_between opening right_end step_from after_steps items_of result_after
+unfolding counts_of table_of entry_at is_coded char_info_of exists measure_of kern_at kern_index_of step_at program_of right_code_of left_start_of begin_at start_of chain_from address_of address_between match_of operation_of action_of action_between opening right_end step_from after_steps items_of result_from
 not_after = refl
 
 -- a right boundary that was replaced doesn't come back
 boundary_replaced : result_after right_boundary_font (97 ∷ []) true 3 ≡ Some (a ∷ kern_back ∷ b ∷ [])
-unfolding counts_of table_of entry_at is_coded char_info_of exists measure_of kern_at kern_index_of step_at program_of right_code_of left_start_of begin_at start_of chain_from address_of address_between match_of operation_of action_of action_between opening right_end step_from after_steps items_of result_after
+unfolding counts_of table_of entry_at is_coded char_info_of exists measure_of kern_at kern_index_of step_at program_of right_code_of left_start_of begin_at start_of chain_from address_of address_between match_of operation_of action_of action_between opening right_end step_from after_steps items_of result_from
 boundary_replaced = refl
 
 -- a kern before the right boundary is the last item
 boundary_kern : result_after right_boundary_font (98 ∷ []) true 2 ≡ Some (b ∷ kern_ahead ∷ [])
-unfolding counts_of table_of entry_at is_coded char_info_of exists measure_of kern_at kern_index_of step_at program_of right_code_of left_start_of begin_at start_of chain_from address_of address_between match_of operation_of action_of action_between opening right_end step_from after_steps items_of result_after
+unfolding counts_of table_of entry_at is_coded char_info_of exists measure_of kern_at kern_index_of step_at program_of right_code_of left_start_of begin_at start_of chain_from address_of address_between match_of operation_of action_of action_between opening right_end step_from after_steps items_of result_from
 boundary_kern = refl
 
 -- only the last character is next to the right boundary
 boundary_replaced_later : result_after right_boundary_font (97 ∷ 97 ∷ []) true 4 ≡ Some (a ∷ a ∷ kern_back ∷ b ∷ [])
-unfolding counts_of table_of entry_at is_coded char_info_of exists measure_of kern_at kern_index_of step_at program_of right_code_of left_start_of begin_at start_of chain_from address_of address_between match_of operation_of action_of action_between opening right_end step_from after_steps items_of result_after
+unfolding counts_of table_of entry_at is_coded char_info_of exists measure_of kern_at kern_index_of step_at program_of right_code_of left_start_of begin_at start_of chain_from address_of address_between match_of operation_of action_of action_between opening right_end step_from after_steps items_of result_from
 boundary_replaced_later = refl
 
 -- without the right boundary no instruction applies after the last character
 no_right_boundary : result_after right_boundary_font (97 ∷ []) false 1 ≡ Some (a ∷ [])
-unfolding counts_of table_of entry_at is_coded char_info_of exists measure_of kern_at kern_index_of step_at program_of right_code_of left_start_of begin_at start_of chain_from address_of address_between match_of operation_of action_of action_between opening right_end step_from after_steps items_of result_after
+unfolding counts_of table_of entry_at is_coded char_info_of exists measure_of kern_at kern_index_of step_at program_of right_code_of left_start_of begin_at start_of chain_from address_of address_between match_of operation_of action_of action_between opening right_end step_from after_steps items_of result_from
 no_right_boundary = refl
 
 -- a kern after the left boundary is the first item
 kern_after_left_boundary : result_after left_boundary_font (97 ∷ []) true 1 ≡ Some (kern_back ∷ a ∷ [])
-unfolding counts_of table_of entry_at is_coded char_info_of exists measure_of kern_at kern_index_of step_at program_of right_code_of left_start_of begin_at start_of chain_from address_of address_between match_of operation_of action_of action_between opening right_end step_from after_steps items_of result_after
+unfolding counts_of table_of entry_at is_coded char_info_of exists measure_of kern_at kern_index_of step_at program_of right_code_of left_start_of begin_at start_of chain_from address_of address_between match_of operation_of action_of action_between opening right_end step_from after_steps items_of result_from
 kern_after_left_boundary = refl
 
 -- a ligature after the left boundary keeps the boundary
 ligature_after_left_boundary : result_after left_boundary_font (98 ∷ []) true 3 ≡ Some (c ∷ b ∷ [])
-unfolding counts_of table_of entry_at is_coded char_info_of exists measure_of kern_at kern_index_of step_at program_of right_code_of left_start_of begin_at start_of chain_from address_of address_between match_of operation_of action_of action_between opening right_end step_from after_steps items_of result_after
+unfolding counts_of table_of entry_at is_coded char_info_of exists measure_of kern_at kern_index_of step_at program_of right_code_of left_start_of begin_at start_of chain_from address_of address_between match_of operation_of action_of action_between opening right_end step_from after_steps items_of result_from
 ligature_after_left_boundary = refl

@@ -11,13 +11,17 @@ use Rattle.lig_kern.specs.declared.action.Action.TheVariants.{Kern, Lig}
 use Rattle.lig_kern.specs.declared.item.Item.{Item}
 use Rattle.std.specs.Option.{option_map}
 use Rattle.lig_kern.specs.Matching.{action_between}
-use Rattle.lig_kern.specs.Rewriting.{of_symbol, of_kern, items_of}
-use Rattle.lig_kern.specs.Result.{HasNoResultWithin, IsAppendedResult, result_after}
+use Rattle.lig_kern.specs.Rewriting.{of_symbol, of_kern, items_of, right_end}
+use Rattle.lig_kern.specs.Result.{HasNoResultFrom, IsAppendedFrom, result_from}
 
 -- the symbols ahead of the current one: the characters that operations put there (the last one comes first),
 -- then the remainder of the run, then the right boundary if `right` is true
 unfoldable pub symbols_ahead : List ℕ → List ℕ → Bool → List Symbol
 symbols_ahead pending rest right = map Char (reverse pending) ++ map Char rest ++ (if right then Right ∷ [] else [])
+
+-- the symbols of a run that begins with this symbol, after which these characters follow
+abbrev pub beginning_with : FontValue → Symbol → List ℕ → Bool → List Symbol
+beginning_with font first codes right = first ∷ map Char codes ++ right_end font right
 
 -- the effect of one step: the items that it appends, the symbol that is current afterwards, and the symbols
 -- that are ahead of it
@@ -70,15 +74,15 @@ finish font (suc n) current (next ∷ rest) =
     option_map (λ items. (turn_of font current (next ∷ rest)).sent ++ items)
     (finish font n (turn_of font current (next ∷ rest)).current (turn_of font current (next ∷ rest)).ahead)
 
--- the state of a run after `used` steps: no smaller number of steps leads to a result; the results after
+-- the state of a list of symbols after `used` steps: no smaller number of steps leads to a result; the results after
 -- further steps, with `before` in front of them, are exactly `out` followed by the items that those further
 -- steps still append; and `before` is still at the front of `out`
-pub record IsUnderWay (font : FontValue) (run : List ℕ) (right : Bool) (before : List Item) (used : ℕ) (current : Symbol) (ahead : List Symbol) (out : List Item) : Type 0 where
-  pub not_before : (n : ℕ) → n < used → result_after font run right n ≡ None
-  pub onward : (n m : ℕ) → m ≡ used + n → option_map (λ items. before ++ items) (result_after font run right m) ≡ option_map (λ items. out ++ items) (finish font n current ahead)
+pub record IsUnderWay (font : FontValue) (symbols : List Symbol) (before : List Item) (used : ℕ) (current : Symbol) (ahead : List Symbol) (out : List Item) : Type 0 where
+  pub not_before : (n : ℕ) → n < used → result_from font symbols n ≡ None
+  pub onward : (n m : ℕ) → m ≡ used + n → option_map (λ items. before ++ items) (result_from font symbols m) ≡ option_map (λ items. out ++ items) (finish font n current ahead)
   pub front : StaysInFront before out
 
--- the outcome of a run within a limit: its result was appended, after this number of steps; or, if there is
--- no number, the run has no result within the limit
-abbrev pub EndsAfter : FontValue → List ℕ → Bool → ℕ → List Item → List Item → Option ℕ → Type 0
-EndsAfter font run right limit before after steps = MatchOption steps (HasNoResultWithin font run right limit) (IsAppendedResult font run right limit before after)
+-- the outcome of a list of symbols within a limit: its result was appended, after this number of steps; or, if
+-- there is no number, it has no result within the limit
+abbrev pub EndsAfter : FontValue → List Symbol → ℕ → List Item → List Item → Option ℕ → Type 0
+EndsAfter font symbols limit before after steps = MatchOption steps (HasNoResultFrom font symbols limit) (IsAppendedFrom font symbols limit before after)

@@ -8,19 +8,23 @@ use Rattle.lig_kern.specs.declared.item.Item.{Item}
 use Rattle.lig_kern.specs.declared.item.Item.TheVariants.{Char as CharItem}
 use Rattle.lig_kern.specs.Matching.{action_between}
 use Rattle.lig_kern.specs.Rewriting.{character_width, right_end, symbols_of}
-use Rattle.lig_kern.specs.Result.{Setting, IsResultOf, HasNoResultWithin, result_of}
+use Rattle.lig_kern.specs.Result.{Setting, IsResultFrom, IsResultOf, HasNoResultFrom, result_within}
 
 -- a run has at most one result
 abbrev pub HasOneResult : FontValue → List ℕ → Bool → Type 0
 HasOneResult font run right = (a b : Setting) → IsResultOf font run right a → IsResultOf font run right b → a ≡ b
 
--- the result within a limit is the result of the run if that takes no more steps than the limit; otherwise
+-- the result within a limit is the result of the symbols if that takes no more steps than the limit; otherwise
 -- there is none
-pub record FindsResult (font : FontValue) (run : List ℕ) (right : Bool) (limit : ℕ) : Type 0 where
-  pub found : (setting : Setting) → IsResultOf font run right setting → setting.steps ≤ limit → result_of font run right limit ≡ Some setting
-  pub is_result : (setting : Setting) → result_of font run right limit ≡ Some setting → IsResultOf font run right setting × (setting.steps ≤ limit)
-  pub none : HasNoResultWithin font run right limit → result_of font run right limit ≡ None
-  pub none_within : result_of font run right limit ≡ None → HasNoResultWithin font run right limit
+pub record FindsResultFrom (font : FontValue) (symbols : List Symbol) (limit : ℕ) : Type 0 where
+  pub found : (setting : Setting) → IsResultFrom font symbols setting → setting.steps ≤ limit → result_within font symbols limit ≡ Some setting
+  pub is_result : (setting : Setting) → result_within font symbols limit ≡ Some setting → IsResultFrom font symbols setting × (setting.steps ≤ limit)
+  pub none : HasNoResultFrom font symbols limit → result_within font symbols limit ≡ None
+  pub none_within : result_within font symbols limit ≡ None → HasNoResultFrom font symbols limit
+
+-- the same for a run with the left boundary
+abbrev pub FindsResult : FontValue → List ℕ → Bool → ℕ → Type 0
+FindsResult font run right = FindsResultFrom font (symbols_of font run right)
 
 -- the font's program has no match for any two neighbours in a list of symbols
 abbrev pub HasNoMatches : FontValue → List Symbol → Type 0

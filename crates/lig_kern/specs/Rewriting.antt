@@ -2,7 +2,7 @@
 -- the last element.
 -- Public source: The METAFONTbook, Appendix F; see also tex.web, sections 906 to 911 and 1034 to 1040. The
 -- rule for what counts as a step, and the choice to leave out the right boundary, are this project's own.
-use Rattle.std.specs.Prelude.{ℕ, zero, suc, ◌+◌, ◌==◌, Bool, true, false, ℤ, pos, List, [], ◌∷◌, ◌++◌, length, map, take, drop, Option, Some, None, if◌then◌else◌}
+use Rattle.std.specs.Prelude.{ℕ, zero, suc, ◌+◌, nat_le, Bool, true, false, ℤ, pos, List, [], ◌∷◌, ◌++◌, length, map, take, drop, Option, Some, None, if◌then◌else◌}
 use Rattle.std.specs.List.{filter_map, slice_get}
 use Rattle.std.specs.Option.{option_and_then, option_map, option_map_or}
 use Rattle.tfm_tables.specs.Font.{FontValue}
@@ -31,13 +31,17 @@ pub record Configuration : Type 0 where
 unfoldable pub right_end : FontValue → Bool → List Symbol
 right_end font right = if right then option_map_or (λ _. Right ∷ []) (right_code_of (program_of font.words)) [] else []
 
--- the symbols of a run: the left boundary, the characters, and the end of the run
-abbrev pub symbols_of : FontValue → List ℕ → Bool → List Symbol
-symbols_of font run right = Left ∷ map Char run ++ right_end font right
+-- the symbols of a run: the left boundary if `left` is true, the characters, and the end of the run
+abbrev pub symbols_with : FontValue → Bool → List ℕ → Bool → List Symbol
+symbols_with font left run right = (if left then Left ∷ [] else []) ++ map Char run ++ right_end font right
 
--- the configuration of a run before its first step, in which the left boundary is current
-unfoldable pub opening : FontValue → List ℕ → Bool → Configuration
-opening font run right = record { elements = map of_symbol (symbols_of font run right); cursor = 0 }
+-- the symbols of a run that has the left boundary
+abbrev pub symbols_of : FontValue → List ℕ → Bool → List Symbol
+symbols_of font run right = symbols_with font true run right
+
+-- the configuration of a list of symbols before its first step: the first symbol is current
+unfoldable pub opening : List Symbol → Configuration
+opening symbols = record { elements = map of_symbol symbols; cursor = 0 }
 
 -- the action of the font's program between two elements; next to a kern there is none
 abbrev pub action_at : FontValue → Element → Element → Option Action
@@ -84,9 +88,9 @@ unfoldable pub after_steps : FontValue → ℕ → Configuration → Option Conf
 after_steps font zero c = Some c
 after_steps font (suc n) c = option_and_then (after_steps font n) (step_from font c)
 
--- a configuration is final if its current element is the last one
+-- a configuration is final if no element follows the current one; a list without elements is final
 abbrev pub is_final : Configuration → Bool
-is_final c = c.cursor + 1 == length c.elements
+is_final c = nat_le (length c.elements) (c.cursor + 1)
 
 -- the width of a character, in scaled points (sp); 0 for a code that doesn't exist
 abbrev pub character_width : FontValue → ℕ → ℤ

@@ -6,16 +6,20 @@
 pub use action::Action;
 pub use item::Item;
 pub use laws::{few_items, result_within_limit};
-pub use matching::first_match;
-pub use setting::set_word;
+pub use matching::{first_match, ligature};
+pub use run::Run;
+pub use setting::{set_run_of, set_word};
 pub use symbol::Symbol;
 pub use word_fault::WordFault;
+pub use word_font::WordFont;
 
 mod action;
 mod ahead;
 mod item;
 mod laws;
 mod matching;
+mod run;
 mod setting;
 mod symbol;
 mod word_fault;
+mod word_font;

@@ -7,10 +7,10 @@ ghost use Rattle.lig_kern.specs.Matching.{action_between, action_of, ligature_by
 use crate::{Action, Symbol};
 use tfm_tables::{Font, LeftSide, Step};
 
-/// Returns the ligature action of an op code below 128: one of the eight operations, or LIG for a code
-/// that isn't among them.
+/// Returns the ligature action of an op code below 128, with the code of the character that it inserts: one
+/// of the eight operations (tftopl.web, section 13), or LIG for a code that isn't among them.
 #[tactic(auto, unfolding(crate::specs::Matching::operation_of))]
-fn ligature(op: u8, code: u8) -> Action
+pub fn ligature(op: u8, code: u8) -> Action
     ensures { result ≡ ligature_by (operation_of op) code }
 {
     let (keep_left, keep_right, pass) = match op {

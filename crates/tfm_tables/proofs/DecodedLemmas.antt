@@ -8,7 +8,7 @@ use Rattle.std.proofs.lemmas.Int.{to_z-of_z}
 use Rattle.std.specs.List.{range_with_len, slice_get}
 use Rattle.std.proofs.lemmas.Option.{slice_get-get_or}
 use Rattle.std.proofs.lemmas.List.{get_or_append_left, get_or-append_right}
-use Rattle.tfm_words.specs.declared.table.Table.TheVariants.{Param}
+use Rattle.tfm_words.specs.declared.table.Table.TheVariants.{Kern, Param}
 use Rattle.tfm_words.specs.declared.numbers.Numbers.{Numbers}
 use Rattle.tfm_words.specs.Counts.{counts_of, AreCountsOf}
 use Rattle.tfm_tables.proofs.ProgramLemmas.{length-program_of}
@@ -114,7 +114,12 @@ few_steps words c are =
     let small : (counts_of words).nl < 2 ^ 15 = are.lawful.lawful.small.1.1.1.1.1.1.1.1.0 in
     omega (arith, length-program_of words, small)
 
-pub ruleset sized = (few_steps)
+pub few_kerns : (words : List ℕ) (c : Numbers) → AreCountsOf words c → entries_of words Kern ≤ 2 ^ 15
+few_kerns words c are =
+    let small : (counts_of words).nk < 2 ^ 15 = are.lawful.lawful.small.1.1.1.1.1.1.1.1.1.0 in
+    omega (arith, small)
+
+pub ruleset sized = (few_steps, few_kerns)
 
 -- ---- the metrics of a font from their parts
 

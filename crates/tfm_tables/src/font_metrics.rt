@@ -175,10 +175,11 @@ impl FontMetrics {
         }
     }
 
-    /// Returns the number of instructions.
-    #[tactic(auto, using(crate::proofs::ProgramLemmas::reads))]
+    /// Returns the number of instructions, which is below 2^15 as every count of a file is.
+    #[tactic(auto, using(crate::proofs::DecodedLemmas::sized, crate::proofs::ProgramLemmas::reads))]
     pub fn steps(&self) -> usize
-        ensures { result ≡ entries_of self.now.words LigKern }
+        ensures value { result ≡ entries_of self.now.words LigKern }
+        ensures few { result ≤ 2 ^ 15 }
     {
         self.program.len()
     }
@@ -216,10 +217,11 @@ impl FontMetrics {
         self.right
     }
 
-    /// Returns the number of kerns.
-    #[tactic(auto, using(crate::proofs::DecodedLemmas::entries))]
+    /// Returns the number of kerns, which is below 2^15.
+    #[tactic(auto, using(crate::proofs::DecodedLemmas::sized, crate::proofs::DecodedLemmas::entries))]
     pub fn kerns(&self) -> usize
-        ensures { result ≡ entries_of self.now.words Kern }
+        ensures value { result ≡ entries_of self.now.words Kern }
+        ensures few { result ≤ 2 ^ 15 }
     {
         self.kerns.len()
     }
