@@ -15,7 +15,7 @@ import threading
 
 from lib import slow
 from lib.base import PROGRAM, Case, bash, execute, rows, write
-from lib.clib import DONE, SIZE, U32, U64, LibraryCase
+from lib.clib import DONE, U64, Form, LibraryCase, Options, loaded
 from lib.tfm import make, sample
 
 WEIGHT = 5
@@ -217,11 +217,11 @@ class Library(LibraryCase):
     def test_text(self, name, line, count):
         """All lines of a text of 100 MB, and of one of 3,000,000 lines. Mutant: a request above 30 MB."""
         text, data, counts = (line + b"\n") * count, sample("plain"), (U64 * 2)()
-        numbers, room = ([U32(1), U64(1), U64(1)], 40 * count) if name == "records" else ([], count)
-        arrays = [ctypes.create_string_buffer(room if numbers else 48 * room), SIZE(room)]
-        arrays += [ctypes.create_string_buffer(12), SIZE(1)] if name == "set" else []
-        code = getattr(ctypes.CDLL(self.lib + "/libtfmset.so"), "tfmset_" + name)(
-            data, SIZE(len(data)), U32(0), U32(9), U32(0), text, SIZE(len(text)), *numbers, *arrays, counts)
+        form, room = ([ctypes.byref(Form(1, 1, 1))], 40 * count) if name == "records" else ([], count)
+        arrays = [ctypes.create_string_buffer(room if form else 48 * room), room]
+        arrays += [ctypes.create_string_buffer(12), 1] if name == "set" else []
+        code = getattr(loaded(self.prefix), "tfmset_" + name)(
+            data, len(data), ctypes.byref(Options()), *([None, 0] if form else []), text, len(text), *form, *arrays, counts)
         wanted = b"".join(b"1:%d refused missing 0 100\n" % number for number in range(1, count + 1))
-        self.same("code and length", (DONE, len(wanted) if numbers else count), (code, counts[0]))
-        self.assertTrue(not numbers or arrays[0].raw[:len(wanted)] == wanted)
+        self.same("code and length", (DONE, len(wanted) if form else count), (code, counts[0]))
+        self.assertTrue(not form or arrays[0].raw[:len(wanted)] == wanted)

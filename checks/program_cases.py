@@ -8,6 +8,7 @@ with CR LF. Bytes that aren't UTF-8 are `hex DIGITS`; other contents are written
 import errno
 import itertools
 import os
+import random
 import re
 import unicodedata
 
@@ -80,20 +81,21 @@ class Verbose(Case):
         if wanted and not wanted[-1].startswith("tfmset: size "):
             self.same("the last line", wanted[-1], lines[-1])
 
-    def test_reasons_and_ends_of_writes(self):
-        """Many lines of each kind, in each format: the counts are those of the records."""
-        font, text = self.file("font", content("@plain")), b""
-        for turn in range(3000):
-            text += (b"a" * 9 + b"\n", b"ad\n", b"\n", b"abc" * 30 + b"\n", b"b" * 70000 + b"\n")[
-                4 if turn % 997 == 0 else turn % 4]
-        for command in (["set", "--record", "1", font, "/dev/stdin"], ["stream", "--record", "2", font],
-                        ["stream", "--block", "1", "--record", "json", font]):
-            _, out, err = run([command[0], "-v", "--limit", "50", *command[1:]], text)
-            counts = [len(re.findall(form, out)) for form in (
-                r"^\d+:\d+ set |\"width\":", r"refused\W+too-long", r"refused\W+missing", r"refused\W+steps")]
-            wanted = "tfmset: {} lines set, {} refused: {} too-long, {} missing, {} steps\n".format(
-                len(re.findall(r"(?m)^\d+:\d+ set |\"width\":", out)), sum(counts[1:]), *counts[1:])
-            self.same(command[:3], (wanted, 3000), (err, len(re.findall("(?m)^.*(?: set |refused|width)", out))))
+    # Mutants: two reasons are swapped; a chunk is counted twice; the last chunk of a source isn't counted.
+    @rows((" ".join(words), words) for words in (
+        ["set", "-", "F", "F"], ["each", "--workers", "4", "--record", "2", "T", "50", "F", "T", "50", "F"],
+        ["stream", "--workers", "4", "--block", "1", "--record", "json", "-", "F", "F"]))
+    def test_reasons(self, words):
+        """Two files with many lines, of which another number is refused for each reason"""
+        kinds = {b"ab": 900, b"b" * 70000: 7, b"a\xff": 500, "€".encode(): 400, b"ad": 300, b"abc" * 30: 200}
+        lines = [line for line, count in kinds.items() for _ in range(count)]
+        random.Random(1).shuffle(lines)
+        self.file("T", content("@plain"))
+        self.file("F", b"\n".join(lines))
+        limit = [] if words[0] == "each" else ["--limit", "50"]
+        _, _, err = run([words[0], "-v", "--encoding", "t1", *limit, *words[1:]], content("@plain"), self.room)
+        self.same("counts", "tfmset: 1800 lines set, 2814 refused: "
+                  "14 too-long, 1000 encoding, 800 uncoded, 600 missing, 400 steps\n", err)
 
     @rows((command, command) for command in ("set", "each", "stream", "stream <"))
     def test_carriage_returns(self, command):

@@ -33,7 +33,8 @@ TIMED = 100  # that are sent one by one, and timed
 PAUSE = 0.12  # seconds before each fifth of them; no sleep is longer than 0.05
 MOST_LATENCY = (0.005, 0.012, 0.03)  # seconds: the median, that after a pause, the 95th percentile
 MOST_REQUESTS = 2000  # of memory, of which each fails in turn until a lane is abandoned
-SILENCE, MOST_IDLE = 5, 0.2  # seconds, and the seconds of processor time in them; about 0.01
+# Seconds, and the seconds of processor time in them: 0.01 to 0.4, by the machine, and 2 or more if a thread polls.
+SILENCE, MOST_IDLE = 5, 1
 MB = 1 << 20
 MEGABYTES = (20, 200)
 # A megabyte of lines of up to 80 bytes, the last of which don't fill a chunk of eight.

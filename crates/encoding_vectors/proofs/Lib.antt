@@ -4,4 +4,5 @@ pub mod ReadingLemmas
 pub mod LineLemmas
 pub mod GlyphLemmas
 pub mod NumberLemmas
+pub mod UnknownLemmas
 pub mod WorkedRows

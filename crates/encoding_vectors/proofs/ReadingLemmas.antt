@@ -3,10 +3,11 @@ use Rattle.std.proofs.Common.{◌≡◌, ℕ, suc, ◌+◌, ◌-◌, ◌<◌, �
 use Rattle.std.specs.Prelude.{codes, option_map}
 use Rattle.std.proofs.lemmas.Bool.{le-ltb, lt-ltb}
 use Rattle.std.proofs.lemmas.List.{drop-drop, drop-take, take-take, take-append-drop, take_more_set, map-append, length-replicate, replicate-append-replicate}
+use Rattle.std.proofs.lemmas.Simd.{map-map}
 use Rattle.encoding_vectors.specs.Names.{character_of}
 use Rattle.encoding_vectors.specs.Bytes.{is_continued, is_regular, is_white}
 use Rattle.encoding_vectors.specs.Tokens.{Token, in_comment, token_of, tokens_from, tokens_of, without_comments}
-use Rattle.encoding_vectors.specs.Vectors.{first_misfit, fault_line, is_name, is_word, line_after, most_bytes, vector_form, characters_of}
+use Rattle.encoding_vectors.specs.Vectors.{first_misfit, fault_line, is_name, is_word, line_after, most_bytes, vector_form, characters_of, names_of}
 use Rattle.encoding_vectors.specs.Reading.{IsRead, IsMisfit, tokens_at, token_between, characters_at}
 
 -- ---- tokens that are what they have to be, and others after them
@@ -72,16 +73,19 @@ one_misfit is text at end token tokens other =
 pub no_token : (is : List ℕ → Bool) (text : List ℕ) (at : ℕ) → tokens_at text at ≡ [] → IsMisfit (is ∷ []) text at (length text)
 no_token is text at none = ap (first_misfit (length text) (is ∷ [])) none
 
+-- the name that a token is
+pub name_bytes : (text : List ℕ) (start end : ℕ) → start < end → drop 1 (take (end - start) (drop start text)) ≡ take (end - (start + 1)) (drop (start + 1) text)
+name_bytes text start end more =
+    let size : end - start ≡ 1 + (end - (start + 1)) = omega arith in
+    ap (λ n. drop 1 (take n (drop start text))) size
+    ∙ drop-take 1 (end - (start + 1)) (drop start text)
+    ∙ ap (take (end - (start + 1))) (drop-drop 1 start text)
+
 -- the character of a name that is the next token
 pub name_character : (text : List ℕ) (at start end : ℕ) → start < end → tokens_at text at ≡ token_between text start end ∷ tokens_at text end
     → characters_at text at 1 ≡ character_of (take (end - (start + 1)) (drop (start + 1) text)) ∷ []
 name_character text at start end more tokens =
-    let size : end - start ≡ 1 + (end - (start + 1)) = omega arith in
-    let name : drop 1 (take (end - start) (drop start text)) ≡ take (end - (start + 1)) (drop (start + 1) text) =
-    ap (λ n. drop 1 (take n (drop start text))) size
-    ∙ drop-take 1 (end - (start + 1)) (drop start text)
-    ∙ ap (take (end - (start + 1))) (drop-drop 1 start text) in
-    ap (λ l. map (λ (token : Token). character_of (drop 1 token.bytes)) (take 1 l)) tokens ∙ ap (λ l. character_of l ∷ []) name
+    ap (λ l. map (λ (token : Token). character_of (drop 1 token.bytes)) (take 1 l)) tokens ∙ ap (λ l. character_of l ∷ []) (name_bytes text start end more)
 
 -- ---- several names
 
@@ -134,7 +138,7 @@ names_form = head_form ++ replicate 256 is_name
 abbrev end_form : List (List ℕ → Bool)
 end_form = is_word (codes "]") ∷ is_word (codes "def") ∷ []
 
-all_tokens : (text : List ℕ) → tokens_of text ≡ tokens_at text 0
+pub all_tokens : (text : List ℕ) → tokens_of text ≡ tokens_at text 0
 unfolding tokens_of tokens_at
 all_tokens text = refl
 
@@ -160,8 +164,10 @@ module _ (text : List ℕ) (a : ℕ) (name : IsRead (is_name ∷ []) text 0 a) w
         (second_misfit head_form (replicate 256 is_name) text 0 b offset (head b bracket) is)
 
     pub all_characters : characters_at text b 256 ≡ characters_of text
-    unfolding characters_of
-    all_characters = ap (λ l. map (λ (token : Token). character_of (drop 1 token.bytes)) (take 256 l)) ((head b bracket).rest ∙ ap (drop 2) (sym (all_tokens text)))
+    unfolding characters_of names_of
+    all_characters =
+        ap (λ l. map (λ (token : Token). character_of (drop 1 token.bytes)) (take 256 l)) ((head b bracket).rest ∙ ap (drop 2) (sym (all_tokens text)))
+        ∙ sym (map-map character_of (λ (token : Token). drop 1 token.bytes) (take 256 (drop 2 (tokens_of text))))
 
     module _ (c : ℕ) (all : IsRead (replicate 256 is_name) text b c) where
       pub bracket_misfit : (offset : ℕ) → IsMisfit (is_word (codes "]") ∷ []) text c offset → first_misfit (length text) vector_form (tokens_of text) ≡ Some offset

@@ -3,5 +3,6 @@ pub mod Tokens
 pub mod Glyphs
 pub mod Names
 pub mod Vectors
+pub mod Unknown
 pub mod Reading
 pub mod FaultText

@@ -60,6 +60,10 @@ fault_line text =
     (Some (line_after text most_bytes))
     (option_map (line_after text) (first_misfit (length text) vector_form (tokens_of text)))
 
+-- the 256 names, in order
+unfoldable pub names_of : List ℕ → List (List ℕ)
+names_of text = map (λ token. drop 1 token.bytes) (take 256 (drop 2 (tokens_of text)))
+
 -- the characters of the 256 names, in order
 unfoldable pub characters_of : List ℕ → List (Option ℕ)
-characters_of text = map (λ token. character_of (drop 1 token.bytes)) (take 256 (drop 2 (tokens_of text)))
+characters_of text = map character_of (names_of text)

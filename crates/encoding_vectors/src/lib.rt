@@ -1,11 +1,12 @@
 //! Reads encoding vectors of dvips: files `.enc`, which give each of the 256 codes of a font the name of a
 //! glyph.
 //!
-//! Nothing allocates memory, and every call returns.
+//! Only `unknown_names` allocates memory. Every call returns.
 #![tactic(auto)]
 
 pub use fault::VectorFault;
 pub use reading::{MOST_BYTES, read_vector};
+pub use unknown::unknown_names;
 
 mod bytes;
 mod fault;
@@ -15,3 +16,4 @@ mod names;
 mod numbers;
 mod reading;
 mod scanning;
+mod unknown;

@@ -4,34 +4,11 @@ use Rattle.std.specs.Prelude.{cond}
 use native.Mathlib.Numerals.{unary_clauses}
 use Rattle.std.proofs.lemmas.Bool.Decides.{nat_tests}
 use Rattle.std.proofs.lemmas.List.Sums.{sum_by-cons}
-use Rattle.std.proofs.lemmas.List.Elements.{All-nil, All-push, All-head, All-tail, All-take}
-use Rattle.set_line.specs.Lines.{HasNoFeed, lines_of}
-use Rattle.set_line.proofs.LineLemmas.{cut_at_feed, no_bytes as no_line, one_line}
-use Rattle.line_chunks.specs.Pending.{EndsWithFeed, before_feed, ends_with_return, feeds_in}
-use Rattle.line_chunks.specs.Returns.{lines_in, without_returns}
-use Rattle.line_chunks.proofs.ReturnLemmas.{kept_without_feed, no_bytes, stripped_before_feed}
-
--- ---- one line
-
--- a line before its line feed has no line feed
-no_feed_before : (line : List ℕ) → HasNoFeed line → (b : Bool) → HasNoFeed (cond b (take (length line - 1) line) line)
-no_feed_before line none true = All-take (λ byte. byte ≢ 10) (length line - 1) line none
-no_feed_before line none false = none
-
--- Law: the first line is before the first line feed
-pub lines_at_feed : (crlf : Bool) (line rest : List ℕ) → HasNoFeed line → lines_in crlf (line ++ 10 ∷ rest) ≡ before_feed crlf line ∷ lines_in crlf rest
-lines_at_feed true line rest none =
-    ap lines_of (stripped_before_feed line rest none) ∙ cut_at_feed (before_feed true line) (without_returns rest) (no_feed_before line none (ends_with_return line))
-lines_at_feed false line rest none = cut_at_feed line rest none
-
--- Law: bytes without a line feed are a line
-pub last_line : (crlf : Bool) (line : List ℕ) → HasNoFeed line → 0 < length line → lines_in crlf line ≡ line ∷ []
-last_line true line none some = ap lines_of (kept_without_feed line none) ∙ one_line line none some
-last_line false line none some = one_line line none some
-
-pub no_lines : (crlf : Bool) → lines_in crlf [] ≡ []
-no_lines true = ap lines_of no_bytes ∙ no_line
-no_lines false = no_line
+use Rattle.std.proofs.lemmas.List.Elements.{All-nil, All-push, All-head, All-tail}
+use Rattle.set_line.specs.Lines.{HasNoFeed}
+use Rattle.set_line.specs.Returns.{before_feed, lines_in}
+use Rattle.set_line.proofs.ReturnLemmas.{lines_at_feed, no_lines}
+use Rattle.line_chunks.specs.Pending.{EndsWithFeed, feeds_in}
 
 -- ---- whole lines
 

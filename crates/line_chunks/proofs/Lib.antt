@@ -2,6 +2,5 @@ pub mod FeedLemmas
 pub mod InputLemmas
 pub mod PendingLemmas
 pub mod ReadingLemmas
-pub mod ReturnLemmas
 pub mod TextLemmas
 pub mod WorkedRows

@@ -7,12 +7,13 @@ use Rattle.set_line.specs.Lines.{HasNoFeed}
 use Rattle.set_run.specs.Calls.{HasReturned}
 use Rattle.set_run.specs.Sources.{HasNoMore}
 use Rattle.line_chunks.specs.Chunks.{ChunkValue, cut}
-use Rattle.line_chunks.specs.Pending.{AreAll, EndsWithFeed, before_feed}
+use Rattle.line_chunks.specs.Pending.{AreAll, EndsWithFeed}
 use Rattle.line_chunks.specs.Reading.{GivesChunk, Told, gives_told, told_by}
-use Rattle.line_chunks.specs.Returns.{lines_in}
+use Rattle.set_line.specs.Returns.{before_feed, lines_in}
 use Rattle.line_chunks.specs.declared.chunk_reader.ReaderState.{ReaderState}
 use Rattle.line_chunks.specs.declared.chunk_reader.ReaderState.TheVariants.{AtEnd, Failed, Open}
-use Rattle.line_chunks.proofs.FeedLemmas.{last_line, lines_apart, lines_at_feed, no_lines}
+use Rattle.set_line.proofs.ReturnLemmas.{last_line, lines_at_feed, no_lines}
+use Rattle.line_chunks.proofs.FeedLemmas.{lines_apart}
 
 -- ---- the lines to come, after some of them were returned
 

@@ -10,7 +10,7 @@ use Rattle.encodings.specs.declared.encoding.Encoding.{Encoding}
 use Rattle.line_records.specs.Results.{line_result}
 use Rattle.line_records.proofs.ResultLemmas.{long_result}
 use Rattle.line_chunks.specs.Chunks.{ChunkValue, cut, lines_of_chunk, too_long, whole}
-use Rattle.line_chunks.specs.Pending.{before_feed, ends_with_return}
+use Rattle.set_line.specs.Returns.{before_feed, ends_with_return}
 use Rattle.line_chunks.specs.ChunkText.{MakerValue, chunk_text, record_in, records_in, result_in}
 
 -- what is known of a line in a chunk

@@ -2,7 +2,7 @@
 use Rattle.std.proofs.Common.{◌≡◌, ℕ, true, false, List, [], ◌∷◌, refl, replicate}
 use Rattle.set_line.specs.Lines.{lines_of}
 use Rattle.line_chunks.specs.Chunks.{cut, numbered_cuts, too_long, whole}
-use Rattle.line_chunks.specs.Returns.{lines_in, without_returns}
+use Rattle.set_line.specs.Returns.{lines_in, without_returns}
 
 -- three lines that end with CR LF, with LF and with CR CR LF, and a last line that ends with CR; the second has a
 -- carriage return inside

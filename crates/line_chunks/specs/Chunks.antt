@@ -1,7 +1,7 @@
 -- Chunks: lines of a source that were read together, and their line numbers.
 -- This project's own.
 use Rattle.std.specs.Prelude.{ℕ, ◌+◌, nat_lt, Bool, List, [], ◌∷◌, length, map, if◌then◌else◌}
-use Rattle.line_chunks.specs.Returns.{lines_in}
+use Rattle.set_line.specs.Returns.{lines_in}
 use Rattle.line_chunks.specs.declared.chunk.Contents.{Contents}
 use Rattle.line_chunks.specs.declared.chunk.Contents.TheVariants.{Lines, TooLong}
 

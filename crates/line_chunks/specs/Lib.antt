@@ -1,4 +1,3 @@
-pub mod Returns
 pub mod Chunks
 pub mod ChunkText
 pub mod Pending

@@ -8,7 +8,7 @@ use Rattle.set_run.specs.Calls.{HasReturned}
 use Rattle.set_run.specs.Sources.{gives_line}
 use Rattle.line_chunks.specs.Chunks.{ChunkValue, cut}
 use Rattle.line_chunks.specs.Pending.{PendingValue, bytes_of}
-use Rattle.line_chunks.specs.Returns.{lines_in}
+use Rattle.set_line.specs.Returns.{lines_in}
 use Rattle.line_chunks.specs.declared.chunk_reader.ChunkReader.{ChunkReader}
 use Rattle.line_chunks.specs.declared.chunk_reader.ReaderState.{ReaderState}
 use Rattle.line_chunks.specs.declared.chunk_reader.ReaderState.TheVariants.{Open, AtEnd, Failed}

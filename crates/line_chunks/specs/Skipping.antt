@@ -3,7 +3,8 @@
 use Rattle.std.specs.Prelude.{◌≡◌, ◌<◌, ℕ, Bool, List, [], ◌∷◌, ◌++◌, length, Option}
 use Rattle.std.specs.Io.KnownBytes.{Consumes}
 use Rattle.set_line.specs.Lines.{HasNoFeed}
-use Rattle.line_chunks.specs.Pending.{AreAll, before_feed, ends_with_return}
+use Rattle.set_line.specs.Returns.{before_feed, ends_with_return}
+use Rattle.line_chunks.specs.Pending.{AreAll}
 use Rattle.line_chunks.specs.declared.long_line.LongLine.{LongLine}
 use Rattle.line_chunks.specs.declared.input.Skipped.{Skipped}
 use Rattle.line_chunks.specs.declared.input.Skipped.TheVariants.{ToFeed, ToEnd}

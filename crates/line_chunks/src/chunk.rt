@@ -1,6 +1,6 @@
 ghost use Rattle.std.specs.Prelude.{◌≡◌, ◌+◌, ◌<◌, ◌^◌, ◌∷◌, [], length, map};
 ghost use Rattle.line_chunks.specs.Chunks.{cut, lines_within, too_long};
-ghost use Rattle.line_chunks.specs.Returns.{lines_in};
+ghost use Rattle.set_line.specs.Returns.{lines_in};
 
 use std::marker::Model;
 

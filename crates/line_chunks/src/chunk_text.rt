@@ -1,7 +1,7 @@
 ghost use Rattle.std.specs.Prelude.{◌≡◌};
 ghost use Rattle.line_chunks.specs.ChunkText.{IsChunkText, chunk_text};
 
-use crate::{Chunk, RecordMaker};
+use crate::{Chunk, LineCounts, RecordMaker};
 use line_lane::Made;
 use std::marker::Model;
 use std::snapshot::Snapshot;
@@ -20,6 +20,8 @@ pub(crate) struct LineCount {
 pub struct ChunkText {
     text: Vec<u8>,
     count: LineCount,
+    /// The numbers of lines by reason, which no clause states.
+    counts: LineCounts,
     maker: Snapshot<RecordMaker>,
     chunk: Snapshot<Chunk>,
 }
@@ -47,6 +49,7 @@ impl Model for ChunkText {
 }
 
 impl ChunkText {
+    /// Returns the text of a chunk, whose lines the maker has counted.
     pub(crate) fn new(maker: &RecordMaker, chunk: &Chunk, text: Vec<u8>, count: LineCount) -> Self
         requires text { text.items ≡ (chunk_text maker.now chunk.now).text }
         requires lines { count.lines ≡ (chunk_text maker.now chunk.now).lines }
@@ -56,6 +59,7 @@ impl ChunkText {
         ChunkText {
             text,
             count,
+            counts: maker.counts,
             maker: Snapshot::of(maker),
             chunk: Snapshot::of(chunk),
         }
@@ -83,6 +87,11 @@ impl ChunkText {
         ensures right { IsChunkText self.now }
     {
         self.count.refused
+    }
+
+    /// Returns the numbers of lines that were set, and that were refused for each reason.
+    pub fn counts(&self) -> &LineCounts {
+        &self.counts
     }
 }
 

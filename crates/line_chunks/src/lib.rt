@@ -4,6 +4,7 @@
 pub use chunk::Chunk;
 pub use chunk_reader::ChunkReader;
 pub use chunk_text::ChunkText;
+pub use line_counts::LineCounts;
 pub use record_maker::RecordMaker;
 
 mod chunk;
@@ -11,6 +12,7 @@ mod chunk_reader;
 mod chunk_text;
 mod cutting;
 mod input;
+mod line_counts;
 mod long_line;
 mod pending;
 mod record_maker;

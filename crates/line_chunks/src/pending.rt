@@ -3,9 +3,10 @@ ghost use Rattle.set_line.specs.Lines.{HasNoFeed};
 ghost use Rattle.line_chunks.specs.Pending.{EndsWithFeed, bytes_of, nothing};
 ghost use Rattle.line_chunks.specs.Skipping.{IsLong};
 
-use crate::cutting::{at_first_feed, up_to_last_feed};
+use crate::cutting::up_to_last_feed;
 use crate::long_line::LongLine;
 use memchr::memchr;
+use set_line::at_first_feed;
 use std::alloc::{AllocError, Global};
 use std::marker::Model;
 

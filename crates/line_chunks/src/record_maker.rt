@@ -4,18 +4,17 @@ ghost use Rattle.line_records.specs.Cells.{style_of};
 ghost use Rattle.line_records.specs.Results.{is_refused};
 ghost use Rattle.line_chunks.specs.Chunks.{cut, lines_of_chunk, numbered_cuts, too_long};
 ghost use Rattle.line_chunks.specs.ChunkText.{chunk_text, record_in, records_in, refused_in, result_in};
-ghost use Rattle.line_chunks.specs.Returns.{lines_in};
+ghost use Rattle.set_line.specs.Returns.{lines_in};
 
 use crate::chunk::Contents;
 use crate::chunk_text::LineCount;
-use crate::cutting::next_line;
-use crate::{Chunk, ChunkText};
+use crate::{Chunk, ChunkText, LineCounts};
 use dealt_lanes::Shared;
 use encodings::Encoding;
 use line_lane::Making;
-use line_records::{LineWriter, RecordOf, SourceLine};
+use line_records::{LineResult, LineWriter, RecordOf, SourceLine};
 use set_line::{
-    LineRefusal, OutOfMemory, RecordNumber, Terms, TextRefusal, Version, append_refusal,
+    LineRefusal, OutOfMemory, RecordNumber, Terms, TextRefusal, Version, append_refusal, next_line,
 };
 use std::alloc::Global;
 use std::marker::Model;
@@ -30,6 +29,8 @@ pub struct RecordMaker {
     encoding: Option<Encoding>,
     version: Version,
     writer: LineWriter,
+    /// The counts of the lines of the last chunk.
+    pub(crate) counts: LineCounts,
     /// The number of bytes of the last text.
     last: usize,
     /// The allocator of the makers that `share` returns.
@@ -81,6 +82,7 @@ impl RecordMaker {
             encoding: None,
             version,
             writer,
+            counts: LineCounts::default(),
             last: 0,
             alloc,
         }
@@ -102,13 +104,14 @@ impl RecordMaker {
 
     /// Appends the record of a line of this length, which is too long.
     fn append_too_long(
-        &self,
+        &mut self,
         number: u64,
         length: usize,
         text: &mut Vec<u8>,
     ) -> Result<LineCount, OutOfMemory>
+        ensures kept { self.new ≡ self.old }
         ensures appended { OnOk result (text.new.items
-            ≡ text.old.items ++ record_in self.now (number, too_long length)) }
+            ≡ text.old.items ++ record_in self.old (number, too_long length)) }
         ensures counted { IfOk result (λ count. count ≡ record { lines = 1; refused = 1 }) }
     {
         let number = RecordNumber {
@@ -117,6 +120,7 @@ impl RecordMaker {
         };
         let refusal = TextRefusal::Line(LineRefusal::TooLong(length));
         append_refusal(text, number, refusal, self.version)?;
+        self.counts.count(LineResult::Refused(refusal));
         Ok(LineCount {
             lines: 1,
             refused: 1,
@@ -142,7 +146,9 @@ impl RecordMaker {
             first: number == 1,
             bytes,
         };
-        self.writer.append(&of, line, text)
+        let result = self.writer.append(&of, line, text)?;
+        self.counts.count(result);
+        Ok(result.is_refused())
     }
 
     /// Appends the records of the lines in these bytes, of which the first has this line number. If `crlf` is true,
@@ -201,6 +207,7 @@ impl RecordMaker {
         ensures back { IfErr result (λ failed. failed.0 ≡ chunk) }
     {
         self.writer.prepare(&self.terms);
+        self.counts = LineCounts::default();
         let mut text = with_room(alloc, self.last.saturating_add(self.last / 4));
         match self.append_all(&chunk, &mut text) {
             Ok(count) => {

@@ -1,7 +1,7 @@
 ghost use Rattle.std.specs.Prelude.{◌≡◌, ◌++◌, None, IfOk, IfSome, OnErr, OnOk};
 ghost use Rattle.line_records.specs.Cells.{Fits, style_of};
 ghost use Rattle.line_records.specs.Kept.{IsKeptResult, IsTried};
-ghost use Rattle.line_records.specs.Results.{IsResult, is_refused, line_record, line_result, refusal_in};
+ghost use Rattle.line_records.specs.Results.{IsResult, line_record, line_result, refusal_in};
 
 use crate::keeping::{Kept, Lists, set_codes, set_parts};
 use crate::refusing::find_refusal;
@@ -176,7 +176,7 @@ impl LineWriter {
         }
     }
 
-    /// Sets a line, and appends its record. Returns whether the line is refused. If an allocation fails, the
+    /// Sets a line, and appends its record. Returns its result without its items. If an allocation fails, the
     /// contents of `out` are as before.
     #[tactic(auto, using(crate::proofs::ResultLemmas::records))]
     pub fn append(
@@ -184,13 +184,13 @@ impl LineWriter {
         of: &RecordOf<'_>,
         line: SourceLine<'_>,
         out: &mut Vec<u8>,
-    ) -> Result<bool, OutOfMemory>
+    ) -> Result<LineResult, OutOfMemory>
         requires { Fits self.old of.now.terms.now }
         ensures kept { self.new ≡ self.old }
         ensures appended { OnOk result (out.new.items ≡ out.old.items
             ++ line_record of.now.terms.now of.now.encoding line.entry.first line.entry.bytes.now
             of.now.source line.entry.number self.old.version) }
-        ensures refused { IfOk result (λ refused. refused ≡ is_refused
+        ensures result { IfOk result (IsResult
             (line_result of.now.terms.now of.now.encoding line.entry.first line.entry.bytes.now)) }
         ensures unchanged { OnErr result (out.new.items ≡ out.old.items) }
     {
@@ -202,7 +202,7 @@ impl LineWriter {
             Ok(kept) => kept,
             Err(refusal) => {
                 append_refusal(out, number, refusal, self.version)?;
-                return Ok(true);
+                return Ok(LineResult::Refused(refusal));
             }
         };
         let set = SetText {
@@ -211,6 +211,6 @@ impl LineWriter {
             texts: &self.rooms.lists.texts[..kept.length],
         };
         append_set(out, number, set, self.version)?;
-        Ok(false)
+        Ok(LineResult::Set(kept.sums))
     }
 }

@@ -1,3 +1,8 @@
+ghost use Rattle.std.specs.Prelude.{◌≡◌, Result};
+ghost use Rattle.lig_kern.specs.Result.{Setting};
+ghost use Rattle.set_line.specs.declared.records.text_refusal.TextRefusal.{TextRefusal as TextRefusalValue};
+ghost use Rattle.line_records.specs.Results.{IsResult, is_refused};
+
 use set_line::TextRefusal;
 
 /// The width, the number of steps and the number of items of a line that is set.
@@ -18,4 +23,13 @@ pub enum LineResult {
     Set(Sums),
     /// The line was refused.
     Refused(TextRefusal),
+}
+
+impl LineResult {
+    /// Returns whether the line was refused.
+    pub fn is_refused(self) -> bool
+        ensures { (line : Result Setting TextRefusalValue) → IsResult line self → result ≡ is_refused line }
+    {
+        matches!(self, LineResult::Refused(_))
+    }
 }

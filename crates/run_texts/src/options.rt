@@ -1,7 +1,9 @@
 use encodings::Encoding;
+use line_chunks::LineCounts;
 use run_plan::{Block, Plan};
 use set_line::Version;
 use set_run::ItemOptions;
+use std::cell::Cell;
 
 /// More lines than a chunk can have: the lines that one read completes, each of one byte at least.
 const ANY_LINES: usize = 131_072;
@@ -25,6 +27,9 @@ pub struct OutputOptions<'a, G> {
     pub whole_reads: bool,
     /// The start barrier of the threads.
     pub gate: &'a G,
+    /// A cell for the numbers of lines that were set and refused. It is set at the end of the batch, also if the
+    /// output fails.
+    pub counts: Option<&'a Cell<LineCounts>>,
 }
 
 impl<'a, G> OutputOptions<'a, G> {
@@ -36,6 +41,13 @@ impl<'a, G> OutputOptions<'a, G> {
             plan: Plan { block, ..self.plan },
             gate: self.gate,
             lanes: self.plan.workers.get(),
+        }
+    }
+
+    /// Stores the numbers of lines, if there is a cell for them.
+    pub(crate) fn store(&self, lines: LineCounts) {
+        if let Some(counts) = self.counts {
+            counts.set(lines);
         }
     }
 

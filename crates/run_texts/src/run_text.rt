@@ -12,7 +12,7 @@ use crate::ToolFault;
 use crate::lane_text::LaneText;
 use crate::record::push_head;
 use crate::writing::write_text;
-use line_chunks::ChunkText;
+use line_chunks::{ChunkText, LineCounts};
 use line_lane::LaneEnd;
 use set_line::Version;
 use set_run::{Collector, Refusal};
@@ -41,6 +41,8 @@ impl Kept for Brand {
 pub(crate) struct RunTexts<K: Kept> {
     pub version: Version,
     pub lanes: Vec<LaneText>,
+    /// The numbers of lines of all lanes.
+    pub lines: LineCounts,
     of: PhantomData<K>,
 }
 
@@ -70,6 +72,7 @@ impl<K: Kept> RunTexts<K> {
         Ok(RunTexts {
             version,
             lanes,
+            lines: LineCounts::default(),
             of: PhantomData,
         })
     }
@@ -103,6 +106,7 @@ impl<K: Kept> Collector for RunTexts<K> {
     ghost quiet = { λ texts. ⊤ };
 
     fn take(&mut self, lane: usize, chunk: ChunkText) -> Result<(), Refusal> {
+        self.lines.add(chunk.counts());
         self.lanes[lane].take(&chunk)
     }
 

@@ -62,6 +62,7 @@ where
     }
     let refused = all_refused(texts.lanes.as_slice());
     let summary = summary_of(refused, run.lanes.as_slice());
+    options.store(texts.lines);
     texts.write(alloc, out)?;
     Ok(summary)
 }

@@ -8,7 +8,7 @@ use crate::buffer::{FULL, ROOM};
 use crate::lane_count::LaneCount;
 use crate::record::push_head;
 use crate::writing::write_some;
-use line_chunks::ChunkText;
+use line_chunks::{ChunkText, LineCounts};
 use line_lane::LaneEnd;
 use set_line::Version;
 use set_run::Refusal;
@@ -21,6 +21,7 @@ pub(crate) struct Stream<'a, W> {
     pub out: &'a mut W,
     pub buffer: Vec<u8>,
     pub counts: Vec<LaneCount>,
+    pub lines: LineCounts,
     pub version: Version,
 }
 
@@ -101,6 +102,7 @@ impl<W: Write> Stream<'_, W> {
         let mut count = self.counts[lane];
         count.push_chunk(chunk, &mut self.buffer)?;
         self.counts[lane] = count;
+        self.lines.add(chunk.counts());
         Ok(())
     }
 

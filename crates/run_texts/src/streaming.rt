@@ -19,7 +19,7 @@ use crate::lane_count::LaneCount;
 use crate::run_summary::{all_refused, summary_of};
 use crate::stream::{Stream, first_buffer, no_answers, write_buffer};
 use crate::{OutputOptions, Summary, ToolFault};
-use line_chunks::{ChunkReader, ChunkText};
+use line_chunks::{ChunkReader, ChunkText, LineCounts};
 use line_lane::LaneEnd;
 use set_line::Terms;
 use set_run::{Collector, Gate, MOST_SOURCES, Refusal, RunEnd, RunFault, run_items};
@@ -184,6 +184,7 @@ where
         out,
         buffer,
         counts,
+        lines: LineCounts::default(),
         version: options.version,
     };
     let (stream, ran) = run_over::<R, T, G, W, Brand>(rt, alloc, readers, options, stream);
@@ -191,8 +192,10 @@ where
         out: writer,
         mut buffer,
         counts,
+        lines,
         version: _,
     } = stream;
+    options.store(lines);
     match ran {
         Ok(run) => finish(&mut buffer, counts.as_slice(), writer, &run),
         Err(fault) => Err(ToolFault::Run(fault)),

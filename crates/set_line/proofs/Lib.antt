@@ -4,6 +4,7 @@ pub mod OnwardLemmas
 pub mod PieceLemmas
 pub mod RecordLemmas
 pub mod RecordRows
+pub mod ReturnLemmas
 pub mod WidthLemmas
 pub mod WorkedRows
 pub mod WritingLemmas

@@ -5,3 +5,4 @@ pub mod Answer
 pub mod Onward
 pub mod Record
 pub mod Lines
+pub mod Returns

@@ -1,5 +1,6 @@
-ghost use Rattle.std.specs.Prelude.{◌≡◌, ◌+◌, ◌<◌, ◌∷◌, [], length, drop, IfOk, IfSome, MatchOption};
-ghost use Rattle.set_line.specs.Lines.{lines_of};
+ghost use Rattle.std.specs.Prelude.{◌≡◌, ◌+◌, ◌<◌, ◌++◌, ◌∷◌, [], length, drop, IfOk, IfSome, MatchOption};
+ghost use Rattle.set_line.specs.Lines.{HasNoFeed, lines_of};
+ghost use Rattle.set_line.specs.Returns.{before_feed, lines_in};
 
 use crate::{Line, OutOfMemory};
 use memchr::memchr;
@@ -30,6 +31,43 @@ pub fn first_line(text: &[u8]) -> Option<(&[u8], &[u8])>
     match memchr(b'\n', text) {
         Some(feed) => Some((&text[..feed], &text[feed + 1..])),
         None => Some((text, &text[text.len()..])),
+    }
+}
+
+/// Splits a text at its first line feed: returns the bytes before it and those after it.
+pub fn at_first_feed(text: &[u8]) -> Option<(&[u8], &[u8])>
+    ensures { MatchOption result (HasNoFeed text.now)
+        (λ cut. HasNoFeed cut.0.now × (text.now ≡ cut.0.now ++ 10 ∷ cut.1.now)) }
+{
+    let feed = memchr(b'\n', text)?;
+    Some((&text[..feed], &text[feed + 1..]))
+}
+
+/// Cuts the first line off a text: returns the line without its line ending, and the text after it. Each line feed
+/// ends a line; if `crlf` is true, one carriage return before it belongs to the line ending, too. Returns `None`
+/// for an empty text.
+pub fn next_line(bytes: &[u8], crlf: bool) -> Option<(&[u8], &[u8])>
+    ensures cut { MatchOption result (lines_in crlf bytes.now ≡ [])
+        (λ cut. lines_in crlf bytes.now ≡ cut.0.now ∷ lines_in crlf cut.1.now) }
+    ensures shorter { IfSome result (λ cut. length cut.1.now < length bytes.now) }
+{
+    if bytes.is_empty() {
+        return None;
+    }
+    match at_first_feed(bytes) {
+        Some((line, rest)) => Some((before_ending(line, crlf), rest)),
+        None => Some((bytes, &bytes[bytes.len()..])),
+    }
+}
+
+/// Returns a line that was before a line feed: if `crlf` is true, without the carriage return at its end, if it has
+/// one.
+fn before_ending(line: &[u8], crlf: bool) -> &[u8]
+    ensures { result.now ≡ before_feed crlf line.now }
+{
+    match line {
+        [front @ .., b'\r'] if crlf => front,
+        _ => line,
     }
 }
 

@@ -7,7 +7,7 @@
 #![tactic(auto)]
 
 pub use answer::Answer;
-pub use cutting::{first_line, lines};
+pub use cutting::{at_first_feed, first_line, lines, next_line};
 pub use items::Items;
 pub use laws::cut_at_feeds;
 pub use limit::Limit;
@@ -24,7 +24,7 @@ pub use records::writing::write_item_text;
 pub use setting::{MOST_BYTES, find_refusal, set, set_bytes};
 pub use terms::Terms;
 pub use version::Version;
-pub use width::total_width;
+pub use width::{total_width, with_item};
 
 mod answer;
 mod cutting;

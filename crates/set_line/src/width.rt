@@ -15,9 +15,9 @@ fn amount(item: Item) -> i32
     }
 }
 
-/// Returns a width with the amount of one more item.
+/// Returns a width with the amount of one more item, in sp. An amount has 32 bits.
 #[tactic(auto, using(crate::proofs::WidthLemmas::signed))]
-fn with_item(width: i64, item: Item) -> i64
+pub fn with_item(width: i64, item: Item) -> i64
     requires below { width ≤ℤ pos (2 ^ 62) }
     requires above { pos 0 ≤ℤ (width +ℤ pos (2 ^ 62)) }
     ensures sum { result ≡ width +ℤ amount_of item }

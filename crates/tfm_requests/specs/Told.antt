@@ -2,7 +2,7 @@
 -- This project's own.
 use Rattle.std.specs.Prelude.{◌≡◌, ℕ, Bool, List, Option, Some, None, IfSome}
 use Rattle.line_chunks.specs.Reading.{Told, told_unread}
-use Rattle.line_chunks.specs.Returns.{lines_in}
+use Rattle.set_line.specs.Returns.{lines_in}
 
 -- a source that isn't read yet: if these bytes are known, all of their lines are still to come; it has met no
 -- read error. The flag states that lines may end with CR LF

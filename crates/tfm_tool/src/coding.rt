@@ -32,57 +32,30 @@ fn name_of(encoding: Encoding) -> Option<&'static str> {
     }
 }
 
-/// The bytes of a font up to the end of its coding scheme, as far as they were read.
-#[derive(Drop)]
-pub(crate) struct Header {
-    bytes: [u8; END],
-    length: usize,
+/// Returns the name of the encoding that the coding scheme of a font states, if it is known.
+fn stated(alloc: Global, font: &[u8]) -> Option<&'static str> {
+    let header = font.get(..END)?;
+    let words = 256 * usize::from(header[2]) + usize::from(header[3]);
+    if words < 12 {
+        return None;
+    }
+    let length = usize::from(header[32]);
+    let scheme = header.get(33..33 + length)?;
+    let scheme = scheme.to_ascii_uppercase(alloc).ok()?;
+    for at in 0..SCHEMES.len() {
+        let (text, name) = SCHEMES[at];
+        if scheme.as_slice() == text.as_bytes() {
+            return Some(name);
+        }
+    }
+    None
 }
 
-impl Header {
-    /// Returns the header of a font of which nothing was read.
-    pub fn new() -> Self {
-        Header {
-            bytes: [0; END],
-            length: 0,
-        }
+/// Returns the name of the encoding that the coding scheme of a font states, if it is known and isn't this one.
+pub(crate) fn other_than(alloc: Global, font: &[u8], encoding: Encoding) -> Option<&'static str> {
+    let stated = stated(alloc, font)?;
+    if name_of(encoding)? == stated {
+        return None;
     }
-
-    /// Takes further bytes of the font. Returns whether the last byte of the coding scheme is among them.
-    pub fn take(&mut self, bytes: &[u8]) -> bool {
-        let Some(space) = self.bytes.get_mut(self.length..) else {
-            return false;
-        };
-        let count = bytes.len().min(space.len());
-        space[..count].copy_from_slice(&bytes[..count]);
-        self.length = self.length.saturating_add(count);
-        count > 0 && self.length == END
-    }
-
-    /// Returns the name of the encoding that the coding scheme states, if it is known.
-    fn stated(&self, alloc: Global) -> Option<&'static str> {
-        let words = 256 * usize::from(self.bytes[2]) + usize::from(self.bytes[3]);
-        if words < 12 {
-            return None;
-        }
-        let length = usize::from(self.bytes[32]);
-        let scheme = self.bytes.get(33..33 + length)?;
-        let scheme = scheme.to_ascii_uppercase(alloc).ok()?;
-        for at in 0..SCHEMES.len() {
-            let (text, name) = SCHEMES[at];
-            if scheme.as_slice() == text.as_bytes() {
-                return Some(name);
-            }
-        }
-        None
-    }
-
-    /// Returns the name of the encoding that the coding scheme states, if it is known and isn't this one.
-    pub fn other_than(&self, alloc: Global, encoding: Encoding) -> Option<&'static str> {
-        let stated = self.stated(alloc)?;
-        if name_of(encoding)? == stated {
-            return None;
-        }
-        Some(stated)
-    }
+    Some(stated)
 }

@@ -15,7 +15,6 @@ mod coding;
 mod notes;
 mod program;
 mod summary;
-mod tally;
 mod usage_text;
 mod verbose;
 mod warning;

@@ -1,5 +1,7 @@
 //! What `--verbose` adds on standard error: the causes of errors, with names, and a summary of a batch.
-use crate::coding::Header;
+use crate::coding::other_than;
+use crate::watched::Purpose;
+use encoding_vectors::{read_vector, unknown_names};
 use encodings::Encoding;
 use font_texts::push_escaped_text;
 use std::alloc::Global;
@@ -18,7 +20,7 @@ pub(crate) struct Notes {
     returns_counted: bool,
     /// The encoding of the request with `--verbose`, with which the coding schemes of its fonts are compared.
     encoding: Option<Encoding>,
-    /// The lines about errors of files and about coding schemes, complete.
+    /// The lines about errors of files, coding schemes and names of glyphs, complete.
     causes: Mutex<Vec<u8>>,
     /// The number of lines that end with a carriage return.
     returns: AtomicU64,
@@ -38,19 +40,23 @@ impl Notes {
         }
     }
 
-    /// Returns whether the request has `--verbose`.
-    pub fn is_on(&self) -> bool {
-        self.verbose
-    }
-
     /// Returns whether lines that end with a carriage return are counted.
     pub fn counts_returns(&self) -> bool {
         self.returns_counted
     }
 
-    /// Returns whether coding schemes are compared with the encoding of the request.
-    pub fn compares_coding(&self) -> bool {
-        self.encoding.is_some()
+    /// Returns an empty list for the bytes of a file that is read as this, if a note depends on them.
+    pub fn kept(&self, purpose: Purpose) -> Option<Vec<u8>> {
+        let kept = match purpose {
+            Purpose::Font => self.encoding.is_some(),
+            Purpose::Vector => self.verbose,
+            Purpose::Lines => false,
+        };
+        if kept {
+            Some(Vec::new(self.alloc))
+        } else {
+            None
+        }
     }
 
     /// Returns a copy of a name for later notes, or `None` if there will be none, or if an allocation fails.
@@ -61,13 +67,17 @@ impl Notes {
         Vec::from_slice(self.alloc, name.as_bytes()).ok()
     }
 
-    /// Notes an error of the file of this name. If an allocation fails, nothing is noted.
+    /// Notes a line. If an allocation failed or fails, nothing is noted.
+    fn add<R: Wait>(&self, rt: &R, line: io::Result<Vec<u8>>) {
+        if let Ok(line) = line {
+            let _ = self.causes.lock(rt).extend_from_slice(line.as_slice());
+        }
+    }
+
+    /// Notes an error of the file of this name.
     pub fn note<R: Wait>(&self, rt: &R, name: &[u8], error: &io::Error) {
         if self.verbose {
-            let mut line = Vec::new(self.alloc);
-            if push_line(&mut line, name, error).is_ok() {
-                let _ = self.causes.lock(rt).extend_from_slice(line.as_slice());
-            }
+            self.add(rt, cause_line(self.alloc, name, error));
         }
     }
 
@@ -79,16 +89,25 @@ impl Notes {
         }
     }
 
-    /// Notes that the coding scheme of the font of this name states another encoding than that of the request, if
-    /// it does. If an allocation fails, nothing is noted.
-    pub fn note_coding<R: Wait>(&self, rt: &R, name: &[u8], header: &Header) {
+    /// Notes that the coding scheme of the font of this name, which has these bytes, states another encoding than
+    /// that of the request, if it does.
+    pub fn note_coding<R: Wait>(&self, rt: &R, name: &[u8], font: &[u8]) {
         let Some(encoding) = self.encoding else {
             return;
         };
-        if let Some(stated) = header.other_than(self.alloc, encoding) {
-            let mut line = Vec::new(self.alloc);
-            if push_coding(&mut line, name, stated, encoding).is_ok() {
-                let _ = self.causes.lock(rt).extend_from_slice(line.as_slice());
+        if let Some(stated) = other_than(self.alloc, font, encoding) {
+            self.add(rt, coding_line(self.alloc, name, stated, encoding));
+        }
+    }
+
+    /// Notes which names have no character in the file of this name, if it has the text of a vector with such names.
+    pub fn note_names<R: Wait>(&self, rt: &R, name: &[u8], text: &[u8]) {
+        if read_vector(text).is_err() {
+            return;
+        }
+        if let Ok(unknown) = unknown_names(self.alloc, text) {
+            if !unknown.is_empty() {
+                self.add(rt, names_line(self.alloc, name, unknown.as_slice()));
             }
         }
     }
@@ -114,25 +133,53 @@ impl Notes {
     }
 }
 
-/// Appends a line with a name and an error.
-fn push_line(line: &mut Vec<u8>, name: &[u8], error: &io::Error) -> io::Result<()> {
-    line.extend_from_slice(b"tfmset: ")?;
-    push_escaped_text(line, name)?;
-    writeln!(line, ": {error}")
+/// Returns the front of a line about the file of this name.
+fn begun_line(alloc: Global, name: &[u8]) -> io::Result<Vec<u8>> {
+    let mut line = Vec::from_slice(alloc, b"tfmset: ")?;
+    push_escaped_text(&mut line, name)?;
+    Ok(line)
 }
 
-/// Appends a line with the name of a font, the encoding that its coding scheme states, and that of the request.
-fn push_coding(
-    line: &mut Vec<u8>,
+/// Returns a line with the name of a file and an error.
+fn cause_line(alloc: Global, name: &[u8], error: &io::Error) -> io::Result<Vec<u8>> {
+    let mut line = begun_line(alloc, name)?;
+    writeln!(line, ": {error}")?;
+    Ok(line)
+}
+
+/// Returns a line with the name of a font, the encoding that its coding scheme states, and that of the request.
+fn coding_line(
+    alloc: Global,
     name: &[u8],
     stated: &str,
     encoding: Encoding,
-) -> io::Result<()> {
-    line.extend_from_slice(b"tfmset: ")?;
-    push_escaped_text(line, name)?;
+) -> io::Result<Vec<u8>> {
+    let mut line = begun_line(alloc, name)?;
     let given = encoding.name();
     writeln!(
         line,
         ": its coding scheme is that of {stated}, and --encoding is {given}"
-    )
+    )?;
+    Ok(line)
+}
+
+/// Returns a line with the name of the file of a vector, and the number of its names without characters. It has the
+/// first five of them.
+fn names_line(alloc: Global, name: &[u8], unknown: &[&[u8]]) -> io::Result<Vec<u8>> {
+    let mut line = begun_line(alloc, name)?;
+    let count = unknown.len();
+    let verb = if count == 1 { "has" } else { "have" };
+    write!(line, ": {count} of 256 names {verb} no character")?;
+    let (first, others) = unknown.split_at(count.min(5));
+    let mut before = ": ";
+    for each in first {
+        line.extend_from_slice(before.as_bytes())?;
+        push_escaped_text(&mut line, each)?;
+        before = ", ";
+    }
+    if !others.is_empty() {
+        write!(line, " and {} more", others.len())?;
+    }
+    line.push(b'\n')?;
+    Ok(line)
 }

@@ -1,6 +1,6 @@
 //! The lines that `--verbose` prints after a request.
 use crate::notes::Notes;
-use crate::tally::Tally;
+use line_chunks::LineCounts;
 use std::io;
 use std::io::Write;
 
@@ -31,13 +31,33 @@ pub(crate) fn say_causes<E: Write>(
     Ok(())
 }
 
+/// Returns the number of refused lines for each reason, with its word.
+fn reasons(counts: &LineCounts) -> [(u64, &'static str); 5] {
+    [
+        (counts.too_long, "too-long"),
+        (counts.encoding, "encoding"),
+        (counts.uncoded, "uncoded"),
+        (counts.missing, "missing"),
+        (counts.steps, "steps"),
+    ]
+}
+
+/// Returns the number of refused lines.
+fn refused(counts: &LineCounts) -> u64 {
+    let mut sum: u64 = 0;
+    for (count, _) in &reasons(counts) {
+        sum = sum.saturating_add(*count);
+    }
+    sum
+}
+
 /// Writes one line with the numbers of lines that were set and refused, and of each reason that occurred.
-pub(crate) fn say_summary<E: Write>(tally: &Tally, err: &mut E) -> io::Result<()> {
-    let lines = if tally.set == 1 { "line" } else { "lines" };
-    let refused = tally.refused();
-    write!(err, "tfmset: {} {lines} set, {refused} refused", tally.set)?;
+pub(crate) fn say_summary<E: Write>(counts: &LineCounts, err: &mut E) -> io::Result<()> {
+    let refused = refused(counts);
+    let lines = if counts.set == 1 { "line" } else { "lines" };
+    write!(err, "tfmset: {} {lines} set, {refused} refused", counts.set)?;
     let mut before = ": ";
-    for (count, reason) in &tally.reasons() {
+    for (count, reason) in &reasons(counts) {
         if *count > 0 {
             write!(err, "{before}{count} {reason}")?;
             before = ", ";

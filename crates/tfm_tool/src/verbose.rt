@@ -7,8 +7,7 @@ ghost use Rattle.tfm_tool.specs.Verbose.{is_verbose as is_verbose_request};
 
 use crate::notes::Notes;
 use crate::summary::{say_causes, say_summary};
-use crate::tally::Tally;
-use crate::watched::{Called, WatchedFiles, WatchedReader, WatchedWriter, Written};
+use crate::watched::{Called, Purpose, WatchedFiles, WatchedReader, WatchedWriter, Written};
 use command_line::{Request, Requested};
 use encodings::Encoding;
 use std::io::{Read, Write};
@@ -53,7 +52,7 @@ fn encoding_of(request: &Request<'_>) -> Option<Encoding> {
 }
 
 /// Returns the number of files that are opened before the files with lines: the file of the encoding vector
-/// if one is named, and the fonts of a request that sets lines.
+/// if one is named, and the fonts of a request that may have an encoding.
 fn files_before_lines(requested: &Requested<'_>) -> u64 {
     let vectors = match requested.vector {
         Some(_) => 1,
@@ -62,11 +61,13 @@ fn files_before_lines(requested: &Requested<'_>) -> u64 {
     fonts_of(&requested.request).saturating_add(vectors)
 }
 
-/// Returns the number of files that a request opens as fonts before its files with lines, 0 if it has none.
+/// Returns the number of files that a request opens as fonts before its files with lines, 0 if none has an encoding.
 fn fonts_of(request: &Request<'_>) -> u64 {
     match request {
         Request::Set(setting) | Request::Stream(setting) if setting.font == "-" => 0,
         Request::Set(_) | Request::Stream(_) => 1,
+        Request::Pairs(asked) if asked.font == "-" => 0,
+        Request::Pairs(_) => 1,
         Request::Each(jobs) => (jobs.words.len() / 3) as u64,
         _ => 0,
     }
@@ -77,14 +78,6 @@ fn reads_lines(request: &Request<'_>) -> bool {
     match request {
         Request::Stream(setting) => setting.files.is_empty(),
         _ => false,
-    }
-}
-
-/// Returns whether the whole output was written, and no lane was abandoned.
-fn is_whole(done: &Result<Done, Failure>) -> bool {
-    match done {
-        Ok(Done::LaneAbandoned) | Err(_) => false,
-        Ok(_) => true,
     }
 }
 
@@ -115,7 +108,7 @@ where
     let notes = Notes::new(rt.alloc(), verbose, crlf.unwrap_or(true), encoding);
     let written = Written {
         out,
-        tally: Tally::new(),
+        lines: None,
         error: None,
     };
     let (written, done) = perform_watched::<R, I, O, Brand, Requested<'_>>(
@@ -123,15 +116,15 @@ where
     );
     let Written {
         out: writer,
-        tally,
+        lines,
         error,
     } = written;
     // For the proof: this use of `writer` shows what `out` holds.
     let _ = &*writer;
     if verbose {
         let _ = say_causes(notes, error, err);
-        if crlf.is_some() && (is_whole(&done) || tally.records() > 0) {
-            let _ = say_summary(&tally, err);
+        if let (Some(_), Some(lines)) = (crlf, &lines) {
+            let _ = say_summary(lines, err);
         }
         let _ = err.flush();
     }
@@ -166,10 +159,14 @@ where
 {
     let requested = stated.requested();
     let others = files_before_lines(requested);
-    let has_lines = reads_lines(&requested.request);
-    let files = WatchedFiles::new(rt, Disk::new(rt), notes, others);
-    let mut input = WatchedReader::new(rt, notes, input, "standard input", has_lines);
-    let mut out: WatchedWriter<'a, O, K> = WatchedWriter::new(written, notes.is_on());
+    let purpose = if reads_lines(&requested.request) {
+        Purpose::Lines
+    } else {
+        Purpose::Font
+    };
+    let files = WatchedFiles::new(rt, Disk::new(rt), notes, others, requested.vector);
+    let mut input = WatchedReader::new(rt, notes, input, "standard input", purpose);
+    let mut out: WatchedWriter<'a, O, K> = WatchedWriter::new(written);
     let done = perform(rt, &files, stated, &mut input, &mut out);
-    (out.into_written(), done)
+    (out.into_written(files.lines.get()), done)
 }

@@ -1,9 +1,10 @@
 //! Files, readers and a writer that pass everything on, and note errors and counts for `--verbose`.
 ghost use Rattle.std.specs.Prelude.{◌≡◌};
 
-use crate::coding::Header;
 use crate::notes::Notes;
-use crate::tally::Tally;
+use encoding_vectors::MOST_BYTES;
+use line_chunks::LineCounts;
+use std::cell::Cell;
 use std::io;
 use std::io::{ErrorKind, Read, Write};
 use std::marker::{Brand, PhantomData};
@@ -11,38 +12,56 @@ use std::sync::Wait;
 use std::sync::atomic::{AtomicU64, Ordering};
 use tfm_requests::Opens;
 
+/// What a file is read as.
+#[derive(Clone, Copy, Debug, PartialEq, Eq)]
+pub(crate) enum Purpose {
+    Font,
+    Vector,
+    Lines,
+}
+
 /// Files whose errors are noted with their names.
 #[derive(Drop)]
 pub(crate) struct WatchedFiles<'r, 'n, R, F> {
     rt: &'r R,
     files: F,
     notes: &'n Notes,
+    /// The numbers of lines that were set and refused, after the batch.
+    pub lines: Cell<LineCounts>,
     /// The number of files that are still to be opened as an encoding vector or as fonts. All later ones have
     /// lines.
     others: AtomicU64,
+    /// The name of the file with the encoding vector.
+    vector: Option<&'n str>,
 }
 
 impl<'r, 'n, R, F> WatchedFiles<'r, 'n, R, F> {
-    /// Returns these files. The first `others` ones to be opened are an encoding vector or fonts; the other
-    /// ones have lines, whose carriage returns are counted.
-    pub fn new(rt: &'r R, files: F, notes: &'n Notes, others: u64) -> Self
+    /// Returns these files. The first `others` ones to be opened are fonts, or the encoding vector if they have
+    /// the name `vector`; the other ones have lines, whose carriage returns are counted.
+    pub fn new(rt: &'r R, files: F, notes: &'n Notes, others: u64, vector: Option<&'n str>) -> Self
         ensures { result.files ≡ files }
     {
         WatchedFiles {
             rt,
             files,
             notes,
+            lines: Cell::new(LineCounts::default()),
             others: AtomicU64::new(others),
+            vector,
         }
     }
 
-    /// Returns whether the next file has lines.
-    fn has_lines(&self) -> bool {
+    /// Returns what the next file, which has this name, is read as.
+    fn purpose(&self, name: &str) -> Purpose {
         if self.others.load(Ordering::Relaxed) == 0 {
-            return true;
+            return Purpose::Lines;
         }
         self.others.fetch_sub(1, Ordering::Relaxed);
-        false
+        if self.vector == Some(name) {
+            Purpose::Vector
+        } else {
+            Purpose::Font
+        }
     }
 }
 
@@ -52,9 +71,9 @@ impl<'r, 'n, R: Wait + Sync, F: Opens> Opens for WatchedFiles<'r, 'n, R, F> {
     ghost known = { λ watched name. F.known watched.files name };
 
     fn open(&self, name: &str) -> io::Result<WatchedReader<'r, 'n, R, F::File>> {
-        let has_lines = self.has_lines();
+        let purpose = self.purpose(name);
         match self.files.open(name) {
-            Ok(file) => Ok(WatchedReader::new(self.rt, self.notes, file, name, has_lines)),
+            Ok(file) => Ok(WatchedReader::new(self.rt, self.notes, file, name, purpose)),
             Err(error) => {
                 self.notes.note(self.rt, name.as_bytes(), &error);
                 if name == "-" {
@@ -64,9 +83,14 @@ impl<'r, 'n, R: Wait + Sync, F: Opens> Opens for WatchedFiles<'r, 'n, R, F> {
             }
         }
     }
+
+    fn counts(&self) -> Option<&Cell<LineCounts>> {
+        Some(&self.lines)
+    }
 }
 
-/// A reader whose errors are noted with its name, and whose lines that end with a carriage return are counted.
+/// A reader whose errors are noted with its name, and whose lines that end with a carriage return are counted, or
+/// whose contents are compared with the encoding of the request.
 #[derive(Drop)]
 pub(crate) struct WatchedReader<'r, 'n, R, T> {
     rt: &'r R,
@@ -74,17 +98,16 @@ pub(crate) struct WatchedReader<'r, 'n, R, T> {
     reader: T,
     /// The name. Without one, errors aren't noted.
     name: Option<Vec<u8>>,
-    /// Whether carriage returns are counted.
-    counts: bool,
+    purpose: Purpose,
     /// The last byte that was read.
     last: u8,
-    /// The header of a font whose coding scheme is compared.
-    header: Option<Header>,
+    /// The bytes of a font or a vector that were read, if they are compared, up to one more than a vector can have.
+    kept: Option<Vec<u8>>,
 }
 
 impl<'r, 'n, R, T: Read> WatchedReader<'r, 'n, R, T> {
     /// Returns this reader, which has this name.
-    pub fn new(rt: &'r R, notes: &'n Notes, reader: T, name: &str, has_lines: bool) -> Self
+    pub fn new(rt: &'r R, notes: &'n Notes, reader: T, name: &str, purpose: Purpose) -> Self
         ensures { result.reader ≡ reader }
     {
         WatchedReader {
@@ -92,13 +115,9 @@ impl<'r, 'n, R, T: Read> WatchedReader<'r, 'n, R, T> {
             notes,
             reader,
             name: notes.name(name),
-            counts: has_lines && notes.counts_returns(),
+            purpose,
             last: 0,
-            header: if !has_lines && notes.compares_coding() {
-                Some(Header::new())
-            } else {
-                None
-            },
+            kept: notes.kept(purpose),
         }
     }
 
@@ -130,18 +149,38 @@ impl<'r, 'n, R: Wait, T: Read> WatchedReader<'r, 'n, R, T> {
         }
     }
 
-    /// Compares the coding scheme of a font when these further bytes complete it.
-    fn compare(&mut self, bytes: &[u8])
+    /// Keeps these further bytes of a font or a vector, or at its end notes what they are compared with.
+    fn keep(&mut self, bytes: &[u8])
         ensures { self.new.reader ≡ self.old.reader }
     {
-        let Some(header) = &mut self.header else {
+        let Some(kept) = &mut self.kept else {
             return;
         };
-        if !header.take(bytes) {
+        if bytes.is_empty() {
+            self.compare();
             return;
         }
-        if let Some(name) = &self.name {
-            self.notes.note_coding(self.rt, name.as_slice(), header);
+        let room = (MOST_BYTES + 1).saturating_sub(kept.len());
+        if kept
+            .extend_from_slice(&bytes[..room.min(bytes.len())])
+            .is_err()
+        {
+            self.kept = None;
+        }
+    }
+
+    /// Compares a font or a vector, which was read, with the encoding of the request.
+    fn compare(&self) {
+        if let (Some(name), Some(kept)) = (&self.name, &self.kept) {
+            match self.purpose {
+                Purpose::Font => self
+                    .notes
+                    .note_coding(self.rt, name.as_slice(), kept.as_slice()),
+                Purpose::Vector => self
+                    .notes
+                    .note_names(self.rt, name.as_slice(), kept.as_slice()),
+                Purpose::Lines => {}
+            }
         }
     }
 }
@@ -152,10 +191,10 @@ impl<R: Wait, T: Read> Read for WatchedReader<'_, '_, R, T> {
     fn read(&mut self, buffer: &mut [u8]) -> io::Result<usize> {
         match self.reader.read(buffer) {
             Ok(count) => {
-                if self.counts {
+                if self.purpose == Purpose::Lines && self.notes.counts_returns() {
                     self.count(&buffer[..count]);
                 }
-                self.compare(&buffer[..count]);
+                self.keep(&buffer[..count]);
                 Ok(count)
             }
             Err(error) => {
@@ -184,52 +223,49 @@ impl Called for Brand {
 pub(crate) struct Written<'a, W> {
     /// The writer.
     pub out: &'a mut W,
-    /// The records that were written.
-    pub tally: Tally,
+    /// The numbers of lines that were set and refused, if the writer accepted bytes.
+    pub lines: Option<LineCounts>,
     /// The first error of the writer.
     pub error: Option<io::Error>,
 }
 
-/// A writer that notes its first error and counts the records that pass it. For the proof: it is always the
-/// same writer, which `K` names.
+/// A writer that notes its first error, and whether it accepted bytes. For the proof: it is always the same
+/// writer, which `K` names.
 #[derive(Drop)]
 pub(crate) struct WatchedWriter<'a, W, K: Called> {
     out: &'a mut W,
-    counts: bool,
-    tally: Tally,
+    any: bool,
     error: Option<io::Error>,
     of: PhantomData<K>,
     ghost same: { out.ghost_name ≡ K.name },
 }
 
 impl<'a, W: Write, K: Called> WatchedWriter<'a, W, K> {
-    /// Returns this writer. Records are counted if `counts` is true.
-    pub fn new(written: Written<'a, W>, counts: bool) -> Self
+    /// Returns this writer, of which nothing is noted.
+    pub fn new(written: Written<'a, W>) -> Self
         requires { written.out.ghost_name ≡ K.name }
         ensures { result.out ≡ written.entry.out }
     {
-        let Written { out, tally, error } = written;
         WatchedWriter {
-            out,
-            counts,
-            tally,
-            error,
+            out: written.out,
+            any: false,
+            error: None,
             of: PhantomData,
         }
     }
 
-    /// Returns the writer, and what was noted of it.
-    pub fn into_written(self) -> Written<'a, W>
+    /// Returns the writer, and what was noted of it, with these numbers of lines.
+    pub fn into_written(self, lines: LineCounts) -> Written<'a, W>
         ensures { result.out ≡ self.entry.out }
     {
         let WatchedWriter {
             out,
-            counts: _,
-            tally,
+            any,
             error,
             of: _,
         } = self;
-        Written { out, tally, error }
+        let lines = any.then_some(lines);
+        Written { out, lines, error }
     }
 
     /// Notes an error, if it is the first one. An interrupted call isn't noted, since it is made again.
@@ -248,9 +284,7 @@ impl<W: Write, K: Called> Write for WatchedWriter<'_, W, K> {
     fn write(&mut self, bytes: &[u8]) -> io::Result<usize> {
         match self.out.write(bytes) {
             Ok(count) => {
-                if self.counts {
-                    self.tally.take(&bytes[..count]);
-                }
+                self.any |= count > 0;
                 Ok(count)
             }
             Err(error) => {

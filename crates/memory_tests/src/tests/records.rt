@@ -94,8 +94,9 @@ fn writes<R: Abort>(
     let (line, wanted) = line;
     text.truncate(EARLIER.len());
     let appended = writer.append(of, line_of(line.as_bytes()), text);
-    assert!(rt; appended.is_err() || appended == Ok(wanted == REFUSED));
-    has_record(rt, appended.is_ok(), text, wanted)
+    let refused = appended.map(LineResult::is_refused);
+    assert!(rt; refused.is_err() || refused == Ok(wanted == REFUSED));
+    has_record(rt, refused.is_ok(), text, wanted)
 }
 
 /// Appends the record of the line twice, by one writer, and prints the outcome. If the allocation of `prepare` fails, or

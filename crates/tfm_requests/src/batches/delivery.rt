@@ -15,9 +15,11 @@ ghost use Rattle.tfm_requests.specs.Told.{told_reader};
 use crate::failures::done::Done;
 use command_line::Layout;
 use encodings::Encoding;
+use line_chunks::LineCounts;
 use run_texts::{OutputOptions, Summary, ToolFault, status, stream_readers};
 use set_line::Terms;
 use set_run::NoGate;
+use std::cell::Cell;
 use std::io::{Read, Write};
 use std::sync::{Arc, Wait};
 use std::thread::Threads;
@@ -40,6 +42,8 @@ pub(crate) struct Output<'a> {
     pub encoding: Option<Encoding>,
     /// When the output is written.
     pub delivery: Delivery,
+    /// A cell for the numbers of lines that were set and refused.
+    pub counts: Option<&'a Cell<LineCounts>>,
 }
 
 /// Sets the lines of all readers, each with its settings, in one batch, and writes the output. Returns the
@@ -70,6 +74,7 @@ where
         crlf: layout.crlf,
         whole_reads: layout.whole_reads,
         gate: &NoGate,
+        counts: output.counts,
     };
     match output.delivery {
         Delivery::AtTheEnd => run_texts::set_readers(rt, rt.alloc(), readers, &options, out),

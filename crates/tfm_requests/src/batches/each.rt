@@ -42,6 +42,7 @@ where
         layout: &asked.layout,
         encoding,
         delivery: Delivery::AtTheEnd,
+        counts: files.counts(),
     };
     Ok(set_readers(rt, readers, &output, out)?)
 }

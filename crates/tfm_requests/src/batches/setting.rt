@@ -136,6 +136,7 @@ where
         layout: &setting.layout,
         encoding,
         delivery: batch.delivery,
+        counts: files.counts(),
     };
     Ok(set_readers(rt, readers, &output, out)?)
 }
@@ -192,6 +193,7 @@ where
         layout: &setting.layout,
         encoding,
         delivery: batch.delivery,
+        counts: files.counts(),
     };
     Ok(set_readers(rt, readers, &output, out)?)
 }

@@ -2,6 +2,8 @@
 ghost use Rattle.std.specs.Prelude.{◌≡◌, ℕ, List, Option, Some, IfOk, IfSome};
 ghost use Rattle.tfm_requests.specs.Known.{bytes_in};
 
+use line_chunks::LineCounts;
+use std::cell::Cell;
 use std::io::{ErrorKind, Read};
 use std::rt::Files;
 use std::{fs, io};
@@ -18,6 +20,12 @@ pub trait Opens {
     fn open(&self, name: &str) -> io::Result<Self::File>
         ensures { IfOk result (λ file. IfSome (known self.now name.now)
             (λ all. Self.File.remaining file ≡ Some all)) };
+
+    /// Returns the cell for the numbers of lines that were set and refused, if they are counted. By default they
+    /// aren't.
+    fn counts(&self) -> Option<&Cell<LineCounts>> {
+        None
+    }
 }
 
 /// The files of the file system. Their contents aren't known to contracts.

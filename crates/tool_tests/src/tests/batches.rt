@@ -104,6 +104,7 @@ fn deliver<R: Abort + Threads + Wait + Sync + AllocGlobal>(
         crlf: batch.crlf,
         whole_reads: batch.whole_reads,
         gate: batch.gate,
+        counts: None,
     };
     let terms = terms_of(rt.alloc(), &font).expect(rt, "the settings");
     let readers = with_terms(rt.alloc(), &terms, readers).expect(rt, "memory");

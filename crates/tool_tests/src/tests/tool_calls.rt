@@ -58,7 +58,7 @@ type Row = (&'static str, &'static str, &'static [Ways], Ended<'static>);
 // of `tfm_tool`: it is noted. Of `CrlfReader`: a carriage return before it is lost. Of `write_once` and `write_some` in
 // `writing.rt` of `run_texts`: an interrupted write is an error of the output, or takes all bytes; after an
 // interruption the first part is written again; only a few writes are made.
-static CALLS: [Row; 43] = rows! {
+static CALLS: [Row; 41] = rows! {
     // A read fails, whichever it is.
     "counts -", "NO_CHARACTERS", &[
         ways!(step = 1, reads = 0), ways!(step = 1, reads = 30), ways!(step = 1, reads = 47),
@@ -128,19 +128,6 @@ static CALLS: [Row; 43] = rows! {
          1:3 refused missing 0 13\n\
          1:4 set 983040 c97=327680 c98=163840 c99=491520\n\
          1 end complete 4\n", NOTED;
-    "stream -v --record 2 FONT", LINES, PIECES => 1,
-        "records 2\n\
-         1:1 set 491520 steps 2 c97=327680 c98=163840\n\
-         1:2 refused missing 1 100\n\
-         1:3 refused missing 0 13\n\
-         1:4 set 983040 steps 3 c97=327680 c98=163840 c99=491520\n\
-         1 end complete 4\n", NOTED;
-    "stream -v --record json FONT", LINES, PIECES => 1,
-        "{\"source\":1,\"line\":1,\"width\":491520,\"steps\":2,\"items\":[[\"c\",97,327680],[\"c\",98,163840]]}\n\
-         {\"source\":1,\"line\":2,\"refused\":\"missing\",\"offset\":1,\"code\":100}\n\
-         {\"source\":1,\"line\":3,\"refused\":\"missing\",\"offset\":0,\"code\":13}\n\
-         {\"source\":1,\"line\":4,\"width\":983040,\"steps\":3,\"items\":[[\"c\",97,327680],[\"c\",98,163840],[\"c\",99,491520]]}\n\
-         {\"source\":1,\"end\":\"complete\",\"lines\":4}\n", NOTED;
 };
 
 /// Returns the standard input of a row: one of two fonts, the long line, or this text.

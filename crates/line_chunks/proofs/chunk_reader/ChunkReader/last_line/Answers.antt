@@ -1,7 +1,7 @@
 use Rattle.std.proofs.Common.{arith, ap, sym, refl, ◌∙◌, ◌<◌, ◌++◌, ◌∷◌, [], length}
 use Rattle.std.proofs.lemmas.Grind.{common_steps}
 use Rattle.line_chunks.specs.Pending.{bytes_of}
-use Rattle.line_chunks.proofs.FeedLemmas.{last_line}
+use Rattle.set_line.proofs.ReturnLemmas.{last_line}
 use Rattle.line_chunks.proofs.InputLemmas.{all_pending}
 use Rattle.line_chunks.proofs.ReadingLemmas.{gives_lines, loses_last, no_more}
 use Rattle.line_chunks.proofs.chunk_reader.ChunkReader.last_line.Goals as goal

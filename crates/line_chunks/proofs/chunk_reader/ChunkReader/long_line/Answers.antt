@@ -1,5 +1,5 @@
 use Rattle.std.proofs.Common.{arith, refl, ◌∷◌, [], false}
-use Rattle.line_chunks.specs.Pending.{before_feed}
+use Rattle.set_line.specs.Returns.{before_feed}
 use Rattle.line_chunks.proofs.ReadingLemmas.{gives_lines, loses_last, loses_line}
 use Rattle.line_chunks.proofs.TextLemmas.{cut_before_feed}
 use Rattle.line_chunks.proofs.chunk_reader.ChunkReader.long_line.Goals as goal

@@ -1,7 +1,7 @@
 use Rattle.std.proofs.Common.{arith, ap, sym, ◌∙◌}
 use Rattle.std.proofs.lemmas.Grind.{common_steps}
 use Rattle.line_chunks.specs.Pending.{bytes_of, feeds_in}
-use Rattle.line_chunks.specs.Returns.{lines_in}
+use Rattle.set_line.specs.Returns.{lines_in}
 use Rattle.line_chunks.proofs.FeedLemmas.{lines_counted, some_lines}
 use Rattle.line_chunks.proofs.InputLemmas.{consumes_pending}
 use Rattle.line_chunks.proofs.ReadingLemmas.{gives_lines, loses_whole}

@@ -2,7 +2,7 @@
 use Rattle.std.proofs.Common.{◌≡◌, ◌+◌, ◌≤◌, ◌++◌, length}
 use Rattle.line_chunks.specs.Chunks.{numbered_cuts}
 use Rattle.line_chunks.specs.ChunkText.{records_in, refused_in}
-use Rattle.line_chunks.specs.Returns.{lines_in}
+use Rattle.set_line.specs.Returns.{lines_in}
 use Rattle.line_chunks.proofs.record_maker.RecordMaker.append_lines.Given as goal
 
 abbrev pub invariant-loop-line : goal.invariant-loop-line

@@ -1,8 +1,8 @@
 use Rattle.std.proofs.Common.{arith, ap, ◌∙◌, ◌∷◌, ◌<◌, length}
 use Rattle.std.proofs.lemmas.Bool.Decides.{nat_tests}
 use Rattle.std.proofs.lemmas.Grind.{common_steps}
-use Rattle.line_chunks.proofs.FeedLemmas.{lines_at_feed, last_line, no_lines}
-use Rattle.line_chunks.proofs.cutting.next_line.Goals as goal
+use Rattle.set_line.proofs.ReturnLemmas.{lines_at_feed, last_line, no_lines}
+use Rattle.set_line.proofs.cutting.next_line.Goals as goal
 
 pub returns-then-is_empty-clause-cut : goal.returns-then-is_empty-clause-cut
 returns-then-is_empty-clause-cut c = grind (arith, common_steps, no_lines c.args.crlf)
@@ -12,5 +12,5 @@ returns-in-Some-clause-cut c = rw (c.in-Some.ensures.1, c.before_ending.ensures)
 
 pub returns-in-None-clause-cut : goal.returns-in-None-clause-cut
 returns-in-None-clause-cut c =
-    let some : 0 < length c.args.text.now = grind (arith, nat_tests) in
-    last_line c.args.crlf c.args.text.now c.in-None.ensures some ∙ ap (λ lines. c.args.text.now ∷ lines) (grind (arith, common_steps, no_lines c.args.crlf))
+    let some : 0 < length c.args.bytes.now = grind (arith, nat_tests) in
+    last_line c.args.crlf c.args.bytes.now c.in-None.ensures some ∙ ap (λ lines. c.args.bytes.now ∷ lines) (grind (arith, common_steps, no_lines c.args.crlf))

@@ -1,7 +1,7 @@
 -- The lines of a text whose lines end with CR LF, read as if they ended with LF: one carriage return (13) before
 -- each line feed (10) is left out.
 -- This project's own. RFC 5234, appendix B.1, defines CRLF.
-use Rattle.std.specs.Prelude.{ℕ, Bool, true, false, ◌==◌, ◌&&◌, List, [], ◌∷◌, cond}
+use Rattle.std.specs.Prelude.{ℕ, ◌-◌, Bool, true, false, ◌==◌, ◌&&◌, List, [], ◌∷◌, cond, get_or, length, take}
 use Rattle.set_line.specs.Lines.{lines_of}
 
 -- the first of these bytes is a line feed
@@ -22,3 +22,12 @@ text_of false bytes = bytes
 -- the lines in these bytes: those of their text
 abbrev pub lines_in : Bool → List ℕ → List (List ℕ)
 lines_in crlf bytes = lines_of (text_of crlf bytes)
+
+-- whether the last byte is a carriage return
+abbrev pub ends_with_return : List ℕ → Bool
+ends_with_return bytes = get_or bytes (length bytes - 1) 0 == 13
+
+-- a line that was before a line feed: without the carriage return at its end, if it has one and lines may end with
+-- CR LF
+abbrev pub before_feed : Bool → List ℕ → List ℕ
+before_feed crlf line = cond (crlf && ends_with_return line) (take (length line - 1) line) line

@@ -1,11 +1,11 @@
 -- The stripping of carriage returns, piece by piece.
-use Rattle.std.proofs.Common.{cond, get_or, take, ◌≡◌, ◌≢◌, ℕ, Bool, true, false, ◌==◌, ◌&&◌, List, [], ◌∷◌, ◌++◌, length, arith, refl, ap, sym, ◌∙◌}
+use Rattle.std.proofs.Common.{cond, get_or, take, ◌≡◌, ◌≢◌, ℕ, ◌-◌, ◌<◌, Bool, true, false, ◌==◌, ◌&&◌, List, [], ◌∷◌, ◌++◌, length, arith, refl, ap, sym, ◌∙◌}
 use Rattle.std.proofs.lemmas.Bool.Decides.{nat_tests}
 use native.Mathlib.Numerals.{unary_clauses}
-use Rattle.std.proofs.lemmas.List.Elements.{All-tail}
-use Rattle.set_line.specs.Lines.{HasNoFeed}
-use Rattle.line_chunks.specs.Pending.{before_feed}
-use Rattle.line_chunks.specs.Returns.{begins_with_feed, without_returns}
+use Rattle.std.proofs.lemmas.List.Elements.{All-tail, All-take}
+use Rattle.set_line.specs.Lines.{HasNoFeed, lines_of}
+use Rattle.set_line.specs.Returns.{before_feed, begins_with_feed, ends_with_return, lines_in, without_returns}
+use Rattle.set_line.proofs.LineLemmas.{cut_at_feed, no_bytes as no_line, one_line}
 
 -- the byte before these ones is a carriage return before a line feed
 abbrev pub is_stripped : ℕ → List ℕ → Bool
@@ -72,3 +72,25 @@ stripped_before_feed (x ∷ y ∷ line) rest none =
     kept_in_line x y line (line ++ 10 ∷ rest) none
     ∙ (ap (λ bytes. x ∷ bytes) (stripped_before_feed (y ∷ line) rest (All-tail (λ byte. byte ≢ 10) x (y ∷ line) none))
     ∙ ap (λ bytes. bytes ++ 10 ∷ without_returns rest) (sym (before_feed_more x y line)))
+
+-- ---- one line
+
+-- a line before its line feed has no line feed
+no_feed_before : (line : List ℕ) → HasNoFeed line → (b : Bool) → HasNoFeed (cond b (take (length line - 1) line) line)
+no_feed_before line none true = All-take (λ byte. byte ≢ 10) (length line - 1) line none
+no_feed_before line none false = none
+
+-- Law: the first line is before the first line feed
+pub lines_at_feed : (crlf : Bool) (line rest : List ℕ) → HasNoFeed line → lines_in crlf (line ++ 10 ∷ rest) ≡ before_feed crlf line ∷ lines_in crlf rest
+lines_at_feed true line rest none =
+    ap lines_of (stripped_before_feed line rest none) ∙ cut_at_feed (before_feed true line) (without_returns rest) (no_feed_before line none (ends_with_return line))
+lines_at_feed false line rest none = cut_at_feed line rest none
+
+-- Law: bytes without a line feed are a line
+pub last_line : (crlf : Bool) (line : List ℕ) → HasNoFeed line → 0 < length line → lines_in crlf line ≡ line ∷ []
+last_line true line none some = ap lines_of (kept_without_feed line none) ∙ one_line line none some
+last_line false line none some = one_line line none some
+
+pub no_lines : (crlf : Bool) → lines_in crlf [] ≡ []
+no_lines true = ap lines_of no_bytes ∙ no_line
+no_lines false = no_line
