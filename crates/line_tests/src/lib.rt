@@ -1,4 +1,4 @@
-//! The tests of `lig_kern`, `set_line` and `line_records`, over their public calls alone.
+//! The tests of `lig_kern`, `prepared_font`, `set_line` and `line_records`, over their public calls alone.
 #![tactic(auto)]
 
 #[cfg(test)]

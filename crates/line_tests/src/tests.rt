@@ -3,6 +3,8 @@ mod lines;
 mod long;
 mod matches;
 mod named;
+mod placing;
+mod prepared;
 mod records;
 mod rewriting;
 mod slow;

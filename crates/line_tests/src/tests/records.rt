@@ -214,7 +214,7 @@ fn appends(
     ensures { writer.new ≡ writer.old }
 {
     let mut out = Vec::new(alloc);
-    let refused = writer.append(of, line, &mut out)?;
+    let refused = writer.append(of, line, &mut out)?.is_refused();
     Ok(out.as_slice() == record.as_bytes() && refused == record.contains("refused"))
 }
 

@@ -10,23 +10,23 @@ use test_support::fonts::{
 use test_support::terms::font_of;
 use tfm_tables::{Font, Step};
 
-const A: u8 = 97;
+pub const A: u8 = 97;
 
-const B: u8 = 98;
+pub const B: u8 = 98;
 
-const C: u8 = 99;
+pub const C: u8 = 99;
 
 /// The right boundary character of the fonts that have one.
 const D: u8 = 100;
 
 /// The listed operations, and two codes that aren't.
-const OPERATIONS: [u8; 10] = [0, 1, 2, 3, 5, 6, 7, 11, 4, 127];
+pub const OPERATIONS: [u8; 10] = [0, 1, 2, 3, 5, 6, 7, 11, 4, 127];
 
 /// Two ligatures, each by the code that it is before and the one that it inserts, and perhaps a kern before a
 /// third code.
-type Shape = ((u8, u8), (u8, u8), Option<u8>);
+pub type Shape = ((u8, u8), (u8, u8), Option<u8>);
 
-static SHAPES: [Shape; 12] = [
+pub static SHAPES: [Shape; 12] = [
     ((B, C), (A, C), None),
     ((B, A), (A, B), None),
     ((B, C), (C, B), Some(A)),
@@ -50,7 +50,7 @@ static RUNS: [&str; 31] = [
 
 /// The letters a, b, c and d. The programs of a and c begin with the first ligature, that of b begins with
 /// the second, and d has none.
-static LETTERS: [Info; 4] = [
+pub static LETTERS: [Info; 4] = [
     A_FROM_1,
     Info {
         tag: 1,
@@ -67,7 +67,11 @@ static LETTERS: [Info; 4] = [
 
 /// The program of a shape by two operations, with or without the boundaries: the left one's begins with the
 /// first ligature.
-fn program_of(shape: Shape, (first, second): (u8, u8), (left, right): (bool, bool)) -> [Step; 5] {
+pub fn program_of(
+    shape: Shape,
+    (first, second): (u8, u8),
+    (left, right): (bool, bool),
+) -> [Step; 5] {
     let ((before_first, one), (before_second, other), kern) = shape;
     let second = ligature_before(before_second, second, other);
     [
@@ -80,7 +84,7 @@ fn program_of(shape: Shape, (first, second): (u8, u8), (left, right): (bool, boo
 }
 
 /// The font with these characters from a on, this program and both kerns.
-fn with_letters<'a, R: Abort + AllocGlobal>(
+pub fn with_letters<'a, R: Abort + AllocGlobal>(
     rt: &R,
     ec: u16,
     characters: &'a [Info],

@@ -1,7 +1,9 @@
-//! A second way to set a run, by the definition alone: the whole run is one list with a cursor, each step
-//! replaces two neighbours in that list, and instructions are searched for one after the other. It uses the
-//! instructions, kerns, widths and starts of the crate `tfm_tables`.
+//! A second way to set a run or a span, by the definitions alone: the whole run is one list with a cursor, in
+//! which each element has its place; each step replaces two neighbours in that list, and instructions are
+//! searched for one after the other. It uses the instructions, kerns, widths and starts of the crate
+//! `tfm_tables`.
 use lig_kern::Item;
+use spans::{Place, PlacedItem, Span};
 use std::process::Abort;
 use tfm_tables::{Font, LeftSide, Step};
 
@@ -25,6 +27,20 @@ impl Element {
                 Some(Item::Char { code, width })
             }
         }
+    }
+}
+
+/// An element with the bytes of the text that it comes from.
+#[derive(Clone, Copy)]
+struct Placed {
+    element: Element,
+    place: Place,
+}
+
+impl Placed {
+    fn new(element: Element, start: usize, end: usize) -> Self {
+        let place = Place { start, end };
+        Placed { element, place }
     }
 }
 
@@ -69,36 +85,55 @@ fn amount_of(font: &Font, step: Step) -> i32 {
 }
 
 /// What takes the place of two neighbours, and how many elements the cursor passes over.
-fn replaced(font: &Font, left: Element, right: Element) -> ([Option<Element>; 3], usize) {
+fn replaced(font: &Font, left: Placed, right: Placed) -> ([Option<Placed>; 3], usize) {
     let (l, r) = (Some(left), Some(right));
-    let Some(step) = instruction_for(font, left, right) else {
+    let Some(step) = instruction_for(font, left.element, right.element) else {
         return ([l, r, None], 1);
     };
+    let (begin, seam) = (left.place.start, right.place.start);
     if step.op >= 128 {
-        return ([l, Some(Element::Kern(amount_of(font, step))), r], 2);
+        let kern = Element::Kern(amount_of(font, step));
+        return ([l, Some(Placed::new(kern, seam, seam)), r], 2);
     }
-    let x = Some(Element::Char(step.remainder));
+    let x = |start, end| Some(Placed::new(Element::Char(step.remainder), start, end));
+    let (of_left, of_right) = (x(begin, left.place.end), x(seam, right.place.end));
     match step.op {
-        1 => ([x, r, None], 0),
-        2 => ([l, x, None], 0),
-        3 => ([l, x, r], 0),
-        5 => ([x, r, None], 1),
-        6 => ([l, x, None], 1),
-        7 => ([l, x, r], 1),
-        11 => ([l, x, r], 2),
-        _ => ([x, None, None], 0),
+        1 => ([of_left, r, None], 0),
+        2 => ([l, of_right, None], 0),
+        3 => ([l, x(seam, seam), r], 0),
+        5 => ([of_left, r, None], 1),
+        6 => ([l, of_right, None], 1),
+        7 => ([l, x(seam, seam), r], 1),
+        11 => ([l, x(seam, seam), r], 2),
+        _ => ([x(begin, right.place.end), None, None], 0),
     }
 }
 
-/// The run between its boundaries.
-fn opening<R: Abort + AllocGlobal>(rt: &R, font: &Font, run: &[u8], right: bool) -> Vec<Element> {
+/// The run of a span between the boundaries that it has.
+fn opening<R: Abort + AllocGlobal>(rt: &R, font: &Font, text: &[u8], span: Span) -> Vec<Placed> {
     let mut elements = Vec::new(rt.alloc());
-    elements.push(Element::Left).expect(rt, "memory");
-    for code in run {
-        elements.push(Element::Char(*code)).expect(rt, "memory");
+    let mut at = span.offset;
+    if span.left {
+        elements
+            .push(Placed::new(Element::Left, at, at))
+            .expect(rt, "memory");
     }
-    if right && font.right_boundary().is_some() {
-        elements.push(Element::Right).expect(rt, "memory");
+    for code in text.iter().skip(span.offset).take(span.length) {
+        let next = at.saturating_add(1);
+        elements
+            .push(Placed::new(Element::Char(*code), at, next))
+            .expect(rt, "memory");
+        at = next;
+    }
+    if let Some(code) = span.hyphen {
+        elements
+            .push(Placed::new(Element::Char(code), at, at))
+            .expect(rt, "memory");
+    }
+    if span.right && font.right_boundary().is_some() {
+        elements
+            .push(Placed::new(Element::Right, at, at))
+            .expect(rt, "memory");
     }
     elements
 }
@@ -107,7 +142,7 @@ fn opening<R: Abort + AllocGlobal>(rt: &R, font: &Font, run: &[u8], right: bool)
 fn step<R: Abort + AllocGlobal>(
     rt: &R,
     font: &Font,
-    elements: &mut Vec<Element>,
+    elements: &mut Vec<Placed>,
     cursor: usize,
 ) -> Option<usize> {
     let (before, rest) = elements.split_at(cursor.min(elements.len()));
@@ -126,25 +161,26 @@ fn step<R: Abort + AllocGlobal>(
     Some(cursor.wrapping_add(pass))
 }
 
-/// Appends the items of these elements.
-fn push_items<R: Abort>(rt: &R, font: &Font, elements: &[Element], items: &mut Vec<Item>) {
-    for element in elements {
-        if let Some(item) = element.item(font) {
-            items.push(item).expect(rt, "memory");
+/// Appends the items of these elements, with their places.
+fn push_items<R: Abort>(rt: &R, font: &Font, elements: &[Placed], items: &mut Vec<PlacedItem>) {
+    for one in elements {
+        if let Some(item) = one.element.item(font) {
+            let place = one.place;
+            items.push(PlacedItem { item, place }).expect(rt, "memory");
         }
     }
 }
 
-/// Sets a run in at most this many steps, and appends its items. Returns the number of steps, or `None` if
-/// these steps don't reach the end.
-pub fn slow_set<R: Abort + AllocGlobal>(
+/// Sets a span in at most this many steps, and appends its items with their places. Returns the number of
+/// steps, or `None` if these steps don't reach the end.
+pub fn slow_place<R: Abort + AllocGlobal>(
     rt: &R,
     font: &Font,
-    (run, right): (&[u8], bool),
+    (text, span): (&[u8], Span),
     limit: u32,
-    items: &mut Vec<Item>,
+    items: &mut Vec<PlacedItem>,
 ) -> Option<u32> {
-    let mut elements = opening(rt, font, run, right);
+    let mut elements = opening(rt, font, text, span);
     let mut cursor = 0;
     let mut taken = None;
     for steps in 0..=limit {
@@ -158,6 +194,30 @@ pub fn slow_set<R: Abort + AllocGlobal>(
     }
     if taken.is_some() {
         push_items(rt, font, &elements, items);
+    }
+    taken
+}
+
+/// Sets a run with its left boundary in at most this many steps, and appends its items. Returns the number of
+/// steps, or `None` if these steps don't reach the end.
+pub fn slow_set<R: Abort + AllocGlobal>(
+    rt: &R,
+    font: &Font,
+    (run, right): (&[u8], bool),
+    limit: u32,
+    items: &mut Vec<Item>,
+) -> Option<u32> {
+    let span = Span {
+        offset: 0,
+        length: run.len(),
+        left: true,
+        right,
+        hyphen: None,
+    };
+    let mut placed = Vec::new(rt.alloc());
+    let taken = slow_place(rt, font, (run, span), limit, &mut placed);
+    for one in &placed {
+        items.push(one.item).expect(rt, "memory");
     }
     taken
 }

@@ -1,0 +1,15 @@
+/// A part of a text that is set as one run. Every byte of it is a character code, including 10 and 32.
+#[derive(Clone, Copy, Debug, PartialEq, Eq, Hash)]
+pub struct Span {
+    /// The byte offset of the first code in the text.
+    pub offset: usize,
+    /// The number of codes.
+    pub length: usize,
+    /// The left edge: whether the left boundary of the font precedes the codes.
+    pub left: bool,
+    /// The right edge: whether the right boundary of the font follows the codes and the hyphen.
+    pub right: bool,
+    /// The code that is set after the last one as part of the same run, as the pre-break text of a
+    /// discretionary is (tex.web, sections 906 to 911).
+    pub hyphen: Option<u8>,
+}
