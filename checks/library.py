@@ -6,6 +6,7 @@ defines functions with names of the toolchain still calls its own.
 """
 import ctypes
 import glob
+import importlib.util
 import itertools
 import os
 import re
@@ -13,16 +14,34 @@ import shutil
 import sys
 import venv
 
-from lib.base import DEMO, PROGRAM, ROOT, environment, execute, files, output, read, rows, write
-from lib.clib import (DONE, NO_ROOM, PARAMETERS, RANGE, REFUSED, U32, WARNINGS, About, Fault, LibraryCase,
-                      Metrics, Neighbours, Pair, call, loaded, values)
+from lib.base import DEMO, PROGRAM, ROOT, bash, environment, execute, files, output, read, rows, write
+from lib.clib import (BINDINGS, DONE, I32, NO_ROOM, PACKAGE, RANGE, REFUSED, U8, U32, WARNINGS, About, Character, Counts,
+                      Fault, Form, Item, LibraryCase, Line, Options, Pair, call, listed, loaded, values)
+from lib.docs import commands
 from lib.tfm import BOUNDARY, LISTED, Font, Listing, path_of, sample, samples
 
 WEIGHT = 6
-NINES = (9,) * 7
 TAGS = {"none": 0, "lig": 1, "list": 2, "ext": 3}
+# A typed caller. In its last lines mypy has to find an error.
+CALLER = """from typing import List, Tuple, Union
+import tfmset
+def show(font: tfmset.Font, text: bytes) -> List[Tuple[int, int]]:
+    widths: List[Union[int, tfmset.Refusal]] = font.widths("ox", encoding="t1")
+    records: bytes = font.records(text, version=2)
+    assert widths and records and isinstance(font == tfmset.Font(font.data), bool)
+    return [(item.kind, item.code) for line in font.set(text) if isinstance(line, tfmset.Line) for item in line.items]
+def refused(font: tfmset.Font) -> None:
+    font.set("ox")  # type: ignore[call-overload]
+    font.size = 5  # type: ignore[misc]
+"""
 # Functions of the toolchain. The first three allocate the library's memory.
 HELPERS = ["rattle_" + name for name in "alloc realloc dealloc arg env errno spawn".split()]
+
+
+def version_in(header):
+    """The version of the library that a header has, such as 0.2.0."""
+    number = int(re.search(r"^#define TFMSET_VERSION (\d+)u$", header, re.M)[1])
+    return ".".join(str(number // 1000 ** i % 1000) for i in (2, 1, 0))
 
 
 def listing(data):
@@ -31,17 +50,19 @@ def listing(data):
     return int(err.split("refused: ")[1].split()[0]) if status == 3 else Listing(out)
 
 
-def characters(listed):
-    """The fields of `struct tfmset_metrics` of each character of a listing, by its code."""
-    return {code: (1, *(int(row[i]) for i in (3, 5, 7, 9)), TAGS[row[11]], int((row + ["0"])[12]))
-            for code, row in listed.chars.items()}
+def characters(found, data):
+    """The fields of `struct tfmset_character` of each character of a listing, by its code."""
+    recipes = Font(data).recipes
+    every = {code: (1, *(int(row[i]) for i in (3, 5, 7, 9)), TAGS[row[11]], int((row + ["0"])[12]))
+             for code, row in found.chars.items()}
+    return {code: row + (recipes[row[6]] if row[5] == 3 else (0,) * 4) for code, row in every.items()}
 
 
 def between(font, amounts, left, right):
-    """The fields of `struct tfmset_pair`, by a search in the font's program."""
+    """The last fields of `struct tfmset_pair`, by a search in the font's program, or None for no action."""
     op, rest = font.act(left, right) or (None, None)
     if op is None:
-        return (0,) * 6
+        return None
     if op >= 128:
         return 1, amounts[256 * (op - 128) + rest], 0, 0, 0, 0
     # An operation that isn't listed is read as the plain one, LIG (TFtoPL, 77).
@@ -56,49 +77,37 @@ class Functions(LibraryCase):
     def test_font(self, name):
         """Sizes, parameters, characters and pairs of neighbours are those of the listing, at two sizes."""
         data = sample(name)
-        listed = listing(data)
-        head = listed.head
+        found = listing(data)
+        head = found.head
         right = BOUNDARY if head["right"] == "none" else int(head["right"])
         for times in (1, 2):
             size = int(head["design"]) * times
-            self.same("accepted", DONE, self.call("check", data, size, result=Fault())[0])
+            self.same("accepted", DONE, self.call("check", data, result=Fault())[0])
             status, about = self.call("font", data, size if times > 1 else 0, result=About())
             self.same("sizes", (DONE, int(head["design"]), size, int(head["checksum"])),
                       (status, about.design_size, about.size, about.check_sum))
             self.same("boundaries", (right, int(head["left"] != "none")),
                       (about.right_boundary, about.left_boundary))
             if times == 1:
-                seen = [getattr(about, field) for field in PARAMETERS]
-                self.same("parameters", (listed.params + [0] * 7)[:7], seen)
-                self.same("counts", (len(listed.params), len(listed.steps)),
-                          (about.parameters, about.instructions))
-        wanted = characters(listed)
-        for code in range(257):
-            status, metrics = self.call("metrics", data, 0, code, result=Metrics(*NINES))
-            one = (DONE, wanted.get(code, (0,) * 7)) if code < 256 else (RANGE, NINES)
-            self.same(f"character {code}", one, (status, values(metrics)))
-        font, codes = Font(data), [*listed.chars, BOUNDARY]
-        for left, right in itertools.product(codes, codes):
-            status, pair = self.call("pair", data, 0, left, right, result=Pair())
-            wanted = between(font, listed.kerns, left, right)
-            self.same(f"{left} and {right}", (DONE, wanted), (status, values(pair)))
-        self.pairs(data, [(left, right, between(font, listed.kerns, left, right))
-                          for left in (BOUNDARY, *listed.chars) for right in codes if font.act(left, right)])
+                self.same("counts", (len(found.params), len(found.steps)), (about.parameters, about.instructions))
+        every, empty = characters(found, data), (0,) * 11
+        self.lists("characters", data, [every.get(code, empty) for code in range(256)], Character, 0)
+        self.lists("parameters", data, found.params, I32, 0)
+        font, codes = Font(data), [*found.chars, BOUNDARY]
+        for which, field in enumerate(((2, 40), (12, 20))):
+            self.lists("header_text", data, list(font.header_text(*field).encode("latin-1")), U8, which)
+        acts = {(left, right): between(font, found.kerns, left, right)
+                for left, right in itertools.product([BOUNDARY, *found.chars], codes)}
+        self.lists("pairs", data, [(*pair, *act) for pair, act in acts.items() if act], Pair, 0)
 
-    def pairs(self, data, wanted):
-        """All pairs in arrays that have more room, just enough, and too little; nothing else is written."""
+    def lists(self, name, data, wanted, kind, number):
+        """A list in arrays that have more room, just enough, and too little."""
         for room in {len(wanted) + 2, len(wanted), max(len(wanted) - 1, 0)}:
-            count, array = ctypes.c_size_t(9), (Neighbours * (room + 1))()
-            ctypes.memset(array, 9, ctypes.sizeof(array))
-            before = bytes(array)
-            status = loaded(self.prefix).tfmset_pairs(data, len(data), 0, array, room, ctypes.byref(count))
-            self.same(f"room for {room}", (DONE if room >= len(wanted) else NO_ROOM, len(wanted)),
-                      (status, count.value))
-            filled = len(wanted) if status == DONE else 0
-            self.same(f"room for {room}: pairs", wanted[:filled],
-                      [(each.left, each.right, values(each.pair)) for each in array[:filled]])
-            size = filled * ctypes.sizeof(Neighbours)
-            self.same(f"room for {room}: the rest", before[size:], bytes(array)[size:])
+            fits = room >= len(wanted)
+            status, count, seen = listed(self.prefix, name, data, number, kind=kind, room=room)
+            self.same(f"{name}: room for {room}", (DONE if fits else NO_ROOM, len(wanted)), (status, count))
+            plain = [values(one) if isinstance(one, ctypes.Structure) else one for one in seen or ()]
+            self.same(f"{name}: elements", wanted if fits else [], plain)
 
     def call(self, *arguments, **result):
         return call(self.prefix, *arguments, **result)
@@ -108,35 +117,115 @@ class Functions(LibraryCase):
         """A font that is cut is refused with the error that the program prints, and no struct changes."""
         data = sample(name)
         for length in sorted({0, 1, 23, 24, 25, len(data) // 2, len(data) - 1}):
-            status, fault = self.call("check", data[:length], 0, result=Fault())
+            status, fault = self.call("check", data[:length], result=Fault())
             self.same(f"{length} bytes", (REFUSED, listing(data[:length])), (status, fault.number))
-            status, metrics = self.call("metrics", data[:length], 0, 97, result=Metrics(*NINES))
-            self.same(f"{length} bytes: struct", (REFUSED, NINES), (status, values(metrics)))
-            self.no_pairs(data[:length], 0, REFUSED)
+            status, about = self.call("font", data[:length], 0, result=About(9))
+            self.same(f"{length} bytes: struct", (REFUSED, 9), (status, about.parameters))
+            self.no_lists(data[:length], 0, REFUSED)
 
-    def no_pairs(self, data, size, wanted):
-        """`tfmset_pairs` returns a code, and writes nothing."""
-        count, array = ctypes.c_size_t(9), (Neighbours * 1)()
-        status = loaded(self.prefix).tfmset_pairs(data, len(data), size, array, 1, ctypes.byref(count))
-        self.same(f"pairs of {len(data)} bytes", (wanted, 9, bytes(ctypes.sizeof(array))),
-                  (status, count.value, bytes(array)))
+    def no_lists(self, data, number, wanted):
+        """The functions that report a list return a code, and write nothing."""
+        for name, kind in (("characters", Character), ("parameters", I32), ("pairs", Pair), ("header_text", U8)):
+            self.same(name, (wanted, 9, None), listed(self.prefix, name, data, number, kind=kind, room=1))
+
+    def test_texts(self):
+        """The text of a font error is that of the program, and the text of a refusal that of its record."""
+        for data in (sample("demo"), sample("demo")[:50], b"no font"):
+            status, _, err = execute(PROGRAM, "list", "-", given=data)
+            text = err.split("refused: ")[1].strip() if status == 3 else ""
+            _, count, seen = listed(self.prefix, "fault_text", data, kind=ctypes.c_char, room=64)
+            self.same("font error", (len(text), text.encode()), (count, seen))
+            status, count, _ = listed(self.prefix, "fault_text", data, kind=U8, room=0)
+            self.same("no room", (NO_ROOM if text else DONE, len(text)), (status, count))
+        lines = {(0, 0, 0, 0): "", (1, 7, 0, 65): "missing 7 65", (2, 65536, 0, 0): "too-long 65536", (3, 0, 9, 0): "steps 9",
+                 (4, 0, 0, 0): None}
+        for (refusal, place, steps, code), text in lines.items():
+            line, array, count = Line(0, 0, 0, place, steps, refusal, code), (U8 * 64)(), ctypes.c_size_t(9)
+            status = loaded(self.prefix).tfmset_refusal_text(ctypes.byref(line), array, 64, ctypes.byref(count))
+            self.same(text, (RANGE, 9) if text is None else (DONE, len(text)), (status, count.value))
+            self.same(text, (text or "").encode(), bytes(array).rstrip(b"\0"))
+
+    def test_null(self):
+        """Each array and each text may be null with length 0."""
+        library, data, out = loaded(self.prefix), sample("demo"), ctypes.create_string_buffer(99)
+        font, options, form = (data, len(data)), ctypes.byref(Options()), ctypes.byref(Form(1, 1, 1))
+        none, text = (None, 0), (b"ox", 2)
+        for name, *arguments in (
+                ("size", none), ("check", none),
+                *(("encode", given, line, none) for given in (none, (b"t1", 2)) for line in (none, text)),
+                ("fault_text", none, none), ("font", none, (0,)),
+                *((name, given, (0,), none) for name in ("characters", "parameters", "pairs", "header_text")
+                  for given in (none, font)),
+                *(("set", given, (options,), line, none, none) for given in (none, font) for line in (none, text)),
+                *(("widths", given, (options,), line, none) for given in (none, font) for line in (none, text)),
+                *(("records", given, (options,), none, line, (form,), none) for given in (none, font) for line in (none, text))):
+            code = getattr(library, "tfmset_" + name)(*sum(arguments, ()), out)
+            reads = name not in ("size", "encode", "fault_text")
+            wanted = {REFUSED} if reads and arguments[0] == none else {DONE, NO_ROOM, RANGE}
+            self.assertIn(code, wanted, f"{name} {arguments}")
+        line = Line()
+        self.same("refusal_text", DONE, library.tfmset_refusal_text(ctypes.byref(line), None, 0, out))
+
+    def widths(self, text, **options):
+        """The code, and the refusals and steps of the lines of a text with the sample font `ligature_0`."""
+        data, given, lines, counts = sample("ligature_0"), Options(**options), (Line * 9)(), Counts()
+        first = data, len(data), ctypes.byref(given), text, len(text)
+        code = loaded(self.prefix).tfmset_widths(*first, lines, 9, ctypes.byref(counts))
+        again, items, others = (Line * 9)(), (Item * 99)(), Counts()
+        status = loaded(self.prefix).tfmset_set(*first, again, 9, items, 99, ctypes.byref(others))
+        self.same("set", (code, *map(values, lines)), (status, *map(values, again)))
+        return code, [(one.refusal, one.steps) for one in lines[:counts.lines]] if code == DONE else None
+
+    def test_call_limit(self):
+        """Once the lines have taken so many steps together, further ones are refused; 0 states the defaults."""
+        text = b"ab\nab\nb\nabab\nab"
+        records = output(PROGRAM, "stream", "--record", "2", path_of("ligature_0"), given=text)
+        steps = [int(line.split()[4]) for line in records.splitlines()[1:-1]]
+        for limit, call_limit in itertools.product((0, 1, 2, 3, 4), range(15)):
+            left, wanted = call_limit or 1 << 64, []
+            for taken in steps:
+                most = limit or 1 << 20
+                wanted.append((3, 0) if left <= 0 else (3, most) if taken > most else (0, taken))
+                left -= wanted[-1][1]
+            self.same((limit, call_limit), (DONE, wanted), self.widths(text, limit=limit, call_limit=call_limit))
+            records, count = (U8 * 999)(), ctypes.c_size_t()
+            data, given, form = sample("ligature_0"), Options(limit=limit, call_limit=call_limit), Form(1, 1, 2)
+            code = loaded(self.prefix).tfmset_records(data, len(data), ctypes.byref(given), None, 0, text, len(text), ctypes.byref(form),
+                                                      records, 999, ctypes.byref(count))
+            seen = [line.split()[1:5] for line in bytes(records[:count.value]).decode().splitlines()]
+            self.same("records", (DONE, [["refused", "steps", str(n)] if refusal else ["set", one[1], "steps", str(n)]
+                                         for (refusal, n), one in zip(wanted, seen)]), (code, [one[:4] for one in seen]))
+        self.same("policy", (RANGE, None), self.widths(text, policy=2))
+        self.same("crlf", (RANGE, None), self.widths(text, crlf=2))
+
+    def test_crlf(self):
+        """One carriage return before a line feed belongs to the line ending, as with --crlf, in lines and in records."""
+        text = b"ab\r\nab\r\r\nab\r"
+        self.same("lines", [0, 1, 1], [refusal for refusal, _ in self.widths(text, crlf=1)[1]])
+        self.same("without", [1, 1, 1], [refusal for refusal, _ in self.widths(text)[1]])
+        font, room, count = path_of("ligature_0"), ctypes.create_string_buffer(999), ctypes.c_size_t()
+        data = read(font, "rb")
+        for crlf in (0, 1):
+            out = execute(PROGRAM, "stream", *["--crlf"] * crlf, font, given=text)[1]
+            code = loaded(self.prefix).tfmset_records(
+                data, len(data), ctypes.byref(Options(crlf=crlf)), None, 0, text, len(text), ctypes.byref(Form(1, 1, 1)), room, 999,
+                ctypes.byref(count))
+            self.same(crlf, (DONE, out.splitlines()[:-1]), (code, room.raw[:count.value].decode().splitlines()))
 
     def test_version_and_size(self):
-        library, numbers = loaded(self.prefix), output(PROGRAM, "--version").split()[1].split(".")
-        wanted = sum(int(number) * 1000 ** (2 - i) for i, number in enumerate(numbers))
-        header = read(self.prefix + "/include/tfmset.h")
-        version = re.search(r"^#define TFMSET_VERSION (\d+)u$", header, re.M)
-        self.same("version", (wanted, wanted), (library.tfmset_version(), int(version.group(1))))
-        self.assertIn(f"\nVersion: {'.'.join(numbers)}\n", read(self.lib + "/pkgconfig/tfmset.pc"))
+        library, header = loaded(self.prefix), read(self.prefix + "/include/tfmset.h")
+        version = version_in(header)
+        self.same("version", version, version_in(f"#define TFMSET_VERSION {library.tfmset_version()}u"))
+        self.assertIn(f"\nVersion: {version}\n", read(self.lib + "/pkgconfig/tfmset.pc"))
         links = [os.readlink(f"{self.lib}/libtfmset.so{end}") for end in ("", ".0")]
-        self.same("links", ["libtfmset.so.0", "libtfmset.so." + ".".join(numbers)], links)
+        self.same("links", ["libtfmset.so.0", "libtfmset.so." + version], links)
         for name, mode in ((links[1], "755"), ("libtfmset.a", "644"), ("pkgconfig/tfmset.pc", "644"),
                            ("../include/tfmset.h", "644")):
             self.same(f"mode of {name}", mode, f"{os.stat(self.lib + '/' + name).st_mode & 0o777:o}")
         policies = re.findall(r"^#define TFMSET_(?:REFUSE|SKIP) (\d)u$", header, re.M)
         self.same("policies, which library_lines passes as numbers", ["0", "1"], policies)
-        self.same("a size too large", RANGE, self.call("check", b"", 1 << 27, result=Fault())[0])
-        self.no_pairs(b"", 1 << 27, RANGE)
+        self.same("a size too large", RANGE, self.call("font", b"", 1 << 27, result=About())[0])
+        self.no_lists(b"", 1 << 27, RANGE)
 
     def test_size_of_a_text(self):
         """A text is read up to its length. After code 4 the size is unchanged."""
@@ -157,14 +246,16 @@ class Linking(LibraryCase):
         """The names of the functions of the header."""
         return sorted(re.findall(r"^uint32_t (\w+)\(", read(self.prefix + "/include/tfmset.h"), re.M))
 
-    @rows((language, tool, language, standard)
-          for tool, language, standard in (("cc", "c", "-std=c99"), ("c++", "c++", "-std=c++98"), ("c++", "c++", "-std=c++11")))
+    @rows((f"{tool} {standard}", tool, language, standard) for tools, language, standards in (
+        (("gcc", "clang"), "c", ("c89", "c99", "c11", "c17")), (("g++", "clang++"), "c++", ("c++98", "c++11", "c++14", "c++17", "c++20")))
+        for tool in tools for standard in standards)
     def test_header(self, tool, language, standard):
         """The header is compiled with all warnings."""
         self.need(tool)
         twice = self.file("twice.h", '#include "tfmset.h"\n' * 2)
+        more = ["-Wshadow", "-Wconversion", "-Wredundant-decls", "-std=" + standard]
         for name in (self.prefix + "/include/tfmset.h", twice):
-            output(tool, "-x", language, standard, *WARNINGS, "-fsyntax-only", f"-I{self.prefix}/include", name)
+            output(tool, "-x", language, *WARNINGS, *more, "-fsyntax-only", f"-I{self.prefix}/include", name)
 
     @rows((f"{tool} {standard}", tool, language, standard) for tool, language, standard in (
         ("cc", "c", "-std=c99"), ("cc", "c", "-std=c11"), ("c++", "c++", "-std=c++98"), ("c++", "c++", "-std=c++11")))
@@ -206,7 +297,8 @@ class Linking(LibraryCase):
             self.assertLess(used, 64 * 1024)
 
     def test_an_example_with_both_libraries(self):
-        found = characters(listing(read(DEMO, "rb")))
+        data = read(DEMO, "rb")
+        found = characters(listing(data), data)
         for kind, link in self.links():
             out = self.built("examples/library/widths.c", "cc", "-std=c99", link=link)
             self.same(kind, f"box {sum(found[ord(c)][1] for c in 'box')}\n", self.output(out, DEMO, "box"))
@@ -238,9 +330,10 @@ def copy_for_installing(prefix):
     """Makes a function that copies what scripts/library needs. Nothing is proved or built, since the library of a prefix takes
     the place of what scripts/prove makes, and is newer than the sources."""
     def make(top):
-        for name in ("scripts/library", "scripts/prove", "scripts/seconds.txt", "include/tfmset.h", "bindings/python/tfmset.py"):
+        for name in ("scripts/library", "scripts/prove", "scripts/seconds.txt", "include/tfmset.h", "LICENSE-MIT", "LICENSE-APACHE"):
             os.makedirs(os.path.dirname(f"{top}/{name}"), exist_ok=True)
             shutil.copy(f"{ROOT}/{name}", f"{top}/{name}")
+        shutil.copytree(BINDINGS, top + "/bindings/python")
         write(top + "/crates.txt", "tfmset_c staticlib:\n")
         write(top + "/crates/tfmset_c/src/lib.rt", "")
         write(top + "/crates/tfmset_c/out/libtfmset_c.a", read(prefix + "/lib/libtfmset.a", "rb"))
@@ -259,10 +352,10 @@ class Installing(LibraryCase):
         self.copy = os.path.join(self.room, "copy")
         copy_for_installing(self.prefix)(self.copy)
 
-    def run_script(self, prefix, before=(), **more):
+    def run_script(self, *words, before=(), **more):
         """Runs scripts/library in the copy, with other directories before those of PATH."""
         path = os.pathsep.join([*before, os.environ["PATH"]])
-        return execute(self.copy + "/scripts/library", prefix, env=environment(PATH=path, **more))
+        return execute(self.copy + "/scripts/library", *words, env=environment(**{"PATH": path, **more}))
 
     def install(self, *arguments, **more):
         """What scripts/library prints. It mustn't fail."""
@@ -272,7 +365,7 @@ class Installing(LibraryCase):
 
     def loads(self, python, prefix, directory, **more):
         """An interpreter loads the module and the library of a prefix."""
-        wanted = f"{prefix}/{directory}/tfmset.py {prefix}/lib/libtfmset.so.0\n"
+        wanted = f"{prefix}/{directory}/tfmset/__init__.py {prefix}/lib/libtfmset.so.0\n"
         seen = execute(python, *self.call, env=environment(**more), cwd=self.room)
         self.same(prefix, (0, wanted, ""), seen)
 
@@ -281,18 +374,41 @@ class Installing(LibraryCase):
         top = self.room + "/opt/tfmset"
         for _ in range(2):
             printed = self.install("/opt/tfmset/", DESTDIR=self.room)
-        found, version = files(top), output(PROGRAM, "--version").split()[1]
+        found, version = files(top), version_in(read("include/tfmset.h"))
         self.same("said", [f"{top}/{name}" for name in found if not os.path.islink(f"{top}/{name}")],
                   sorted(re.findall("^installed (.*)$", printed, re.M)))
-        modules = [name for name in found if re.fullmatch(r"lib/python[\d.]+/(site|dist)-packages/tfmset.py", name)]
+        modules = [name for name in found if re.fullmatch(r"lib/python[\d.]+/(site|dist)-packages/tfmset/.*", name)]
+        self.same("the package", set(os.listdir(PACKAGE)) - {"__pycache__"}, {name.rpartition("/")[2] for name in modules})
         self.same("files", sorted([
             "include/tfmset.h", "lib/libtfmset.a", "lib/libtfmset.so", "lib/libtfmset.so.0", f"lib/libtfmset.so.{version}",
-            "lib/pkgconfig/tfmset.pc", *modules[:1]]), found)
+            "lib/pkgconfig/tfmset.pc", *modules]), found)
         lines = read(top + "/lib/pkgconfig/tfmset.pc").splitlines()
         self.same("tfmset.pc", [
             "prefix=/opt/tfmset", "includedir=${prefix}/include", "libdir=${prefix}/lib", "Name: tfmset",
             f"Version: {version}", "Cflags: -I${includedir}", "Libs: -L${libdir} -ltfmset"],
             [line for line in lines if line and "Description: " not in line])
+        self.same("left in the repository", True, read(self.copy + "/crates/tfmset_c/out/libtfmset.so", "rb") ==
+                  read(f"{top}/lib/libtfmset.so", "rb"))
+
+    def test_uninstall(self):
+        """The installed files are removed, without rt. Other files stay, and so does a module that pip installed."""
+        others = ["include/other.h", "lib/libtfmset_other.so", "lib/python3.8/site-packages/tfmset/libtfmset.so"]
+        for name in others:
+            self.file("usr/" + name, "")
+        self.install("/usr", DESTDIR=self.room)
+        status, out, err = self.run_script("--uninstall", "/usr", DESTDIR=self.room, PATH="/usr/bin:/bin")
+        self.same("left", (0, "", others), (status, err, files(self.room + "/usr")))
+        self.same("said", (7, True), (out.count("\n"), all(line.startswith("removed ") for line in out.splitlines())))
+
+    def test_without_tools(self):
+        """If a tool is missing, one line names it."""
+        tools = self.other_room()
+        for name in "bash env dirname readlink awk cc ar objcopy".split():
+            os.symlink(shutil.which(name), f"{tools}/{name}")
+        os.symlink(sys.executable, tools + "/python3")
+        for name, more in (("rt", {}), ("nonesuch", {"CC": "nonesuch"})):
+            status, out, err = self.run_script(self.room + "/none", PATH=tools, **more)
+            self.same(name, (127, "", 1, True), (status, out, err.count("\n"), f" needs {name}" in err))
 
     def test_after_a_failed_step(self):
         """Nothing is installed if the compiler fails."""
@@ -303,7 +419,7 @@ class Installing(LibraryCase):
         """Nothing is installed if the library isn't built, and the last lines of the log are printed."""
         write(self.copy + "/crates/tfmset_c/src/lib.rt", "fn")
         ran = self.run_script(self.room + "/none")
-        self.same("result", (1, "", False), (*ran[:2], os.path.exists(self.room + "/none")))
+        self.same("result", (70, "", False), (*ran[:2], os.path.exists(self.room + "/none")))
         self.assertIn("error", ran[2])
 
     def test_a_file_in_the_way(self):
@@ -334,7 +450,7 @@ class Installing(LibraryCase):
         where = f"{prefix}/{found or self.number}"
         other = "" if found else f", with PYTHONPATH={where}"
         self.same("the last line", f"the module tfmset is for {python}{other}", last)
-        self.assertTrue(os.path.exists(where + "/tfmset.py"))
+        self.assertTrue(os.path.exists(where + "/tfmset/__init__.py"))
 
     def test_first_python(self):
         """The first python3 of the PATH that is new enough and searches PREFIX is used."""
@@ -359,6 +475,39 @@ class Installing(LibraryCase):
         wanted = f"the module tfmset is for {sys.executable}, with PYTHONPATH={prefix}/{self.number}"
         self.same("the last line", wanted, printed.splitlines()[-1])
         self.loads(sys.executable, prefix, self.number, PYTHONPATH=f"{prefix}/{self.number}")
+        self.need("pkg-config", "c++")
+        self.link_repository()
+        env = environment(PREFIX=prefix)
+        section = read("README.md").partition("\n## From C and Python\n")[2].partition("\n## ")[0]
+        for name, source in re.findall(r"^```(?:c|python)\n((?:/\*|#) (\S+).*?)^```$", section, re.M | re.S):
+            self.file(source, name)
+        ((command, wanted),) = [pair for pair in commands(section) if pair[1]]
+        self.same("README", (0, wanted, ""), bash(command, self.room, env=env))
+        command = command.split("eval")[0] + f"""eval c++ -o threads -pthread "{ROOT}/examples/library/threads.cpp" \\
+            $(pkg-config --cflags --libs tfmset) && ./threads '{DEMO}' '{DEMO}' | wc -l"""
+        self.same("C++", (0, "1\n", ""), bash(command, self.room, env=env))
+
+    def test_pip(self):
+        """In a fresh virtual environment pip builds and installs the wheel offline, and its types pass `mypy --strict`."""
+        if not importlib.util.find_spec("ensurepip"):
+            self.lack("ensurepip")
+        prefix, where = os.path.join(self.room, "environment"), f"{self.room}/environment/{self.number}/tfmset"
+        venv.create(prefix, symlinks=True, with_pip=True)
+        python, run = prefix + "/bin/python3", {"env": environment(), "cwd": self.room}
+        pip = python, "-m", "pip", "install", "-q", "--no-index", "--force-reinstall", self.copy + "/bindings/python"
+        status, _, err = execute(*pip, **run)
+        self.same("without a library", (1, True), (status, "run scripts/library first" in err))
+        self.install(self.room + "/other", PYTHON="false")
+        for options in ((), ("--no-build-isolation",)):
+            self.same("pip", (0, ""), execute(*pip, *options, **run)[:2])
+            self.same("loaded", f"{where}/__init__.py {where}/libtfmset.so\n", output(python, *self.call, **run))
+            output(python, "-m", "pip", "uninstall", "-q", "-y", "setuptools", **run)
+        program = CALLER + f"print(show(tfmset.Font.from_file({DEMO!r}), b'ox'))\n"
+        self.same("a line", "[(0, 111), (1, 0), (0, 120)]\n", output(python, "-c", program, **run))
+        self.need("mypy")
+        for path in where, self.file("caller.py", program):
+            status, out, _ = execute("mypy", "--strict", "--cache-dir", os.devnull, "--python-executable", python, path, **run)
+            self.same(path, (0, "Success: no issues found in"), (status, out[:27]))
 
     def test_without_python(self):
         """Without a Python that works, the rest is installed."""

@@ -2,7 +2,7 @@
 
 The expected output of each example is computed from the records and listings of the program. The commands of
 the page are run, its functions in C, also with sanitizers, and its sessions in Python. Its first examples have
-to be the files of examples/library, and its declarations those of the header.
+to be the files of examples/library.
 """
 import itertools
 import os
@@ -38,9 +38,9 @@ def kerns_table():
     font, listed, shown = Font(data), listing(data), []
     names = {code: chr(code) if 33 <= code <= 126 else str(code) for code in listed.chars} | {BOUNDARY: "|"}
     codes = sorted(listed.chars) + [BOUNDARY]
-    for left in codes:
+    for left in (BOUNDARY, *codes[:-1]):
         found = [(right, between(font, listed.kerns, left, right)) for right in codes]
-        kerns = [f"{names[right]} {pair[1] / 65536:+.3f}" for right, pair in found if pair[0] == 1]
+        kerns = [f"{names[right]} {pair[1] / 65536:+.3f}" for right, pair in found if pair and pair[0] == 1]
         if kerns:
             shown.append(f"{names[left]:>4}  " + "  ".join(kerns) + "\n")
     return "".join(shown)
@@ -113,50 +113,27 @@ class Page(LibraryCase):
         for language, name in (("c", "ten_lines.c"), ("python", "ten_lines.py")):
             self.same(name, read("examples/library/" + name), blocks(PAGE, language)[0])
 
-    def test_declarations_are_those_of_the_header(self):
-        form = re.compile(r"^uint32_t tfmset_\w+\(.*?\);", re.M | re.S)
-        header, page = (form.findall(read(name)) for name in ("include/tfmset.h", PAGE))
-        self.same("declarations", [text.split() for text in header], [text.split() for text in page])
-
     def test_head_of_the_header(self):
-        """The comment at the head has a line for each function, and an example that prints a width."""
-        header = read("include/tfmset.h")
-        head = header.partition("*/\n/*")[2].partition("*/")[0]
-        listed = re.findall(r"^ \*     (tfmset_\w+)(?:  .*|)$", head.partition("Example:")[0], re.M)
-        self.same("functions", re.findall(r"^uint32_t (tfmset_\w+)\(", header, re.M), listed)
+        """The comment at the head has an example that prints a width."""
+        head = read("include/tfmset.h").partition("*/\n/*")[2].partition("*/")[0]
         example = re.search(r"^ \* Example:\n \*\n((?: \*     .*\n)+)", head, re.M).group(1).replace(" * ", "")
         program = ("#include <stdio.h>\n#include <tfmset.h>\n\nint main(void) {\n    static uint8_t font[99999];\n"
                    "    size_t font_length = fread(font, 1, sizeof font, stdin);\n" + example + "    return 0;\n}\n")
         path = self.built(self.file("head.c", program), "cc", "-std=c99")
         self.same("width", listing(read(DEMO, "rb")).chars[97][3] + "\n", self.output(path, given=DEMO))
 
-    def printed(self, name, function, text, font, kinds):
-        """What a function of the page prints for a text, with a `main` of checks/lib, and with sanitizers of these kinds,
-        which report nothing on standard error."""
-        if kinds and not sanitizers(kinds):
-            self.lack("-fsanitize=" + kinds)
-        main = read(f"checks/lib/calling_{name}.c").replace("TEXT", '"' + text.replace("\n", "\\n") + '"')
-        program = self.built(self.file(name + ".c", function + main), "cc", "-std=c99", "-g",
-                             *(sanitizers(kinds) if kinds else []))
-        status, out, err = execute(program, given=read(font, "rb"), cwd=ROOT, env=self.env)
-        self.same("status and standard error", (0, ""), (status, err))
-        return out
-
-    @rows((f"print_widths, {title}", kinds) for title, kinds in BUILDS)
-    def test_print_widths(self, kinds):
-        text = "\n".join("box five " * (number % 3) for number in range(40)) + "\nBox"
-        wanted = [f"{width / 65536:.2f}\n" for width in widths_of(text.encode())[:-1]]
-        wanted.append("line 41 is refused, for reason 1\n")
-        self.same("output", "".join(wanted), self.printed("print_widths", blocks(PAGE, "c")[2], text, DEMO, kinds))
-
     @rows((f"set_lines, {name}, {title}", name, kinds) for name in ("ligature_0", "ligature_3") for title, kinds in BUILDS)
     def test_set_lines(self, name, kinds):
         """With the second font the line has more items than bytes, so that the first array is too short."""
+        if kinds and not sanitizers(kinds):
+            self.lack("-fsanitize=" + kinds)
         font, text = os.path.join(EXAMPLES, f"fonts/{name}.tfm"), "ab" * 500
         fields = records_of(text.encode(), font=font)[0]
         self.same("needs a second call", name == "ligature_3", len(fields) - 3 > 1141)
-        self.same("output", f"0 1 {len(fields) - 3} {fields[2]}\n",
-                  self.printed("set_lines", blocks(PAGE, "c")[1], text, font, kinds))
+        source = blocks(PAGE, "c")[1] + read("checks/lib/calling_set_lines.c").replace("TEXT", f'"{text}"')
+        program = self.built(self.file("set_lines.c", source), "cc", "-std=c99", "-g", *(sanitizers(kinds) if kinds else []))
+        self.same("output", (0, f"0 1 {len(fields) - 3} {fields[2]}\n", ""),
+                  execute(program, given=read(font, "rb"), cwd=ROOT, env=self.env))
 
     def test_sessions_in_python(self):
         sessions = "\n".join(block for block in blocks(PAGE, "python") if block.startswith(">>> "))

@@ -10,18 +10,19 @@ import inspect
 import itertools
 import json
 import re
+import struct
 import typing
 
 from lib.base import DEMO, PROGRAM, ROOT, execute, files, has, output, read
-from lib.clib import encode
+from lib.clib import Form, Line, Options, encode
 from lib.docs import font_errors
-from lib.tfm import BOUNDARY, NAMES, Font, changed, make, sample, scaled
+from lib.tfm import BOUNDARY, NAMES, Font, changed, make, path_of, sample, scaled
 from library import between
 from library_lines import LinesCase
 
 WEIGHT = 5
-STRUCTS = {"_Encoded": "encoded", "_Fault": "fault", "_About": "font", "_Metrics": "metrics", "_Pair": "pair",
-           "_Neighbours": "neighbours", "_Counts": "counts", "_Line": "line", "Item": "item"}
+STRUCTS = {"_Encoded": "encoded", "_Fault": "fault", "_About": "about", "_Character": "character", "_Pair": "pair",
+           "_Options": "options", "_Form": "form", "_Counts": "counts", "_Line": "line", "Item": "item"}
 PARAMETERS = "slant space stretch shrink x_height quad extra_space".split()
 TABLES = "header char_info width height depth italic lig_kern kern exten param".split()
 NAMED = {2: NAMES, **dict.fromkeys((5, 10, 12, 13), TABLES), 14: "restart next ligature kern skip".split()}
@@ -33,9 +34,8 @@ TEXT, SETTINGS = b"a b\nab\nab|ac ad\naQ\n" + b"a" * 65536 + b"\n", ((2, "refuse
 # Types of the parameters of the exported functions in the sources, in the header and in the module. The header has a
 # length after each array, and for a few parameters another name.
 TYPES = {"u32": ("uint32_t", ctypes.c_uint32), "u64": ("uint64_t", ctypes.c_uint64)}
-POINTERS = {"u8": "uint8_t", "u32": "uint32_t", "usize": "size_t", "TfmsetEncoded": "struct tfmset_encoded",
-            **{"Tfmset" + name.strip("_").title().replace("About", "Font"): "struct tfmset_" + title
-               for name, title in STRUCTS.items()}}
+POINTERS = {"u8": "uint8_t", "u32": "uint32_t", "i32": "int32_t", "usize": "size_t",
+            **{"Tfmset" + name.strip("_"): "struct tfmset_" + title for name, title in STRUCTS.items()}}
 OTHER_NAMES = {"told": "fault", "report": "encoded"}
 OFFSETS = """#include <stddef.h>
 #include <stdio.h>
@@ -66,7 +66,9 @@ def about(font, size):
     slant, *others = (font.fixes("param") + [0] * 7)[:7]
     return {**dict(zip(PARAMETERS, [slant, *(scaled(fix, size) for fix in others)])), "data": font.data,
             "size": size, "design_size": design >> 4, "check_sum": check_sum, "right_boundary": font.right,
-            "left_boundary": font.left is not None, "parameters": font.lengths["param"],
+            "left_boundary": font.left is not None, "parameters": (*([slant] * bool(font.lengths["param"])), *(
+                scaled(fix, size) for fix in font.fixes("param")[1:])),
+            "coding_scheme": font.header_text(2, 40), "family": font.header_text(12, 20),
             "kerns": font.lengths["kern"], "instructions": font.lengths["program"]}
 
 
@@ -78,14 +80,15 @@ def characters(font, size):
         width, both, last, rest = font.infos.get(code, (0,) * 4)
         indices, tag = (width, both // 16, both % 16, last // 4), last % 4
         found = {name: table[i] for name, table, i in zip(names, tables, indices)}
-        yield {**found, "tag": tag, "remainder": rest if tag else 0} if width else {}
+        recipe = font.recipes[rest] if tag == 3 else None
+        yield {**found, "tag": tag, "remainder": rest if tag else 0, "recipe": recipe} if width else {}
 
 
 def pairs(font, size):
     """The attributes of the Kern or the Ligature between two neighbours, by these."""
     kerns, codes = [scaled(fix, size) for fix in font.fixes("kern")], [*font.codes, BOUNDARY]
     for pair in itertools.product(codes, codes):
-        action, kern, *others = between(font, kerns, *pair)
+        action, kern, *others = between(font, kerns, *pair) or (0, 0)
         ligature = dict(zip(("code", "keep_left", "keep_right", "passed"), others))
         yield pair, ({}, {"width": kern}, ligature)[action]
 
@@ -96,7 +99,7 @@ def fault(message):
     named = [word for word in words if word in NAMED.get(int(number), [])]
     place = [int(word) for word in words if word.isdigit() and number != "6"]
     found = int(number), [*named, ""][0], [*place, 0][0]
-    return {"args": found, **dict(zip(("number", "named", "place"), found))}
+    return {"args": (*found, message), **dict(zip(("number", "named", "place"), found))}
 
 
 def types_of(*values):
@@ -156,10 +159,9 @@ class Fields(LinesCase):
                     kinds.append(TYPES[kind][1])
                     continue
                 changes, array, of = re.fullmatch(r"&(mut )?(\[)?(\w+)\]?", kind).groups()
-                parameter = "length" if parameter == "count" and "records" in name else parameter
                 wanted += [f"{'' if changes else 'const '}{POINTERS[of]} *{parameter}"]
                 wanted += [f"size_t {parameter}_length"] if array else []
-                kinds += [ctypes.c_void_p if changes else ctypes.c_char_p] + [ctypes.c_size_t] * bool(array)
+                kinds += [ctypes.c_char_p if array and not changes else ctypes.c_void_p] + [ctypes.c_size_t] * bool(array)
             self.same(name, wanted or ["void"], [" ".join(one.split()) for one in declared.get(name, "").split(",")])
             function = getattr(self.tfmset._library, "tfmset_" + name)
             self.same(f"{name} in the module", (kinds, ctypes.c_uint32), (list(function.argtypes), function.restype))
@@ -176,18 +178,29 @@ class Fields(LinesCase):
     def test_constants(self):
         """The constants are the numbers that the library takes and returns."""
         library, data, line = self.tfmset._library, read(DEMO, "rb"), ctypes.create_string_buffer(48)
-        font, out = (data, len(data), 0), ctypes.create_string_buffer(99)
+        font, out, room = (data, len(data)), ctypes.create_string_buffer(99), ctypes.create_string_buffer(1 << 20)
 
-        def widths(limit, policy=0, lines=1):
-            code = library.tfmset_widths(*font, limit, policy, b"Q", 1, line, lines, out)
-            return code, self.tfmset._Line.from_buffer(line).refusal
+        def widths(limit, policy=0, lines=1, text=b"Q", font=font):
+            options = ctypes.byref(self.tfmset._Options(0, 0, limit, policy))
+            code = library.tfmset_widths(*font, options, text, len(text), line, lines, out)
+            found = self.tfmset._Line.from_buffer(line)
+            return code, found.refusal, found.steps
+
+        def header_text(which):
+            code = library.tfmset_header_text(*font, which, room, 40, out)
+            return room.raw[:ctypes.c_size_t.from_buffer(out).value].decode() if code == 0 else None
+
+        endless, head = read(path_of("endless_3"), "rb"), Font(data)
 
         policies = {widths(9, policy)[1]: policy for policy in (0, 1)}
         seen = {
-            "DONE": widths(9)[0], "NO_ROOM": widths(9, lines=0)[0], "OUT_OF_RANGE": widths(0)[0],
-            "FONT_REFUSED": library.tfmset_check(data, 9, 0, out), "REFUSE": policies[1], "SKIP": policies[0],
-            "BOUNDARY": max(code for code in range(300) if not library.tfmset_pair(*font, code, 97, out)),
+            "DONE": widths(9)[0], "NO_ROOM": widths(9, lines=0)[0], "OUT_OF_RANGE": widths((1 << 24) + 1)[0],
+            "FONT_REFUSED": library.tfmset_check(data, 9, out), "REFUSE": policies[1], "SKIP": policies[0],
+            "BOUNDARY": max(pair[1] for pair in self.tfmset.Font(data).pairs()),
             "MOST_STEPS": max(limit for limit in range((1 << 24) - 1, (1 << 24) + 2) if not widths(limit)[0]),
+            "DEFAULT_LIMIT": widths(0, text=b"aa", font=(endless, len(endless)))[2],
+            "CODING_SCHEME": next(n for n in (0, 1) if header_text(n) == head.header_text(2, 40)),
+            "FAMILY": next(n for n in (1, 0) if header_text(n) == head.header_text(12, 20)),
             "NOT_UTF8": encode(self.prefix, "t1", b"\xff", 1)[0],
             "UNCODED": encode(self.prefix, "t1", "€".encode(), 3)[0],
             "JSON": next(n for n in (1, 2, 3) if self.tfmset.Font(data).records(b"o", version=n)[:1] == b"{")}
@@ -197,7 +210,7 @@ class Fields(LinesCase):
         names = {"TFMSET_" + name for name in ("H", "ASSERT", "LAYOUT", *seen, *others)}
         self.same("names", names, set(re.findall(r"#define (\w+)|\benum\b", self.header)))
         functions = set(re.findall(r"^uint32_t tfmset_(\w+)\(const", self.header, re.M))
-        called = set(re.findall(r"CALLED\((\w+), \(", read("checks/lib/library_lines.c")))
+        called = set(re.findall(r"(?:CALLED|LIST_REPORTS_FAILURE)\((\w+), ", read("checks/lib/library_lines.c"))) - {"name"}
         self.same("functions whose allocations are counted", functions, called)
 
     def fonts(self):
@@ -217,7 +230,8 @@ class Fields(LinesCase):
         self.classes.add(type(value).__name__)
         self.same(value, wanted, seen)
         if isinstance(value, tuple):
-            self.same(value, (tuple(wanted), tuple(wanted.values())), (value._fields, tuple(value)))
+            names = tuple(wanted)[:len(value)]
+            self.same(value, (names, tuple(wanted[name] for name in names)), (value._fields, tuple(value)))
 
     def compare_lines(self, found, size, path, limit, missing):
         """Compares the lines and items of the text with the program's records."""
@@ -228,7 +242,8 @@ class Fields(LinesCase):
             for kind, *numbers in record.get("items", []):
                 fields = {"c": numbers, "m": numbers + [0]}.get(kind, [0] + numbers)
                 items.append((self.constants[KINDS[kind]], *fields))
-            wanted = {"width": record.get("width"), "steps": record.get("steps"), "items": items}
+            packed = b"".join(struct.pack("IIi", *item) for item in items)
+            wanted = {"width": record.get("width"), "steps": record.get("steps"), "packed": packed, "items": items}
             if reason:
                 place = record.get("offset", record.get("bytes", 0))
                 wanted = {"reason": reason, "place": place, "code": record.get("code", 0)}
@@ -248,6 +263,8 @@ class Fields(LinesCase):
             self.has(about(font, size), seen)
             for code, wanted in enumerate(characters(font, size)):
                 self.has(wanted, seen.metrics(code))
+                if wanted.get("recipe"):
+                    self.has(dict(zip(("top", "middle", "bottom", "repeated"), wanted["recipe"])), seen.metrics(code).recipe)
             for pair, wanted in pairs(font, size):
                 self.has(wanted, seen.pair(*pair))
             for settings in SETTINGS:
@@ -263,7 +280,7 @@ class Fields(LinesCase):
         found = {name: getattr(self.tfmset, name) for name in self.tfmset.__all__}
         wanted = {name: self.constants[name] for name in ("BOUNDARY", *KINDS.values())}
         wanted.update({"ENCODINGS": ("ot1", "t1", "ly1", "latin1"), "POINT": 65536,
-                       "__version__": output(PROGRAM, "--version").split()[1]})
+                       "__version__": ".".join(str(self.constants["VERSION"] // 1000 ** n % 1000) for n in (2, 1, 0))})
         self.same("constants", wanted, {name: value for name, value in found.items() if not callable(value)})
         self.same("names", set(found), {*wanted, *self.classes, "encode", "version"} - {"NoneType"})
 
@@ -289,7 +306,7 @@ class Fields(LinesCase):
         yield "Lines.items", own.Lines.items.fget, {}, [lines.items]
         yield "Line.items", own.Line.items.fget, {}, [lines[0].items]
         yield "len", own.Lines.__len__, {}, [len(lines)]
-        for one in (font, lines, lines[0], lines[0].items[0]):
+        for one in (font, lines, lines[0]):
             yield "repr", type(one).__repr__, {}, [repr(one)]
 
     def taken(self, title, given, name):
@@ -318,7 +335,7 @@ class Fields(LinesCase):
             hints, plain = typing.get_type_hints(function), inspect.signature(function).parameters
             self.same(f"{title}: its result", types_of(*results), types_in(hints.pop("return")))
             if "path" in hints:
-                self.same("path", "PathLike | str", types_in(hints.pop("path")))
+                self.same("path", "PathLike[str] | str", types_in(hints.pop("path")))
             self.same(f"{title}: arguments", set(given), set(hints))
             for name, kind in hints.items():
                 # With bytes, `encoding` is left out; no overload has None for it.
@@ -331,11 +348,16 @@ class Fields(LinesCase):
                 self.same(f"{title}: encoding", "encoding" in given, "encoding" in plain)
         fonts = [own.Font.from_file(path, size) for path, _, size in self.fonts()]
         lines = fonts[2].set(b"o\nA")  # of demo.tfm
-        objects = {own.Font: fonts, own.Metrics: [fonts[0].metrics(97)], own.Kern: [own.Kern(1)], own.Item: lines.items,
+        metrics = [one for one in map(fonts[0].metrics, range(256)) if one]
+        objects = {own.Font: fonts, own.Metrics: metrics, own.Recipe: [one.recipe for one in metrics if one.recipe],
+                   own.Kern: [own.Kern(1)], own.Item: lines.items,
                    own.Ligature: [one for _, _, one in fonts[0].pairs() if isinstance(one, own.Ligature)],
                    own.Refusal: [lines[1]]}
         for kind, values in objects.items():
             hints = {name: one for name, one in typing.get_type_hints(kind).items() if name[0] != "_"}
+            if hints.get("parameters") == typing.Tuple[int, ...]:
+                self.same("parameters", {int}, {type(each) for one in values for each in one.parameters})
+                del hints["parameters"]
             self.same(kind, {name: types_of(*(getattr(one, name) for one in values)) for name in hints},
                       {name: types_in(one) for name, one in hints.items()})
 
@@ -354,18 +376,18 @@ class Fields(LinesCase):
 
 CODES = ("DONE", "FONT_REFUSED", "OUT_OF_MEMORY", "NO_ROOM", "OUT_OF_RANGE", "NOT_UTF8", "UNCODED")
 # The arguments of a call, except arrays and the last one, and what changes the code that it returns.
-ARGUMENTS = {"data": read(DEMO, "rb"), "size": 0, "limit": 99, "policy": 0, "encoding": b"t1", "text": b"ox",
-             "version": 1, "source": 1, "first": 1, "code": 97, "left": 111, "right": 120, "room": 128}
-OTHERS = ({}, {"data": b"no font"}, {"room": 0}, {"size": 1 << 27}, {"encoding": b"Ot1"}, {"text": b"\xff"},
-          {"text": "€".encode()}, {"text": b"12pt"})
-FORMS = {"size": "text", "encode": "encoding text room", **dict.fromkeys(("check", "font"), "data size"),
-         "metrics": "data size code", "pair": "data size left right", "pairs": "data size room",
-         "set": "data size limit policy text room room", "widths": "data size limit policy text room",
-         "records": "data size limit policy text version source first room",
-         "encoded_records": "data size limit policy encoding text version source first room"}
-LAST = {"size": ctypes.c_uint32, "encode": "_Encoded", "check": "_Fault", "font": "_About", "metrics": "_Metrics",
-        "pair": "_Pair", **dict.fromkeys(("set", "widths"), "_Counts")}
-ROOM = 8192  # bytes of each array; all of them, and of the last argument, have this value before a call
+ARGUMENTS = {"data": read(DEMO, "rb"), "size": 0, "policy": 0, "options": Options(), "encoding": b"t1", "text": b"ox",
+             "form": Form(1, 1, 1), "line": Line(refusal=3), "room": 256}
+OTHERS = ({}, {"data": b"no font"}, {"room": 0}, {"data": b"no font", "room": 0},
+          {"size": 1 << 27, "options": Options(size=1 << 27), "line": Line(refusal=4)},
+          {"encoding": b"Ot1"}, {"text": b"\xff"}, {"text": "x€".encode()}, {"text": b"12pt"})
+FORMS = {"size": "text", "encode": "encoding text room", "check": "data", "fault_text": "data room", "font": "data size",
+         **dict.fromkeys(("characters", "parameters", "pairs", "header_text"), "data size room"),
+         "set": "data options text room room", "widths": "data options text room",
+         "records": "data options encoding text form room", "refusal_text": "line room"}
+LAST = {"size": ctypes.c_uint32, "encode": "_Encoded", "check": "_Fault", "font": "_About",
+        **dict.fromkeys(("set", "widths"), "_Counts")}
+ROOM = 16384  # bytes of each array; all of them, and of the last argument, have this value before a call
 BEFORE = b"\x55"
 
 
@@ -379,6 +401,7 @@ class Codes(LinesCase):
             value = {**ARGUMENTS, **changes}[word]
             memory += [ctypes.create_string_buffer(BEFORE * ROOM, ROOM)] if word == "room" else []
             first = [memory[-1]] if word == "room" else [value] if isinstance(value, bytes) else []
+            value = ctypes.byref(value) if isinstance(value, ctypes.Structure) else value
             arguments += [*first, len(value) if isinstance(value, bytes) else value]
         kind = LAST.get(name, ctypes.c_size_t)
         kind = getattr(self.tfmset, kind) if isinstance(kind, str) else kind
@@ -410,7 +433,7 @@ class Codes(LinesCase):
                 seen[code] = [one or other for one, other in zip(written, seen.get(code, (False, False)))]
             # library_lines.c lets allocations fail, and compares the last argument.
             self.same(f"{name}: codes", contracts[name] - {2}, set(seen))
-            comment = re.search(rf"/\*((?:(?!\*/).)*)\*/ (?:#define \w+ \d+u )?uint32_t tfmset_{name}\(", header)[1]
+            comment = re.search(rf"/\*((?:(?!\*/).)*)\*/ (?:#define \w+ \d+u )*uint32_t tfmset_{name}\(", header)[1]
             codes = {CODES.index(code) for code in re.findall(r"TFMSET_(\w+)", comment) if code in CODES}
             self.same(f"{name}: other codes in its comment", set(), codes - contracts[name])
             for code, (written, arrays) in seen.items():

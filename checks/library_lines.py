@@ -18,7 +18,7 @@ import sys
 import tempfile
 
 from lib.base import DEMO, EXAMPLES, PROGRAM, ROOT, environment, execute, output, read, rows, shared, table
-from lib.clib import BINDINGS, DONE, RANGE, REFUSED, SIZE, U32, U64, WARNINGS, LibraryCase
+from lib.clib import BINDINGS, DONE, FUNCTIONS, PACKAGE, RANGE, REFUSED, WARNINGS, Form, LibraryCase, Options, loaded
 from lib.docs import font_errors, text_of, worked_examples
 from lib.tex import fonts
 from lib.tfm import LISTED, NAMES, make, path_of, sample
@@ -186,11 +186,27 @@ class Records(LinesCase):
         job = Job("demo.tfm", text * (20_000_000 // len(text)))
         self.same("20 MB", True, job.records(1) == self.tfmset.Font.from_file(job.font).records(job.text))
 
+    def test_blocks(self):
+        """A text that the module sets in many blocks has the results of one block, also with byte order marks."""
+        font, text = self.tfmset.Font.from_file(DEMO), "office\n\n\ufeffbox Q\n\ufeff\nwaves of ox\nﬁve\n" * 999 + "\ufeffo"
+
+        def results():
+            lines = font.set(text.encode(), 99, "skip")
+            plain = font.set(text.replace("\ufeff", ""), encoding="t1")
+            return (lines, bytes(lines.items), plain, font.widths(text.encode()), font.records(text.encode(), version=3),
+                    font.records(text, encoding="t1", first_line=7))
+
+        self.addCleanup(setattr, self.tfmset, "_FIRST_BLOCK", self.tfmset._FIRST_BLOCK)
+        self.tfmset._FIRST_BLOCK = 1
+        many = results()
+        self.tfmset._FIRST_BLOCK = len(text) * 4
+        self.same("results", [True] * 6, [one == other for one, other in zip(results(), many)])
+
     def test_failed_allocations_and_threads_in_c(self):
         text = read("examples/demo.txt", "rb") * 40
         errors = self.in_c(Job("demo.tfm", text, missing="skip"), "more")
         counts = [int(field) for field in errors.split() if field.isdigit()]
-        self.same("failed allocations", (20, True, 1), (len(counts), all(counts), errors.count("\n")))
+        self.same("failed allocations", (26, True, 1), (len(counts), all(counts), errors.count("\n")))
         print(f"allocations that failed: {counts}")
         # If only one fails, the others are made, too.
         self.same("calls that allocate for each line", [], [count for count in counts[::2] if count > text.count(b"\n") / 2])
@@ -223,17 +239,6 @@ class Records(LinesCase):
         for job, records, widths, lines in results:
             self.same(job.name, True, assembled(self.tfmset, job, lines) == records == wanted[job])
             self.same(job.name, [line.width for line in lines], widths)
-
-
-class ManyBytes:
-    """A library that reports any number of bytes of records, and writes none."""
-
-    def __init__(self, count):
-        self.count = count
-
-    def tfmset_records(self, *arguments):
-        arguments[-1]._obj.value = self.count
-        return DONE
 
 
 class Module(LinesCase):
@@ -294,19 +299,10 @@ class Module(LinesCase):
             found = [(left, right, font.pair(left, right)) for left in lefts for right in rights]
             self.same("pairs", [row for row in found if row[2]], font.pairs())
 
-    def test_records_of_2_gib_and_more(self):
-        # The stand-in reports many bytes. The array of the module has only 80, and all must be returned.
-        font, real = self.tfmset.Font.from_file(DEMO), self.tfmset._library
-        self.addCleanup(setattr, self.tfmset, "_library", real)
-        for count in (80, 2**31, 2**32, 2**32 + 5):
-            self.tfmset._library = ManyBytes(count)
-            self.same(f"records of {count} bytes", 80, len(font.records(b"x")))
-
     def test_a_failed_allocation(self):
-        source = "unsigned tfmset_version(void) { return 1000; }\n" + "".join(
-            f"unsigned tfmset_{name}(void) {{ return 2; }}\n"
-            for name in ("size", "encode", "check", "font", "metrics", "pair", "pairs", "set", "widths", "records",
-                         "encoded_records"))
+        version = loaded(self.prefix).tfmset_version()
+        source = f"unsigned tfmset_version(void) {{ return {version}; }}\n" + "".join(
+            f"unsigned tfmset_{name}(void) {{ return 2; }}\n" for name in FUNCTIONS)
         out = os.path.join(self.room, "out_of_memory.so")
         output("cc", "-shared", "-fPIC", "-x", "c", "-", "-o", out, given=source.encode())
         seen = execute(sys.executable, "-B", "-c", 'import tfmset; tfmset.Font(b"")',
@@ -314,38 +310,38 @@ class Module(LinesCase):
         self.same("exception", "MemoryError: an allocation of libtfmset failed", seen[2].splitlines()[-1])
 
     def test_doctests(self):
-        seen = execute(sys.executable, "-B", "-m", "doctest", BINDINGS + "/tfmset.py", cwd=ROOT, env=self.env)
+        seen = execute(sys.executable, "-B", "-c", "import doctest, sys, tfmset; sys.exit(doctest.testmod(tfmset)[0])",
+                       cwd=ROOT, env=self.env)
         self.same("doctest", (0, "", ""), seen)
 
     def test_arguments_out_of_range(self):
         """A number out of its range, or a refused font, leaves the arrays and the last argument unchanged."""
         data, most = sample("demo"), (1 << 64) - 1
-        for name, *numbers in (("set",), ("widths",), ("records", 1, U64(1), U64(1)),
-                               ("encoded_records", 1, U64(1), U64(1))):
+        for name in ("set", "widths", "records"):
             for settings in CASES["out_of_range"]["settings"]:
-                self.call((RANGE, True), name, data, settings, numbers)
-            self.call((REFUSED, True), name, data[:100], (0, 9, 0), numbers)
-            self.call((DONE, False), name, data, (0, 9, 0), numbers)
-        for name in ("records", "encoded_records"):
-            for version, first in ((0, 1), (4, 1), (1, most), (1, most - 4)):
-                self.call((RANGE, True), name, data, (0, 9, 0), (version, U64(most), U64(first)))
-            for first in (0, most - 5):
-                self.call((DONE, False), name, data, (0, 9, 0), (1, U64(most), U64(first)))
-        for encoding in (b"", b"Ot1", b"t1\0", b"utf-8", b"\xff"):
-            self.call((RANGE, True), "encoded_records", data, (0, 9, 0), (1, U64(1), U64(1)), encoding=encoding)
+                self.call((RANGE, True), name, data, settings)
+            self.call((REFUSED, True), name, data[:100], (0, 9, 0, 0))
+            self.call((DONE, False), name, data, (0, 9, 0, 0))
+        for version, first in ((0, 1), (4, 1), (1, most), (1, most - 4)):
+            self.call((RANGE, True), "records", data, (0, 9, 0, 0), Form(most, first, version))
+        for first in (0, most - 5):
+            self.call((DONE, False), "records", data, (0, 9, 0, 0), Form(most, first, 1))
+        for encoding in (b"Ot1", b"t1\0", b"utf-8", b"\xff"):
+            self.call((RANGE, True), "records", data, (0, 9, 0, 0), encoding=encoding)
+        self.call((DONE, False), "records", data, (0, 9, 0, 0), encoding=b"")
 
-    def call(self, wanted, name, data, settings, numbers, text=b"ox\nab", encoding=b"latin1"):
+    def call(self, wanted, name, data, settings, form=Form(1, 1, 1), encoding=b"latin1"):
         """Compares the return code of a call, and whether its arrays and its last argument are unchanged."""
-        nines = b"\x09" * 8192
+        nines, text = b"\x09" * 8192, b"ox\nab"
         memory = [ctypes.create_string_buffer(nines, 8192) for _ in range(3 if name == "set" else 2)]
-        given = [ctypes.c_char_p(data), SIZE(len(data)), *map(U32, settings)]
-        given += [encoding, SIZE(len(encoding))] if name == "encoded_records" else []
-        given += [text, SIZE(len(text)), *numbers]
+        given = [data, len(data), ctypes.byref(Options(0, *settings))]
+        given += [encoding, len(encoding)] if name == "records" else []
+        given += [text, len(text), *([ctypes.byref(form)] if name == "records" else [])]
         for array in memory[:-1]:
-            given += [array, SIZE(8192 // 48)]
-        code = getattr(ctypes.CDLL(self.lib + "/libtfmset.so"), "tfmset_" + name)(*given, memory[-1])
+            given += [array, 8192 // 48]
+        code = getattr(loaded(self.prefix), "tfmset_" + name)(*given, memory[-1])
         unchanged = all(array.raw == nines for array in memory)
-        self.same(f"{name} with {settings}, {numbers}", wanted, (code, unchanged))
+        self.same(f"{name} with {settings}, {form.version}, {form.first}", wanted, (code, unchanged))
 
 
 class Finding(LinesCase):
@@ -356,8 +352,7 @@ class Finding(LinesCase):
         self.own, self.beside, self.so = self.room + "/own", self.room + "/beside", self.lib + "/libtfmset.so"
         self.modules = self.own + "/lib/python3.8/dist-packages"
         for directory in (self.modules, self.beside):
-            os.makedirs(directory)
-            shutil.copy(BINDINGS + "/tfmset.py", directory)
+            shutil.copytree(PACKAGE, directory + "/tfmset")
 
     def loaded(self, directory, **more):
         """The path of the library that the module in a directory loads, or the last line of an error."""
@@ -387,7 +382,7 @@ class Finding(LinesCase):
         own = shutil.copy(self.so, self.own + "/lib/libtfmset.so.0")
         self.same("its prefix", own, self.loaded(self.modules, LD_LIBRARY_PATH=self.lib))
         for directory in (self.modules, self.beside):
-            own = shutil.copy(self.so, directory)
+            own = shutil.copy(self.so, directory + "/tfmset")
             self.same("its directory", own, self.loaded(directory, LD_LIBRARY_PATH="/none"))
             self.fails("ImportError: /none can't be loaded: ", directory, TFMSET_LIBRARY="/none")
             self.same("TFMSET_LIBRARY is empty", own, self.loaded(directory, TFMSET_LIBRARY=""))

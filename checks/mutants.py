@@ -10,23 +10,24 @@ import sys
 from lib.base import PROGRAM, ROOT, environment, execute, read, rows, write
 from lib.clib import LibraryCase
 
-HEADER, MODULE = "include/tfmset.h", "bindings/python/tfmset.py"
+HEADER, BINDING, MODULE = "include/tfmset.h", *(f"bindings/python/tfmset/{name}.py" for name in ("_binding", "__init__"))
 FIELDS = "library_fields.Fields."
 MUTANTS = (
     (HEADER, "int32_t width, height, depth, italic;", "int32_t height, width, depth, italic;", FIELDS + "test_fields"),
     (HEADER, "    int32_t kern;", "    uint32_t kern;", FIELDS + "test_fields"),
+    (HEADER, "#define TFMSET_DEFAULT_LIMIT 1048576u", "#define TFMSET_DEFAULT_LIMIT 1048575u", FIELDS + "test_constants"),
     (HEADER, "#define TFMSET_MOST_STEPS 16777216u", "#define TFMSET_MOST_STEPS 16777215u", FIELDS + "test_constants"),
     (HEADER, "#define TFMSET_SPACE 2u", "#define TFMSET_SPACE 4u", FIELDS + "test_attributes"),
-    (HEADER, "TFMSET_LAYOUT(tfmset_font, 72, extra_space, 68);", "TFMSET_LAYOUT(tfmset_font, 72, parameters, 0);",
+    (HEADER, "TFMSET_LAYOUT(tfmset_about, 48, left_boundary, 40);", "TFMSET_LAYOUT(tfmset_about, 48, parameters, 0);",
      "library.Linking.test_header_of_another_layout_000"),
-    (MODULE, '("height", _i32), ("depth", _i32)', '("depth", _i32), ("height", _i32)', FIELDS + "test_fields"),
+    (BINDING, '("height", _i32), ("depth", _i32)', '("depth", _i32), ("height", _i32)', FIELDS + "test_fields"),
     (MODULE, "bool(pair.keep_left), bool(pair.keep_right)", "bool(pair.keep_right), bool(pair.keep_left)",
      FIELDS + "test_attributes"),
     (MODULE, "    def metrics(self, code: int) -> Optional[Metrics]:", "    def metrics(self, code: int) -> Metrics:",
      FIELDS + "test_annotations"),
-    (MODULE, "if not 0 <= index < self._count:", "if not 0 <= index <= self._count:", "library_lines.Module.test_exceptions"),
-    (MODULE, '("", "missing", "too-long", "steps")', '("", "too-long", "missing", "steps")',
-     "library_lines.Module.test_sizes_texts_and_indices"))
+    (MODULE, "if not 0 <= index < count:", "if not index < count:", "library_lines.Module.test_exceptions"),
+    (MODULE, "item + counts.items))\n", "counts.items))\n", "library_lines.Records.test_blocks"),
+    (MODULE, "map(_reason, range(4))", "map(_reason, (0, 2, 1, 3))", "library_lines.Module.test_sizes_texts_and_indices"))
 
 
 class Mutants(LibraryCase):

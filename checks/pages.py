@@ -4,7 +4,7 @@ Each ```sh block is run in a directory that has the repository's files. If a ```
 command has to print exactly that; the lines after `$ ` in a ```text block are run in the same way. Nothing
 may be printed on standard error, and no file may be left in the repository: a block that makes files puts
 them into "$tmp". A ```c or ```python block is saved under the name in the comment on its first line, and the
-blocks after it can use it. PREFIX is set, and so are those of the variables of VARIABLES that the page names.
+blocks after it can use it. PREFIX is set.
 A command whose tool is missing is skipped.
 
 All of this is done in the locale C.UTF-8, and for docs/RECIPES.md in de_DE.UTF-8, too, in which numbers have a comma. If
@@ -29,7 +29,6 @@ NEEDS = RULES["needs"]
 ENCODINGS = script("examples/font_encodings.py").ENCODINGS
 RUN = RULES["pages"] + [page for page in RULES["perhaps"] if list(commands(read(page)))]
 LIBRARY = "library for C"
-VARIABLES = ("PKG_CONFIG_PATH", "LD_LIBRARY_PATH", "TFMSET_LIBRARY", "PYTHONPATH")
 SAMPLES = "crates/test_support/src/fonts"
 NAMES, WORDS = sorted(name[:-4] for name in os.listdir(f"{EXAMPLES}/fonts")), RULES["words"]
 
@@ -52,19 +51,18 @@ class Commands(LibraryCase):
             super().setUp()
             self.lacks = set()
         except unittest.SkipTest:
-            self.lacks, self.prefix, self.env = {LIBRARY}, "", {}
+            self.lacks, self.prefix = {LIBRARY}, ""
 
     @rows((f"{page} in {name}", page, name) for page, name in (
         *((page, "C.UTF-8") for page in RUN), ("docs/RECIPES.md", "de_DE.UTF-8")))
     def test(self, page, name):
         self.link_repository()
         in_locale = self.locale(name)
-        count, missing, sources, text = 0, set(), {}, read(page)
+        count, missing, sources = 0, set(), {}
         tmp = self.other_room()
         env = {**os.environ, **in_locale, "tmp": tmp, "TMPDIR": tmp, "PREFIX": self.prefix}
-        env |= {name: self.env[name] for name in VARIABLES if name in text and name in self.env}
         self.before = self.files()
-        for kind, first, second in parts(text):
+        for kind, first, second in parts(read(page)):
             if kind == "source":
                 self.same("a block without a name on its first line", False, first is None)
                 sources[first] = second

@@ -4,12 +4,14 @@ The arguments are subclasses of bytes and str, numbers, and sizes with a unit. T
 Python 3.8 lacks aren't used.
 """
 import ast
+import glob
 import os
 import shutil
 import sys
 
-from lib.base import DEMO, environment, execute, read, rows, write
-from lib.clib import BINDINGS, LibraryCase
+from lib.base import DEMO, environment, execute, read, rows
+from lib.clib import FUNCTIONS, PACKAGE, LibraryCase
+from lib.tfm import path_of
 
 # Names of the standard library that Python 3.8 lacks.
 NEWER = {"cache", "removeprefix", "removesuffix", "bit_count", "is_relative_to", "with_stem", "add_note"}
@@ -29,12 +31,15 @@ class Number:
 print(tfmset.Font(data, Number()).size)
 """, "655360\n"),
     ("A bool isn't a number", """
-for call in (lambda: tfmset.Font(data, True), lambda: font.metrics(True), lambda: font.set(b"", limit=True)):
+for call in (lambda: tfmset.Font(data, True), lambda: tfmset.Font(data, 12.0), lambda: font.metrics(True),
+             lambda: font.metrics("b"), lambda: font.set(b"", limit=True)):
     try:
         print("accepted", call())
     except TypeError as error:
         print(error)
-""", "size is True, but must be an integer\ncode is True, but must be an integer\n"
+""", "size is True, but must be an integer, in sp, or a str with a unit, such as '10pt'\n"
+     "size is 12.0, but must be an integer, in sp, or a str with a unit, such as '10pt'\n"
+     "code is True, but must be an integer, such as ord('a')\ncode is 'b', but must be an integer, such as ord('a')\n"
      "limit is True, but must be an integer\n"),
     ("A size in a str has a unit", """
 for size in "12pt", "10.95pt", "10,95 pt", "12bp", "4mm", "655360sp", ".5in", "0.00000762939453125pt", "2047.00000762939453124pt":
@@ -86,9 +91,9 @@ print(font.records(Text("oß"), encoding="t1"))
 lines = font.set(b"ox\\nox")
 line = lines[0]
 for items in line.items, lines.items:
-    items[0].width = 7
+    items[0] = tfmset.Item(0, 111, 7)
     print(*(each[0].width for each in (line.items, lines[0].items, lines[1].items, lines.items)))
-""", "334233 334233 334233 334233\n7 7 334233 7\n"),
+""", "334233 334233 334233 334233\n334233 7 334233 7\n"),
     ("Slices of lines, and the texts of objects", """
 lines = font.set(b"o\\nox\\nQ\\n\\nox")
 print([getattr(line, "width", None) for line in lines[::-2]], [line.width for line in lines[-2:9]], lines[3:1])
@@ -99,7 +104,7 @@ print(font, tfmset.Font(data, "10.95pt"), lines, *lines, lines[1].items[1], font
      "<Line of width 665189, 3 items>\nItem(kind=1, code=0, width=-16384)\nKern(width=-16384)\n334233\n"),
     ("The texts of exceptions", """
 for call in (lambda: tfmset.Font(data, 0), lambda: tfmset.Font(data, 1 << 27), lambda: tfmset.Font(data, "1em"),
-             lambda: tfmset.Font("x"), lambda: font.metrics(256), lambda: font.metrics(-1), lambda: font.pair(257, 1),
+             lambda: tfmset.Font("x.tfm"), lambda: font.metrics(256), lambda: font.metrics(-1), lambda: font.pair(257, 1),
              lambda: font.pair(1, 257), lambda: font.set(b"", 0), lambda: font.set(b"", 16777217),
              lambda: font.set("x"), lambda: font.set(b"", missing="drop"), lambda: font.set(b"x", encoding="t1"),
              lambda: font.set("x", encoding="Ot1"), lambda: font.set("x", encoding=1),
@@ -114,7 +119,7 @@ for call in (lambda: tfmset.Font(data, 0), lambda: tfmset.Font(data, 1 << 27), l
 """, """ValueError: size is 0, but must be from 1 to 134,217,727
 ValueError: size is 134217728, but must be from 1 to 134,217,727
 ValueError: size is '1em', but must be a number with a unit, such as '10pt' or '4mm', from 1 to 134,217,727 sp
-TypeError: data must be bytes
+TypeError: data must be the bytes of a TFM file: Font.from_file reads a file
 ValueError: code is 256, but must be from 0 to 255
 ValueError: code is -1, but must be from 0 to 255
 ValueError: left is 257, but must be from 0 to 256
@@ -154,18 +159,43 @@ print([item.width for item in line.items], [item.width for item in items], [item
     ("The kinds of objects", """
 import collections.abc, pickle
 lines = font.set(b"ox\\nQ\\nQ")
-refusal, kern, ligature, metrics = lines[1], font.pair(111, 120), font.pair(102, 105), font.metrics(102)
-for part in lines[0], refusal, kern, ligature, metrics:
-    try:
-        part.wdith = 5
-        print("accepted", part)
-    except AttributeError:
-        print(type(part).__name__, hasattr(part, "__dict__"), end=" ")
+line, refusal, kern, ligature, metrics = *lines[:2], font.pair(111, 120), font.pair(102, 105), font.metrics(102)
+for part, name in (line, "packed"), (refusal, "place"), (kern, "width"), (ligature, "code"), (metrics, "tag"), \\
+        (font, "size"), (line.items[0], "kind"), (lines, "items"), (line, "wdith"), (font, "wdith"):
+    for change in (lambda: setattr(part, name, 5)), (lambda: delattr(part, name)):
+        try:
+            change()
+            print("accepted", part, name)
+        except AttributeError:
+            print(type(part).__name__, end=" ")
 print(*map(tuple, (refusal, kern, ligature)), len(metrics), len({refusal, lines[2], kern}))
 print(isinstance(lines, collections.abc.Sequence), lines.index(refusal), lines.count(refusal), refusal in lines, len(list(reversed(lines))))
-print([pickle.loads(pickle.dumps(part)) == part for part in (refusal, kern, ligature, metrics)])
-""", "Line False Refusal False Kern False Ligature False Metrics False ('missing', 0, 81) (-16384,) (12, False, False, 0) 6 2\n"
-     "True 1 2 True 3\n[True, True, True, True]\n"),
+print([pickle.loads(pickle.dumps(part)) == part for part in (line, refusal, kern, ligature, metrics, font)])
+""", "Line Line Refusal Refusal Kern Kern Ligature Ligature Metrics Metrics Font Font Item Item Lines Lines Line Line Font Font "
+     "('missing', 0, 81) (-16384,) (12, False, False, 0) 7 2\n"
+     "True 1 2 True 3\n[True, True, True, True, True, True]\n"),
+    ("Objects with equal values are equal, and have one hash", """
+def objects(size=None, text=b"ox\\nox\\nof\\nQ"):
+    font = tfmset.Font(data, size)
+    lines = font.set(text)
+    return lines, [*lines, font, *lines.items, font.metrics(111), *font.pairs()]
+(lines, first), (others, second) = objects(), objects(10 * tfmset.POINT)
+print(lines == others, first == second, [*map(hash, first)] == [*map(hash, second)], lines == objects(text=b"ox\\nox")[0])
+one, two, three, refusal, font, item, kern, *_ = first
+print(one == two, one == three, len({one, two, three, refusal}), item == kern, font == objects("12pt")[1][4], font == data)
+""", "True True True False\nTrue False 3 False False False\n"),
+    ("A call for many lines can be interrupted", """
+import signal
+endless = tfmset.Font.from_file({endless!r})
+signal.signal(signal.SIGALRM, signal.default_int_handler)
+for call in (lambda text: endless.set(text, 999), lambda text: endless.widths(text, 999),
+             lambda text: endless.records(text, 999), lambda text: endless.widths(text.decode(), 999, encoding="t1")):
+    signal.setitimer(signal.ITIMER_REAL, 0.3)
+    try:
+        print("finished", len(call(b"aa\\n" * 1_000_000)))
+    except KeyboardInterrupt:
+        print("interrupted")
+""", "interrupted\n" * 4),
     ("A CR at the end of a line is a character of it", """
 for text in "o\\r\\nox\\r", "\\r\\n", "ox\\n\\r":
     print(font.records(text, encoding="t1"), font.records(text.encode()), font.records(text, encoding="latin1"))
@@ -200,7 +230,7 @@ print(other.widths(b"ox"), other.data == data)
      "b'1:1 set 334233 c111=334233 m0 m0 m0\\n' True\n[665189] True\n"),
     ("Other threads run during a call", """
 import threading, time
-ticks, ended = [0], []
+ticks, ended, during = [0], [], []
 def tick():
     while not ended:
         time.sleep(0.001)
@@ -209,7 +239,7 @@ class Library:
     def __getattr__(self, name):
         def call(*arguments):
             before, code = ticks[0], getattr(library, name)(*arguments)
-            print(name, ticks[0] - before > 9)
+            during.append(ticks[0] - before)
             return code
         return call
 library, tfmset._library = tfmset._library, Library()
@@ -218,24 +248,26 @@ thread.start()
 print(len(font.widths(b"office waves of ox\\n" * 500000)))
 ended.append(True)
 thread.join()
-""", "tfmset_widths True\n500000\n"),
+print(sum(during) > 9)
+""", "500000\nTrue\n"),
     ("The defaults of the arguments", """
 import inspect
-print(*(inspect.signature(method) for method in (tfmset.Font.set, tfmset.Font.records)), sep="\\n")
-""", "(self, text, limit=1048576, missing='refuse', *, encoding=None)\n"
-     "(self, text, limit=1048576, missing='refuse', *, version=1, source=1, first_line=1, encoding=None)\n"),
+for method in tfmset.Font.set, tfmset.Font.records:
+    print(*(f"{each.name}={each.default}" for each in inspect.signature(method).parameters.values() if each.default != each.empty))
+""", "limit=1048576 missing=refuse encoding=None\n"
+     "limit=1048576 missing=refuse version=1 source=1 first_line=1 encoding=None\n"),
     ("An allocation that fails in each method", """
 class Library:
     def __getattr__(self, name):
         return lambda *_: 2
 tfmset._library = Library()
-for call in (lambda: font.metrics(97), lambda: font.pair(97, 98), font.pairs, lambda: font.set(b"ox"),
+for call in (lambda: font.metrics(97), lambda: font.pair(97, 98), font.pairs, lambda: font.family, lambda: font.set(b"ox"),
              lambda: font.widths(b"ox"), lambda: font.records(b"ox"), lambda: font.records("ox", encoding="t1")):
     try:
         print("accepted", call())
     except MemoryError as error:
         print(error)
-""", "an allocation of libtfmset failed\n" * 7),
+""", "an allocation of libtfmset failed\n" * 8),
     ("An allocation that fails when the error of a font is read", """
 class Library:
     tfmset_font, tfmset_check = lambda *_: 1, lambda *_: 2
@@ -255,15 +287,15 @@ class Module(LibraryCase):
     def test_program(self, program, wanted):
         # A warning is printed as an error. With these allocators, memory that is freed is overwritten.
         head = f"import tfmset\nfont = tfmset.Font.from_file({DEMO!r})\ndata = font.data\n"
-        seen = execute(sys.executable, "-W", "error", "-c", head + program, env={**self.env, "PYTHONMALLOC": "debug"})
+        program = head + program.replace("{endless!r}", repr(path_of("endless_3")))
+        seen = execute(sys.executable, "-W", "error", "-c", program, env={**self.env, "PYTHONMALLOC": "debug"})
         self.same("output", (0, wanted.replace("{bytes}", str(len(read(DEMO, "rb")))), ""), seen)
 
 
 class Version(LibraryCase):
     """The version of the library"""
 
-    names = ("size", "encode", "check", "font", "metrics", "pair", "pairs", "set", "widths", "records",
-             "encoded_records")
+    names = FUNCTIONS
 
     def imported(self, number):
         """Imports the module with a library that has this version, and returns what Python prints."""
@@ -276,10 +308,10 @@ class Version(LibraryCase):
         return status, out or err.splitlines()[-1].replace(path, "PATH")
 
     def test_a_library_of_another_version_is_not_loaded(self):
-        for number, name in ((2000, "0.2.0"), (1_001_000, "1.1.0"), (0, "0.0.0")):
-            wanted = f"ImportError: PATH has version {name}, but tfmset.py has 0.1.0"
+        for number, name in ((1000, "0.1.0"), (1_002_000, "1.2.0"), (0, "0.0.0")):
+            wanted = f"ImportError: PATH has version {name}, but the module has 0.2.0"
             self.same(name, (1, wanted), self.imported(number))
-        self.same("0.1.907", (0, "(0, 1, 907)\n"), self.imported(1907))
+        self.same("0.2.907", (0, "(0, 2, 907)\n"), self.imported(2907))
 
 
 class Links(LibraryCase):
@@ -288,13 +320,13 @@ class Links(LibraryCase):
     def test_links(self):
         """The module is found through links, and finds the library of the prefix in which the link is."""
         own, packages = self.room + "/own", "lib/python3.8/site-packages"
-        write(f"{own}/target/tfmset.py", read(BINDINGS + "/tfmset.py"))
-        places = {"a copy": "copied", "a link to the file": "linked", "a link to the directory": "directory",
+        shutil.copytree(PACKAGE, f"{own}/target/tfmset")
+        places = {"a copy": "copied", "a link to the package": "linked", "a link to the directory": "directory",
                   "a link to the prefix": "prefix"}
         for name in ("copied", "linked"):
             os.makedirs(f"{own}/{name}/{packages}")
-        shutil.copy(f"{own}/target/tfmset.py", f"{own}/copied/{packages}")
-        os.symlink(f"{own}/target/tfmset.py", f"{own}/linked/{packages}/tfmset.py")
+        shutil.copytree(f"{own}/target/tfmset", f"{own}/copied/{packages}/tfmset")
+        os.symlink(f"{own}/target/tfmset", f"{own}/linked/{packages}/tfmset")
         os.makedirs(os.path.dirname(f"{own}/directory/{packages}"))
         os.symlink(f"{own}/target", f"{own}/directory/{packages}")
         os.symlink(f"{own}/copied", f"{own}/prefix")
@@ -309,8 +341,9 @@ class Links(LibraryCase):
 
     def test_python_of_version_3_8(self):
         """The module uses no syntax and none of the names that Python 3.8 lacks, and its annotations aren't evaluated."""
-        text = read(BINDINGS + "/tfmset.py")
-        tree = ast.parse(text, feature_version=(3, 8))
-        names = {getattr(node, "attr", getattr(node, "name", None)) for node in ast.walk(tree)}
-        self.same("names of later versions", set(), names & NEWER)
-        self.assertIn("from __future__ import annotations\n", text)
+        for path in glob.glob(PACKAGE + "/*.py"):
+            text = read(path)
+            tree = ast.parse(text, feature_version=(3, 8))
+            names = {getattr(node, "attr", getattr(node, "name", None)) for node in ast.walk(tree)}
+            self.same(f"{path}: names of later versions", set(), names & NEWER)
+            self.assertIn("from __future__ import annotations\n", text)

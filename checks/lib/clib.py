@@ -6,9 +6,12 @@ import os
 from lib.base import ROOT, Case, environment, output, read, shared
 
 DONE, REFUSED, NO_ROOM, RANGE = 0, 1, 3, 4
+FUNCTIONS = ("size", "encode", "check", "fault_text", "font", "characters", "parameters", "pairs", "header_text", "set",
+             "widths", "records", "refusal_text")
 WARNINGS = ["-Wall", "-Wextra", "-Werror", "-pedantic"]
 BINDINGS = os.path.join(ROOT, "bindings", "python")
-SIZE, U32, I32, U64 = ctypes.c_size_t, ctypes.c_uint32, ctypes.c_int32, ctypes.c_uint64
+PACKAGE = os.path.join(BINDINGS, "tfmset")
+SIZE, U8, U32, I32, U64 = ctypes.c_size_t, ctypes.c_uint8, ctypes.c_uint32, ctypes.c_int32, ctypes.c_uint64
 PARAMETERS = ("slant", "space", "stretch", "shrink", "x_height", "quad", "extra_space")
 
 
@@ -19,12 +22,14 @@ def struct(*groups):
 
 
 Fault = struct((SIZE, "place"), (U32, "number named"))
-About = struct((SIZE, "parameters kerns instructions"),
-               (U32, "design_size size check_sum right_boundary left_boundary"), (I32, " ".join(PARAMETERS)))
-Metrics = struct((U32, "exists"), (I32, "width height depth italic"), (U32, "tag remainder"))
-Pair = struct((U32, "action"), (I32, "kern"), (U32, "code keep_left keep_right pass"))
-
-Neighbours = struct((U32, "left right"), (Pair, "pair"))
+About = struct((SIZE, "parameters kerns instructions"), (U32, "design_size size check_sum right_boundary left_boundary"))
+Character = struct((U32, "exists"), (I32, "width height depth italic"), (U32, "tag remainder"), (U8, "top middle bottom repeated"))
+Pair = struct((U32, "left right action"), (I32, "kern"), (U32, "code keep_left keep_right pass"))
+Options = struct((U64, "call_limit"), (U32, "size limit policy crlf"))
+Form = struct((U64, "source first"), (U32, "version"))
+Line = struct((ctypes.c_int64, "width"), (SIZE, "first count place"), (U32, "steps refusal code"))
+Counts = struct((SIZE, "lines items"))
+Item = struct((U32, "kind code"), (I32, "width"))
 Encoded = struct((SIZE, "count offset"), (U32, "character"))
 
 
@@ -42,6 +47,17 @@ def call(prefix, name, data, *numbers, result):
     return getattr(loaded(prefix), "tfmset_" + name)(data, len(data), *numbers, ctypes.byref(result)), result
 
 
+def listed(prefix, name, data, *numbers, kind, room):
+    """The return code of a function that reports a list, the count, and the first elements after code 0. No other byte
+    of the array may change; after any other code none."""
+    array, count = (kind * (room + 1))(), SIZE(9)
+    ctypes.memset(array, 9, ctypes.sizeof(array))
+    status = getattr(loaded(prefix), "tfmset_" + name)(data, len(data), *numbers, array, SIZE(room), ctypes.byref(count))
+    filled = count.value * ctypes.sizeof(kind) if status == DONE else 0
+    assert not bytes(array)[filled:].strip(b"\t"), "elements after the list"
+    return status, count.value, array[:count.value] if status == DONE else None
+
+
 def encode(prefix, name, text, room):
     """The return code of tfmset_encode, the codes after code 0, or None, and the fields of its last argument.
     No other byte of the array may change; after a code other than 0 and 3 none."""
@@ -55,16 +71,19 @@ def encode(prefix, name, text, room):
 
 @functools.lru_cache(maxsize=None)
 def loaded(prefix):
-    """The shared library, with the types of the functions that read a font, and of tfmset_size."""
+    """The shared library, with the types of its functions."""
     library = ctypes.CDLL(prefix + "/lib/libtfmset.so")
-    for name, numbers in (("size", 0), ("check", 1), ("font", 1), ("metrics", 2), ("pair", 3)):
+    text, out, array = [ctypes.c_char_p, SIZE], [ctypes.c_void_p], [ctypes.c_void_p, SIZE, ctypes.c_void_p]
+    every = {"size": text + out, "check": text + out, "font": text + [U32] + out, "fault_text": text + array,
+             **dict.fromkeys(("characters", "parameters", "pairs", "header_text"), text + [U32] + array),
+             "refusal_text": out + array, "set": text + out + text + [ctypes.c_void_p, SIZE] + array,
+             "widths": text + out + text + array, "records": text + out + text + text + out + array}
+    for name, kinds in every.items():
         function = getattr(library, "tfmset_" + name)
-        function.argtypes = [ctypes.c_char_p, SIZE] + [U32] * numbers + [ctypes.c_void_p]
-        function.restype = U32
-    library.tfmset_encode.argtypes = [ctypes.c_char_p, SIZE] * 2 + [ctypes.c_void_p, SIZE, ctypes.c_void_p]
+        function.argtypes, function.restype = kinds, U32
+    name, array = [ctypes.c_char_p, SIZE], [ctypes.c_void_p, SIZE]
+    library.tfmset_encode.argtypes = name + name + array + [ctypes.c_void_p]
     library.tfmset_encode.restype = U32
-    library.tfmset_pairs.argtypes = [ctypes.c_char_p, SIZE, U32, ctypes.c_void_p, SIZE, ctypes.c_void_p]
-    library.tfmset_pairs.restype = U32
     return library
 
 

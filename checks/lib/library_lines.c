@@ -28,7 +28,7 @@ struct text {
 };
 
 static struct text font, text;
-static uint32_t size, limit, policy;
+static struct tfmset_options options;
 static int failed;
 
 static void must(int right, const char *what)
@@ -163,7 +163,7 @@ static struct set set_with(size_t lines, size_t items)
     set.lines = array_of(lines * sizeof(struct tfmset_line));
     set.items = array_of(items * sizeof(struct tfmset_item));
     set.counts = untouched;
-    set.code = CALLED(set, (font.bytes, font.length, size, limit, policy, text.bytes, text.length,
+    set.code = CALLED(set, (font.bytes, font.length, &options, text.bytes, text.length,
                             (struct tfmset_line *)set.lines.at, lines,
                             (struct tfmset_item *)set.items.at, items, &set.counts));
     return set;
@@ -175,7 +175,7 @@ static struct set widths_with(size_t lines)
     set.lines = array_of(lines * sizeof(struct tfmset_line));
     set.items = array_of(0);
     set.counts = untouched;
-    set.code = CALLED(widths, (font.bytes, font.length, size, limit, policy, text.bytes, text.length,
+    set.code = CALLED(widths, (font.bytes, font.length, &options, text.bytes, text.length,
                                (struct tfmset_line *)set.lines.at, lines, &set.counts));
     return set;
 }
@@ -186,31 +186,33 @@ struct output {
     uint32_t code;
 };
 
-static struct output records_with(uint32_t version, size_t length)
+static struct output records_as(const char *encoding, uint32_t version, size_t length)
 {
+    struct tfmset_form form = {1, 1, 0};
     struct output output;
+    form.version = version;
     output.bytes = array_of(length);
     output.length = 77;
-    output.code = CALLED(records, (font.bytes, font.length, size, limit, policy, text.bytes, text.length,
-                                   version, 1, 1, output.bytes.at, length, &output.length));
+    output.code = CALLED(records, (font.bytes, font.length, &options, (const uint8_t *)encoding,
+                                   encoding == NULL ? 0 : strlen(encoding), text.bytes, text.length, &form,
+                                   output.bytes.at, length, &output.length));
     return output;
 }
 
-/* With the encoding `bytes`, and of printable ASCII with Latin 1, the records are those of tfmset_records. */
+static struct output records_with(uint32_t version, size_t length)
+{
+    return records_as(NULL, version, length);
+}
+
+/* With the encoding `bytes`, and of printable ASCII with Latin 1, the records are those without an encoding. */
 static struct output encoded_records_with(uint32_t version, size_t length)
 {
     const char *encoding = "latin1";
-    struct output output;
     size_t i;
     for (i = 0; i < text.length; i++)
         if (text.bytes[i] != '\n' && (text.bytes[i] < 32 || text.bytes[i] > 126))
             encoding = "bytes";
-    output.bytes = array_of(length);
-    output.length = 77;
-    output.code = CALLED(encoded_records, (font.bytes, font.length, size, limit, policy,
-                                           (const uint8_t *)encoding, strlen(encoding), text.bytes, text.length,
-                                           version, 1, 1, output.bytes.at, length, &output.length));
-    return output;
+    return records_as(encoding, version, length);
 }
 
 static void unmap_set(struct set *set)
@@ -411,14 +413,17 @@ static int has_text(const uint8_t *at, size_t length, const char *wanted)
 static int uncoded_reports_failure(const struct expected *expected)
 {
     static const uint8_t lines[] = "af\342\202\254fi x\nsoft\302\255ly\n";
+    struct tfmset_options skipping = options;
+    struct tfmset_form form = {1, 1, 1};
     struct array array = array_of(1024);
     size_t length = 77;
-    uint32_t code = CALLED(encoded_records, (font.bytes, font.length, size, limit, TFMSET_SKIP,
-                                             (const uint8_t *)"t1", 2, lines, sizeof lines - 1, 1, 1, 1,
-                                             array.at, 1024, &length));
+    uint32_t code;
+    skipping.policy = TFMSET_SKIP;
+    code = CALLED(records, (font.bytes, font.length, &skipping, (const uint8_t *)"t1", 2, lines, sizeof lines - 1,
+                            &form, array.at, 1024, &length));
     (void)expected;
     must(code == TFMSET_DONE || (code == TFMSET_OUT_OF_MEMORY && length == 77),
-         "encoded_records is complete, or reports a failed allocation of a line with a skipped character");
+         "records is complete, or reports a failed allocation of a line with a skipped character");
     must(code != TFMSET_DONE || has_text(array.at, length, " u20AC c"), "the character is skipped");
     unmap(&array);
     return code == TFMSET_OUT_OF_MEMORY;
@@ -426,39 +431,57 @@ static int uncoded_reports_failure(const struct expected *expected)
 
 static int font_reports_failure(const struct expected *expected)
 {
-    struct tfmset_font about;
+    struct tfmset_about about;
     (void)expected;
-    return CALLED(font, (font.bytes, font.length, size, &about)) == TFMSET_OUT_OF_MEMORY;
+    return CALLED(font, (font.bytes, font.length, options.size, &about)) == TFMSET_OUT_OF_MEMORY;
 }
 
 static int check_reports_failure(const struct expected *expected)
 {
     struct tfmset_fault fault;
     (void)expected;
-    return CALLED(check, (font.bytes, font.length, size, &fault)) == TFMSET_OUT_OF_MEMORY;
+    return CALLED(check, (font.bytes, font.length, &fault)) == TFMSET_OUT_OF_MEMORY;
 }
 
-static int metrics_reports_failure(const struct expected *expected)
-{
-    struct tfmset_metrics metrics;
-    (void)expected;
-    return CALLED(metrics, (font.bytes, font.length, size, 97, &metrics)) == TFMSET_OUT_OF_MEMORY;
-}
+/* A function that reports a list about the font, and changes nothing if an allocation fails. */
+#define LIST_REPORTS_FAILURE(name, type, more) \
+    static int name##_reports_failure(const struct expected *expected) \
+    { \
+        static type list[256]; \
+        size_t count = 77; \
+        uint32_t code = CALLED(name, (font.bytes, font.length, more list, 256, &count)); \
+        (void)expected; \
+        must(code != TFMSET_OUT_OF_MEMORY || count == 77, #name " changes nothing, or has a result"); \
+        return code == TFMSET_OUT_OF_MEMORY; \
+    }
+#define SIZE options.size,
+#define WHICH TFMSET_CODING_SCHEME,
+LIST_REPORTS_FAILURE(characters, struct tfmset_character, SIZE)
+LIST_REPORTS_FAILURE(parameters, int32_t, SIZE)
+LIST_REPORTS_FAILURE(pairs, struct tfmset_pair, SIZE)
+LIST_REPORTS_FAILURE(header_text, uint8_t, WHICH)
 
-static int pair_reports_failure(const struct expected *expected)
+/* The text of a font that is cut. */
+static int fault_text_reports_failure(const struct expected *expected)
 {
-    struct tfmset_pair pair;
-    (void)expected;
-    return CALLED(pair, (font.bytes, font.length, size, 97, 98, &pair)) == TFMSET_OUT_OF_MEMORY;
-}
-
-static int pairs_reports_failure(const struct expected *expected)
-{
-    struct tfmset_neighbours pairs[1];
+    uint8_t list[64];
     size_t count = 77;
-    uint32_t code = CALLED(pairs, (font.bytes, font.length, size, pairs, 1, &count));
+    uint32_t code = CALLED(fault_text, (font.bytes, 23, list, sizeof list, &count));
     (void)expected;
-    must(code != TFMSET_OUT_OF_MEMORY || count == 77, "pairs changes nothing, or has a result");
+    must(code == TFMSET_OUT_OF_MEMORY ? count == 77 : has_text(list, count, "1 truncated, 24 bytes needed"),
+         "fault_text changes nothing, or has a text");
+    return code == TFMSET_OUT_OF_MEMORY;
+}
+
+static int refusal_text_reports_failure(const struct expected *expected)
+{
+    struct tfmset_line line = {0, 0, 0, 7, 0, TFMSET_MISSING, 65};
+    uint8_t list[64];
+    size_t count = 77;
+    uint32_t code = CALLED(refusal_text, (&line, list, sizeof list, &count));
+    (void)expected;
+    must(code == TFMSET_OUT_OF_MEMORY ? count == 77 : count == 12 && has_text(list, count, "missing 7 65"),
+         "refusal_text changes nothing, or has a text");
     return code == TFMSET_OUT_OF_MEMORY;
 }
 
@@ -466,8 +489,9 @@ static void check_memory(const struct expected *expected)
 {
     static int (*const calls[])(const struct expected *) = {
         set_reports_failure, widths_reports_failure, records_reports_failure, encoded_records_reports_failure,
-        uncoded_reports_failure, font_reports_failure, check_reports_failure, metrics_reports_failure,
-        pair_reports_failure, pairs_reports_failure};
+        uncoded_reports_failure, font_reports_failure, check_reports_failure, characters_reports_failure,
+        parameters_reports_failure, pairs_reports_failure, header_text_reports_failure, fault_text_reports_failure,
+        refusal_text_reports_failure};
     const uint8_t *name = (const uint8_t *)"t1", *accented = (const uint8_t *)"\303\244a";
     struct tfmset_encoded encoded;
     uint32_t points = 0;
@@ -508,7 +532,7 @@ static void print_records(const struct set *set)
         else if (line->refusal == TFMSET_TOO_LONG)
             printf("refused too-long %zu", line->place);
         else if (line->refusal == TFMSET_TOO_MANY_STEPS)
-            printf("refused steps %u", (unsigned)limit);
+            printf("refused steps %u", (unsigned)options.limit);
         else
             printf("set %lld steps %u", (long long)line->width, (unsigned)line->steps);
         for (item = items + line->first; item < items + line->first + line->count; item++) {
@@ -531,9 +555,9 @@ int main(int count, char **arguments)
     if (count < 6)
         return 2;
     font = file_of(arguments[1]);
-    size = (uint32_t)strtoul(arguments[2], NULL, 10);
-    limit = (uint32_t)strtoul(arguments[3], NULL, 10);
-    policy = (uint32_t)strtoul(arguments[4], NULL, 10);
+    options.size = (uint32_t)strtoul(arguments[2], NULL, 10);
+    options.limit = (uint32_t)strtoul(arguments[3], NULL, 10);
+    options.policy = (uint32_t)strtoul(arguments[4], NULL, 10);
     text = file_of(arguments[5]);
 
     whole = whole_set();

@@ -13,9 +13,10 @@ int main(void)
 {
     static uint8_t font[131068], text[] = "box";
     size_t length = fread(font, 1, sizeof font, stdin);
+    struct tfmset_options options = {0};
     struct tfmset_line line;
     struct tfmset_counts counts;
-    uint32_t code = tfmset_widths(font, length, 0, 9, TFMSET_REFUSE, text, 3, &line, 1, &counts);
+    uint32_t code = tfmset_widths(font, length, &options, text, 3, &line, 1, &counts);
     printf("%u %ld\n", (unsigned)code, (long)line.width);
     return 0;
 }

@@ -14,8 +14,8 @@
 
 enum { ROOM = 1 << 20, LINES = 1 << 16, PATTERN = 0xA5, STACK = 1 << 20 };
 
-#define FONT font, font_length, at.size
-#define SETTINGS 1048576, TFMSET_SKIP
+#define FONT font, font_length
+#define SETTINGS FONT, options_at(at.size)
 #define NAME (const uint8_t *)encodings[at.encoding], strlen(encodings[at.encoding])
 
 static uint8_t font[131068], text[ROOM], bytes[32 * ROOM];
@@ -24,13 +24,14 @@ static size_t font_length, text_length;
 static const char *only;
 static struct tfmset_line lines[LINES];
 static struct tfmset_item items[2 * ROOM];
-static struct tfmset_neighbours pairs[66049];
+static struct tfmset_pair pairs[66049];
+static struct tfmset_character characters[256];
+static int32_t parameters[32767];
+static const struct tfmset_form forms[] = {{1, 1, 1}, {1, 1, 2}, {1, 1, 3}};
 static struct {
     struct tfmset_encoded encoded;
     struct tfmset_fault fault;
-    struct tfmset_font about;
-    struct tfmset_metrics metrics;
-    struct tfmset_pair pair;
+    struct tfmset_about about;
     struct tfmset_counts counts;
     size_t length;
     uint32_t size, code;
@@ -40,6 +41,13 @@ static struct {
 struct settings {
     uint32_t encoding, version, size;
 };
+
+static const struct tfmset_options *options_at(uint32_t size)
+{
+    static struct tfmset_options options = {0, 0, TFMSET_DEFAULT_LIMIT, TFMSET_SKIP, 1};
+    options.size = size;
+    return &options;
+}
 
 /* A function that makes a call with so many encodings and record formats, at two sizes. */
 #define CALLS(name, names, versions, arguments) \
@@ -62,16 +70,17 @@ CALL(version, (tfmset_version() == TFMSET_VERSION ? TFMSET_DONE : TFMSET_OUT_OF_
 CALL(size, tfmset_size((const uint8_t *)"10.95pt", 7, &out.size))
 CALLS(encode, 5, 1, tfmset_encode(NAME, text, text_length, bytes, sizeof bytes, &out.encoded))
 CALL(check, tfmset_check(FONT, &out.fault))
-CALL(font, tfmset_font(FONT, &out.about))
-CALL(metrics, tfmset_metrics(FONT, 97, &out.metrics))
-CALL(pair, tfmset_pair(FONT, 97, 98, &out.pair))
-CALL(pairs, tfmset_pairs(FONT, pairs, 66049, &out.length))
-CALL(set, tfmset_set(FONT, SETTINGS, text, text_length, lines, LINES, items, 2 * ROOM, &out.counts))
-CALL(widths, tfmset_widths(FONT, SETTINGS, text, text_length, lines, LINES, &out.counts))
-CALLS(records, 1, 3, tfmset_records(FONT, SETTINGS, text, text_length, at.version, 1, 1, bytes, sizeof bytes,
+CALL(fault_text, tfmset_fault_text(FONT, bytes, sizeof bytes, &out.length))
+CALL(font, tfmset_font(FONT, at.size, &out.about))
+CALL(characters, tfmset_characters(FONT, at.size, characters, 256, &out.length))
+CALL(parameters, tfmset_parameters(FONT, at.size, parameters, 32767, &out.length))
+CALL(pairs, tfmset_pairs(FONT, at.size, pairs, 66049, &out.length))
+CALL(header_text, tfmset_header_text(FONT, TFMSET_FAMILY, bytes, sizeof bytes, &out.length))
+CALL(set, tfmset_set(SETTINGS, text, text_length, lines, LINES, items, 2 * ROOM, &out.counts))
+CALL(widths, tfmset_widths(SETTINGS, text, text_length, lines, LINES, &out.counts))
+CALLS(records, 5, 3, tfmset_records(SETTINGS, NAME, text, text_length, &forms[at.version - 1], bytes, sizeof bytes,
                                     &out.length))
-CALLS(encoded_records, 5, 3, tfmset_encoded_records(FONT, SETTINGS, NAME, text, text_length, at.version, 1, 1, bytes,
-                                                    sizeof bytes, &out.length))
+CALL(refusal_text, tfmset_refusal_text(&lines[0], bytes, sizeof bytes, &out.length))
 
 static size_t length_of(const char *name, uint8_t *content, size_t room)
 {
@@ -116,13 +125,15 @@ int main(int count, char **arguments)
     MEASURE(size);
     MEASURE(encode);
     MEASURE(check);
+    MEASURE(fault_text);
     MEASURE(font);
-    MEASURE(metrics);
-    MEASURE(pair);
+    MEASURE(characters);
+    MEASURE(parameters);
     MEASURE(pairs);
+    MEASURE(header_text);
     MEASURE(set);
     MEASURE(widths);
     MEASURE(records);
-    MEASURE(encoded_records);
+    MEASURE(refusal_text);
     return 0;
 }

@@ -37,6 +37,12 @@ class Font:
         at, count = 4 * self.first[name], self.lengths[name]
         return list(struct.unpack(f">{count}i", self.data[at:at + 4 * count]))
 
+    def header_text(self, word, room):
+        """The text in a field of the header: the number of its bytes comes before it."""
+        at = 24 + 4 * word
+        length = min(self.data[at], room - 1) if 4 * word + room <= 4 * self.lengths["header"] else 0
+        return self.data[at + 1:at + 1 + length].decode("latin-1")
+
     def starts(self, every=False):
         """The address at which the program of each character (or each code) begins, also an indirect one."""
         return {code: self.entry(info[3]) for code, info in self.infos.items()

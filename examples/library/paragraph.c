@@ -9,10 +9,12 @@
 #include <stdlib.h>
 #include <tfmset.h>
 
-enum { LONGEST = 65536, LARGEST_FONT = 131068 };
+enum { LONGEST = 65536, LARGEST_FONT = 131068, MOST_PARAMETERS = 32767 };
 
 static uint8_t font[LARGEST_FONT], text[LONGEST];
 static struct tfmset_line words[LONGEST / 2 + 1];
+/* Parameters that the font doesn't have stay 0. */
+static int32_t parameters[MOST_PARAMETERS];
 
 /* Reads words from standard input into `text`, with a line feed between two words. Returns the number of
  * bytes. */
@@ -55,7 +57,7 @@ static void print_lines(const struct tfmset_counts *counts, int64_t space, int64
 
 int main(int count, char **arguments)
 {
-    struct tfmset_font about;
+    struct tfmset_options options = {0};
     struct tfmset_counts counts;
     size_t length, i;
     FILE *file;
@@ -64,10 +66,11 @@ int main(int count, char **arguments)
         return EXIT_FAILURE;
     length = fread(font, 1, sizeof font, file);
     fclose(file);
-    if (tfmset_font(font, length, 0, &about) != TFMSET_DONE)
+    options.policy = TFMSET_SKIP;
+    if (tfmset_parameters(font, length, 0, parameters, MOST_PARAMETERS, &i) != TFMSET_DONE)
         return EXIT_FAILURE;
-    if (tfmset_widths(font, length, 0, 1048576, TFMSET_SKIP, text, read_words(), words,
-                      sizeof words / sizeof *words, &counts) != TFMSET_DONE)
+    if (tfmset_widths(font, length, &options, text, read_words(), words, sizeof words / sizeof *words,
+                      &counts) != TFMSET_DONE)
         return EXIT_FAILURE;
     for (i = 0; i < counts.lines; i++) {
         if (words[i].refusal != TFMSET_SET) {
@@ -75,6 +78,6 @@ int main(int count, char **arguments)
             return EXIT_FAILURE;
         }
     }
-    print_lines(&counts, about.space, (int64_t)(atof(arguments[2]) * 65536));
+    print_lines(&counts, parameters[1], (int64_t)(atof(arguments[2]) * 65536));
     return EXIT_SUCCESS;
 }

@@ -36,17 +36,25 @@ struct Counts {
     items: usize,
 }
 
+/// Zeros are the defaults.
+#[repr(C)]
+#[derive(Default)]
+struct Options {
+    call_limit: u64,
+    size: u32,
+    limit: u32,
+    policy: u32,
+    crlf: u32,
+}
+
 const DONE: u32 = 0;
 const NO_ROOM: u32 = 3;
-const LIMIT: u32 = 1_048_576;
 
 extern "C" {
     fn tfmset_set(
         font: *const u8,
         font_length: usize,
-        size: u32,
-        limit: u32,
-        policy: u32,
+        options: *const Options,
         text: *const u8,
         text_length: usize,
         lines: *mut Line,
@@ -59,14 +67,14 @@ extern "C" {
 
 /// Sets the lines of a text. Returns the lines and all their items, or the return code if it isn't DONE.
 fn set(font: &[u8], text: &[u8]) -> Result<(Vec<Line>, Vec<Item>), u32> {
-    // The first call has arrays of length 0, and returns the lengths that are needed. (Even an empty Vec has a
-    // pointer that isn't null.)
+    // The first call has arrays of length 0, and returns the lengths that are needed.
+    let options = Options::default();
     let (mut lines, mut items, mut counts) = (Vec::new(), Vec::new(), Counts::default());
     loop {
         // SAFETY: each pointer is followed by the length of its slice or Vec, and no two of them overlap.
         let code = unsafe {
             tfmset_set(
-                font.as_ptr(), font.len(), 0, LIMIT, 0, text.as_ptr(), text.len(),
+                font.as_ptr(), font.len(), &options, text.as_ptr(), text.len(),
                 lines.as_mut_ptr(), lines.len(), items.as_mut_ptr(), items.len(), &mut counts,
             )
         };

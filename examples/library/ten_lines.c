@@ -8,10 +8,10 @@ int main(void)
 {
     static uint8_t font[131068], text[] = "office ox";
     size_t length = fread(font, 1, sizeof font, stdin);
+    struct tfmset_options options = {0};
     struct tfmset_line line;
     struct tfmset_counts counts;
-    uint32_t code = tfmset_widths(font, length, 0, 1048576, TFMSET_REFUSE, text, sizeof text - 1,
-                                  &line, 1, &counts);
+    uint32_t code = tfmset_widths(font, length, &options, text, sizeof text - 1, &line, 1, &counts);
 
     if (code != TFMSET_DONE) {
         fprintf(stderr, "tfmset_widths returned %u\n", (unsigned)code);

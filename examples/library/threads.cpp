@@ -20,10 +20,13 @@ struct Part {
     void set(const std::string &font)
     {
         lines.resize(std::count(begin, end, '\n') + 1);
+        tfmset_options options = {};
         tfmset_counts counts;
-        code = tfmset_widths(reinterpret_cast<const uint8_t *>(font.data()), font.size(), 0, 1048576,
-                               TFMSET_SKIP, reinterpret_cast<const uint8_t *>(begin), end - begin,
-                               lines.data(), lines.size(), &counts);
+        options.limit = TFMSET_DEFAULT_LIMIT;
+        options.policy = TFMSET_SKIP;
+        code = tfmset_widths(reinterpret_cast<const uint8_t *>(font.data()), font.size(), &options,
+                             reinterpret_cast<const uint8_t *>(begin), end - begin, lines.data(),
+                             lines.size(), &counts);
         lines.resize(code == TFMSET_DONE ? counts.lines : 0);
     }
 };

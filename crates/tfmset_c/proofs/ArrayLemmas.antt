@@ -104,21 +104,3 @@ all_put {told = told} {before = before} {now = now} filled room =
     ∙ ap (λ ys. told ++ ys) (filled.rest fits) ∙ ap (λ n. told ++ drop n before) whole
 
 pub ruleset filled = (all_counted, all_put)
-
--- ---- elements that all fit, written one by one
-
--- if an array has the images of the first elements at its front, and its former contents after them, it has one more
--- at its front once that is written after them
-pub overlaid_more : {A B : Type 0} (f : A → B) (found : List A) (before : List B) (i : ℕ) (d : A) → i < length found → length found ≤ length before
-    → set (map f (take i found) ++ drop i before) i (f (get_or found i d)) ≡ map f (take (i + 1) found) ++ drop (i + 1) before
-overlaid_more f found before i d within fits =
-    let x = f (get_or found i d) in
-    let told = map f (take i found) in
-    let rest = drop (suc i) before in
-    let long : length told ≡ i = length-map (take i found) f ∙ length-take-le i found (omega arith) in
-    ap (λ l. set (told ++ l) i x) (drop-cons before i x (omega arith))
-    ∙ subst (λ n. set (told ++ get_or before i x ∷ rest) n x ≡ told ++ x ∷ rest) long (set-append_seam told (get_or before i x) rest x)
-    ∙ sym (append_assoc told (x ∷ []) rest)
-    ∙ ap (λ l. l ++ rest) (sym (map-append f (take i found) (get_or found i d ∷ [])))
-    ∙ ap (λ l. map f l ++ rest) (sym (take-suc found i d within))
-    ∙ rw add-one refl

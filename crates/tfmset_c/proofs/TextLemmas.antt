@@ -1,7 +1,8 @@
 -- The lines of a text are told one after the other.
-use Rattle.std.proofs.Common.{◌≡◌, ℕ, ◌+◌, Bool, false, List, [], ◌∷◌, ◌++◌, length, map, flat_map, Option, Some, None, arith, refl, ap, sym, ◌∙◌, subst, length-append}
+use Rattle.std.proofs.Common.{◌≡◌, ◌≢◌, ℕ, ◌+◌, ◌-◌, ◌==◌, Bool, true, false, List, [], ◌∷◌, ◌++◌, length, map, flat_map, Option, Some, None, arith, refl, ap, sym, ◌∙◌, subst, length-append, ◌⊎◌, inl, inr}
 use Rattle.std.specs.Prelude.{Ok, Err}
 use Rattle.std.specs.Option.{option_map, option_map_or}
+use Rattle.std.proofs.lemmas.Bool.Decides.{nat_tests}
 use Rattle.std.proofs.lemmas.List.{length-map, map-append}
 use Rattle.encodings.specs.declared.encoding.Encoding.{Encoding}
 use Rattle.lig_kern.specs.Result.{Setting}
@@ -11,32 +12,39 @@ use Rattle.set_line.specs.declared.outcome.Outcome.{Outcome}
 use Rattle.set_line.specs.declared.outcome.Outcome.TheVariants.{Set, Refused}
 use Rattle.set_line.specs.declared.records.text_refusal.TextRefusal.{TextRefusal}
 use Rattle.set_line.specs.declared.records.text_refusal.TextRefusal.TheVariants.{Line}
-use Rattle.set_line.specs.declared.version.Version.{Version}
 use Rattle.set_line.specs.Answer.{outcome_of, refusal_of, set_as, set_or_refused, setting_of_portions}
-use Rattle.set_line.specs.Lines.{lines_of}
 use Rattle.set_line.specs.Pieces.{portions_of}
+use Rattle.set_line.specs.Returns.{lines_in}
 use Rattle.set_line.specs.Terms.{TermsValue}
 use Rattle.line_records.specs.declared.result.LineResult.{LineResult}
 use Rattle.line_records.specs.declared.result.LineResult.TheVariants.{Set as SetResult, Refused as RefusedResult}
-use Rattle.line_records.specs.Results.{IsResult, only_part, line_record, line_result, refusal_in, set_within}
+use Rattle.line_records.specs.Results.{IsResult, only_part, line_result, refusal_in, set_within}
 use Rattle.line_records.proofs.KeptLemmas.{alone_portions}
-use Rattle.tfmset_c.specs.Arrays.{ArePut, IsFilled, IsPartly, IsUnderWay}
-use Rattle.tfmset_c.specs.Texts.{IsOf, held, item_told, items_in, items_told, line_told, lines_told, outcomes_of, records_told}
+use Rattle.tfm_tables.specs.Acceptance.{font_fault_of}
+use Rattle.tfmset_c.specs.Arrays.{AreLinesTold, ArePut, AreRecordsTold, AreTold, IsFilled, IsPartly, IsUnderWay}
+use Rattle.tfmset_c.specs.Options.{IsReadAs, IsSetWith, call_limit_of, lines_at, outcome_within, outcomes_at, outcomes_within, result_within, steps_in, steps_of, terms_at}
+use Rattle.tfmset_c.specs.Reading.{IsAnswer}
+use Rattle.tfmset_c.specs.Records.{record_within, records_told}
+use Rattle.tfmset_c.specs.Texts.{IsOf, held, item_told, items_in, items_told, line_told, lines_told}
 use Rattle.tfmset_c.specs.declared.lines.TfmsetCounts.{TfmsetCounts}
 use Rattle.tfmset_c.specs.declared.lines.TfmsetItem.{TfmsetItem}
 use Rattle.tfmset_c.specs.declared.lines.TfmsetLine.{TfmsetLine}
+use Rattle.tfmset_c.specs.declared.options.Settings.{Settings}
+use Rattle.tfmset_c.specs.declared.options.TfmsetOptions.{TfmsetOptions}
+use Rattle.tfmset_c.specs.declared.records.Form.{Form}
 use Rattle.tfmset_c.proofs.ArrayLemmas.{nothing_put}
 
--- a text's first line, and the others
-pub outcomes_first : (terms : TermsValue) (text line more : List ℕ) → lines_of text ≡ line ∷ lines_of more
-    → outcomes_of terms text ≡ outcome_of terms line ∷ outcomes_of terms more
-unfolding outcomes_of
-outcomes_first terms text line more cut = ap (map (outcome_of terms)) cut
+-- the result of the first line, and those of the others
+pub outcomes_first : (terms : TermsValue) (left left' : ℕ) (lines more : List (List ℕ)) (line : List ℕ) (outcome : Outcome) → lines ≡ line ∷ more
+    → outcome ≡ outcome_within terms left line → left' ≡ left - steps_of outcome
+    → outcomes_within terms left lines ≡ outcome ∷ outcomes_within terms left' more
+unfolding outcomes_within
+outcomes_first terms left left' lines more line outcome cut is fewer = rw (cut, fewer, is) refl
 
--- a text without lines
-pub no_outcomes : (terms : TermsValue) (text : List ℕ) → lines_of text ≡ [] → outcomes_of terms text ≡ []
-unfolding outcomes_of
-no_outcomes terms text none = ap (map (outcome_of terms)) none
+-- without lines there are no results
+pub no_outcomes : (terms : TermsValue) (left : ℕ) (lines : List (List ℕ)) → lines ≡ [] → outcomes_within terms left lines ≡ []
+unfolding outcomes_within
+no_outcomes terms left lines none = ap (outcomes_within terms left) none
 
 -- ---- lines and items
 
@@ -144,21 +152,92 @@ bytes_result terms first line = by (refusal_of terms line)
     by None set is = within (setting_of_portions terms.font terms.limit (portions_of terms.font line)) set
         (subst (λ ps. IsResult (option_map_or Ok (setting_of_portions terms.font terms.limit ps) (Err (Line (Steps terms.limit)))) set) (alone_portions terms.font line) is)
 
+-- without any steps left it is refused
+pub none_left : (terms : TermsValue) (left : ℕ) (line : List ℕ) → left ≡ 0 → IsOf (outcome_within terms left line) (RefusedResult (Line (Steps 0)))
+unfolding outcome_within
+none_left terms left line none = rw none refl
+
+-- with some steps left it is the one that is defined
+pub some_left : (terms : TermsValue) (encoding : Option Encoding) (first : Bool) (left : ℕ) (line : List ℕ) (set : LineResult) → left ≢ 0 → encoding ≡ None
+    → IsResult (line_result terms encoding first line) set → IsOf (outcome_within terms left line) set
+unfolding outcome_within
+some_left terms encoding first left line set some bytes is =
+    let other : (left == 0) ≡ false = grind (arith, nat_tests) in
+    rw other (bytes_result terms first line set (rw bytes at is))
+
+pub ruleset bytes_within = (none_left, some_left)
+
 -- ---- records
 
 -- one record more
-pub record_more : (terms : TermsValue) (encoding : Option Encoding) (version : Version) (source place : ℕ) (first : Bool) (to_come more : List (List ℕ)) (line told before now now' : List ℕ) (at next : ℕ)
-    → to_come ≡ line ∷ more → ArePut (line_record terms encoding first line source place version) at next now now'
-    → IsPartly told (records_told terms encoding version source place first to_come) at before now
-    → IsPartly told (records_told terms encoding version source (place + 1) false more) next before now'
+pub record_more : (terms : TermsValue) (form : Form) (place left left' : ℕ) (first : Bool) (to_come more : List (List ℕ)) (line told before now now' : List ℕ) (at next : ℕ)
+    → to_come ≡ line ∷ more → left' ≡ left - steps_in (result_within terms form.encoding first left line)
+    → ArePut (record_within terms form place first left line) at next now now'
+    → IsPartly told (records_told terms form place first left to_come) at before now
+    → IsPartly told (records_told terms form (place + 1) false left' more) next before now'
 unfolding records_told
-record_more terms encoding version source place first to_come more line told before now now' at next cut put partly =
-    put.further told (records_told terms encoding version source (place + 1) false more) before (rw cut at partly)
+record_more terms form place left left' first to_come more line told before now now' at next cut fewer put partly =
+    rw fewer (put.further told (records_told terms form (place + 1) false (left - steps_in (result_within terms form.encoding first left line)) more) before (rw cut at partly))
 
 -- without lines there is nothing to tell
-pub no_records : (terms : TermsValue) (encoding : Option Encoding) (version : Version) (source place : ℕ) (first : Bool) (lines : List (List ℕ))
-    → lines ≡ [] → records_told terms encoding version source place first lines ≡ []
+pub no_records : (terms : TermsValue) (form : Form) (place left : ℕ) (first : Bool) (lines : List (List ℕ))
+    → lines ≡ [] → records_told terms form place first left lines ≡ []
 unfolding records_told
-no_records terms encoding version source place first lines none = ap (records_told terms encoding version source place first) none
+no_records terms form place left first lines none = ap (records_told terms form place first left) none
 
 pub ruleset recorded = (record_more, no_records)
+
+-- ---- a call
+
+-- the settings of a line are those of the options
+pub terms_are : (bytes : List ℕ) (options : TfmsetOptions) (settings : Settings) (terms : TermsValue) → IsReadAs options settings → IsSetWith bytes settings terms
+    → terms ≡ terms_at bytes options
+unfolding terms_at
+terms_are bytes options settings terms read set = set.value ∙ rw (read.size, read.limit, read.policy) refl
+
+-- and so are the results of the lines
+outcomes_are : (bytes text : List ℕ) (options : TfmsetOptions) (settings : Settings) (terms : TermsValue) → IsReadAs options settings → IsSetWith bytes settings terms
+    → outcomes_within terms settings.call_limit (lines_in settings.crlf text) ≡ outcomes_at bytes options text
+unfolding outcomes_at
+outcomes_are bytes text options settings terms read set = rw (terms_are bytes options settings terms read set, read.call_limit, read.crlf) refl
+
+pub set_called : (bytes text : List ℕ) (options : TfmsetOptions) (settings : Settings) (terms : TermsValue) (answer : ℕ) (counts_before counts : TfmsetCounts)
+    (lines_before lines : List TfmsetLine) (items_before items : List TfmsetItem) → IsReadAs options settings → IsSetWith bytes settings terms
+    → AreTold (outcomes_within terms settings.call_limit (lines_in settings.crlf text)) answer counts_before counts lines_before lines items_before items
+    → AreTold (outcomes_at bytes options text) answer counts_before counts lines_before lines items_before items
+set_called bytes text options settings terms answer counts_before counts lines_before lines items_before items read set told =
+    subst (λ outcomes. AreTold outcomes answer counts_before counts lines_before lines items_before items)
+    (outcomes_are bytes text options settings terms read set) told
+
+pub widths_called : (bytes text : List ℕ) (options : TfmsetOptions) (settings : Settings) (terms : TermsValue) (answer : ℕ) (counts_before counts : TfmsetCounts)
+    (before lines : List TfmsetLine) → IsReadAs options settings → IsSetWith bytes settings terms
+    → AreLinesTold (outcomes_within terms settings.call_limit (lines_in settings.crlf text)) answer counts_before counts before lines
+    → AreLinesTold (outcomes_at bytes options text) answer counts_before counts before lines
+widths_called bytes text options settings terms answer counts_before counts before lines read set told =
+    subst (λ outcomes. AreLinesTold outcomes answer counts_before counts before lines) (outcomes_are bytes text options settings terms read set) told
+
+pub records_called : (bytes text : List ℕ) (options : TfmsetOptions) (settings : Settings) (terms : TermsValue) (named : Option Form) (form asked : Form)
+    (answer count_before count : ℕ) (before records : List ℕ) → IsReadAs options settings → IsSetWith bytes settings terms
+    → Some form ≡ named → named ≡ Some asked
+    → AreRecordsTold (records_told terms form form.first true settings.call_limit (lines_in settings.crlf text)) answer count_before count before records
+    → AreRecordsTold (records_told (terms_at bytes options) asked asked.first true (call_limit_of options.call_limit) (lines_at options text)) answer count_before count before records
+records_called bytes text options settings terms named form asked answer count_before count before records read set is are told =
+    let same : form ≡ asked = cc in
+    rw (terms_are bytes options settings terms read set, read.call_limit, read.crlf, same) at told
+
+-- the code of a call whose arguments are in range, and whose font is accepted
+pub answered : (OutOfRange : Type 0) (font : List ℕ) (answer : ℕ) → (OutOfRange → ⊥) → font_fault_of font ≡ None
+    → (answer ≡ 0) ⊎ ((answer ≡ 2) ⊎ (answer ≡ 3)) → IsAnswer OutOfRange font answer
+answered OutOfRange font answer within accepted one = record {
+  range = (λ four. absurd (grind (arith, one, four)), λ out. absurd (within out));
+  refused = λ refused. absurd (grind (arith, one, refused));
+  accepted = λ _. accepted;
+}
+
+-- none of three arguments is out of range
+pub neither : {A B C : Type 0} → (A → ⊥) → (B → ⊥) → (C → ⊥) → A ⊎ (B ⊎ C) → ⊥
+neither first second third (inl out) = first out
+neither first second third (inr (inl out)) = second out
+neither first second third (inr (inr out)) = third out
+
+pub ruleset called = (set_called, widths_called, records_called)

@@ -6,7 +6,6 @@ use Rattle.tfmset_c.specs.Texts.{counts_told, held, items_told, lines_told}
 use Rattle.tfmset_c.specs.declared.lines.TfmsetCounts.{TfmsetCounts}
 use Rattle.tfmset_c.specs.declared.lines.TfmsetItem.{TfmsetItem}
 use Rattle.tfmset_c.specs.declared.lines.TfmsetLine.{TfmsetLine}
-use Rattle.tfmset_c.specs.declared.pairing.TfmsetNeighbours.{TfmsetNeighbours}
 
 -- this many elements fit into an array of this length; the count 2^64 - 1 never fits, because it may mean a
 -- larger number
@@ -17,7 +16,6 @@ HasRoom count room = (count ≤ room) × (count < 2 ^ 64 - 1)
 abbrev pub IsOverlaid : {T : Type 0} → List T → List T → List T → Type 0
 IsOverlaid told before after = after ≡ told ++ drop (length told) before
 
--- a call returns 0, with these elements at the front of an array, or 3, if they don't fit
 pub record IsWritten {T : Type 0} (told : List T) (answer : ℕ) (before after : List T) : Type 0 where
   pub answers : (answer ≡ 0) ⊎ (answer ≡ 3)
   pub room : answer ≡ 0 → HasRoom (length told) (length before)
@@ -54,10 +52,15 @@ AreRecordsTold told answer count_before count before records =
     HasEffect (HasRoom (length told) (length before)) (IsOverlaid told before records)
     (records ≡ before) (held (length told)) answer count_before count
 
--- the same for pairs, of which there are few
-abbrev pub ArePairsTold : List TfmsetNeighbours → ℕ → ℕ → ℕ → List TfmsetNeighbours → List TfmsetNeighbours → Type 0
-ArePairsTold told answer count_before count before pairs =
-    HasEffect (length told ≤ length before) (IsOverlaid told before pairs) (pairs ≡ before) (length told) answer count_before count
+-- the effect of a call that reports a list: after 0 the list is at the front of the array, and after any other code the
+-- array is unchanged; after 0 and 3 the count is the length of the list, and after any other code it is unchanged
+pub record IsListed {T : Type 0} (told : List T) (answer count_before count : ℕ) (before array : List T) : Type 0 where
+  pub counted : (answer ≡ 0) ⊎ (answer ≡ 3) → count ≡ length told
+  pub room : answer ≡ 0 → length told ≤ length before
+  pub no_room : answer ≡ 3 → length before < length told
+  pub written : answer ≡ 0 → IsOverlaid told before array
+  pub kept : answer ≢ 0 → answer ≢ 3 → count ≡ count_before
+  pub untouched : answer ≢ 0 → array ≡ before
 
 -- ---- partly filled arrays: this project's own representation, which no definition above uses
 

@@ -1,7 +1,10 @@
--- A font error as C gets it: its number, the count, table or part that it names, and a number that locates
--- it.
+-- A font error as C gets it: its number, the count, table or part that it names, and a number that locates it; and the
+-- texts of font errors and of refusals of lines.
 -- This project's own; the font errors are defined in Acceptance of `tfm_tables`.
-use Rattle.std.specs.Prelude.{ℕ, ◌==◌, if◌then◌else◌}
+use Rattle.std.specs.Prelude.{ℕ, ◌==◌, List, [], ◌++◌, codes, decimal, if◌then◌else◌}
+use Rattle.std.specs.Option.{option_map_or}
+use Rattle.font_texts.specs.FaultWords.{fault_words}
+use Rattle.tfm_tables.specs.Acceptance.{font_fault_of}
 use Rattle.tfm_words.specs.declared.count.Count.{Count}
 use Rattle.tfm_words.specs.declared.count.Count.TheVariants.{Lf, Lh, Bc, Ec, Nw, Nh, Nd, Ni, Nl, Nk, Ne, Np}
 use Rattle.tfm_words.specs.declared.table.Table.{Table}
@@ -13,6 +16,7 @@ use Rattle.tfm_tables.specs.declared.fault.FontFault.TheVariants.{Counts, Design
 use Rattle.tfm_tables.specs.declared.fault.Part.{Part}
 use Rattle.tfm_tables.specs.declared.fault.Part.TheVariants.{Restart, Next, Ligature, Kern, Skip}
 use Rattle.tfmset_c.specs.declared.check.TfmsetFault.{TfmsetFault}
+use Rattle.tfmset_c.specs.declared.lines.TfmsetLine.{TfmsetLine}
 
 -- the number of a count, in the order of the file
 abbrev pub count_number : Count → ℕ
@@ -75,3 +79,14 @@ fault_told (FirstNotZero table) = told 12 (table_number table) 0
 fault_told (FixWordRange table index) = told 13 (table_number table) index
 fault_told (Step index part) = told 14 (part_number part) index
 fault_told OutOfMemory = told 0 0 0
+
+-- the text of the first error of a font: its number and its description; empty for an accepted font
+abbrev pub fault_text_of : List ℕ → List ℕ
+fault_text_of bytes = option_map_or fault_words (font_fault_of bytes) []
+
+-- the reason that the record of a refused line states after the word `refused`; empty for a line that is set
+unfoldable pub refusal_words : TfmsetLine → List ℕ
+refusal_words line =
+    if line.refusal == 1 then codes "missing " ++ decimal line.place ++ codes " " ++ decimal line.code
+    else (if line.refusal == 2 then codes "too-long " ++ decimal line.place
+    else (if line.refusal == 3 then codes "steps " ++ decimal line.steps else []))

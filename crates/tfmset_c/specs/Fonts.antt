@@ -1,17 +1,16 @@
--- The sizes, boundaries and parameters of a font, as C gets them.
+-- The sizes, boundaries, counts and header texts of a font, as C gets them.
 -- This project's own; the values are defined in `tfm_tables` and `tfm_words`.
-use Rattle.std.specs.Prelude.{ℕ, List, is_some, Bool, true, false}
-use Rattle.std.specs.Option.{option_map_or}
+use Rattle.std.specs.Prelude.{ℕ, ◌==◌, List, [], is_some, Bool, true, false, if◌then◌else◌}
+use Rattle.std.specs.Option.{option_map_or, unwrap_or}
 use Rattle.tfm_words.specs.DesignSize.{design_size_of}
 use Rattle.tfm_words.specs.declared.table.Table.TheVariants.{LigKern, Kern, Param}
 use Rattle.tfm_tables.specs.declared.left_side.LeftSide.TheVariants.{Boundary}
 use Rattle.tfm_tables.specs.Font.{FontValue}
-use Rattle.tfm_tables.specs.Header.{check_sum_of}
-use Rattle.tfm_tables.specs.Measure.{parameter_of}
+use Rattle.tfm_tables.specs.Header.{check_sum_of, coding_of, family_of}
 use Rattle.tfm_tables.specs.Program.{program_of, right_code_of, start_of}
 use Rattle.tfm_tables.specs.Table.{entries_of}
 use Rattle.tfmset_c.specs.Reading.{size_or_zero}
-use Rattle.tfmset_c.specs.declared.font.TfmsetFont.{TfmsetFont}
+use Rattle.tfmset_c.specs.declared.font.TfmsetAbout.{TfmsetAbout}
 
 -- the code of the right boundary character, or 256 if the font has none
 unfoldable pub right_or_none : List ℕ → ℕ
@@ -22,8 +21,8 @@ abbrev pub flag : Bool → ℕ
 flag true = 1
 flag false = 0
 
--- the sizes, boundaries and parameters of a font
-unfoldable pub font_told : FontValue → TfmsetFont
+-- the sizes, boundaries and counts of a font
+unfoldable pub font_told : FontValue → TfmsetAbout
 font_told font = record {
   parameters = entries_of font.words Param;
   kerns = entries_of font.words Kern;
@@ -33,11 +32,9 @@ font_told font = record {
   check_sum = check_sum_of font.words;
   right_boundary = right_or_none font.words;
   left_boundary = flag (is_some (start_of font.words Boundary));
-  slant = parameter_of font.words font.size 1;
-  space = parameter_of font.words font.size 2;
-  stretch = parameter_of font.words font.size 3;
-  shrink = parameter_of font.words font.size 4;
-  x_height = parameter_of font.words font.size 5;
-  quad = parameter_of font.words font.size 6;
-  extra_space = parameter_of font.words font.size 7;
 }
+
+-- a text in the header of the font with these words, empty if the header is too short for it: the coding scheme for 0,
+-- and the family for any other number
+unfoldable pub header_text_of : List ℕ → ℕ → List ℕ
+header_text_of words which = unwrap_or (if which == 0 then coding_of words else family_of words) []

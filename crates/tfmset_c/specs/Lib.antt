@@ -4,6 +4,8 @@ pub mod Faults
 pub mod Fonts
 pub mod Characters
 pub mod Pairs
+pub mod Options
 pub mod Texts
 pub mod Arrays
 pub mod Encoded
+pub mod Records

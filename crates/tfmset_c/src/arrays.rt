@@ -1,10 +1,11 @@
-//! Writes to the arrays of the caller while they have room, and counts all elements, written or not. A count
-//! stops at 2^64 - 1.
-ghost use Rattle.std.specs.Prelude.{◌≡◌, ℕ, ◌∷◌, [], true, false};
-ghost use Rattle.tfmset_c.specs.Arrays.{ArePut, HasRoom};
+//! Writes to the arrays of the caller. What is written while there is room counts all elements, written or not; this
+//! count stops at 2^64 - 1.
+ghost use Rattle.std.specs.Prelude.{◌≡◌, ◌⊎◌, ℕ, ◌∷◌, [], true, false};
+ghost use Rattle.tfmset_c.specs.Arrays.{ArePut, HasRoom, IsListed};
 ghost use Rattle.tfmset_c.specs.Texts.{held};
 
 use crate::lines::{TfmsetItem, TfmsetLine};
+use crate::reading::{DONE, NO_ROOM};
 
 /// Returns whether this many elements fit into an array of `room` elements. The count 2^64 - 1 never fits,
 /// because it may mean a larger number.
@@ -48,4 +49,19 @@ pub fn put_bytes(bytes: &mut [u8], at: usize, made: &[u8]) -> usize
         bytes[at..at + made.len()].copy_from_slice(made);
     }
     at.saturating_add(made.len())
+}
+
+/// Reports a list in the array of a caller: its elements at the front of the array, and its length in `count`.
+/// Returns 0, or 3 if the array is too short, which is then unchanged.
+#[tactic(auto, using(crate::proofs::ArrayLemmas::puts))]
+pub fn report<T: Copy>(list: &[T], array: &mut [T], count: &mut usize) -> u32
+    ensures answers { (result ≡ 0) ⊎ (result ≡ 3) }
+    ensures listed { IsListed list.now result count.old count.new array.old array.new }
+{
+    *count = list.len();
+    if list.len() > array.len() {
+        return NO_ROOM;
+    }
+    array[..list.len()].copy_from_slice(list);
+    DONE
 }

@@ -1,18 +1,21 @@
-//! `tfmset_check`: checks a font.
-ghost use Rattle.std.specs.Prelude.{◌≡◌, ◌≢◌, ◌≤◌, ◌<◌, ◌↔◌, Some, None};
+//! `tfmset_check` and `tfmset_fault_text`: check a font.
+ghost use Rattle.std.specs.Prelude.{◌≡◌, ◌≢◌, ◌≤◌, ◌⊎◌, IfOk, Some, None};
 ghost use Rattle.std.specs.Option.{option_map};
 ghost use Rattle.tfm_tables.specs.Acceptance.{font_fault_of};
+ghost use Rattle.tfmset_c.specs.Arrays.{IsListed};
 ghost use Rattle.tfmset_c.specs.Faults.{
   count_fault_told,
   count_number,
+  fault_text_of,
   fault_told,
   part_number,
   table_number,
 };
-ghost use Rattle.tfmset_c.specs.Reading.{IsNoSize};
 
-use crate::reading::{DONE, Denial, MOST_SIZE, RANGE, read_metrics};
-use std::alloc::Global;
+use crate::arrays::report;
+use crate::reading::{DONE, Denial, MEMORY, read_metrics};
+use font_texts::Numbered;
+use std::alloc::{AllocError, Global};
 use tfm_tables::{FontFault, Part};
 use tfm_words::{Count, CountFault, Table};
 
@@ -126,22 +129,16 @@ fn fault_for_c(first: FontFault) -> TfmsetFault
     }
 }
 
-/// Checks a font. `size` is in sp, and 0 is the design size. Whether a font is accepted doesn't depend on the
-/// size. Returns: 0 if the font is accepted; 1 if it is refused, with its first error in `told`; 2 if an
-/// allocation fails; 4 if `size` is above 134,217,727. After every code except 1 `told` is unchanged.
+/// Checks a font. Returns: 0 if the font is accepted; 1 if it is refused, with its first error in `told`; 2 if an
+/// allocation fails. After every code except 1 `told` is unchanged.
 #[unsafe(no_mangle)]
-pub extern "C" fn tfmset_check(alloc: Global, font: &[u8], size: u32, told: &mut TfmsetFault) -> u32
-    ensures answers { (result ≤ 4) × (result ≢ 3) }
-    ensures range { (result ≡ 4) ↔ IsNoSize size }
-    ensures done { result ≡ 0 → font_fault_of font.now ≡ None }
+pub extern "C" fn tfmset_check(alloc: Global, font: &[u8], told: &mut TfmsetFault) -> u32
+    ensures answers { result ≤ 2 }
+    ensures accepted { result ≢ 1 → font_fault_of font.now ≡ None }
     ensures refused { result ≡ 1 → option_map fault_told (font_fault_of font.now) ≡ Some told.new }
-    ensures memory { result ≡ 2 → font_fault_of font.now ≡ None }
     ensures kept { result ≢ 1 → told.new ≡ told.old }
 {
-    if size > MOST_SIZE {
-        return RANGE;
-    }
-    match read_metrics(alloc, font, size) {
+    match read_metrics(alloc, font, 0) {
         Ok(_) => DONE,
         Err(denial) => {
             if let Denial::Refused(fault) = denial {
@@ -149,5 +146,35 @@ pub extern "C" fn tfmset_check(alloc: Global, font: &[u8], size: u32, told: &mut
             }
             denial.code()
         }
+    }
+}
+
+/// Returns the text of the first error of a font, which is empty for an accepted font. The error means that an
+/// allocation failed.
+fn fault_text(alloc: Global, font: &[u8]) -> Result<Vec<u8>, AllocError>
+    ensures { IfOk result (λ text. text.items ≡ fault_text_of font.now) }
+{
+    match read_metrics(alloc, font, 0) {
+        Err(Denial::Refused(fault)) => Ok(Numbered(fault).to_string(alloc)?.into_bytes()),
+        Err(Denial::Memory) | Ok(_) => Ok(Vec::new(alloc)),
+    }
+}
+
+/// Reports the text of the first error of a font, its number and its description as the program prints them, in the
+/// array `text`. The text of an accepted font is empty. Returns: 0 after success; 2 if an allocation fails, with
+/// nothing changed; 3 if `text` is too short, which is then unchanged. `count` is the number of bytes.
+#[unsafe(no_mangle)]
+pub extern "C" fn tfmset_fault_text(
+    alloc: Global,
+    font: &[u8],
+    text: &mut [u8],
+    count: &mut usize,
+) -> u32
+    ensures answers { (result ≡ 0) ⊎ ((result ≡ 2) ⊎ (result ≡ 3)) }
+    ensures told { IsListed (fault_text_of font.now) result count.old count.new text.old text.new }
+{
+    match fault_text(alloc, font) {
+        Ok(told) => report(&told, text, count),
+        Err(_) => MEMORY,
     }
 }

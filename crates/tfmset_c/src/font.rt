@@ -1,21 +1,22 @@
-//! `tfmset_font`: the sizes, boundaries and parameters of a font.
-ghost use Rattle.std.specs.Prelude.{◌≡◌, ◌≢◌, ◌≤◌, ◌<◌, ◌↔◌, Some, None, Ok, IsSome, is_some};
-ghost use Rattle.tfm_words.specs.DesignSize.{design_size_of};
-ghost use Rattle.tfm_tables.specs.Acceptance.{font_fault_of};
+//! `tfmset_font`, `tfmset_parameters` and `tfmset_header_text`: what a font states about itself.
+ghost use Rattle.std.specs.Prelude.{◌≡◌, ◌≢◌, ◌≤◌, ◌<◌, IfOk, is_some};
+ghost use Rattle.tfm_tables.specs.Acceptance.{words_of};
+ghost use Rattle.tfm_tables.specs.Decoded.{parameters_of as all_parameters};
 ghost use Rattle.tfm_tables.specs.Program.{start_of};
 ghost use Rattle.tfm_tables.specs.declared.left_side.LeftSide.TheVariants.{Boundary};
-ghost use Rattle.tfmset_c.specs.Fonts.{flag, font_told, right_or_none};
-ghost use Rattle.tfmset_c.specs.Reading.{IsNoSize, font_at};
+ghost use Rattle.tfmset_c.specs.Arrays.{IsListed};
+ghost use Rattle.tfmset_c.specs.Fonts.{flag, font_told, header_text_of, right_or_none};
+ghost use Rattle.tfmset_c.specs.Reading.{IsAnswer, IsNoSize, font_at};
 
-use crate::reading::{DONE, MOST_SIZE, RANGE, read_metrics};
-use std::alloc::Global;
+use crate::arrays::report;
+use crate::reading::{DONE, MEMORY, MOST_SIZE, RANGE, read_metrics};
+use std::alloc::{AllocError, Global};
 use tfm_tables::{FontMetrics, LeftSide};
 
-/// The sizes, boundaries and parameters of a font. A parameter that the font doesn't have is 0. Sizes and
-/// parameters are in sp, except the slant.
+/// The sizes, boundaries and counts of a font. Sizes are in sp.
 #[repr(C)]
 #[derive(Clone, Copy, Debug, PartialEq, Eq)]
-pub struct TfmsetFont {
+pub struct TfmsetAbout {
     /// The number of parameters.
     pub parameters: usize,
     /// The number of kerns.
@@ -32,20 +33,6 @@ pub struct TfmsetFont {
     pub right_boundary: u32,
     /// 1 if the left boundary has a starting address in the lig/kern program. Otherwise 0.
     pub left_boundary: u32,
-    /// Parameter 1: a ratio in units of 2^-20, which isn't scaled.
-    pub slant: i32,
-    /// Parameter 2: the width of a space in a line.
-    pub space: i32,
-    /// Parameter 3.
-    pub stretch: i32,
-    /// Parameter 4.
-    pub shrink: i32,
-    /// Parameter 5.
-    pub x_height: i32,
-    /// Parameter 6.
-    pub quad: i32,
-    /// Parameter 7.
-    pub extra_space: i32,
 }
 
 /// Returns the code of the right boundary character, or 256.
@@ -71,10 +58,10 @@ fn left_boundary(font: &FontMetrics) -> u32
 
 /// Returns the data of a font as C gets them.
 #[tactic(auto, unfolding(crate::specs::Fonts::font_told))]
-fn font_for_c(font: &FontMetrics) -> TfmsetFont
+fn font_for_c(font: &FontMetrics) -> TfmsetAbout
     ensures { result ≡ font_told font.now }
 {
-    TfmsetFont {
+    TfmsetAbout {
         parameters: font.params(),
         kerns: font.kerns(),
         instructions: font.steps(),
@@ -83,26 +70,16 @@ fn font_for_c(font: &FontMetrics) -> TfmsetFont
         check_sum: font.check_sum(),
         right_boundary: right_boundary(font),
         left_boundary: left_boundary(font),
-        slant: font.param(1),
-        space: font.param(2),
-        stretch: font.param(3),
-        shrink: font.param(4),
-        x_height: font.param(5),
-        quad: font.param(6),
-        extra_space: font.param(7),
     }
 }
 
-/// Reports the sizes, boundaries and parameters of a font in `about`. `size` is in sp, and 0 is the design
-/// size. Returns: 0 after success; 1 if the font is refused; 2 if an allocation fails; 4 if `size` is above
-/// 134,217,727. After every code except 0 `about` is unchanged.
+/// Reports the sizes, boundaries and counts of a font in `about`. `size` is in sp, and 0 is the design size.
+/// Returns: 0 after success; 1 if the font is refused; 2 if an allocation fails; 4 if `size` is above 134,217,727.
+/// After every code except 0 `about` is unchanged.
 #[unsafe(no_mangle)]
-pub extern "C" fn tfmset_font(alloc: Global, font: &[u8], size: u32, about: &mut TfmsetFont) -> u32
+pub extern "C" fn tfmset_font(alloc: Global, font: &[u8], size: u32, about: &mut TfmsetAbout) -> u32
     ensures answers { (result ≤ 4) × (result ≢ 3) }
-    ensures range { (result ≡ 4) ↔ IsNoSize size }
-    ensures refused { result ≡ 1 → IsSome (font_fault_of font.now) }
-    ensures memory { result ≡ 2 → font_fault_of font.now ≡ None }
-    ensures accepted { result ≡ 0 → font_fault_of font.now ≡ None }
+    ensures font { IsAnswer (IsNoSize size) font.now result }
     ensures done { result ≡ 0 → about.new ≡ font_told (font_at font.now size) }
     ensures kept { result ≢ 0 → about.new ≡ about.old }
 {
@@ -115,5 +92,88 @@ pub extern "C" fn tfmset_font(alloc: Global, font: &[u8], size: u32, about: &mut
             DONE
         }
         Err(denial) => denial.code(),
+    }
+}
+
+/// Returns all parameters of a font, from number 1. The error means that an allocation failed.
+#[tactic(auto, using(tfm_tables::proofs::DecodedLemmas::grown_signed))]
+fn parameters_of(alloc: Global, font: &FontMetrics) -> Result<Vec<i32>, AllocError>
+    ensures { IfOk result (λ list. list.items ≡ all_parameters font.now.words font.now.size) }
+{
+    let mut list = Vec::with_capacity(alloc, font.params())?;
+    for number in 1..font.params() + 1 {
+        list.push(font.param(number))?;
+    }
+    Ok(list)
+}
+
+/// Reports all parameters of a font, from number 1, in the array `parameters`: the slant in units of 2^-20, and the
+/// others in sp. `size` is in sp, and 0 is the design size. Returns: 0 after success; 1 if the font is refused; 2 if
+/// an allocation fails; 3 if the array is too short; 4 if `size` is above 134,217,727. After every code except 0 the
+/// array is unchanged. `count` is the number of parameters after codes 0 and 3, and otherwise unchanged.
+#[unsafe(no_mangle)]
+pub extern "C" fn tfmset_parameters(
+    alloc: Global,
+    font: &[u8],
+    size: u32,
+    parameters: &mut [i32],
+    count: &mut usize,
+) -> u32
+    ensures answers { result ≤ 4 }
+    ensures font { IsAnswer (IsNoSize size) font.now result }
+    ensures told { IsListed (all_parameters (font_at font.now size).words (font_at font.now size).size) result
+        count.old count.new parameters.old parameters.new }
+{
+    if size > MOST_SIZE {
+        return RANGE;
+    }
+    let listed = match read_metrics(alloc, font, size) {
+        Ok(font) => parameters_of(alloc, &font),
+        Err(denial) => return denial.code(),
+    };
+    match listed {
+        Ok(list) => report(&list, parameters, count),
+        Err(_) => MEMORY,
+    }
+}
+
+/// Reports a text in the header of a font in the array `text`: its coding scheme, if `which` is 0, or its family, if
+/// `which` is 1. The text is empty if the header is too short for it. Returns: 0 after success; 1 if the font is
+/// refused; 2 if an allocation fails; 3 if the array is too short; 4 if `which` is above 1. After every code except 0
+/// the array is unchanged. `count` is the number of bytes, at most 39, after codes 0 and 3, and otherwise unchanged.
+#[unsafe(no_mangle)]
+pub extern "C" fn tfmset_header_text(
+    alloc: Global,
+    font: &[u8],
+    which: u32,
+    text: &mut [u8],
+    count: &mut usize,
+) -> u32
+    ensures answers { result ≤ 4 }
+    ensures font { IsAnswer (1 < which) font.now result }
+    ensures told { IsListed (header_text_of (words_of font.now) which) result count.old count.new text.old text.new }
+{
+    if which > 1 {
+        return RANGE;
+    }
+    match read_metrics(alloc, font, 0) {
+        Ok(font) => report(header_text(&font, which), text, count),
+        Err(denial) => denial.code(),
+    }
+}
+
+/// Returns a text in the header of a font: its coding scheme for 0, and its family for any other number.
+#[tactic(auto, unfolding(crate::specs::Fonts::header_text_of))]
+fn header_text(font: &FontMetrics, which: u32) -> &[u8]
+    ensures { result.now ≡ header_text_of font.now.words which }
+{
+    let text = if which == 0 {
+        font.coding()
+    } else {
+        font.family()
+    };
+    match text {
+        Some(text) => text,
+        None => b"",
     }
 }

@@ -2,29 +2,30 @@
 //! `include/tfmset.h` describes them to their callers.
 #![tactic(auto)]
 
-pub use check::{TfmsetFault, tfmset_check};
+pub use characters::{TfmsetCharacter, tfmset_characters};
+pub use check::{TfmsetFault, tfmset_check, tfmset_fault_text};
 pub use encode::{TfmsetEncoded, tfmset_encode};
-pub use font::{TfmsetFont, tfmset_font};
+pub use font::{TfmsetAbout, tfmset_font, tfmset_header_text, tfmset_parameters};
 pub use lines::{TfmsetCounts, TfmsetItem, TfmsetLine};
-pub use metrics::{TfmsetMetrics, tfmset_metrics};
-pub use pair::{TfmsetPair, tfmset_pair};
-pub use pairing::{TfmsetNeighbours, tfmset_pairs};
-pub use records::{tfmset_encoded_records, tfmset_records};
+pub use options::TfmsetOptions;
+pub use pairs::{TfmsetPair, tfmset_pairs};
+pub use records::{TfmsetForm, tfmset_records};
+pub use refusal::tfmset_refusal_text;
 pub use set::{tfmset_set, tfmset_widths};
 pub use size::tfmset_size;
 pub use version::tfmset_version;
 
 mod arrays;
+mod characters;
 mod check;
 mod encode;
 mod font;
 mod lines;
-mod metrics;
-mod pair;
-mod pairing;
+mod options;
+mod pairs;
 mod reading;
 mod records;
+mod refusal;
 mod set;
-mod settings;
 mod size;
 mod version;

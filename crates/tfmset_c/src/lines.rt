@@ -1,6 +1,10 @@
 //! The results of lines as C gets them.
-ghost use Rattle.std.specs.Prelude.{◌≡◌};
+ghost use Rattle.std.specs.Prelude.{◌≡◌, Result};
+ghost use Rattle.lig_kern.specs.Result.{Setting};
+ghost use Rattle.line_records.specs.Results.{IsResult};
 ghost use Rattle.set_line.specs.declared.outcome.Outcome.{Outcome as OutcomeValue};
+ghost use Rattle.set_line.specs.declared.records.text_refusal.TextRefusal.{TextRefusal as TextRefusalValue};
+ghost use Rattle.tfmset_c.specs.Options.{steps_in, steps_of as steps_of_outcome};
 ghost use Rattle.tfmset_c.specs.Texts.{IsOf, item_told, line_told};
 
 use lig_kern::Item;
@@ -123,5 +127,18 @@ pub fn line_for_c(set: LineResult, first: usize) -> TfmsetLine
         steps,
         refusal,
         code: u32::from(code),
+    }
+}
+
+/// Returns the steps that a line takes from those that are left for the call. A line that takes too many takes as
+/// many as its limit.
+pub fn steps_of(line: LineResult) -> u32
+    ensures bytes { (outcome : OutcomeValue) → IsOf outcome line → result ≡ steps_of_outcome outcome }
+    ensures line { (set : Result Setting TextRefusalValue) → IsResult set line → result ≡ steps_in set }
+{
+    match line {
+        LineResult::Set(sums) => sums.steps,
+        LineResult::Refused(TextRefusal::Line(LineRefusal::Steps(limit))) => limit,
+        LineResult::Refused(_) => 0,
     }
 }

@@ -1,44 +1,67 @@
-//! `tfmset_records` and `tfmset_encoded_records`: write the records of the lines of a text into an array of the
-//! caller.
-ghost use Rattle.std.specs.Prelude.{◌≡◌, ◌≤◌, ◌<◌, ◌+◌, ◌^◌, ◌↔◌, ◌⊎◌, None, Option, Some, true, IsSome, IfOk, length, MatchOption};
-ghost use Rattle.encodings.specs.declared.encoding.Encoding.{Encoding as EncodingValue};
+//! `tfmset_records`: writes the records of the lines of a text into an array of the caller.
+ghost use Rattle.std.specs.Prelude.{◌≡◌, ◌≤◌, ◌<◌, ◌+◌, ◌++◌, ◌^◌, ◌⊎◌, None, Some, true, IfOk, IfSome, OnOk, length, MatchOption};
 ghost use Rattle.line_records.specs.Cells.{style_of};
-ghost use Rattle.set_line.specs.Lines.{lines_of};
-ghost use Rattle.tfm_tables.specs.Acceptance.{font_fault_of};
+ghost use Rattle.line_records.specs.Results.{IsResult};
+ghost use Rattle.set_line.specs.Returns.{lines_in};
 ghost use Rattle.tfmset_c.specs.Arrays.{AreRecordsTold, IsFilled};
-ghost use Rattle.tfmset_c.specs.Encoded.{encoding_told};
-ghost use Rattle.tfmset_c.specs.Texts.{IsNoVersion, IsOutOfRange, records_told, terms_at, version_of};
+ghost use Rattle.tfmset_c.specs.Options.{IsOutOfRange, call_limit_of, lines_at, result_within, terms_at};
+ghost use Rattle.tfmset_c.specs.Reading.{IsAnswer};
+ghost use Rattle.tfmset_c.specs.declared.records.Form.{Form as FormValue};
+ghost use Rattle.tfmset_c.specs.Records.{form_told, record_within, records_told, version_of};
 
 use crate::arrays::{has_room, put_bytes};
 use crate::encode::encoding_of;
+use crate::lines::steps_of;
+use crate::options::{Text, TfmsetOptions, terms_of};
 use crate::reading::{DONE, MEMORY, NO_ROOM, RANGE};
-use crate::settings::{Text, in_range, terms_of};
 use encodings::Encoding;
-use line_records::{LineWriter, RecordOf, SourceLine};
-use set_line::{OutOfMemory, Version, first_line};
+use line_records::{LineResult, LineWriter, RecordOf, SourceLine};
+use set_line::{
+    LineRefusal, OutOfMemory, RecordNumber, TextRefusal, Version, append_refusal, next_line,
+};
 use std::alloc::Global;
 
 /// The largest number of bytes in a text whose records are made without a table of texts: with an empty table
 /// they take about as long.
 const FEW_FOR_TABLE: usize = 12_288;
 
-/// How the lines of a text are read, and the format and the numbers of their records.
-#[derive(Clone, Copy)]
-struct Form {
-    /// The encoding of the font, for a text in UTF-8. Without one, each byte is a code.
-    encoding: Option<Encoding>,
-    version: Version,
-    /// The number of the source.
-    source: u64,
+/// The format and the numbers of records.
+#[repr(C)]
+#[derive(Clone, Copy, Debug, PartialEq, Eq)]
+pub struct TfmsetForm {
+    /// The number of the source in each record.
+    pub source: u64,
     /// The number of the first line.
-    first: u64,
+    pub first: u64,
+    /// The record format: 1, 2, or 3 for JSON.
+    pub version: u32,
+}
+
+/// How the lines of a text are read, and the format and the source of their records.
+#[derive(Clone, Copy)]
+pub struct Form {
+    /// The encoding of the font, for a text in UTF-8. Without one, each byte is a code.
+    pub encoding: Option<Encoding>,
+    /// The format.
+    pub version: Version,
+    /// The number of the source.
+    pub source: u64,
+    /// The number of the first line.
+    pub first: u64,
+}
+
+/// A line, and the steps that are left for the call.
+#[derive(Clone, Copy)]
+struct NextLine<'a> {
+    line: SourceLine<'a>,
+    left: u64,
 }
 
 /// Returns the record format with this number: 1, 2, or 3 for JSON. Returns `None` for any other number.
-#[tactic(auto, unfolding(crate::specs::Texts::version_of))]
+#[tactic(auto, unfolding(crate::specs::Records::version_of))]
 fn version_numbered(version: u32) -> Option<Version>
-    ensures { MatchOption result (IsNoVersion version)
-        (λ v. (v ≡ version_of version) × (IsNoVersion version → ⊥)) }
+    ensures { MatchOption result ((version < 1) ⊎ (3 < version))
+        (λ v. (v ≡ version_of version) × ((1 ≤ version) × (version ≤ 3))) }
 {
     match version {
         1 => Some(Version::One),
@@ -46,6 +69,26 @@ fn version_numbered(version: u32) -> Option<Version>
         3 => Some(Version::Json),
         _ => None,
     }
+}
+
+/// Returns how the lines of a text are read and recorded, with this name of an encoding, which is that of bytes if
+/// it is empty. Returns `None` if no encoding has this name, or the record format is out of range.
+#[tactic(auto, unfolding(crate::specs::Records::form_told))]
+fn form_of(encoding: &[u8], form: &TfmsetForm) -> Option<Form>
+    ensures told { result ≡ form_told encoding.now form.now }
+    ensures first { IfSome result (λ read. read.first ≡ form.now.first) }
+{
+    let encoding = if encoding.is_empty() {
+        None
+    } else {
+        encoding_of(encoding)?
+    };
+    Some(Form {
+        encoding,
+        version: version_numbered(form.version)?,
+        source: form.source,
+        first: form.first,
+    })
 }
 
 /// Returns a writer for the lines of a text, which is prepared if the text is long enough.
@@ -59,9 +102,39 @@ fn writer_for(alloc: Global, text: Text, version: Version) -> LineWriter
     writer
 }
 
-/// Sets the lines of a text, and writes their records into the array while there is room. Returns the number
-/// of bytes of all records, or 2^64 - 1 if it is larger. If an allocation fails, the contents of the array
-/// are unspecified.
+/// Appends the record of a line: without any steps left it is refused, and isn't set. Returns its result without its
+/// items.
+#[tactic(auto, unfolding(crate::specs::Options::result_within))]
+fn append_within(
+    writer: &mut LineWriter,
+    of: &RecordOf<'_>,
+    version: Version,
+    next: NextLine<'_>,
+    records: &mut Vec<u8>,
+) -> Result<LineResult, OutOfMemory>
+    requires { writer.old ≡ style_of of.now.terms.now version }
+    ensures kept { writer.new ≡ writer.old }
+    ensures appended { OnOk result (records.new.items ≡ records.old.items ++ record_within of.now.terms.now
+        (record { encoding = of.now.encoding; version = version; source = of.now.source; first = 0 })
+        next.entry.line.number next.entry.line.first next.entry.left next.entry.line.bytes.now) }
+    ensures result { IfOk result (IsResult (result_within of.now.terms.now of.now.encoding
+        next.entry.line.first next.entry.left next.entry.line.bytes.now)) }
+{
+    let line = next.line;
+    if next.left > 0 {
+        return writer.append(of, line, records);
+    }
+    let number = RecordNumber {
+        source: of.source,
+        line: line.number,
+    };
+    let refusal = TextRefusal::Line(LineRefusal::Steps(0));
+    append_refusal(records, number, refusal, version)?;
+    Ok(LineResult::Refused(refusal))
+}
+
+/// Sets the lines of a text, and writes their records into the array while there is room. Returns the number of bytes
+/// of all records, or 2^64 - 1 if it is larger. If an allocation fails, the contents of the array are unspecified.
 #[tactic(auto, using(crate::proofs::TextLemmas::recorded))]
 fn fill_records(
     alloc: Global,
@@ -70,8 +143,8 @@ fn fill_records(
     records: &mut [u8],
 ) -> Result<usize, OutOfMemory>
     requires { form.first + length text.bytes.now < 2 ^ 64 }
-    ensures { IfOk result (λ count. IsFilled (records_told text.entry.terms.now form.encoding form.version
-        form.source form.first true (lines_of text.entry.bytes.now)) count records.old records.new) }
+    ensures { IfOk result (λ count. IsFilled (records_told text.entry.terms.now form form.first true
+        text.entry.call_limit (lines_in text.entry.crlf text.entry.bytes.now)) count records.old records.new) }
 {
     let of = RecordOf {
         terms: text.terms,
@@ -81,20 +154,28 @@ fn fill_records(
     let mut writer = writer_for(alloc, text, form.version);
     let mut made = Vec::new(alloc);
     let mut number = form.first;
-    let mut first = true;
+    let mut is_first = true;
+    let mut left = text.call_limit;
     let mut at = 0;
     let mut rest = text.bytes;
-    while let Some((bytes, more)) = first_line(rest) {
+    while let Some((bytes, more)) = next_line(rest, text.crlf) {
         let line = SourceLine {
             number,
-            first,
+            first: is_first,
             bytes,
         };
         made.clear();
-        writer.append(&of, line, &mut made)?;
+        let result = append_within(
+            &mut writer,
+            &of,
+            form.version,
+            NextLine { line, left },
+            &mut made,
+        )?;
         at = put_bytes(records, at, &made);
+        left = left.saturating_sub(u64::from(steps_of(result)));
         number += 1;
-        first = false;
+        is_first = false;
         rest = more;
     }
     Ok(at)
@@ -112,8 +193,8 @@ fn write_records(
 ) -> u32
     requires { form.first + length text.bytes.now < 2 ^ 64 }
     ensures answers { (result ≡ 0) ⊎ ((result ≡ 2) ⊎ (result ≡ 3)) }
-    ensures told { AreRecordsTold (records_told text.entry.terms.now form.encoding form.version form.source
-        form.first true (lines_of text.entry.bytes.now)) result count.old count.new records.old records.new }
+    ensures told { AreRecordsTold (records_told text.entry.terms.now form form.first true text.entry.call_limit
+        (lines_in text.entry.crlf text.entry.bytes.now)) result count.old count.new records.old records.new }
 {
     let Ok(told) = fill_records(alloc, text, form, records) else {
         return MEMORY;
@@ -125,99 +206,56 @@ fn write_records(
     NO_ROOM
 }
 
-/// Sets the lines of a text as [`tfmset_set`](crate::tfmset_set) does, and writes their records into
-/// `records`. `version` is the record format: 1, 2, or 3 for JSON. `source` is the number of the source in
-/// each record, and `first` is the number of the first line.
+/// Sets the lines of a text with these options, and writes their records into `records`. `encoding` is the name of
+/// the font's encoding, as in [`tfmset_encode`](crate::tfmset_encode), for a text in UTF-8; with the name `bytes` or
+/// an empty one each byte of the text is a code.
 ///
 /// Returns: 0 after success, where `count` is the number of bytes that were written, and the other bytes of
 /// `records` are unchanged; 1 if the font is refused; 2 if an allocation fails; 3 if `records` is too short,
-/// where `count` is the number of bytes needed, or 2^64 - 1 if it is larger; 4 if `size`, `limit`, `policy`
-/// or `version` is out of range, or if the sum of `first` and the length of the text is 2^64 or more. After 1
-/// and 4 nothing is changed. After 2 `count` is unchanged. After 2 and 3 the contents of `records` are
+/// where `count` is the number of bytes needed, or 2^64 - 1 if it is larger; 4 if an option or the record format is
+/// out of range, if no encoding has this name, or if the sum of `form.first` and the length of the text is 2^64 or
+/// more. After 1 and 4 nothing is changed. After 2 `count` is unchanged. After 2 and 3 the contents of `records` are
 /// unspecified.
-#[tactic(auto, using(crate::proofs::EncodedLemmas::bytes_named))]
+#[tactic(auto, using(crate::proofs::TextLemmas::called))]
 #[unsafe(no_mangle)]
 pub extern "C" fn tfmset_records(
     alloc: Global,
     font: &[u8],
-    size: u32,
-    limit: u32,
-    policy: u32,
-    text: &[u8],
-    version: u32,
-    source: u64,
-    first: u64,
-    records: &mut [u8],
-    count: &mut usize,
-) -> u32
-    ensures answers { result ≤ 4 }
-    ensures range { (result ≡ 4) ↔ (IsOutOfRange size limit policy
-        ⊎ (IsNoVersion version ⊎ (2 ^ 64 ≤ first + length text.now))) }
-    ensures refused { result ≡ 1 → IsSome (font_fault_of font.now) }
-    ensures memory { result ≡ 2 → font_fault_of font.now ≡ None }
-    ensures accepted { (result ≡ 0) ⊎ (result ≡ 3) → font_fault_of font.now ≡ None }
-    ensures told { AreRecordsTold (records_told (terms_at font.now size limit policy) None (version_of version)
-        source first true (lines_of text.now)) result count.old count.new records.old records.new }
-{
-    tfmset_encoded_records(
-        alloc, font, size, limit, policy, b"bytes", text, version, source, first, records, count,
-    )
-}
-
-/// Sets the lines of a text in UTF-8, and writes their records into `records`. `encoding` is the name of the
-/// font's encoding, as in [`tfmset_encode`](crate::tfmset_encode). All other arguments and the return value are
-/// those of [`tfmset_records`], except that 4 is also returned if no encoding has this name.
-#[unsafe(no_mangle)]
-pub extern "C" fn tfmset_encoded_records(
-    alloc: Global,
-    font: &[u8],
-    size: u32,
-    limit: u32,
-    policy: u32,
+    options: &TfmsetOptions,
     encoding: &[u8],
     text: &[u8],
-    version: u32,
-    source: u64,
-    first: u64,
+    form: &TfmsetForm,
     records: &mut [u8],
     count: &mut usize,
 ) -> u32
     ensures answers { result ≤ 4 }
-    ensures range { (result ≡ 4) ↔ (IsOutOfRange size limit policy ⊎ (IsNoVersion version
-        ⊎ ((encoding_told encoding.now ≡ None) ⊎ (2 ^ 64 ≤ first + length text.now)))) }
-    ensures refused { result ≡ 1 → IsSome (font_fault_of font.now) }
-    ensures memory { result ≡ 2 → font_fault_of font.now ≡ None }
-    ensures accepted { (result ≡ 0) ⊎ (result ≡ 3) → font_fault_of font.now ≡ None }
-    ensures told { (named : Option EncodingValue) → encoding_told encoding.now ≡ Some named
-        → AreRecordsTold (records_told (terms_at font.now size limit policy) named (version_of version) source
-        first true (lines_of text.now)) result count.old count.new records.old records.new }
+    ensures font { IsAnswer (IsOutOfRange options.now ⊎ ((form_told encoding.now form.now ≡ None)
+        ⊎ (2 ^ 64 ≤ form.now.first + length text.now))) font.now result }
+    ensures told { (read : FormValue) → form_told encoding.now form.now ≡ Some read
+        → AreRecordsTold (records_told (terms_at font.now options.now) read read.first true
+        (call_limit_of options.now.call_limit) (lines_at options.now text.now))
+        result count.old count.new records.old records.new }
     ensures kept { result ≡ 4 → (count.new ≡ count.old) × (records.new ≡ records.old) }
 {
-    let Some(settings) = in_range(size, limit, policy) else {
+    let Some(settings) = options.in_range() else {
         return RANGE;
     };
-    let Some(version) = version_numbered(version) else {
+    let Some(read) = form_of(encoding, form) else {
         return RANGE;
     };
-    let Some(encoding) = encoding_of(encoding) else {
-        return RANGE;
-    };
-    if first > u64::MAX - text.len() as u64 {
+    if form.first > u64::MAX - text.len() as u64 {
         return RANGE;
     }
+    let (crlf, call_limit) = (settings.crlf, settings.call_limit);
     match terms_of(alloc, font, settings) {
         Ok(terms) => {
             let text = Text {
                 terms: &terms,
                 bytes: text,
+                crlf,
+                call_limit,
             };
-            let form = Form {
-                encoding,
-                version,
-                source,
-                first,
-            };
-            write_records(alloc, text, form, records, count)
+            write_records(alloc, text, read, records, count)
         }
         Err(denial) => denial.code(),
     }

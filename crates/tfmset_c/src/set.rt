@@ -1,16 +1,23 @@
 //! `tfmset_set` and `tfmset_widths`: set the lines of a text into arrays of the caller.
-ghost use Rattle.std.specs.Prelude.{◌≡◌, ◌≤◌, ◌↔◌, ◌⊎◌, length, map, None, IsSome, IfOk};
-ghost use Rattle.tfm_tables.specs.Acceptance.{font_fault_of};
+ghost use Rattle.std.specs.Prelude.{◌≡◌, ◌≤◌, ◌⊎◌, length, map, IfOk};
+ghost use Rattle.line_records.specs.Cells.{Fits};
+ghost use Rattle.set_line.specs.Returns.{lines_in};
 ghost use Rattle.tfmset_c.specs.Arrays.{AreLinesTold, ArePut, AreTold, IsFilled};
-ghost use Rattle.tfmset_c.specs.Texts.{IsOutOfRange, held, item_told, items_in, items_told, lines_told, outcomes_of, terms_at};
+ghost use Rattle.tfmset_c.specs.Options.{IsOutOfRange, outcome_within, outcomes_at, outcomes_within};
+ghost use Rattle.tfmset_c.specs.Reading.{IsAnswer};
+ghost use Rattle.tfmset_c.specs.Texts.{IsOf, held, item_told, items_in, items_told, lines_told};
 
 use crate::arrays::{has_room, put_item, put_line};
-use crate::lines::{TfmsetCounts, TfmsetItem, TfmsetLine, item_for_c, line_for_c, result_of};
+use crate::lines::{
+    TfmsetCounts, TfmsetItem, TfmsetLine, item_for_c, line_for_c, result_of, steps_of,
+};
+use crate::options::{Text, TfmsetOptions, terms_of};
 use crate::reading::{DONE, MEMORY, NO_ROOM, RANGE};
-use crate::settings::{Text, in_range, terms_of};
 use lig_kern::Item;
-use line_records::{LineWriter, RecordOf, SourceLine};
-use set_line::{OutOfMemory, Outcome, Version, first_line, set_bytes};
+use line_records::{LineResult, LineWriter, RecordOf, SourceLine};
+use set_line::{
+    LineRefusal, OutOfMemory, Outcome, Terms, TextRefusal, Version, next_line, set_bytes,
+};
 use std::alloc::Global;
 
 /// The largest number of bytes in a text whose widths are computed without a table of texts: with an empty
@@ -41,6 +48,22 @@ fn put_items_in(items: &mut [TfmsetItem], first: usize, outcome: &Outcome) -> us
     }
 }
 
+/// Sets a line of which `left` steps are left for the call: without any it is refused, and isn't set.
+#[tactic(auto, unfolding(crate::specs::Options::outcome_within))]
+fn set_within(
+    terms: &Terms,
+    left: u64,
+    line: &[u8],
+    list: &mut Vec<Item>,
+) -> Result<Outcome, OutOfMemory>
+    ensures { IfOk result (λ outcome. outcome ≡ outcome_within terms.now left line.now) }
+{
+    if left == 0 {
+        return Ok(Outcome::Refused(LineRefusal::Steps(0)));
+    }
+    set_bytes(terms, line, list)
+}
+
 /// Sets the lines of a text, and writes the lines and their items into the arrays while there is room.
 /// Returns the numbers of lines and items. If an allocation fails, the contents of the arrays are
 /// unspecified.
@@ -50,22 +73,24 @@ fn fill(
     lines: &mut [TfmsetLine],
     items: &mut [TfmsetItem],
 ) -> Result<TfmsetCounts, OutOfMemory>
-    ensures lines { IfOk result (λ counts. IsFilled
-        (lines_told 0 (outcomes_of text.entry.terms.now text.entry.bytes.now)) counts.lines lines.old lines.new) }
-    ensures items { IfOk result (λ counts. IsFilled
-        (items_told (outcomes_of text.entry.terms.now text.entry.bytes.now)) counts.items items.old items.new) }
+    ensures lines { IfOk result (λ counts. IsFilled (lines_told 0 (outcomes_within text.entry.terms.now
+        text.entry.call_limit (lines_in text.entry.crlf text.entry.bytes.now))) counts.lines lines.old lines.new) }
+    ensures items { IfOk result (λ counts. IsFilled (items_told (outcomes_within text.entry.terms.now
+        text.entry.call_limit (lines_in text.entry.crlf text.entry.bytes.now))) counts.items items.old items.new) }
 {
     let mut list = Vec::new(alloc);
     let mut counts = TfmsetCounts { lines: 0, items: 0 };
+    let mut left = text.call_limit;
     let mut rest = text.bytes;
-    while let Some((line, more)) = first_line(rest) {
-        let outcome = set_bytes(text.terms, line, &mut list)?;
-        let told = line_for_c(result_of(&outcome), counts.items);
+    while let Some((line, more)) = next_line(rest, text.crlf) {
+        let outcome = set_within(text.terms, left, line, &mut list)?;
+        let result = result_of(&outcome);
         counts = TfmsetCounts {
-            lines: put_line(lines, counts.lines, told),
+            lines: put_line(lines, counts.lines, line_for_c(result, counts.items)),
             items: put_items_in(items, counts.items, &outcome),
         };
         outcome.give_back(&mut list);
+        left = left.saturating_sub(u64::from(steps_of(result)));
         rest = more;
     }
     Ok(counts)
@@ -82,7 +107,8 @@ fn set_into(
     counts: &mut TfmsetCounts,
 ) -> u32
     ensures answers { (result ≡ 0) ⊎ ((result ≡ 2) ⊎ (result ≡ 3)) }
-    ensures told { AreTold (outcomes_of text.entry.terms.now text.entry.bytes.now) result
+    ensures told { AreTold (outcomes_within text.entry.terms.now text.entry.call_limit
+        (lines_in text.entry.crlf text.entry.bytes.now)) result
         counts.old counts.new lines.old lines.new items.old items.new }
 {
     let Ok(told) = fill(alloc, text, lines, items) else {
@@ -95,6 +121,31 @@ fn set_into(
     NO_ROOM
 }
 
+/// Sets a line of which `left` steps are left for the call, without its items: without any steps it is refused,
+/// and isn't set.
+#[tactic(auto, using(crate::proofs::TextLemmas::bytes_within))]
+fn result_within(
+    writer: &mut LineWriter,
+    of: &RecordOf<'_>,
+    left: u64,
+    bytes: &[u8],
+) -> Result<LineResult, OutOfMemory>
+    requires fits { Fits writer.old of.now.terms.now }
+    requires bytes { of.now.encoding ≡ None }
+    ensures kept { writer.new ≡ writer.old }
+    ensures result { IfOk result (IsOf (outcome_within of.now.terms.now left bytes.now)) }
+{
+    if left == 0 {
+        return Ok(LineResult::Refused(TextRefusal::Line(LineRefusal::Steps(0))));
+    }
+    let line = SourceLine {
+        number: 0,
+        first: false,
+        bytes,
+    };
+    writer.result(of, line)
+}
+
 /// Sets the lines of a text, and writes the lines into the array while there is room. Returns the numbers of
 /// lines and items. If an allocation fails, the contents of the array are unspecified.
 #[tactic(auto, using(crate::proofs::ArrayLemmas::filled))]
@@ -103,10 +154,10 @@ fn fill_widths(
     text: Text,
     lines: &mut [TfmsetLine],
 ) -> Result<TfmsetCounts, OutOfMemory>
-    ensures lines { IfOk result (λ counts. IsFilled
-        (lines_told 0 (outcomes_of text.entry.terms.now text.entry.bytes.now)) counts.lines lines.old lines.new) }
-    ensures items { IfOk result (λ counts.
-        counts.items ≡ held (length (items_told (outcomes_of text.entry.terms.now text.entry.bytes.now)))) }
+    ensures lines { IfOk result (λ counts. IsFilled (lines_told 0 (outcomes_within text.entry.terms.now
+        text.entry.call_limit (lines_in text.entry.crlf text.entry.bytes.now))) counts.lines lines.old lines.new) }
+    ensures items { IfOk result (λ counts. counts.items ≡ held (length (items_told (outcomes_within
+        text.entry.terms.now text.entry.call_limit (lines_in text.entry.crlf text.entry.bytes.now))))) }
 {
     if text.bytes.len() <= FEW_FOR_TABLE {
         return fill(alloc, text, lines, &mut []);
@@ -119,18 +170,16 @@ fn fill_widths(
     let mut writer = LineWriter::new(alloc, text.terms, Version::One);
     writer.prepare(text.terms);
     let mut counts = TfmsetCounts { lines: 0, items: 0 };
+    let mut left = text.call_limit;
     let mut rest = text.bytes;
-    while let Some((bytes, more)) = first_line(rest) {
-        let line = SourceLine {
-            number: 0,
-            first: false,
-            bytes,
-        };
-        let told = line_for_c(writer.result(&of, line)?, counts.items);
+    while let Some((line, more)) = next_line(rest, text.crlf) {
+        let result = result_within(&mut writer, &of, left, line)?;
+        let told = line_for_c(result, counts.items);
         counts = TfmsetCounts {
             lines: put_line(lines, counts.lines, told),
             items: counts.items.saturating_add(told.count),
         };
+        left = left.saturating_sub(u64::from(steps_of(result)));
         rest = more;
     }
     Ok(counts)
@@ -141,8 +190,8 @@ fn fill_widths(
 #[tactic(auto, using(crate::proofs::ArrayLemmas::filled))]
 fn set_widths(alloc: Global, text: Text, lines: &mut [TfmsetLine], counts: &mut TfmsetCounts) -> u32
     ensures answers { (result ≡ 0) ⊎ ((result ≡ 2) ⊎ (result ≡ 3)) }
-    ensures told { AreLinesTold (outcomes_of text.entry.terms.now text.entry.bytes.now) result counts.old
-        counts.new lines.old lines.new }
+    ensures told { AreLinesTold (outcomes_within text.entry.terms.now text.entry.call_limit
+        (lines_in text.entry.crlf text.entry.bytes.now)) result counts.old counts.new lines.old lines.new }
 {
     let Ok(told) = fill_widths(alloc, text, lines) else {
         return MEMORY;
@@ -154,42 +203,38 @@ fn set_widths(alloc: Global, text: Text, lines: &mut [TfmsetLine], counts: &mut 
     NO_ROOM
 }
 
-/// Sets the lines of a text. `size` is in sp, and 0 is the design size. `limit` is the largest number of
-/// steps for a line. `policy` is 0 to refuse a line with a missing character, or 1 to skip the byte.
-///
-/// Returns: 0 after success, where `lines` and `items` have the results, `counts` has their numbers, and the
-/// other elements are unchanged; 1 if the font is refused; 2 if an allocation fails; 3 if an array is too
-/// short, where `counts` has the lengths needed; 4 if `size`, `limit` or `policy` is out of range. After 1
-/// and 4 nothing is changed. After 2 `counts` is unchanged. After 2 and 3 the contents of the arrays are
-/// unspecified.
+/// Sets the lines of a text with these options. Returns: 0 after success, where `lines` and `items` have the
+/// results, `counts` has their numbers, and the other elements are unchanged; 1 if the font is refused; 2 if an
+/// allocation fails; 3 if an array is too short, where `counts` has the lengths needed; 4 if an option is out of
+/// range. After 1 and 4 nothing is changed. After 2 `counts` is unchanged. After 2 and 3 the contents of the
+/// arrays are unspecified.
+#[tactic(auto, using(crate::proofs::TextLemmas::called))]
 #[unsafe(no_mangle)]
 pub extern "C" fn tfmset_set(
     alloc: Global,
     font: &[u8],
-    size: u32,
-    limit: u32,
-    policy: u32,
+    options: &TfmsetOptions,
     text: &[u8],
     lines: &mut [TfmsetLine],
     items: &mut [TfmsetItem],
     counts: &mut TfmsetCounts,
 ) -> u32
     ensures answers { result ≤ 4 }
-    ensures range { (result ≡ 4) ↔ IsOutOfRange size limit policy }
-    ensures refused { result ≡ 1 → IsSome (font_fault_of font.now) }
-    ensures memory { result ≡ 2 → font_fault_of font.now ≡ None }
-    ensures accepted { (result ≡ 0) ⊎ (result ≡ 3) → font_fault_of font.now ≡ None }
-    ensures told { AreTold (outcomes_of (terms_at font.now size limit policy) text.now) result
+    ensures font { IsAnswer (IsOutOfRange options.now) font.now result }
+    ensures told { AreTold (outcomes_at font.now options.now text.now) result
         counts.old counts.new lines.old lines.new items.old items.new }
 {
-    let Some(settings) = in_range(size, limit, policy) else {
+    let Some(settings) = options.in_range() else {
         return RANGE;
     };
+    let (crlf, call_limit) = (settings.crlf, settings.call_limit);
     match terms_of(alloc, font, settings) {
         Ok(terms) => {
             let text = Text {
                 terms: &terms,
                 bytes: text,
+                crlf,
+                call_limit,
             };
             set_into(alloc, text, lines, items, counts)
         }
@@ -199,33 +244,32 @@ pub extern "C" fn tfmset_set(
 
 /// Sets the lines of a text as [`tfmset_set`] does, without returning the items: only `lines` has to be long
 /// enough. The numbers in `lines` and `counts`, and the codes, are those of `tfmset_set`.
+#[tactic(auto, using(crate::proofs::TextLemmas::called))]
 #[unsafe(no_mangle)]
 pub extern "C" fn tfmset_widths(
     alloc: Global,
     font: &[u8],
-    size: u32,
-    limit: u32,
-    policy: u32,
+    options: &TfmsetOptions,
     text: &[u8],
     lines: &mut [TfmsetLine],
     counts: &mut TfmsetCounts,
 ) -> u32
     ensures answers { result ≤ 4 }
-    ensures range { (result ≡ 4) ↔ IsOutOfRange size limit policy }
-    ensures refused { result ≡ 1 → IsSome (font_fault_of font.now) }
-    ensures memory { result ≡ 2 → font_fault_of font.now ≡ None }
-    ensures accepted { (result ≡ 0) ⊎ (result ≡ 3) → font_fault_of font.now ≡ None }
-    ensures told { AreLinesTold (outcomes_of (terms_at font.now size limit policy) text.now) result
+    ensures font { IsAnswer (IsOutOfRange options.now) font.now result }
+    ensures told { AreLinesTold (outcomes_at font.now options.now text.now) result
         counts.old counts.new lines.old lines.new }
 {
-    let Some(settings) = in_range(size, limit, policy) else {
+    let Some(settings) = options.in_range() else {
         return RANGE;
     };
+    let (crlf, call_limit) = (settings.crlf, settings.call_limit);
     match terms_of(alloc, font, settings) {
         Ok(terms) => {
             let text = Text {
                 terms: &terms,
                 bytes: text,
+                crlf,
+                call_limit,
             };
             set_widths(alloc, text, lines, counts)
         }

@@ -26,8 +26,8 @@ with the encoding of the font: `font.set("Straße", encoding="t1")`. All dimensi
 On import the module loads the library from the first of these locations that has one:
 
 1. the path in the environment variable TFMSET_LIBRARY, if it isn't empty; no other location is tried then;
-2. `libtfmset.so` in the directory of this module;
-3. `PREFIX/lib/libtfmset.so.0`, if this module is installed in `PREFIX/lib/pythonX.Y/site-packages` (or
+2. `libtfmset.so` in the directory of this package, where `pip install` puts it;
+3. `PREFIX/lib/libtfmset.so.0`, if this package is in `PREFIX/lib/pythonX.Y/site-packages` (or
    `dist-packages`);
 4. the directories that the system's dynamic linker searches, such as those in LD_LIBRARY_PATH.
 
@@ -37,22 +37,30 @@ differ.
 
 The library has no state. Any thread may call any function at any time, and calls of several threads run
 concurrently. Each call reads the font again, which for the font cmr10 takes up to 30 microseconds. It is
-therefore much faster to set many lines in one call than to make one call for each line.
+therefore much faster to set many lines in one call than to make one call for each line. A long text is passed
+to the library in blocks of lines, and Ctrl-C takes effect between two blocks.
 """
 from __future__ import annotations
 
+import bisect
+import codecs
 import ctypes
+import dataclasses
 import functools
 import operator
 import os
 import struct
-from typing import List, NamedTuple, Optional, Sequence, Tuple, Union, overload
+import time
+from typing import (Any, Dict, Iterator, List, NamedTuple, Optional, Sequence, Tuple, Type, Union,
+                    overload)
+
+from ._binding import (_DONE, _FONT_REFUSED, _NO_ROOM, _OUT_OF_MEMORY, _UNCODED, _About, _Character, _Counts,
+                       _Encoded, _Fault, _Form, _i32, _library, _Line, _Options, _Pair, _size_t, _u32, _version,
+                       __version__)
 
 __all__ = ["BOUNDARY", "CHARACTER", "ENCODINGS", "KERN", "POINT", "SKIPPED", "SPACE", "EncodingError", "Font",
-           "FontRefused", "Item", "Kern", "Ligature", "Line", "Lines", "Metrics", "Refusal", "__version__",
-           "encode", "version"]
-
-__version__ = "0.1.0"
+           "FontRefused", "Item", "Kern", "Ligature", "Line", "Lines", "Metrics", "Recipe", "Refusal",
+           "__version__", "encode", "version"]
 
 POINT = 65536
 """The number of scaled points in a point."""
@@ -69,49 +77,21 @@ ENCODINGS = ("ot1", "t1", "ly1", "latin1")
 Size = Union[None, int, str]
 Text = Union[bytes, bytearray, memoryview]
 
-_DONE, _FONT_REFUSED, _OUT_OF_MEMORY, _NO_ROOM, _OUT_OF_RANGE, _NOT_UTF8, _UNCODED = range(7)
 _LARGEST_SIZE, _LARGEST_LIMIT = 134_217_727, 16_777_216
-_u32, _i32, _u64, _size_t = ctypes.c_uint32, ctypes.c_int32, ctypes.c_uint64, ctypes.c_size_t
+_PARAMETERS = ("slant", "space", "stretch", "shrink", "x_height", "quad", "extra_space")
+_FIRST_BLOCK, _LARGEST_BLOCK, _BLOCK_SECONDS = 1 << 12, 1 << 20, 0.02
 
 
-class _Encoded(ctypes.Structure):
-    _fields_ = [("count", _size_t), ("offset", _size_t), ("character", _u32)]
+def version() -> Tuple[int, int, int]:
+    """Returns the version of the library.
+
+    >>> version() >= (0, 1, 0)
+    True
+    """
+    return _version(_library)
 
 
-class _Fault(ctypes.Structure):
-    _fields_ = [("place", _size_t), ("number", _u32), ("named", _u32)]
-
-
-class _About(ctypes.Structure):
-    _fields_ = [("parameters", _size_t), ("kerns", _size_t), ("instructions", _size_t), ("design_size", _u32),
-                ("size", _u32), ("check_sum", _u32), ("right_boundary", _u32), ("left_boundary", _u32),
-                ("slant", _i32), ("space", _i32), ("stretch", _i32), ("shrink", _i32), ("x_height", _i32),
-                ("quad", _i32), ("extra_space", _i32)]
-
-
-class _Metrics(ctypes.Structure):
-    _fields_ = [("exists", _u32), ("width", _i32), ("height", _i32), ("depth", _i32), ("italic", _i32),
-                ("tag", _u32), ("remainder", _u32)]
-
-
-class _Pair(ctypes.Structure):
-    _fields_ = [("action", _u32), ("kern", _i32), ("code", _u32), ("keep_left", _u32), ("keep_right", _u32),
-                ("passed", _u32)]
-
-
-class _Neighbours(ctypes.Structure):
-    _fields_ = [("left", _u32), ("right", _u32), ("pair", _Pair)]
-
-
-class _Line(ctypes.Structure):
-    _fields_ = [("width", ctypes.c_int64), ("first", _size_t), ("count", _size_t), ("place", _size_t),
-                ("steps", _u32), ("refusal", _u32), ("code", _u32)]
-
-
-class _Counts(ctypes.Structure):
-    _fields_ = [("lines", _size_t), ("items", _size_t)]
-
-
+@dataclasses.dataclass(frozen=True, init=False)
 class Item(ctypes.Structure):
     """An item of a line: a character, a kern, a space, or a missing character that was skipped.
 
@@ -124,81 +104,9 @@ class Item(ctypes.Structure):
     width: int
     _fields_ = [("kind", _u32), ("code", _u32), ("width", _i32)]
 
-    def __repr__(self) -> str:
-        return f"Item(kind={self.kind}, code={self.code}, width={self.width})"
-
-
-# The number in this name changes when the layout of a struct or the arguments of a function change.
-_SONAME = "libtfmset.so.0"
-
-
-def _path() -> str:
-    """Returns the path of the library, or its bare name, for which the dynamic linker searches."""
-    if os.environ.get("TFMSET_LIBRARY"):
-        return os.environ["TFMSET_LIBRARY"]
-    directory = os.path.dirname(os.path.abspath(__file__))
-    candidates = [os.path.join(directory, "libtfmset.so")]
-    if os.path.basename(directory) in ("site-packages", "dist-packages"):
-        # The directory is PREFIX/lib/pythonX.Y/site-packages.
-        prefix = os.path.dirname(os.path.dirname(os.path.dirname(directory)))
-        candidates.append(os.path.join(prefix, "lib", _SONAME))
-    return next((path for path in candidates if os.path.exists(path)), _SONAME)
-
-
-def _load() -> ctypes.CDLL:
-    """Loads the library and declares the types of its functions."""
-    font, text, out = [ctypes.c_char_p, _size_t, _u32], [ctypes.c_char_p, _size_t], [ctypes.c_void_p]
-    settings, array = [_u32, _u32], [ctypes.c_void_p, _size_t]
-    functions = {
-        "version": [],
-        "size": text + out,
-        "encode": text + text + array + out,
-        "check": font + out,
-        "font": font + out,
-        "metrics": font + [_u32] + out,
-        "pair": font + [_u32, _u32] + out,
-        "pairs": font + array + out,
-        "set": font + settings + text + array + array + out,
-        "widths": font + settings + text + array + out,
-        "records": font + settings + text + [_u32, _u64, _u64] + array + out,
-        "encoded_records": font + settings + text + text + [_u32, _u64, _u64] + array + out,
-    }
-    path = _path()
-    try:
-        library = ctypes.CDLL(path)
-    except OSError as error:
-        if path == _SONAME:
-            raise ImportError("libtfmset.so was not found: install it with scripts/library, copy it to the "
-                              "directory of tfmset.py, or set the environment variable TFMSET_LIBRARY to its "
-                              f"path ({error})") from error
-        raise ImportError(f"{path} can't be loaded: {error}") from error
-    try:
-        for name, types in functions.items():
-            function = getattr(library, "tfmset_" + name)
-            function.argtypes, function.restype = types, _u32
-    except AttributeError as error:
-        raise ImportError(f"{path} isn't libtfmset, or is an older version of it: {error}") from error
-    found = _version(library)
-    if found[:2] != tuple(map(int, __version__.split(".")))[:2]:
-        raise ImportError(f"{path} has version {'.'.join(map(str, found))}, but tfmset.py has {__version__}")
-    return library
-
-
-def _version(library: ctypes.CDLL) -> Tuple[int, int, int]:
-    number = library.tfmset_version()
-    return number // 1_000_000, number // 1000 % 1000, number % 1000
-
-
-_library = _load()
-
-
-def version() -> Tuple[int, int, int]:
-    """Returns the version of the library.
-
-    >>> version() >= (0, 1, 0)
-    True
-    """
-    return _version(_library)
+    def __init__(self, kind: int, code: int, width: int) -> None:
+        for name, value in zip(("kind", "code", "width"), (kind, code, width)):
+            object.__setattr__(self, name, value)
 
 
 class EncodingError(ValueError):
@@ -220,10 +128,16 @@ class EncodingError(ValueError):
         return f"no code in {self.encoding} for U+{ord(self.character):04X} at index {self.place}"
 
 
-def _utf8(text: str, encoding: str) -> bytes:
-    """Returns a text in UTF-8. Raises TypeError if it isn't a str, and EncodingError for a lone surrogate."""
+def _string(text: object) -> str:
+    """Returns a text. Raises TypeError if it isn't a str."""
     if not isinstance(text, str):
         raise TypeError("text must be a str, since an encoding is given")
+    return text
+
+
+def _utf8(text: object, encoding: str) -> bytes:
+    """Returns a text in UTF-8. Raises TypeError if it isn't a str, and EncodingError for a lone surrogate."""
+    text = _string(text)
     try:
         return str.encode(text, "utf-8")
     except UnicodeEncodeError as error:
@@ -288,26 +202,28 @@ class FontRefused(ValueError):
     _TABLES = ("header", "char_info", "width", "height", "depth", "italic", "lig_kern", "kern", "exten",
                "param")
     _PARTS = ("restart", "next", "ligature", "kern", "skip")
-    _WORDS = {
-        1: "truncated, {place} bytes needed", 2: "count {named} out of range", 3: "character range",
-        4: "header too short", 5: "table {named} is empty", 6: "more than 256 recipes", 7: "length equation",
-        8: "truncated, {place} bytes needed", 9: "design size", 10: "character {place}, table {named}",
-        11: "character {place}, program start", 12: "table {named}, first entry",
-        13: "table {named}, entry {place}", 14: "instruction {place}, {named}",
-    }
     _NAMES = {2: _COUNTS, 5: _TABLES, 10: _TABLES, 12: _TABLES, 13: _TABLES, 14: _PARTS}
 
-    def __init__(self, number: int, named: str, place: int) -> None:
-        super().__init__(number, named, place)
+    def __init__(self, number: int, named: str, place: int, text: str) -> None:
+        super().__init__(number, named, place, text)
         self.number, self.named, self.place = number, named, place
 
     @classmethod
-    def _from(cls, fault: _Fault) -> FontRefused:
+    def _from(cls, fault: _Fault, text: bytes) -> FontRefused:
         names = cls._NAMES.get(fault.number)
-        return cls(fault.number, names[fault.named] if names else "", fault.place)
+        return cls(fault.number, names[fault.named] if names else "", fault.place, text.decode("ascii"))
 
     def __str__(self) -> str:
-        return f"{self.number} " + self._WORDS[self.number].format(named=self.named, place=self.place)
+        return str(self.args[3])
+
+
+class Recipe(NamedTuple):
+    """The codes of the pieces of an extensible character. The first three are 0 for a piece that it lacks."""
+
+    top: int
+    middle: int
+    bottom: int
+    repeated: int
 
 
 class Metrics(NamedTuple):
@@ -320,7 +236,8 @@ class Metrics(NamedTuple):
       instruction, as the file has it; if that instruction is an indirect start (docs/LIGATURES.md in the
       sources), it isn't followed
     - tag 2: `remainder` is the code of the next larger character
-    - tag 3: `remainder` is the number of its extensible recipe
+    - tag 3: `remainder` is the number of its extensible recipe, and `recipe` has the pieces; for the other
+      tags `recipe` is None
     """
 
     width: int
@@ -329,6 +246,7 @@ class Metrics(NamedTuple):
     italic: int
     tag: int
     remainder: int
+    recipe: Optional[Recipe]
 
 
 class Kern(NamedTuple):
@@ -374,14 +292,32 @@ class Refusal(NamedTuple):
     code: int
 
 
-_REASONS = ("", "missing", "too-long", "steps")
+def _listed(kind: Any, room: int, name: str, *arguments: object) -> Tuple[int, Any]:
+    """Returns the code of a function that reports a list, and the list: bytes if `kind` is c_char."""
+    count = _size_t()
+    while True:
+        array = (kind * room)()
+        code = getattr(_library, "tfmset_" + name)(*arguments, array, room, ctypes.byref(count))
+        if code != _NO_ROOM:
+            return code, array[:count.value]
+        room = count.value
+
+
+def _reason(refusal: int) -> str:
+    """Returns the first word of the text of a refusal, or an empty str for 0."""
+    text = _listed(ctypes.c_char, 64, "refusal_text", ctypes.byref(_Line(refusal=refusal)))[1]
+    return str(text.decode("ascii").split(" ")[0])
+
+
+_REASONS = tuple(map(_reason, range(4)))
 
 
 class _Source:
     """A text of the caller, from which indices of characters are computed."""
 
     def __init__(self, text: str, encoding: str) -> None:
-        self._text, self._encoding, self._lines = text, encoding, None
+        self._text, self._encoding = text, encoding
+        self._lines: Optional[List[str]] = None
 
     def index(self, number: int, offset: int) -> int:
         """Returns the index in the line `number` (from 0) of the character that has the code at an offset."""
@@ -403,44 +339,58 @@ def _refusal(refusal: int, place: int, code: int, number: int, source: Optional[
     return Refusal(_REASONS[refusal], place, code)
 
 
+def _front(buffer: ctypes.Array[ctypes.c_char], count: int) -> bytes:
+    """Returns a copy of the first `count` bytes of a buffer, even if these are more than a C int can count."""
+    return bytes(memoryview(buffer)[:count])
+
+
+def _blocks(text: bytes) -> Iterator[bytes]:
+    """Yields the parts of a text, each of whole lines.
+
+    Python handles Ctrl-C only between two calls of the library. Each part is therefore about as long as the
+    caller needs `_BLOCK_SECONDS` for, judging from the part before.
+    """
+    begin, room = 0, _FIRST_BLOCK
+    while len(text) - begin > room:
+        end = text.rfind(b"\n", begin, begin + room) + 1 or text.find(b"\n", begin) + 1 or len(text)
+        # The library ignores a byte order mark at the front of a text, and only there.
+        while text.startswith(codecs.BOM_UTF8, end):
+            end = text.find(b"\n", end) + 1 or len(text)
+        started = time.monotonic()
+        yield text[begin:end]
+        is_short = time.monotonic() - started < _BLOCK_SECONDS
+        room = min(room * 2, _LARGEST_BLOCK) if is_short else max(room // 2, 1)
+        begin = end
+    if begin < len(text) or not text:
+        yield text[begin:]
+
+
 @functools.lru_cache(maxsize=1024)
-def _items(count: int) -> type:
+def _items(count: int) -> Type[ctypes.Array[Item]]:
     """Returns the type of an array of `count` items. Without the cache, making the type takes longer
     than setting a short line."""
     return Item * count
 
 
-def _front(buffer: ctypes.Array, count: int) -> bytes:
-    """Returns a copy of the first `count` bytes of a buffer, even if these are more than a C int can count.
-    (`ctypes.string_at` takes the count as a C int, which fails for 2 GiB and cuts the result above 4 GiB.)"""
-    return bytes(memoryview(buffer)[:count])
-
-
-class Line:
+class Line(NamedTuple):
     """A line that is set.
 
-    `width` is its width in sp, and `steps` the number of steps that its ligatures and kerns took.
+    `width` is its width in sp, and `steps` the number of steps that its ligatures and kerns took. `packed` has
+    the items as they are in memory, three 32-bit numbers for each: `struct.iter_unpack("IIi", line.packed)` or
+    `numpy.frombuffer(line.packed, "u4,u4,i4")` reads them.
     """
 
-    __slots__ = ("width", "steps", "_all", "_first", "_count")
-
-    def __init__(self, line: _Line, items: ctypes.Array[Item]) -> None:
-        self.width: int = line.width
-        self.steps: int = line.steps
-        self._all, self._first, self._count = items, line.first, line.count
+    width: int
+    steps: int
+    packed: bytes
 
     @property
     def items(self) -> ctypes.Array[Item]:
-        """The items of the line, in order, as a new array: writing to it changes neither this line nor another.
-
-        The array can be passed as a buffer to other modules: `struct.iter_unpack("IIi", line.items)`, or
-        `numpy.frombuffer(line.items, "u4,u4,i4")`. As long as a `Line` exists, the items of all lines of its
-        text stay in memory.
-        """
-        return _items(self._count).from_buffer_copy(self._all, self._first * ctypes.sizeof(Item))
+        """The items of the line, in order, as a new array: writing to it changes no line."""
+        return _items(len(self.packed) // ctypes.sizeof(Item)).from_buffer_copy(self.packed)
 
     def __repr__(self) -> str:
-        return f"<Line of width {self.width}, {self._count} items>"
+        return f"<Line of width {self.width}, {len(self.items)} items>"
 
 
 Outcome = Union[Line, Refusal]
@@ -449,21 +399,26 @@ Outcome = Union[Line, Refusal]
 class Lines(Sequence[Outcome]):
     """The results of the lines of a text, in order: each is a `Line`, or a `Refusal` for a refused line."""
 
-    def __init__(self, lines: ctypes.Array[_Line], items: ctypes.Array[Item], counts: _Counts,
+    def __init__(self, lines: ctypes.Array[_Line], items: ctypes.Array[Item], blocks: List[Tuple[int, int]],
                  source: Optional[_Source]) -> None:
-        self._lines, self._items, self._count, self._item_count = lines, items, counts.lines, counts.items
-        self._source = source
+        self._lines, self._items, self._packed, self._source = lines, items, memoryview(items), source
+        # The numbers of lines and of items before each block, and in all. In a line, `first` counts from the
+        # first item of its block.
+        self._line_counts, self._item_counts = zip(*blocks)
 
     @property
     def items(self) -> ctypes.Array[Item]:
         """The items of all lines, in order, as one array.
 
-        The array isn't a copy, since it may be large: writing to it changes the items of the lines.
+        The array isn't a copy, since it may be large: writing to it changes the lines.
         """
-        return _items(self._item_count).from_buffer(self._items)
+        return _items(self._item_counts[-1]).from_buffer(self._items)
+
+    def __eq__(self, other: object) -> bool:
+        return isinstance(other, Lines) and list(self) == list(other)
 
     def __len__(self) -> int:
-        return self._count
+        return int(self._line_counts[-1])
 
     @overload
     def __getitem__(self, index: int) -> Outcome: ...
@@ -471,27 +426,32 @@ class Lines(Sequence[Outcome]):
     @overload
     def __getitem__(self, index: slice) -> List[Outcome]: ...
 
-    def __getitem__(self, index):
+    def __getitem__(self, index: Union[int, slice]) -> Union[Outcome, List[Outcome]]:
         if isinstance(index, slice):
-            return [self[each] for each in range(*index.indices(self._count))]
-        index = operator.index(index)
-        index += self._count if index < 0 else 0
-        if not 0 <= index < self._count:
+            return [self[each] for each in range(*index.indices(len(self)))]
+        index, count = operator.index(index), len(self)
+        index += count if index < 0 else 0
+        if not 0 <= index < count:
             raise IndexError("line index out of range")
         line = self._lines[index]
         if line.refusal:
             return _refusal(line.refusal, line.place, line.code, index, self._source)
-        return Line(line, self._items)
+        first = line.first + self._item_counts[bisect.bisect(self._line_counts, index) - 1]
+        return Line(line.width, line.steps, self._packed[first:first + line.count].tobytes())
 
     def __repr__(self) -> str:
-        return f"<Lines: {self._count}>"
+        return f"<Lines: {len(self)}>"
+
+
+_EXAMPLES = {"size": ", in sp, or a str with a unit, such as '10pt'",
+             **dict.fromkeys(("code", "left", "right"), ", such as ord('a')")}
 
 
 def _number(name: str, value: int, low: int, high: int) -> int:
     """Returns `value` as an int. Raises ValueError if it isn't from `low` to `high`, and TypeError for a bool
     and for anything else that isn't an integer."""
-    if isinstance(value, bool):
-        raise TypeError(f"{name} is {value}, but must be an integer")
+    if isinstance(value, bool) or not hasattr(value, "__index__"):
+        raise TypeError(f"{name} is {value!r}, but must be an integer{_EXAMPLES.get(name, '')}")
     number = int(operator.index(value))
     if not low <= number <= high:
         raise ValueError(f"{name} is {number}, but must be from {low:,} to {high:,}")
@@ -513,15 +473,16 @@ def _size(size: Size) -> int:
     return _number("size", size, 1, _LARGEST_SIZE)
 
 
-def _bytes(name: str, content: Text) -> bytes:
+def _bytes(name: str, content: Union[Text, str]) -> bytes:
     """Returns the contents of a buffer as an object of the type bytes itself. A subclass could report another
     length than that of its memory."""
-    if isinstance(content, str):
-        raise TypeError(f"{name} must be bytes" + (": a str needs the encoding of the font, as encoding='t1'"
-                                                    if name == "text" else ""))
+    if isinstance(content, (str, os.PathLike)):
+        raise TypeError("data must be the bytes of a TFM file: Font.from_file reads a file" if name == "data"
+                        else "text must be bytes: a str needs the encoding of the font, as encoding='t1'")
     return content if type(content) is bytes else bytes(memoryview(content))
 
 
+@dataclasses.dataclass(frozen=True, init=False, repr=False)
 class Font:
     """A font: the contents of a TFM file, read at a size.
 
@@ -533,12 +494,13 @@ class Font:
     and TypeError for arguments of another type. Like each method that calls the library, it raises
     MemoryError if an allocation fails.
 
-    Attributes:
+    Attributes, which are read-only:
 
     - `data`: the contents of the file
     - `size`, `design_size`: the size that the font is read at, and its design size, in sp
     - `check_sum`: the check sum, as it is in the file
-    - `parameters`, `kerns`, `instructions`: the numbers of parameters, kerns and lig/kern instructions
+    - `parameters`: all parameters, from number 1; the slant in units of 2^-20, the others in sp
+    - `kerns`, `instructions`: the numbers of kerns and of lig/kern instructions
     - `right_boundary`: the code of the right boundary character, or None if the font has none
     - `left_boundary`: whether the left boundary has instructions
     - `slant`: parameter 1, in units of 2^-20, not scaled
@@ -554,49 +516,37 @@ class Font:
     (209715, 124, False)
     """
 
-    parameters: int
-    """The number of parameters."""
+    data: bytes
+    parameters: Tuple[int, ...]
     kerns: int
-    """The number of kerns."""
     instructions: int
-    """The number of instructions in the lig/kern program."""
     design_size: int
-    """The design size, in sp."""
     size: int
-    """The size that the font is read at, in sp."""
     check_sum: int
-    """The check sum, as it is in the file."""
     right_boundary: Optional[int]
-    """The code of the right boundary character, or None if the font has none."""
     left_boundary: bool
-    """Whether the left boundary has a starting address in the lig/kern program."""
     slant: int
-    """Parameter 1, in units of 2^-20, not scaled. Each parameter that the font doesn't have is 0."""
     space: int
-    """Parameter 2: the width of a space, in sp."""
     stretch: int
-    """Parameter 3: the stretch of a space, in sp."""
     shrink: int
-    """Parameter 4: the shrink of a space, in sp."""
     x_height: int
-    """Parameter 5: the height of the letter x, in sp."""
     quad: int
-    """Parameter 6: the width of one em, in sp."""
     extra_space: int
-    """Parameter 7: the space that is added at the end of a sentence, in sp."""
+    _font: Tuple[bytes, int, int] = dataclasses.field(compare=False)
 
     def __init__(self, data: Text, size: Size = None) -> None:
-        self.data = _bytes("data", data)
-        self._font = (self.data, len(self.data), _size(size))
-        about = _About()
+        content, about = _bytes("data", data), _About()
+        own = vars(self)
+        own.update(data=content, _font=(content, len(content), _size(size)))
         self._raise(_library.tfmset_font(*self._font, ctypes.byref(about)))
-        for name, _ in _About._fields_:
-            setattr(self, name, getattr(about, name))
-        self.right_boundary = None if about.right_boundary == BOUNDARY else about.right_boundary
-        self.left_boundary = bool(about.left_boundary)
+        own.update((name, getattr(about, name)) for name, *_ in _About._fields_)
+        parameters = tuple(self._list(_i32, 32, "parameters"))
+        own.update(zip(_PARAMETERS, parameters + (0,) * 7), parameters=parameters)
+        own.update(right_boundary=None if about.right_boundary == BOUNDARY else about.right_boundary,
+                   left_boundary=bool(about.left_boundary))
 
     @classmethod
-    def from_file(cls, path: Union[str, os.PathLike], size: Size = None) -> Font:
+    def from_file(cls, path: Union[str, os.PathLike[str]], size: Size = None) -> Font:
         """Returns the font in a file. Raises OSError if the file can't be read, and what `Font` raises."""
         with open(path, "rb") as file:
             return cls(file.read(), size)
@@ -604,10 +554,12 @@ class Font:
     def _raise(self, code: int) -> None:
         """Raises the exception for a return code of the library, unless the code is TFMSET_DONE."""
         if code == _FONT_REFUSED:
-            fault = _Fault()
-            code = _library.tfmset_check(*self._font, ctypes.byref(fault))
+            fault, data = _Fault(), self._font[:2]
+            code = _library.tfmset_check(*data, ctypes.byref(fault))
             if code == _FONT_REFUSED:
-                raise FontRefused._from(fault)
+                code, text = _listed(ctypes.c_char, 64, "fault_text", *data)
+                if code == _DONE:
+                    raise FontRefused._from(fault, text)
         if code == _OUT_OF_MEMORY:
             raise MemoryError("an allocation of libtfmset failed")
         if code != _DONE:
@@ -621,13 +573,19 @@ class Font:
         >>> Font.from_file("examples/demo.tfm").metrics(ord("f")).width
         203161
         """
-        metrics = _Metrics()
-        code = _number("code", code, 0, 255)
-        self._raise(_library.tfmset_metrics(*self._font, code, ctypes.byref(metrics)))
-        if not metrics.exists:
+        found = self._characters[_number("code", code, 0, 255)]
+        if not found.exists:
             return None
-        return Metrics(metrics.width, metrics.height, metrics.depth, metrics.italic, metrics.tag,
-                       metrics.remainder)
+        recipe = Recipe(found.top, found.middle, found.bottom, found.repeated) if found.tag == 3 else None
+        return Metrics(found.width, found.height, found.depth, found.italic, found.tag, found.remainder, recipe)
+
+    @functools.cached_property
+    def _characters(self) -> Any:
+        return self._list(_Character, 256, "characters")
+
+    @functools.cached_property
+    def _actions(self) -> Dict[Tuple[int, int], Action]:
+        return {(left, right): action for left, right, action in self.pairs()}
 
     def pair(self, left: int, right: int) -> Union[None, Kern, Ligature]:
         """Returns the kern or the ligature operation between two neighbours, or None if there is neither.
@@ -640,10 +598,7 @@ class Font:
         >>> font.pair(ord("f"), ord("i"))
         Ligature(code=12, keep_left=False, keep_right=False, passed=0)
         """
-        pair = _Pair()
-        left, right = _number("left", left, 0, BOUNDARY), _number("right", right, 0, BOUNDARY)
-        self._raise(_library.tfmset_pair(*self._font, left, right, ctypes.byref(pair)))
-        return _action(pair) if pair.action else None
+        return self._actions.get((_number("left", left, 0, BOUNDARY), _number("right", right, 0, BOUNDARY)))
 
     def pairs(self) -> List[Tuple[int, int, Action]]:
         """Returns all pairs of neighbours that have a kern or a ligature operation, each with its action.
@@ -656,26 +611,67 @@ class Font:
         >>> font.pairs()[1]
         (11, 256, Kern(width=19660))
         """
-        room, count = 4096, _size_t()
-        while True:
-            array = (_Neighbours * room)()
-            code = _library.tfmset_pairs(*self._font, array, room, ctypes.byref(count))
-            if code != _NO_ROOM:
-                self._raise(code)
-                return [(each.left, each.right, _action(each.pair)) for each in array[:count.value]]
-            room = count.value
+        return [(each.left, each.right, _action(each)) for each in self._list(_Pair, 4096, "pairs")]
 
-    def _settings(self, limit: int, missing: str) -> tuple:
-        """Returns the first arguments of the functions that set lines."""
+    def _list(self, kind: Any, room: int, name: str) -> Any:
+        """Returns the list that a function reports about the font. Raises what `_raise` raises."""
+        code, found = _listed(kind, room, name, *self._font)
+        self._raise(code)
+        return found
+
+    def _header_text(self, which: int) -> str:
+        """Returns a text of the header, in which each byte is a character."""
+        code, text = _listed(ctypes.c_char, 40, "header_text", *self._font[:2], which)
+        self._raise(code)
+        return str(text.decode("latin-1"))
+
+    @property
+    def coding_scheme(self) -> str:
+        """The coding scheme in the header of the font; empty if the header has none.
+
+        >>> Font.from_file("examples/demo.tfm").coding_scheme
+        'DEMO TEXT'
+        """
+        return self._header_text(0)
+
+    @property
+    def family(self) -> str:
+        """The family in the header of the font, such as "CMR"; empty if the header has none."""
+        return self._header_text(1)
+
+    def _settings(self, limit: int, missing: str) -> Tuple[Any, ...]:
+        """Returns the font and the options, as the functions that set lines expect them."""
+        data, length, size = self._font
         if missing not in ("refuse", "skip"):
             raise ValueError(f"missing is {missing!r}, but must be 'refuse' or 'skip'")
-        return *self._font, _number("limit", limit, 1, _LARGEST_LIMIT), int(missing == "skip")
+        limit = _number("limit", limit, 1, _LARGEST_LIMIT)
+        return data, length, ctypes.byref(_Options(size=size, limit=limit, policy=int(missing == "skip")))
 
-    def _call(self, text: Union[Text, str], limit: int, missing: str, encoding: Optional[str]) -> tuple:
-        """Returns the first arguments of the functions that set lines, with the codes of the text."""
+    def _lines(self, text: Union[Text, str], limit: int, missing: str, encoding: Optional[str],
+               with_items: bool) -> Lines:
+        """Returns the results of the lines of a text, with or without their items."""
         settings = self._settings(limit, missing)
-        content = _bytes("text", text) if encoding is None else encode(text, encoding)
-        return *settings, content, len(content)
+        content = _bytes("text", text) if encoding is None else encode(_string(text), encoding)
+        source = None if encoding is None else _Source(_string(text), encoding)
+        function = _library.tfmset_set if with_items else _library.tfmset_widths
+        # The text has at most this many lines. The number of items is an estimate.
+        room = len(content) + len(content) // 8 + 16 if with_items else 0
+        lines, items = (_Line * (content.count(b"\n") + 1))(), (Item * room)()
+        blocks, counts = [(0, 0)], _Counts()
+        for block in _blocks(content):
+            (line, item), code = blocks[-1], _NO_ROOM
+            while code == _NO_ROOM:
+                arrays = [ctypes.byref(lines, line * ctypes.sizeof(_Line)), len(lines) - line]
+                if with_items:
+                    arrays += [ctypes.byref(items, item * ctypes.sizeof(Item)), len(items) - item]
+                code = function(*settings, block, len(block), *arrays, ctypes.byref(counts))
+                if code == _NO_ROOM:
+                    longer = (Item * (item + counts.items + room))()
+                    ctypes.memmove(longer, items, item * ctypes.sizeof(Item))
+                    items = longer
+            self._raise(code)
+            blocks.append((line + counts.lines, item + counts.items))
+        return Lines(lines, items, blocks, source)
 
     @overload
     def set(self, text: Text, limit: int = 1_048_576, missing: str = "refuse") -> Lines: ...
@@ -683,7 +679,8 @@ class Font:
     @overload
     def set(self, text: str, limit: int = 1_048_576, missing: str = "refuse", *, encoding: str) -> Lines: ...
 
-    def set(self, text, limit=1_048_576, missing="refuse", *, encoding=None):
+    def set(self, text: Union[Text, str], limit: int = 1_048_576, missing: str = "refuse", *,
+            encoding: Optional[str] = None) -> Lines:
         """Sets the lines of a text and returns their results, with the items of each line.
 
         A line that takes more than `limit` steps is refused; `limit` is from 1 to 16,777,216. A missing
@@ -706,19 +703,7 @@ class Font:
         >>> Font.from_file("examples/demo.tfm").set("fox\\nﬁg “”", encoding="ot1")[1]
         Refusal(reason='missing', place=3, code=92)
         """
-        call, counts = self._call(text, limit, missing, encoding), _Counts()
-        source = None if encoding is None else _Source(text, encoding)
-        content, length = call[-2:]
-        # The text has at most this many lines. The number of items is an estimate.
-        lines, items = content.count(b"\n") + 1, length + length // 8 + 16
-        line_array = (_Line * lines)()
-        while True:
-            item_array = (Item * items)()
-            code = _library.tfmset_set(*call, line_array, lines, item_array, items, ctypes.byref(counts))
-            if code != _NO_ROOM:
-                self._raise(code)
-                return Lines(line_array, item_array, counts, source)
-            items = counts.items
+        return self._lines(text, limit, missing, encoding, True)
 
     @overload
     def widths(self, text: Text, limit: int = 1_048_576,
@@ -728,7 +713,8 @@ class Font:
     def widths(self, text: str, limit: int = 1_048_576, missing: str = "refuse", *,
                encoding: str) -> List[Union[int, Refusal]]: ...
 
-    def widths(self, text, limit=1_048_576, missing="refuse", *, encoding=None):
+    def widths(self, text: Union[Text, str], limit: int = 1_048_576, missing: str = "refuse", *,
+               encoding: Optional[str] = None) -> List[Union[int, Refusal]]:
         """Sets the lines of a text and returns the width of each line in sp, or a Refusal.
 
         The arguments and the exceptions are those of `set`.
@@ -736,15 +722,10 @@ class Font:
         >>> Font.from_file("examples/demo.tfm").widths(b"box\\nBox")
         [1025637, Refusal(reason='missing', place=0, code=66)]
         """
-        call, counts = self._call(text, limit, missing, encoding), _Counts()
-        source = None if encoding is None else _Source(text, encoding)
-        # The text has at most this many lines, and therefore the array is always long enough.
-        lines = call[-2].count(b"\n") + 1
-        array = (_Line * lines)()
-        self._raise(_library.tfmset_widths(*call, array, lines, ctypes.byref(counts)))
+        lines = self._lines(text, limit, missing, encoding, False)
         # The lines are read as numbers, since making an object for each takes longer than setting it.
-        numbers = struct.iter_unpack("qNNNIII0q", memoryview(array)[:counts.lines])
-        return [_refusal(refusal, place, code, number, source) if refusal else width
+        numbers = struct.iter_unpack("qNNNIII0q", memoryview(lines._lines)[:len(lines)])
+        return [_refusal(refusal, place, code, number, lines._source) if refusal else width
                 for number, (width, _, _, place, _, refusal, code) in enumerate(numbers)]
 
     @overload
@@ -755,8 +736,9 @@ class Font:
     def records(self, text: str, limit: int = 1_048_576, missing: str = "refuse", *, version: int = 1,
                 source: int = 1, first_line: int = 1, encoding: str) -> bytes: ...
 
-    def records(self, text, limit=1_048_576, missing="refuse", *, version=1, source=1, first_line=1,
-                encoding=None):
+    def records(self, text: Union[Text, str], limit: int = 1_048_576, missing: str = "refuse", *,
+                version: int = 1, source: int = 1, first_line: int = 1,
+                encoding: Optional[str] = None) -> bytes:
         """Sets the lines of a text and returns their records, as the program prints them.
 
         `version` is the record format: 1, 2, or 3 for JSON (`--record json` on the command line). `source`,
@@ -776,25 +758,24 @@ class Font:
         >>> Font.from_file("examples/demo.tfm").records("ox €", missing="skip", encoding="t1")
         b'1:1 set 874904 c111=334233 k-16384 c120=347340 s209715 u20AC\\n'
         """
-        call, count = self._settings(limit, missing), _size_t()
-        if encoding is None:
-            content, function = _bytes("text", text), _library.tfmset_records
-        else:
-            name, function = _named(encoding), _library.tfmset_encoded_records
-            content, call = _utf8(text, encoding), (*call, name, len(name))
-        version = _number("version", version, 1, 3)
-        call += (content, len(content), version, _number("source", source, 0, 2**64 - 1),
-                 _number("first_line", first_line, 0, 2**64 - 1 - len(content)))
-        # An estimate. A record in JSON is longer.
+        settings, count, parts = self._settings(limit, missing), _size_t(), []
+        content = _bytes("text", text) if encoding is None else _utf8(text, encoding)
+        name = b"" if encoding is None else _named(encoding)
+        version, source = _number("version", version, 1, 3), _number("source", source, 0, 2**64 - 1)
+        form = _Form(source, _number("first_line", first_line, 0, 2**64 - 1 - len(content)), version)
+        # For an estimate. A record in JSON is longer.
         byte, line = (24, 64) if version == 3 else (16, 32)
-        length = byte * len(content) + line * (content.count(b"\n") + 2)
-        while True:
-            array = ctypes.create_string_buffer(length)
-            code = function(*call, array, length, ctypes.byref(count))
-            if code != _NO_ROOM:
-                self._raise(code)
-                return _front(array, count.value)
-            length = count.value
+        for block in _blocks(content):
+            feeds = block.count(b"\n")
+            count.value, code = byte * len(block) + line * (feeds + 2), _NO_ROOM
+            while code == _NO_ROOM:
+                array = ctypes.create_string_buffer(count.value)
+                code = _library.tfmset_records(*settings, name, len(name), block, len(block), ctypes.byref(form),
+                                               array, len(array), ctypes.byref(count))
+            self._raise(code)
+            parts.append(_front(array, count.value))
+            form.first += feeds
+        return b"".join(parts)
 
     def __repr__(self) -> str:
         return f"<Font of {len(self.data)} bytes at {self.size / POINT:g}pt>"

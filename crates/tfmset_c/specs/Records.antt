@@ -1,0 +1,41 @@
+-- The records of the lines of a text, as C gets them.
+-- This project's own; the text of a record is defined in Record of `set_line`, and what it says in Results of
+-- `line_records`.
+use Rattle.std.specs.Prelude.{ℕ, Bool, false, Option, Some, None, ◌+◌, ◌-◌, ◌==◌, ◌&&◌, nat_lt, List, [], ◌∷◌, ◌++◌, length, if◌then◌else◌}
+use Rattle.std.specs.Option.{option_and_then}
+use Rattle.set_line.specs.declared.version.Version.{Version}
+use Rattle.set_line.specs.declared.version.Version.TheVariants.{One, Two, Json}
+use Rattle.set_line.specs.Record.{text_record}
+use Rattle.set_line.specs.Terms.{TermsValue}
+use Rattle.line_records.specs.Results.{result_text}
+use Rattle.tfmset_c.specs.Encoded.{encoding_told}
+use Rattle.tfmset_c.specs.Options.{result_within, steps_in}
+use Rattle.tfmset_c.specs.declared.records.Form.{Form}
+use Rattle.tfmset_c.specs.declared.records.TfmsetForm.{TfmsetForm}
+
+-- the record format that C names by a number: 1 is format 1, 2 is format 2, and any other number is JSON
+unfoldable pub version_of : ℕ → Version
+version_of n = if n == 1 then One else (if n == 2 then Two else Json)
+
+-- how the lines of a text are read and recorded, if an encoding has this name and the record format is in range; an
+-- empty name is that of bytes
+unfoldable pub form_told : List ℕ → TfmsetForm → Option Form
+form_told name form =
+    option_and_then
+    (λ encoding. if nat_lt 0 form.version && nat_lt form.version 4
+    then Some (record { encoding = encoding; version = version_of form.version; source = form.source; first = form.first })
+    else None)
+    (if length name == 0 then Some None else encoding_told name)
+
+-- the record of a line of which this many steps are left for the call
+abbrev pub record_within : TermsValue → Form → ℕ → Bool → ℕ → List ℕ → List ℕ
+record_within terms form place first left line =
+    text_record form.source place (result_text form.version (result_within terms form.encoding first left line)) form.version
+
+-- the records of lines; the first one has this line number, `first` states whether it is the first line of its text, and
+-- this many steps are left for the call
+unfoldable pub records_told : TermsValue → Form → ℕ → Bool → ℕ → List (List ℕ) → List ℕ
+records_told terms form place first left [] = []
+records_told terms form place first left (line ∷ lines) =
+    record_within terms form place first left line
+    ++ records_told terms form (place + 1) false (left - steps_in (result_within terms form.encoding first left line)) lines

@@ -1,0 +1,201 @@
+//! `tfmset_characters`: the dimensions, the tags and the extensible recipes of all characters.
+ghost use Rattle.std.specs.Prelude.{◌≡◌, ◌≤◌, ◌<◌, ◌*◌, None, IfOk, IfErr, length};
+ghost use Rattle.tfm_words.specs.Counts.{AreCountsOf};
+ghost use Rattle.tfm_tables.specs.Acceptance.{font_fault_of};
+ghost use Rattle.tfm_tables.specs.Table.{entries_of, table_of};
+ghost use Rattle.tfm_words.specs.declared.table.Table.TheVariants.{Exten};
+ghost use Rattle.tfmset_c.specs.Arrays.{IsListed};
+ghost use Rattle.tfmset_c.specs.Characters.{character_at, characters_told, recipe_of, tag_number, tag_rest};
+ghost use Rattle.tfmset_c.specs.Reading.{IsAnswer, IsDenial, IsNoSize, font_at};
+
+use crate::arrays::report;
+use crate::reading::{Denial, MOST_SIZE, RANGE, read_metrics};
+use std::alloc::{AllocError, Global};
+use tfm_tables::{FontFault, FontMetrics, Tag};
+use tfm_words::{Counts, Table, word_at};
+
+/// The dimensions of a character, in sp, its tag and its extensible recipe.
+#[repr(C)]
+#[derive(Clone, Copy, Debug, PartialEq, Eq)]
+pub struct TfmsetCharacter {
+    /// 1 if the font has the character. Otherwise 0, and all other fields are 0.
+    pub exists: u32,
+    /// The width.
+    pub width: i32,
+    /// The height.
+    pub height: i32,
+    /// The depth.
+    pub depth: i32,
+    /// The italic correction.
+    pub italic: i32,
+    /// 0: no tag. 1: the character has instructions in the lig/kern program. 2: it has a next larger
+    /// character. 3: it has an extensible recipe.
+    pub tag: u32,
+    /// Tag 1: the address of an instruction, as it is in the file. 2: the code of the next larger character.
+    /// 3: the number of the recipe, starting at 0. Otherwise 0.
+    pub remainder: u32,
+    /// Tag 3: the code of the top piece, or 0 if the recipe has none. Otherwise 0.
+    pub top: u8,
+    /// Tag 3: the code of the middle piece, or 0 if the recipe has none. Otherwise 0.
+    pub middle: u8,
+    /// Tag 3: the code of the bottom piece, or 0 if the recipe has none. Otherwise 0.
+    pub bottom: u8,
+    /// Tag 3: the code of the piece that is repeated. Otherwise 0.
+    pub repeated: u8,
+}
+
+/// Returns the number of a tag.
+fn tag_named(tag: Tag) -> u32
+    ensures { result ≡ tag_number tag }
+{
+    match tag {
+        Tag::Plain => 0,
+        Tag::Lig(_) => 1,
+        Tag::List(_) => 2,
+        Tag::Ext(_) => 3,
+    }
+}
+
+/// Returns the remainder of a tag, or 0 if it has none.
+fn remainder(tag: Tag) -> u32
+    ensures { result ≡ tag_rest tag }
+{
+    match tag {
+        Tag::Plain => 0,
+        Tag::Lig(remainder) | Tag::List(remainder) | Tag::Ext(remainder) => u32::from(remainder),
+    }
+}
+
+/// Returns the bytes of the extensible recipes, four for each.
+#[tactic(auto, unfolding(tfm_tables::specs::Table::table_of))]
+fn recipes_of<'a>(words: &'a [u8], counts: &Counts) -> &'a [u8]
+    requires { AreCountsOf words.now counts.now }
+    ensures bytes { result.now ≡ table_of words.now Exten }
+    ensures whole { length result.now ≡ 4 * entries_of words.now Exten }
+{
+    let (first, count) = counts.table(Table::Exten);
+    let rest = &words[4 * first..];
+    &rest[..4 * count]
+}
+
+/// Returns the four bytes of the recipe of a tag, or zeros if it has none.
+#[tactic(auto, unfolding(tfm_tables::specs::Table::entry_at))]
+fn recipe(words: &[u8], counts: &Counts, tag: Tag) -> [u8; 4]
+    requires { AreCountsOf words.now counts.now }
+    ensures { result ≡ recipe_of words.now tag }
+{
+    let recipes = recipes_of(words, counts);
+    match tag {
+        Tag::Ext(number) if usize::from(number) < recipes.len() / 4 => {
+            word_at(recipes, usize::from(number))
+        }
+        _ => [0; 4],
+    }
+}
+
+/// Returns a character as C gets it. `words` are the bytes of the font, and `counts` are its counts.
+#[tactic(auto, unfolding(crate::specs::Characters::character_at, crate::specs::Characters::character_told))]
+fn character(font: &FontMetrics, words: &[u8], counts: &Counts, code: u8) -> TfmsetCharacter
+    requires counts { AreCountsOf words.now counts.now }
+    requires words { font.now.words ≡ words.now }
+    ensures { result ≡ character_at font.now code }
+{
+    let nothing = TfmsetCharacter {
+        exists: 0,
+        width: 0,
+        height: 0,
+        depth: 0,
+        italic: 0,
+        tag: 0,
+        remainder: 0,
+        top: 0,
+        middle: 0,
+        bottom: 0,
+        repeated: 0,
+    };
+    let Some(metrics) = font.metrics(code) else {
+        return nothing;
+    };
+    let Some(tag) = font.tag(code) else {
+        return nothing;
+    };
+    let [top, middle, bottom, repeated] = recipe(words, counts, tag);
+    TfmsetCharacter {
+        exists: 1,
+        width: metrics.width,
+        height: metrics.height,
+        depth: metrics.depth,
+        italic: metrics.italic,
+        tag: tag_named(tag),
+        remainder: remainder(tag),
+        top,
+        middle,
+        bottom,
+        repeated,
+    }
+}
+
+/// Returns the characters of a font, by code. `words` are its bytes, and `counts` are its counts.
+#[tactic(auto, using(tfm_tables::proofs::DecodedLemmas::grown), unfolding(crate::specs::Characters::characters_told))]
+fn list_characters(
+    alloc: Global,
+    font: &FontMetrics,
+    words: &[u8],
+    counts: &Counts,
+) -> Result<Vec<TfmsetCharacter>, AllocError>
+    requires counts { AreCountsOf words.now counts.now }
+    requires words { font.now.words ≡ words.now }
+    ensures { IfOk result (λ list. list.items ≡ characters_told font.now) }
+{
+    let mut list = Vec::with_capacity(alloc, 256)?;
+    for code in 0..256u16 {
+        list.push(character(font, words, counts, code as u8))?;
+    }
+    Ok(list)
+}
+
+/// Reads the font in these bytes, and returns its characters, by code. Returns a `Denial` if the font is refused, or
+/// an allocation fails.
+fn read_characters(alloc: Global, bytes: &[u8], size: u32) -> Result<Vec<TfmsetCharacter>, Denial>
+    requires { size ≤ 134217727 }
+    ensures accepted { IfOk result (λ _. font_fault_of bytes.now ≡ None) }
+    ensures ok { IfOk result (λ list. list.items ≡ characters_told (font_at bytes.now size)) }
+    ensures denied { IfErr result (IsDenial bytes.now) }
+{
+    let counts = match Counts::read(bytes) {
+        Ok(counts) => counts,
+        Err(fault) => return Err(Denial::Refused(FontFault::Counts(fault))),
+    };
+    let font = read_metrics(alloc, bytes, size)?;
+    let words = &bytes[..4 * usize::from(counts.lf())];
+    match list_characters(alloc, &font, words, &counts) {
+        Ok(list) => Ok(list),
+        Err(_) => Err(Denial::Memory),
+    }
+}
+
+/// Reports the characters of a font in the array `characters`: 256 elements, by code. `size` is in sp, and 0 is the
+/// design size. Returns: 0 after success; 1 if the font is refused; 2 if an allocation fails; 3 if the array is too
+/// short; 4 if `size` is above 134,217,727. After every code except 0 the array is unchanged. `count` is 256 after
+/// codes 0 and 3, and otherwise unchanged.
+#[unsafe(no_mangle)]
+pub extern "C" fn tfmset_characters(
+    alloc: Global,
+    font: &[u8],
+    size: u32,
+    characters: &mut [TfmsetCharacter],
+    count: &mut usize,
+) -> u32
+    ensures answers { result ≤ 4 }
+    ensures font { IsAnswer (IsNoSize size) font.now result }
+    ensures told { IsListed (characters_told (font_at font.now size)) result count.old count.new
+        characters.old characters.new }
+{
+    if size > MOST_SIZE {
+        return RANGE;
+    }
+    match read_characters(alloc, font, size) {
+        Ok(list) => report(&list, characters, count),
+        Err(denial) => denial.code(),
+    }
+}
