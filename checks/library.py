@@ -478,12 +478,8 @@ class Installing(LibraryCase):
         self.need("pkg-config", "c++")
         self.link_repository()
         env = environment(PREFIX=prefix)
-        section = read("README.md").partition("\n## From C and Python\n")[2].partition("\n## ")[0]
-        for name, source in re.findall(r"^```(?:c|python)\n((?:/\*|#) (\S+).*?)^```$", section, re.M | re.S):
-            self.file(source, name)
-        ((command, wanted),) = [pair for pair in commands(section) if pair[1]]
-        self.same("README", (0, wanted, ""), bash(command, self.room, env=env))
-        command = command.split("eval")[0] + f"""eval c++ -o threads -pthread "{ROOT}/examples/library/threads.cpp" \\
+        (variables,) = [command for command, _ in commands(read("docs/CALLING.md")) if "PKG_CONFIG_PATH=" in command]
+        command = variables + f"""eval c++ -o threads -pthread "{ROOT}/examples/library/threads.cpp" \\
             $(pkg-config --cflags --libs tfmset) && ./threads '{DEMO}' '{DEMO}' | wc -l"""
         self.same("C++", (0, "1\n", ""), bash(command, self.room, env=env))
 

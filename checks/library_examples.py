@@ -1,4 +1,4 @@
-"""The examples of the library in C, C++, Python and Rust, and the page docs/CALLING.md.
+"""The examples of the library in C, C++, Python and Rust, the page docs/CALLING.md, and the calls of README.md.
 
 The expected output of each example is computed from the records and listings of the program. The commands of
 the page are run, its functions in C, also with sanitizers, and its sessions in Python. Its first examples have
@@ -53,6 +53,17 @@ class Examples(LibraryCase):
         out = self.built("examples/library/ten_lines.c", "cc", "-std=c99")
         width = widths_of(b"office ox")[0] / 65536
         self.same("output", f"{width:.2f} points\n", self.output(out, given=DEMO))
+
+    def test_calls_of_the_readme(self):
+        """The call in C is that of ten_lines.c, and the one in Python prints the same width."""
+        (call,), (program,) = blocks("README.md", "c"), blocks("README.md", "python")
+        written = [line.strip() for line in read("examples/library/ten_lines.c").splitlines()]
+        lines = call.splitlines()[1:]
+        at = written.index(lines[0])
+        self.same("C", lines, written[at:at + len(lines)])
+        (printed,) = re.findall(r"prints `([^`]*)`:\n\n```python\n", read("README.md"))
+        self.same("Python", printed + "\n", self.output(sys.executable, self.file("width.py", program)))
+        self.same("width", f"{widths_of(b'office ox')[0] / 65536:.2f} points", printed)
 
     def test_paragraph_in_c(self):
         """The text is broken where the next word doesn't fit, and each line has its width."""
