@@ -1,5 +1,5 @@
 // Prints what `tfmset set FONT FILE...` prints in record format 1 with the step limit LIMIT, on one thread. It isn't
-// proved, and doesn't check FONT, which `tfmset check` has to accept. docs/BENCH.md uses it as a unit.
+// proved, and doesn't check FONT, which `tfmset check` has to accept. docs/BENCH.md describes it.
 //
 // Build: c++ -O3 -std=c++17 -o reference benches/reference.cpp
 // Usage: reference FONT LIMIT FILE...
