@@ -20,7 +20,7 @@ import unittest
 from lib.base import (EXAMPLES, PROGRAM, ROOT, Case, bash, environment, execute, files, has, output, read,
                       rows, script, shared, table, write)
 from lib.clib import LibraryCase
-from lib.docs import commands, font_errors, record_of, text_of, worked_examples
+from lib.docs import blocks, commands, font_errors, record_of, text_of, worked_examples
 from lib.tfm import path_of, sample, samples
 
 WEIGHT = 7
@@ -132,6 +132,12 @@ class Tables(Case):
             self.same(message, (3, "", f"tfmset: font refused: {message}\n"),
                       execute(PROGRAM, "list", "-", given=data))
         self.none([], len(found), 18)
+
+    def test_record_of_the_readme(self):
+        """The first command of README prints the record and the end line that the page explains."""
+        self.link_repository()
+        command, explained = next(commands(read("README.md")))[0], blocks("README.md", "text")[0].splitlines()
+        self.same("output", explained[:1] + explained[-1:], bash(command, self.room)[1].splitlines())
 
     def test_sizes(self):
         lines = re.findall(r"^\|((?: [\d.]+ \|)+)$", read("docs/RECIPES.md"), re.M)
