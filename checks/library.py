@@ -138,7 +138,7 @@ class Functions(LibraryCase):
             status, count, _ = listed(self.prefix, "fault_text", data, kind=U8, room=0)
             self.same("no room", (NO_ROOM if text else DONE, len(text)), (status, count))
         lines = {(0, 0, 0, 0): "", (1, 7, 0, 65): "missing 7 65", (2, 65536, 0, 0): "too-long 65536", (3, 0, 9, 0): "steps 9",
-                 (4, 0, 0, 0): None}
+                 (4, 0, 0, 0): "outside", (5, 0, 0, 0): None}
         for (refusal, place, steps, code), text in lines.items():
             line, array, count = Line(0, 0, 0, place, steps, refusal, code), (U8 * 64)(), ctypes.c_size_t(9)
             status = loaded(self.prefix).tfmset_refusal_text(ctypes.byref(line), array, 64, ctypes.byref(count))
@@ -154,7 +154,7 @@ class Functions(LibraryCase):
                 ("size", none), ("check", none),
                 *(("encode", given, line, none) for given in (none, (b"t1", 2)) for line in (none, text)),
                 ("fault_text", none, none), ("font", none, (0,)),
-                *((name, given, (0,), none) for name in ("characters", "parameters", "pairs", "header_text")
+                *((name, given, (0,), none) for name in ("characters", "parameters", "pairs", "header_text", "prepare")
                   for given in (none, font)),
                 *(("set", given, (options,), line, none, none) for given in (none, font) for line in (none, text)),
                 *(("widths", given, (options,), line, none) for given in (none, font) for line in (none, text)),

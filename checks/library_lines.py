@@ -206,7 +206,7 @@ class Records(LinesCase):
         text = read("examples/demo.txt", "rb") * 40
         errors = self.in_c(Job("demo.tfm", text, missing="skip"), "more")
         counts = [int(field) for field in errors.split() if field.isdigit()]
-        self.same("failed allocations", (26, True, 1), (len(counts), all(counts), errors.count("\n")))
+        self.same("failed allocations", (34, True, 1), (len(counts), all(counts), errors.count("\n")))
         print(f"allocations that failed: {counts}")
         # If only one fails, the others are made, too.
         self.same("calls that allocate for each line", [], [count for count in counts[::2] if count > text.count(b"\n") / 2])

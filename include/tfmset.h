@@ -8,9 +8,10 @@
  *     if (tfmset_characters(font, font_length, 0, characters, 256, &count) == TFMSET_DONE)
  *         printf("%ld\n", (long)characters['a'].width);
  *
- * Font: `font` points to the contents of a TFM file. The bytes may be arbitrary: a function returns
- * TFMSET_FONT_REFUSED for bytes that aren't an accepted font. Each call reads the font again. The library
- * keeps nothing between two calls: there is no handle, and nothing has to be freed.
+ * Font: `font` points to the contents of a TFM file; for tfmset_spans and tfmset_span_items it may also be a
+ * table that tfmset_prepare wrote. The bytes may be arbitrary: a function returns TFMSET_FONT_REFUSED for
+ * bytes that aren't an accepted font. Each call reads the font again. The library keeps nothing between two
+ * calls: there is no handle, and nothing has to be freed.
  *
  * Size: `size` is the size to read the font at, from 1 to 134,217,727 scaled points, or 0 for the design
  * size. tfmset_size reads a size from a text with a unit. All dimensions are in scaled points, of which
@@ -58,8 +59,8 @@ extern "C" {
 #define TFMSET_DONE 0u
 /* The font is refused; tfmset_check and tfmset_fault_text report its first error. */
 #define TFMSET_FONT_REFUSED 1u
-/* An allocation failed. The contents of the arrays of tfmset_set, tfmset_widths and tfmset_records are then
- * unspecified. Otherwise nothing has changed. */
+/* An allocation failed. The contents of the arrays of tfmset_set, tfmset_widths, tfmset_records, tfmset_spans
+ * and tfmset_span_items are then unspecified. Otherwise nothing has changed. */
 #define TFMSET_OUT_OF_MEMORY 2u
 /* An array is too short. The last argument contains the lengths that are needed. */
 #define TFMSET_NO_ROOM 3u
@@ -254,11 +255,13 @@ struct tfmset_item {
 };
 
 /* The line is set, or refused: it has a missing character, and the policy is TFMSET_REFUSE; it has more than
- * 65,535 bytes, whatever they are; or it takes more steps than the limit, or no steps were left for it. */
+ * 65,535 bytes, whatever they are; or it takes more steps than the limit, or no steps were left for it.
+ * TFMSET_OUTSIDE is only for spans. */
 #define TFMSET_SET 0u
 #define TFMSET_MISSING 1u
 #define TFMSET_TOO_LONG 2u
 #define TFMSET_TOO_MANY_STEPS 3u
+#define TFMSET_OUTSIDE 4u
 /* The result of a line. Check `refusal` before using `width`. */
 struct tfmset_line {
     /* The sum of the widths of its items. 0 if the line is refused. */
@@ -272,7 +275,7 @@ struct tfmset_line {
     /* TFMSET_SET: the number of steps that the line took. TFMSET_TOO_MANY_STEPS: the limit, or 0 if no steps
      * were left for the line. Otherwise 0. */
     uint32_t steps;
-    /* One of the four numbers above; for TFMSET_MISSING the code of the missing character, otherwise 0. */
+    /* One of the numbers above; for TFMSET_MISSING the code of the missing character, otherwise 0. */
     uint32_t refusal, code;
 };
 
@@ -324,10 +327,62 @@ uint32_t tfmset_records(const uint8_t *font, size_t font_length, const struct tf
                         size_t text_length, const struct tfmset_form *form, uint8_t *records,
                         size_t records_length, size_t *count);
 
-/* Reports in words why a line is refused, as its record states it, such as "missing 7 65", without a zero
- * byte at its end. The text of a line that is set is empty. */
+/* Reports in words why a line is refused, as its record states it, such as "missing 7 65", or why a span is,
+ * without a zero byte at its end. The text of a line that is set is empty. */
 uint32_t tfmset_refusal_text(const struct tfmset_line *line, uint8_t *text, size_t text_length,
                              size_t *count);
+
+/* Writes the table of a font at a size, with which the two functions below set spans without reading the font
+ * again. `*count` is its length: 2,084 bytes, and four for each instruction and each kern. It contains no
+ * pointers: it may be copied, stored, mapped, and shared by threads and processes. */
+uint32_t tfmset_prepare(const uint8_t *font, size_t font_length, uint32_t size, uint8_t *table,
+                        size_t table_length, size_t *count);
+
+/* The edges of a span, whose sum is the field `edges`: the left boundary of the font precedes its codes; the
+ * right boundary follows them. A whole word has both. No hyphen. */
+#define TFMSET_LEFT_EDGE 1u
+#define TFMSET_RIGHT_EDGE 2u
+#define TFMSET_NO_HYPHEN 256u
+/* A part of a text that is set as one run: `length` bytes from the byte offset `offset`. Each of its bytes is
+ * a character, also 10 and 32. `hyphen` is a code that is set after them, before the right boundary, or
+ * TFMSET_NO_HYPHEN. */
+struct tfmset_span {
+    size_t offset, length;
+    uint32_t edges, hyphen;
+};
+
+/* Sets spans of a text. `font` is a TFM file, or a table that tfmset_prepare of this version wrote: with such
+ * a table the results are those of its font at its size. A table that was changed is either refused, or gives
+ * arbitrary results; it is never unsafe to use. Each span has one element of `lines`, in order, as a line has
+ * in tfmset_widths, with these differences: TFMSET_OUTSIDE, which comes first, means that the span ends after
+ * the end of the text; a missing character is always refused, and `place` is its offset in the text, for the
+ * hyphen the end of the span. Steps of `limit` and `call_limit` are counted as those of lines.
+ *
+ * Returns TFMSET_OUT_OF_RANGE also if `policy` or `crlf` isn't 0, if `edges` or `hyphen` of a span is out of
+ * range, or if `size` is neither 0 nor the size of the table. The counts are the numbers of spans and of
+ * their items. After TFMSET_NO_ROOM the contents of `lines` are unspecified. */
+uint32_t tfmset_spans(const uint8_t *font, size_t font_length, const struct tfmset_options *options,
+                      const uint8_t *text, size_t text_length, const struct tfmset_span *spans,
+                      size_t spans_length, struct tfmset_line *lines, size_t lines_length,
+                      struct tfmset_counts *counts);
+
+/* An item of a span, and the bytes of the text that it comes from: `length` bytes from the offset `offset`.
+ * `kind` is TFMSET_CHARACTER or TFMSET_KERN. A character of the text comes from its own byte, and a ligature
+ * from the bytes of the characters that it replaces. The length is 0 for a kern, for the hyphen, and for a
+ * ligature that replaces no character of the text. The items of a span follow one another: each of its bytes
+ * belongs to exactly one item. */
+struct tfmset_placed {
+    size_t offset, length;
+    uint32_t kind, code;
+    int32_t width;
+};
+
+/* Sets spans of a text as tfmset_spans does, and returns their items, as tfmset_set returns those of
+ * lines. */
+uint32_t tfmset_span_items(const uint8_t *font, size_t font_length, const struct tfmset_options *options,
+                           const uint8_t *text, size_t text_length, const struct tfmset_span *spans,
+                           size_t spans_length, struct tfmset_line *lines, size_t lines_length,
+                           struct tfmset_placed *items, size_t items_length, struct tfmset_counts *counts);
 
 /* The library was compiled for structs of this layout: their sizes, and the offsets of their last fields. */
 #if defined(__cplusplus) && __cplusplus >= 201103L
@@ -349,6 +404,8 @@ TFMSET_LAYOUT(tfmset_item, 12, width, 8);
 TFMSET_LAYOUT(tfmset_line, 48, code, 40);
 TFMSET_LAYOUT(tfmset_counts, 16, items, 8);
 TFMSET_LAYOUT(tfmset_form, 24, version, 16);
+TFMSET_LAYOUT(tfmset_span, 24, hyphen, 20);
+TFMSET_LAYOUT(tfmset_placed, 32, width, 24);
 #undef TFMSET_LAYOUT
 #undef TFMSET_ASSERT
 

@@ -7,7 +7,7 @@ from lib.base import ROOT, Case, environment, output, read, shared
 
 DONE, REFUSED, NO_ROOM, RANGE = 0, 1, 3, 4
 FUNCTIONS = ("size", "encode", "check", "fault_text", "font", "characters", "parameters", "pairs", "header_text", "set",
-             "widths", "records", "refusal_text")
+             "widths", "records", "refusal_text", "prepare", "spans", "span_items")
 WARNINGS = ["-Wall", "-Wextra", "-Werror", "-pedantic"]
 BINDINGS = os.path.join(ROOT, "bindings", "python")
 PACKAGE = os.path.join(BINDINGS, "tfmset")
@@ -30,6 +30,8 @@ Form = struct((U64, "source first"), (U32, "version"))
 Line = struct((ctypes.c_int64, "width"), (SIZE, "first count place"), (U32, "steps refusal code"))
 Counts = struct((SIZE, "lines items"))
 Item = struct((U32, "kind code"), (I32, "width"))
+Span = struct((SIZE, "offset length"), (U32, "edges hyphen"))
+Placed = struct((SIZE, "offset length"), (U32, "kind code"), (I32, "width"))
 Encoded = struct((SIZE, "count offset"), (U32, "character"))
 
 
@@ -75,9 +77,10 @@ def loaded(prefix):
     library = ctypes.CDLL(prefix + "/lib/libtfmset.so")
     text, out, array = [ctypes.c_char_p, SIZE], [ctypes.c_void_p], [ctypes.c_void_p, SIZE, ctypes.c_void_p]
     every = {"size": text + out, "check": text + out, "font": text + [U32] + out, "fault_text": text + array,
-             **dict.fromkeys(("characters", "parameters", "pairs", "header_text"), text + [U32] + array),
+             **dict.fromkeys(("characters", "parameters", "pairs", "header_text", "prepare"), text + [U32] + array),
              "refusal_text": out + array, "set": text + out + text + [ctypes.c_void_p, SIZE] + array,
-             "widths": text + out + text + array, "records": text + out + text + text + out + array}
+             "widths": text + out + text + array, "spans": text + out + text + array[:2] + array,
+             "span_items": text + out + text + array[:2] + array[:2] + array, "records": text + out + text + text + out + array}
     for name, kinds in every.items():
         function = getattr(library, "tfmset_" + name)
         function.argtypes, function.restype = kinds, U32

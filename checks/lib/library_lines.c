@@ -3,11 +3,12 @@
  * usage: library_lines FONT SIZE LIMIT POLICY TEXT [more]   FONT and TEXT are files, the others are numbers
  *
  * Prints the records of the lines in record format 2, put together from the results of tfmset_set, and then
- * the results of tfmset_records in formats 1 and 2. With `more` it first lets the first allocation of a
- * function fail, then the second, and so on, in one call each, and then again with all allocations after it,
- * and prints the number of allocations of each function on standard error; then eight threads call the
- * library concurrently. After each call nothing that it allocated may be left. Each result that isn't as the
- * header says is printed on standard error, and the exit status is then 1.
+ * the results of tfmset_records in formats 1 and 2. The words of the text are set as spans, too, with the font
+ * and with its table. With `more` it first lets the first allocation of a function fail, then the second, and
+ * so on, in one call each, and then again with all allocations after it, and prints the number of allocations
+ * of each function on standard error; then eight threads call the library concurrently. After each call
+ * nothing that it allocated may be left. Each result that isn't as the header says is printed on standard
+ * error, and the exit status is then 1.
  *
  * Each array that the library writes to ends right before a page that can't be accessed, and the memory that
  * it reads is in pages that can't be written to. The program is linked with --wrap for malloc, realloc and
@@ -180,6 +181,36 @@ static struct set widths_with(size_t lines)
     return set;
 }
 
+/* The words of the text as spans, and the table of the font, in pages that can only be read. */
+static struct tfmset_span *words;
+static size_t word_count;
+static struct text table;
+
+#define SPANS(given) (given)->bytes, (given)->length, &plain, text.bytes, text.length, words, word_count
+
+static struct set spans_with(const struct text *given, size_t lines)
+{
+    struct tfmset_options plain = {options.call_limit, options.size, options.limit, 0, 0};
+    struct set set;
+    set.lines = array_of(lines * sizeof(struct tfmset_line));
+    set.items = array_of(0);
+    set.counts = untouched;
+    set.code = CALLED(spans, (SPANS(given), (struct tfmset_line *)set.lines.at, lines, &set.counts));
+    return set;
+}
+
+static struct set span_items_with(const struct text *given, size_t lines, size_t items)
+{
+    struct tfmset_options plain = {options.call_limit, options.size, options.limit, 0, 0};
+    struct set set;
+    set.lines = array_of(lines * sizeof(struct tfmset_line));
+    set.items = array_of(items * sizeof(struct tfmset_placed));
+    set.counts = untouched;
+    set.code = CALLED(span_items, (SPANS(given), (struct tfmset_line *)set.lines.at, lines,
+                                   (struct tfmset_placed *)set.items.at, items, &set.counts));
+    return set;
+}
+
 struct output {
     struct array bytes;
     size_t length;
@@ -213,6 +244,15 @@ static struct output encoded_records_with(uint32_t version, size_t length)
         if (text.bytes[i] != '\n' && (text.bytes[i] < 32 || text.bytes[i] > 126))
             encoding = "bytes";
     return records_as(encoding, version, length);
+}
+
+static struct output table_with(size_t length)
+{
+    struct output output;
+    output.bytes = array_of(length);
+    output.length = 77;
+    output.code = CALLED(prepare, (font.bytes, font.length, options.size, output.bytes.at, length, &output.length));
+    return output;
 }
 
 static void unmap_set(struct set *set)
@@ -266,6 +306,76 @@ static void check_widths(const struct set *whole, size_t lines)
     must(is_kept(&set.lines, set.counts.lines * sizeof(struct tfmset_line)), "other lines after widths");
     must(!fits || is_same(whole, &set, 0), "widths returns the lines of set");
     unmap_set(&set);
+}
+
+/* Whether two results of spans are the same. */
+static int is_same_span_items(const struct set *one, const struct set *other)
+{
+    const struct tfmset_placed *left = (const struct tfmset_placed *)one->items.at;
+    const struct tfmset_placed *right = (const struct tfmset_placed *)other->items.at;
+    size_t i;
+    for (i = 0; i < one->counts.items; i++)
+        if (left[i].offset != right[i].offset || left[i].length != right[i].length || left[i].kind != right[i].kind
+            || left[i].code != right[i].code || left[i].width != right[i].width)
+            return 0;
+    return is_same(one, other, 0);
+}
+
+static void check_spans(const struct set *whole, const struct text *given, size_t lines, size_t items)
+{
+    struct set set = span_items_with(given, lines, items), widths = spans_with(given, lines);
+    int has_lines = lines >= whole->counts.lines, fits = has_lines && items >= whole->counts.items;
+    must(set.code == (fits ? TFMSET_DONE : TFMSET_NO_ROOM), "code of span_items");
+    must(widths.code == (has_lines ? TFMSET_DONE : TFMSET_NO_ROOM), "code of spans");
+    must(memcmp(&set.counts, &whole->counts, sizeof set.counts) == 0, "counts of span_items");
+    must(memcmp(&widths.counts, &whole->counts, sizeof set.counts) == 0, "counts of spans");
+    must(is_kept(&set.lines, set.counts.lines * sizeof(struct tfmset_line)), "other lines after span_items");
+    must(is_kept(&widths.lines, set.counts.lines * sizeof(struct tfmset_line)), "other lines after spans");
+    must(is_kept(&set.items, set.counts.items * sizeof(struct tfmset_placed)), "other items after span_items");
+    must(!fits || is_same_span_items(whole, &set), "span_items returns the same with other lengths");
+    must(!has_lines || is_same(whole, &widths, 0), "spans returns the lines of span_items");
+    unmap_set(&set);
+    unmap_set(&widths);
+}
+
+static void find_words(void)
+{
+    const uint8_t *end = text.bytes + text.length, *at = text.bytes, *start;
+    words = malloc((text.length / 2 + 1) * sizeof *words);
+    for (; at < end; at++) {
+        for (start = at; at < end && *at > ' '; at++) {
+        }
+        if (at > start) {
+            const struct tfmset_span word = {(size_t)(start - text.bytes), (size_t)(at - start), 3, TFMSET_NO_HYPHEN};
+            words[word_count++] = word;
+        }
+    }
+}
+
+/* Makes the table, and sets the words into arrays of exactly the necessary lengths, with the font and with it. */
+static struct set whole_spans(void)
+{
+    struct output none = table_with(0), output = table_with(none.length), less = table_with(none.length - 1);
+    struct set start, whole;
+    must(none.code == TFMSET_NO_ROOM && less.code == TFMSET_NO_ROOM && output.code == TFMSET_DONE, "codes of prepare");
+    must(is_kept(&less.bytes, 0), "bytes after prepare without room");
+    mprotect(output.bytes.begin + output.bytes.page, output.bytes.inside, PROT_READ);
+    table.bytes = output.bytes.at;
+    table.length = output.length;
+    find_words();
+    start = span_items_with(&font, 0, 0);
+    whole = span_items_with(&font, start.counts.lines, start.counts.items);
+    must(whole.code == TFMSET_DONE && whole.counts.lines == word_count, "span_items with arrays of the exact lengths");
+    check_spans(&whole, &table, word_count, whole.counts.items);
+    check_spans(&whole, &font, word_count + 2, whole.counts.items + 3);
+    if (word_count > 0)
+        check_spans(&whole, &table, word_count - 1, whole.counts.items);
+    if (whole.counts.items > 0)
+        check_spans(&whole, &table, word_count, whole.counts.items - 1);
+    unmap_set(&start);
+    unmap(&none.bytes);
+    unmap(&less.bytes);
+    return whole;
 }
 
 static void check_output(struct output output, const struct output *whole, size_t length)
@@ -334,7 +444,7 @@ static void check_lengths(const struct set *whole, const struct output *records)
 /* Threads: each calls with its own arrays, and has to get the same results. */
 
 struct expected {
-    const struct set *whole;
+    const struct set *whole, *spans;
     const struct output *records;
 };
 
@@ -346,6 +456,7 @@ static void *call_again(void *given)
         check_set(expected->whole, expected->whole->counts.lines, expected->whole->counts.items);
         check_widths(expected->whole, expected->whole->counts.lines);
         check_records(2, &expected->records[1], expected->records[1].length);
+        check_spans(expected->spans, &table, word_count, expected->spans->counts.items);
     }
     return NULL;
 }
@@ -377,6 +488,40 @@ static int widths_reports_failure(const struct expected *expected)
     int reported = set.code == TFMSET_OUT_OF_MEMORY && memcmp(&set.counts, &untouched, sizeof untouched) == 0;
     must(reported || is_same(expected->whole, &set, 0), "widths is complete, or reports a failed allocation");
     unmap_set(&set);
+    return reported;
+}
+
+static int spans_report_failure(struct set set, const struct expected *expected, int with_items)
+{
+    int reported = set.code == TFMSET_OUT_OF_MEMORY && memcmp(&set.counts, &untouched, sizeof untouched) == 0;
+    must(reported || (with_items ? is_same_span_items(expected->spans, &set) : is_same(expected->spans, &set, 0)),
+         "spans are complete, or report a failed allocation");
+    unmap_set(&set);
+    return reported;
+}
+
+static int spans_reports_failure(const struct expected *expected)
+{
+    return spans_report_failure(spans_with(&font, word_count), expected, 0);
+}
+
+static int span_items_reports_failure(const struct expected *expected)
+{
+    return spans_report_failure(span_items_with(&font, word_count, expected->spans->counts.items), expected, 1);
+}
+
+static int prepared_spans_reports_failure(const struct expected *expected)
+{
+    return spans_report_failure(spans_with(&table, word_count), expected, 0);
+}
+
+static int prepare_reports_failure(const struct expected *expected)
+{
+    struct output output = table_with(table.length);
+    int reported = output.code == TFMSET_OUT_OF_MEMORY && output.length == 77 && is_kept(&output.bytes, 0);
+    (void)expected;
+    must(reported || memcmp(output.bytes.at, table.bytes, table.length) == 0, "prepare is complete, or changes nothing");
+    unmap(&output.bytes);
     return reported;
 }
 
@@ -491,7 +636,8 @@ static void check_memory(const struct expected *expected)
         set_reports_failure, widths_reports_failure, records_reports_failure, encoded_records_reports_failure,
         uncoded_reports_failure, font_reports_failure, check_reports_failure, characters_reports_failure,
         parameters_reports_failure, pairs_reports_failure, header_text_reports_failure, fault_text_reports_failure,
-        refusal_text_reports_failure};
+        refusal_text_reports_failure, spans_reports_failure, span_items_reports_failure, prepared_spans_reports_failure,
+        prepare_reports_failure};
     const uint8_t *name = (const uint8_t *)"t1", *accented = (const uint8_t *)"\303\244a";
     struct tfmset_encoded encoded;
     uint32_t points = 0;
@@ -549,7 +695,7 @@ static void print_records(const struct set *set)
 
 int main(int count, char **arguments)
 {
-    struct set whole;
+    struct set whole, spans;
     struct output records[2];
     struct expected expected;
     if (count < 6)
@@ -561,9 +707,11 @@ int main(int count, char **arguments)
     text = file_of(arguments[5]);
 
     whole = whole_set();
+    spans = whole_spans();
     records[0] = whole_records(1);
     records[1] = whole_records(2);
     expected.whole = &whole;
+    expected.spans = &spans;
     expected.records = records;
     check_lengths(&whole, records);
     if (count > 6) {

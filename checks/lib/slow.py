@@ -254,29 +254,53 @@ class Setter:
             return "refused", "steps", [self.limit]
         return "set", items, self.steps
 
+    def span(self, text, offset, length, edges, hyphen):
+        """The result of a span: ("set", items with their places, steps), or ("refused", reason, numbers)."""
+        end, self.steps = offset + length, 0
+        if end > len(text):
+            return "refused", "outside", []
+        if length > 65535:
+            return "refused", "too-long", [length]
+        run = [(code, at, at + 1) for at, code in enumerate(text[offset:end], offset)]
+        run += [(hyphen, end, end)] * (hyphen < BOUNDARY)
+        missing = [(at, code) for code, at, _ in run if code not in self.font.codes]
+        if missing:
+            return "refused", "missing", list(missing[0])
+        left, right = [(BOUNDARY, offset, offset)] * (edges % 2), [(-1, end, end)] * (edges > 1 and self.font.right is not None)
+        try:
+            return "set", self.walk(left + run + right), self.steps
+        except TooManySteps:
+            return "refused", "steps", [self.limit]
+
     def run(self, codes, has_right):
-        """The items of a run, as a whole list with a cursor."""
+        """The items of a run of a line."""
         if not codes:
             return []
         right = [-1] if has_right and self.font.right is not None else []
-        elements, at = [BOUNDARY, *codes, *right], 0
+        return [item for item, _, _ in self.walk([(code, 0, 0) for code in [BOUNDARY, *codes, *right]])]
+
+    def walk(self, elements):
+        """The items of a list of elements with a cursor; elements and items have the start and the end of their bytes."""
+        at = 0
         while at < len(elements) - 1:
             self.steps += 1
             if self.steps > self.limit:
                 raise TooManySteps
-            left, following = elements[at], elements[at + 1]
+            (left, *place), (following, *after) = elements[at:at + 2]
             op, rest = self.font.act(left, BOUNDARY if following == -1 else following) or (None, None)
             if op is None:
                 at += 1
             elif op >= 128:
-                elements.insert(at + 1, ("k", self.kerns[256 * (op - 128) + rest]))
+                elements.insert(at + 1, (("k", self.kerns[256 * (op - 128) + rest]), after[0], after[0]))
                 at += 2
             else:
                 op = op if op in LISTED else 0
-                elements[at:at + 2] = [left] * (op // 2 % 2) + [rest] + [following] * (op % 2)
+                gone = [place] * (op // 2 % 2 == 0) + [after] * (op % 2 == 0) or [[after[0], after[0]]]
+                elements[at:at + 2] = (elements[at:at + 1] * (op // 2 % 2) + [(rest, gone[0][0], gone[-1][1])]
+                                       + elements[at + 1:at + 2] * (op % 2))
                 at += op // 4
-        return [one if isinstance(one, tuple) else ("c", one, self.widths[self.font.infos[one][0]])
-                for one in elements if one not in (BOUNDARY, -1)]
+        return [(one if isinstance(one, tuple) else ("c", one, self.widths[self.font.infos[one][0]]), *place)
+                for one, *place in elements if one not in (BOUNDARY, -1)]
 
 
 def record(source, number, result, form):

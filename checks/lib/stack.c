@@ -16,6 +16,7 @@ enum { ROOM = 1 << 20, LINES = 1 << 16, PATTERN = 0xA5, STACK = 1 << 20 };
 
 #define FONT font, font_length
 #define SETTINGS FONT, options_at(at.size)
+#define SPANS FONT, span_options_at(at.size), text, text_length, spans, sizeof spans / sizeof *spans
 #define NAME (const uint8_t *)encodings[at.encoding], strlen(encodings[at.encoding])
 
 static uint8_t font[131068], text[ROOM], bytes[32 * ROOM];
@@ -27,6 +28,8 @@ static struct tfmset_item items[2 * ROOM];
 static struct tfmset_pair pairs[66049];
 static struct tfmset_character characters[256];
 static int32_t parameters[32767];
+static struct tfmset_placed placed[2 * ROOM];
+static const struct tfmset_span spans[] = {{0, 10, 3, 256}, {4, 65535, 3, 45}, {0, 65536, 0, 256}, {9, 1 << 20, 0, 256}};
 static const struct tfmset_form forms[] = {{1, 1, 1}, {1, 1, 2}, {1, 1, 3}};
 static struct {
     struct tfmset_encoded encoded;
@@ -45,6 +48,13 @@ struct settings {
 static const struct tfmset_options *options_at(uint32_t size)
 {
     static struct tfmset_options options = {0, 0, TFMSET_DEFAULT_LIMIT, TFMSET_SKIP, 1};
+    options.size = size;
+    return &options;
+}
+
+static const struct tfmset_options *span_options_at(uint32_t size)
+{
+    static struct tfmset_options options = {0};
     options.size = size;
     return &options;
 }
@@ -80,6 +90,9 @@ CALL(set, tfmset_set(SETTINGS, text, text_length, lines, LINES, items, 2 * ROOM,
 CALL(widths, tfmset_widths(SETTINGS, text, text_length, lines, LINES, &out.counts))
 CALLS(records, 5, 3, tfmset_records(SETTINGS, NAME, text, text_length, &forms[at.version - 1], bytes, sizeof bytes,
                                     &out.length))
+CALL(prepare, tfmset_prepare(FONT, at.size, bytes, sizeof bytes, &out.length))
+CALL(spans, tfmset_spans(SPANS, lines, LINES, &out.counts))
+CALL(span_items, tfmset_span_items(SPANS, lines, LINES, placed, 2 * ROOM, &out.counts))
 CALL(refusal_text, tfmset_refusal_text(&lines[0], bytes, sizeof bytes, &out.length))
 
 static size_t length_of(const char *name, uint8_t *content, size_t room)
@@ -134,6 +147,9 @@ int main(int count, char **arguments)
     MEASURE(set);
     MEASURE(widths);
     MEASURE(records);
+    MEASURE(prepare);
+    MEASURE(spans);
+    MEASURE(span_items);
     MEASURE(refusal_text);
     return 0;
 }

@@ -84,9 +84,11 @@ fault_told OutOfMemory = told 0 0 0
 abbrev pub fault_text_of : List ℕ → List ℕ
 fault_text_of bytes = option_map_or fault_words (font_fault_of bytes) []
 
--- the reason that the record of a refused line states after the word `refused`; empty for a line that is set
+-- the reason that the record of a refused line states after the word `refused`, and the word for a span outside of its
+-- text; empty for a line that is set
 unfoldable pub refusal_words : TfmsetLine → List ℕ
 refusal_words line =
     if line.refusal == 1 then codes "missing " ++ decimal line.place ++ codes " " ++ decimal line.code
     else (if line.refusal == 2 then codes "too-long " ++ decimal line.place
-    else (if line.refusal == 3 then codes "steps " ++ decimal line.steps else []))
+    else (if line.refusal == 3 then codes "steps " ++ decimal line.steps
+    else (if line.refusal == 4 then codes "outside" else [])))

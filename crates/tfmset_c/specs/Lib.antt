@@ -9,3 +9,5 @@ pub mod Texts
 pub mod Arrays
 pub mod Encoded
 pub mod Records
+pub mod Prepared
+pub mod Spans

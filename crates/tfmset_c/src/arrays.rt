@@ -4,7 +4,6 @@ ghost use Rattle.std.specs.Prelude.{◌≡◌, ◌⊎◌, ℕ, ◌∷◌, [], tr
 ghost use Rattle.tfmset_c.specs.Arrays.{ArePut, HasRoom, IsListed};
 ghost use Rattle.tfmset_c.specs.Texts.{held};
 
-use crate::lines::{TfmsetItem, TfmsetLine};
 use crate::reading::{DONE, NO_ROOM};
 
 /// Returns whether this many elements fit into an array of `room` elements. The count 2^64 - 1 never fits,
@@ -17,24 +16,13 @@ pub fn has_room(count: usize, room: usize) -> bool
     count <= room && count < usize::MAX
 }
 
-/// Writes an item at index `at`, if the array has this index, and returns the next index, at most 2^64 - 1.
+/// Writes an element at index `at`, if the array has this index, and returns the next index, at most 2^64 - 1.
 #[tactic(auto, using(crate::proofs::ArrayLemmas::puts))]
-pub fn put_item(items: &mut [TfmsetItem], at: usize, item: TfmsetItem) -> usize
-    ensures { ArePut (item ∷ []) at result items.old items.new }
+pub fn put_one<T: Copy>(array: &mut [T], at: usize, element: T) -> usize
+    ensures { ArePut (element ∷ []) at result array.old array.new }
 {
-    if at < items.len() {
-        items[at] = item;
-    }
-    at.saturating_add(1)
-}
-
-/// Writes a line at index `at`, if the array has this index, and returns the next index, at most 2^64 - 1.
-#[tactic(auto, using(crate::proofs::ArrayLemmas::puts))]
-pub fn put_line(lines: &mut [TfmsetLine], at: usize, line: TfmsetLine) -> usize
-    ensures { ArePut (line ∷ []) at result lines.old lines.new }
-{
-    if at < lines.len() {
-        lines[at] = line;
+    if at < array.len() {
+        array[at] = element;
     }
     at.saturating_add(1)
 }

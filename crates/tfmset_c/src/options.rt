@@ -26,8 +26,10 @@ pub struct TfmsetOptions {
 /// Options in range, with the values that zeros stand for.
 #[derive(Clone, Copy)]
 pub struct Settings {
-    size: u32,
-    limit: Limit,
+    /// The size of the font in sp; 0 for the design size.
+    pub size: u32,
+    /// The largest number of steps of a line.
+    pub limit: Limit,
     policy: Policy,
     /// The steps of all lines together after which no further line is set.
     pub call_limit: u64,

@@ -1,4 +1,4 @@
-//! `tfmset_refusal_text`: why a line is refused, in words.
+//! `tfmset_refusal_text`: why a line or a span is refused, in words.
 ghost use Rattle.std.specs.Prelude.{◌≡◌, ◌≢◌, ◌<◌, ◌≤◌, ◌↔◌, IfOk};
 ghost use Rattle.tfmset_c.specs.Arrays.{IsListed};
 ghost use Rattle.tfmset_c.specs.Faults.{refusal_words};
@@ -23,15 +23,16 @@ fn reason(alloc: Global, line: &TfmsetLine) -> Result<Vec<u8>, AllocError>
         }
         2 => push_number(&mut text, b"too-long ", line.place)?,
         3 => push_number(&mut text, b"steps ", line.steps)?,
+        4 => text.extend_from_slice(b"outside")?,
         _ => {}
     }
     Ok(text)
 }
 
 /// Reports in `text` why a line is refused, as its record states it after the word `refused`: for example
-/// `missing 7 65`. The text of a line that is set is empty. Returns: 0 after success; 2 if an allocation fails; 3 if
-/// `text` is too short; 4 if `refusal` is above 3. After every code except 0 the array is unchanged. `count` is the
-/// number of bytes after codes 0 and 3, and otherwise unchanged.
+/// `missing 7 65`; or why a span is. The text of a line that is set is empty. Returns: 0 after success; 2 if an
+/// allocation fails; 3 if `text` is too short; 4 if `refusal` is above 4. After every code except 0 the array is
+/// unchanged. `count` is the number of bytes after codes 0 and 3, and otherwise unchanged.
 #[unsafe(no_mangle)]
 pub extern "C" fn tfmset_refusal_text(
     alloc: Global,
@@ -40,10 +41,10 @@ pub extern "C" fn tfmset_refusal_text(
     count: &mut usize,
 ) -> u32
     ensures answers { (result ≤ 4) × (result ≢ 1) }
-    ensures range { (result ≡ 4) ↔ (3 < line.now.refusal) }
+    ensures range { (result ≡ 4) ↔ (4 < line.now.refusal) }
     ensures told { IsListed (refusal_words line.now) result count.old count.new text.old text.new }
 {
-    if line.refusal > 3 {
+    if line.refusal > 4 {
         return RANGE;
     }
     match reason(alloc, line) {

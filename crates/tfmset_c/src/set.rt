@@ -7,7 +7,7 @@ ghost use Rattle.tfmset_c.specs.Options.{IsOutOfRange, outcome_within, outcomes_
 ghost use Rattle.tfmset_c.specs.Reading.{IsAnswer};
 ghost use Rattle.tfmset_c.specs.Texts.{IsOf, held, item_told, items_in, items_told, lines_told};
 
-use crate::arrays::{has_room, put_item, put_line};
+use crate::arrays::{has_room, put_one};
 use crate::lines::{
     TfmsetCounts, TfmsetItem, TfmsetLine, item_for_c, line_for_c, result_of, steps_of,
 };
@@ -31,7 +31,7 @@ fn put_items(items: &mut [TfmsetItem], first: usize, made: &[Item]) -> usize
 {
     let mut at = first;
     for item in made {
-        at = put_item(items, at, item_for_c(*item));
+        at = put_one(items, at, item_for_c(*item));
     }
     at
 }
@@ -86,7 +86,7 @@ fn fill(
         let outcome = set_within(text.terms, left, line, &mut list)?;
         let result = result_of(&outcome);
         counts = TfmsetCounts {
-            lines: put_line(lines, counts.lines, line_for_c(result, counts.items)),
+            lines: put_one(lines, counts.lines, line_for_c(result, counts.items)),
             items: put_items_in(items, counts.items, &outcome),
         };
         outcome.give_back(&mut list);
@@ -176,7 +176,7 @@ fn fill_widths(
         let result = result_within(&mut writer, &of, left, line)?;
         let told = line_for_c(result, counts.items);
         counts = TfmsetCounts {
-            lines: put_line(lines, counts.lines, told),
+            lines: put_one(lines, counts.lines, told),
             items: counts.items.saturating_add(told.count),
         };
         left = left.saturating_sub(u64::from(steps_of(result)));

@@ -12,7 +12,7 @@ loop-line-preserved c =
     let told = c.line_for_c.ensures _ of in
     let item = items_more _ first c.put_items_in.ensures now.invariant.item in
     record {
-      line = line_more first (rw told at c.put_line.ensures) (items_counted _ first now.invariant.item item) now.invariant.line;
+      line = line_more first (rw told at c.put_one.ensures) (items_counted _ first now.invariant.item item) now.invariant.line;
       item = item;
     }
 

@@ -12,7 +12,7 @@ loop-line-preserved c =
     let told = c.line_for_c-told.ensures _ of in
     record {
       style = c.in_ok-result.ensures.kept ∙ now.invariant.style;
-      line = line_more first (rw told at c.put_line.ensures) (omega (arith, c.saturating_add.ensures, count_told _ _ _ told)) now.invariant.line;
+      line = line_more first (rw told at c.put_one.ensures) (omega (arith, c.saturating_add.ensures, count_told _ _ _ told)) now.invariant.line;
     }
 
 pub returns-clause-lines : goal.returns-clause-lines

@@ -1,0 +1,155 @@
+-- A font that C passes is a TFM file or a table, and never both.
+use Rattle.std.proofs.Common.{◌≡◌, ◌≢◌, ◌⊎◌, inl, inr, ◌↔◌, ℕ, negsuc, pos, ◌+◌, ◌*◌, ◌^◌, ◌<◌, ◌≤◌, ◌==◌, Bool, true, false, List, [], ◌∷◌, length, Option, Some, None, if◌then◌else◌, arith, ap, refl, sym, ◌∙◌, w32}
+use Rattle.std.specs.Prelude.{slice_index}
+use Rattle.std.specs.Int.{cast_signed}
+use Rattle.std.proofs.lemmas.Bool.Decides.{nat_tests}
+use Rattle.std.proofs.lemmas.Int.{to_z_pos}
+use Rattle.tfm_words.specs.declared.count_fault.CountFault.{CountFault}
+use Rattle.tfm_words.specs.CountFaults.{count_fault_of}
+use Rattle.tfm_words.specs.Counts.{HasLawfulCounts, counts_of}
+use Rattle.tfm_words.proofs.CountLemmas.{accepted_is}
+use Rattle.tfm_tables.specs.Acceptance.{after_counts, font_fault_of, words_of}
+use Rattle.tfm_tables.specs.Font.{FontValue}
+use Rattle.tfm_tables.proofs.MeasureLemmas.{AreBytes}
+use Rattle.prepared_font.specs.Layout.{IsPreparedFrom, IsWhole, number_at}
+use Rattle.tfmset_c.specs.Prepared.{IsAnswerFor, IsGiven, IsNoFont, IsOpenFor, IsOtherSize}
+use Rattle.tfmset_c.specs.Reading.{IsDenial, denial_number, font_at, size_used}
+use Rattle.tfmset_c.specs.declared.reading.Denial.{Denial}
+use Rattle.tfmset_c.specs.declared.reading.Denial.TheVariants.{Memory, Refused}
+
+-- an accepted TFM file has lawful counts
+lawful : (bytes : List ℕ) → font_fault_of bytes ≡ None → HasLawfulCounts bytes
+lawful bytes none = accepted_is bytes (by (count_fault_of bytes) none)
+  where
+    by : (fault : Option CountFault) → after_counts bytes fault ≡ None → fault ≡ None
+    by None e = refl
+    by (Some fault) e = absurd (cc)
+
+-- bytes that begin with a small number don't begin with the first word of a table
+other_word : (bytes : List ℕ) → AreBytes bytes → 24 ≤ length bytes → (counts_of bytes).lf < 2 ^ 15 → number_at bytes 0 ≡ negsuc 145471922 → ⊥
+unfolding counts_of number_at
+other_word [] are long small is = absurd (omega (arith, long))
+other_word (a ∷ []) are long small is = absurd (omega (arith, long))
+other_word (a ∷ b ∷ []) are long small is = absurd (omega (arith, long))
+other_word (a ∷ b ∷ c ∷ []) are long small is = absurd (omega (arith, long))
+other_word (a ∷ b ∷ c ∷ d ∷ bytes) are long small is =
+    let n : ℕ = a * 256 ^ 3 + (b * 256 ^ 2 + (c * 256 ^ 1 + (d * 256 ^ 0 + 0))) in
+    let below : n < 2 ^ 31 = omega (arith, are 0, are 1, are 2, are 3, small) in
+    let same : pos n ≡ negsuc 145471922 = sym (to_z_pos w32 n below) ∙ is in
+    absurd (cc)
+
+-- an accepted TFM file isn't a table
+pub disjoint : (bytes : List ℕ) → AreBytes bytes → font_fault_of bytes ≡ None → number_at bytes 0 ≡ negsuc 145471922 → ⊥
+disjoint bytes are accepted is =
+    let file = lawful bytes accepted in
+    other_word bytes are file.head file.lawful.small.0 is
+
+-- the size of a TFM file isn't another one
+pub same_size : (bytes : List ℕ) (size : ℕ) (font : FontValue) → font ≡ font_at bytes size → IsOtherSize size font → ⊥
+unfolding size_used
+same_size bytes size font is other =
+    let read : font.size ≡ size_used (words_of bytes) size = ap (λ (f : FontValue). f.size) is in
+    let given : (size == 0) ≡ false = grind (arith, nat_tests, other.0) in
+    absurd (other.1 (sym (rw given at read)))
+
+-- ---- a table
+
+pub table_opens : (bytes : List ℕ) (size : ℕ) → AreBytes bytes → IsWhole bytes → ((font : FontValue) → IsPreparedFrom font bytes → IsOtherSize size font → ⊥)
+    → IsOpenFor size bytes bytes
+table_opens bytes size are whole same = (λ font given. by font given, inr whole)
+  where
+    by : (font : FontValue) → IsGiven bytes size font → IsPreparedFrom font bytes × (IsOtherSize size font → ⊥)
+    by font (inl file) = absurd (disjoint bytes are file.0 whole.magic)
+    by font (inr is) = (is, same font is)
+
+pub other_size : (bytes : List ℕ) (size read : ℕ) → AreBytes bytes → IsWhole bytes → ((font : FontValue) → IsPreparedFrom font bytes → read ≡ font.size)
+    → size ≢ 0 → size ≢ read → IsNoFont size bytes 4
+other_size bytes size read are whole sized some other = (
+  record {
+    range = λ never. absurd never;
+    font = λ font given. (((λ _. inr (differs font given)), λ _. refl), λ same. absurd (omega (arith, same)));
+    other = λ one. absurd (grind (arith, one));
+  },
+  inr (inr refl),
+)
+  where
+    differs : (font : FontValue) → IsGiven bytes size font → IsOtherSize size font
+    differs font (inl file) = absurd (disjoint bytes are file.0 whole.magic)
+    differs font (inr is) = (some, λ equal. other (equal ∙ sym (sized font is)))
+
+-- ---- a TFM file
+
+pub file_opens : (bytes table : List ℕ) (size : ℕ) → ((font : FontValue) → IsPreparedFrom font bytes → ⊥) → font_fault_of bytes ≡ None
+    → IsPreparedFrom (font_at bytes size) table → IsOpenFor size bytes table
+file_opens bytes table size no_table accepted is = (λ font given. by font given, inl accepted)
+  where
+    by : (font : FontValue) → IsGiven bytes size font → IsPreparedFrom font table × (IsOtherSize size font → ⊥)
+    by font (inl file) = (rw file.1 is, same_size bytes size font file.1)
+    by font (inr prepared) = absurd (no_table font prepared)
+
+pub no_file : (bytes : List ℕ) (size answer : ℕ) (denial : Denial) → ((font : FontValue) → IsPreparedFrom font bytes → ⊥) → IsDenial bytes denial
+    → answer ≡ denial_number denial → IsNoFont size bytes answer
+no_file bytes size answer Memory no_table accepted is = (
+  record {
+    range = λ never. absurd never;
+    font = λ font given. (((λ four. absurd (omega (arith, four, is))), λ other. absurd (by font given other)), λ one. absurd (omega (arith, one, is)));
+    other = λ _. inl accepted;
+  },
+  inr (inl is),
+)
+  where
+    by : (font : FontValue) → IsGiven bytes size font → ⊥ ⊎ IsOtherSize size font → ⊥
+    by font given (inl never) = never
+    by font (inl file) (inr other) = same_size bytes size font file.1 other
+    by font (inr prepared) (inr other) = no_table font prepared
+no_file bytes size answer (Refused fault) no_table first is = (
+  record {
+    range = λ never. absurd never;
+    font = λ font given. absurd (by font given);
+    other = λ one. absurd (grind (arith, one, is));
+  },
+  inl is,
+)
+  where
+    by : (font : FontValue) → IsGiven bytes size font → ⊥
+    by font (inl file) = let accepted : font_fault_of bytes ≡ None = file.0 in absurd (cc)
+    by font (inr prepared) = no_table font prepared
+
+-- ---- a call
+
+-- the code of a call whose argument is out of range
+pub out_for : (OutOfRange : Type 0) (size : ℕ) (bytes : List ℕ) → OutOfRange → IsAnswerFor OutOfRange size bytes 4
+out_for OutOfRange size bytes out = record {
+  range = λ _. refl;
+  font = λ font given. (((λ _. inl out), λ _. refl), λ same. absurd (omega (arith, same)));
+  other = λ one. absurd (grind (arith, one));
+}
+
+-- of a call that opens no font
+pub declined_for : (OutOfRange : Type 0) (size : ℕ) (bytes : List ℕ) (answer : ℕ) → (OutOfRange → ⊥) → IsNoFont size bytes answer → IsAnswerFor OutOfRange size bytes answer
+declined_for OutOfRange size bytes answer within none = record {
+  range = λ out. absurd (within out);
+  font = λ font given. (((λ four. inr (by ((none.0.font font given).0.0 four))), λ one. (none.0.font font given).0.1 (again one)), (none.0.font font given).1);
+  other = none.0.other;
+}
+  where
+    by : {A : Type 0} → ⊥ ⊎ A → A
+    by (inl never) = absurd never
+    by (inr a) = a
+
+    again : {A : Type 0} → OutOfRange ⊎ A → ⊥ ⊎ A
+    again (inl out) = absurd (within out)
+    again (inr a) = inr a
+
+-- and of a call that opens one
+pub answered_for : (OutOfRange : Type 0) (size : ℕ) (bytes table : List ℕ) (answer : ℕ) → (OutOfRange → ⊥) → IsOpenFor size bytes table
+    → (answer ≡ 0) ⊎ ((answer ≡ 2) ⊎ (answer ≡ 3)) → IsAnswerFor OutOfRange size bytes answer
+answered_for OutOfRange size bytes table answer within opened one = record {
+  range = λ out. absurd (within out);
+  font = λ font given. (((λ four. absurd (grind (arith, one, four))), λ out. absurd (never font given out)), λ same. absurd (grind (arith, one, same)));
+  other = λ _. opened.1;
+}
+  where
+    never : (font : FontValue) → IsGiven bytes size font → OutOfRange ⊎ IsOtherSize size font → ⊥
+    never font given (inl out) = within out
+    never font given (inr other) = (opened.0 font given).1 other
