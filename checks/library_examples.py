@@ -76,6 +76,14 @@ class Examples(LibraryCase):
         self.same("widths", [f"{width / 65536:.2f}" for width in widths], [line[1] for line in lines])
         self.same("breaks", True, max(widths) <= 100 * 65536 < min(beyond))
 
+    def test_words_in_c(self):
+        """Each word has its width, and the bytes of its characters."""
+        words = read(TEXT).split()
+        out = self.built("examples/library/words.c", "cc", "-std=c99")
+        lines = [line.split() for line in self.output(out, DEMO, given=TEXT).splitlines()]
+        widths = [f"{width / 65536:.2f}" for width in widths_of("\n".join(words).encode())]
+        self.same("words", [*zip(widths, words)], [(line[0], "".join(line[1:])) for line in lines])
+
     def test_threads_in_cpp(self):
         self.need("c++")
         widths = widths_of(read(TEXT, "rb"), "--missing", "skip")

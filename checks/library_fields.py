@@ -14,7 +14,7 @@ import struct
 import typing
 
 from lib.base import DEMO, PROGRAM, ROOT, execute, files, has, output, read
-from lib.clib import Form, Line, Options, encode
+from lib.clib import Form, Line, Options, Placed, Span, encode, loaded
 from lib.docs import font_errors
 from lib.tfm import BOUNDARY, NAMES, Font, changed, make, path_of, sample, scaled
 from library import between
@@ -23,11 +23,15 @@ from library_lines import LinesCase
 WEIGHT = 5
 STRUCTS = {"_Encoded": "encoded", "_Fault": "fault", "_About": "about", "_Character": "character", "_Pair": "pair",
            "_Options": "options", "_Form": "form", "_Counts": "counts", "_Line": "line", "Item": "item"}
+# Structs and functions that the module doesn't use.
+OWN_STRUCTS = {"span": Span, "placed": Placed}
+OWN_FUNCTIONS = ("prepare", "spans", "span_items")
 PARAMETERS = "slant space stretch shrink x_height quad extra_space".split()
 TABLES = "header char_info width height depth italic lig_kern kern exten param".split()
 NAMED = {2: NAMES, **dict.fromkeys((5, 10, 12, 13), TABLES), 14: "restart next ligature kern skip".split()}
 KINDS = {"c": "CHARACTER", "k": "KERN", "s": "SPACE", "m": "SKIPPED"}
 REFUSALS = {None: "SET", "missing": "MISSING", "too-long": "TOO_LONG", "steps": "TOO_MANY_STEPS"}
+SPANS = ("OUTSIDE", "LEFT_EDGE", "RIGHT_EDGE", "NO_HYPHEN")
 SAMPLES = ("demo", "left_boundary", "ligature_7", "no_characters")
 # The lines are set, have too many steps, or a missing character, and one is too long.
 TEXT, SETTINGS = b"a b\nab\nab|ac ad\naQ\n" + b"a" * 65536 + b"\n", ((2, "refuse"), (1 << 24, "skip"))
@@ -35,7 +39,7 @@ TEXT, SETTINGS = b"a b\nab\nab|ac ad\naQ\n" + b"a" * 65536 + b"\n", ((2, "refuse
 # length after each array, and for a few parameters another name.
 TYPES = {"u32": ("uint32_t", ctypes.c_uint32), "u64": ("uint64_t", ctypes.c_uint64)}
 POINTERS = {"u8": "uint8_t", "u32": "uint32_t", "i32": "int32_t", "usize": "size_t",
-            **{"Tfmset" + name.strip("_"): "struct tfmset_" + title for name, title in STRUCTS.items()}}
+            **{"Tfmset" + title.title(): "struct tfmset_" + title for title in (*STRUCTS.values(), *OWN_STRUCTS)}}
 OTHER_NAMES = {"told": "fault", "report": "encoded"}
 OFFSETS = """#include <stddef.h>
 #include <stdio.h>
@@ -136,9 +140,10 @@ class Fields(LinesCase):
                          for kind, field in re.findall(r"(struct tfmset_\w+ )?(\w+)\s*[,;]", body))
         source = self.file("offsets.c", OFFSETS.replace("FIELDS", fields))
         seen, wanted = self.output(self.built(source, "cc", "-std=c99")).splitlines(), []
-        for name, title in STRUCTS.items():
-            for field, kind in getattr(self.tfmset, name)._fields_:
-                place = getattr(getattr(self.tfmset, name), field)
+        own = {title: getattr(self.tfmset, name) for name, title in STRUCTS.items()} | OWN_STRUCTS
+        for title, one in own.items():
+            for field, kind in one._fields_:
+                place = getattr(one, field)
                 field = "pass" if field == "passed" else field  # `pass` is a word of Python.
                 sign = 0 if issubclass(kind, ctypes.Structure) else int(kind(-1).value < 0)
                 wanted.append(f"{title} {field} {place.offset} {place.size} {sign}")
@@ -161,9 +166,11 @@ class Fields(LinesCase):
                 changes, array, of = re.fullmatch(r"&(mut )?(\[)?(\w+)\]?", kind).groups()
                 wanted += [f"{'' if changes else 'const '}{POINTERS[of]} *{parameter}"]
                 wanted += [f"size_t {parameter}_length"] if array else []
-                kinds += [ctypes.c_char_p if array and not changes else ctypes.c_void_p] + [ctypes.c_size_t] * bool(array)
+                text = array and not changes and of == "u8"
+                kinds += [ctypes.c_char_p if text else ctypes.c_void_p] + [ctypes.c_size_t] * bool(array)
             self.same(name, wanted or ["void"], [" ".join(one.split()) for one in declared.get(name, "").split(",")])
-            function = getattr(self.tfmset._library, "tfmset_" + name)
+            library = loaded(self.prefix) if name in OWN_FUNCTIONS else self.tfmset._library
+            function = getattr(library, "tfmset_" + name)
             self.same(f"{name} in the module", (kinds, ctypes.c_uint32), (list(function.argtypes), function.restype))
 
     def test_largest_numbers(self):
@@ -204,8 +211,8 @@ class Fields(LinesCase):
             "NOT_UTF8": encode(self.prefix, "t1", b"\xff", 1)[0],
             "UNCODED": encode(self.prefix, "t1", "€".encode(), 3)[0],
             "JSON": next(n for n in (1, 2, 3) if self.tfmset.Font(data).records(b"o", version=n)[:1] == b"{")}
-        # test_attributes, library_lines.c and library.py compare the others.
-        others = {*KINDS.values(), *REFUSALS.values(), "OUT_OF_MEMORY", "VERSION"}
+        # test_attributes, library_lines.c, library.py and library_spans.py compare the others.
+        others = {*KINDS.values(), *REFUSALS.values(), "OUT_OF_MEMORY", "VERSION", *SPANS}
         self.same("constants", seen, {name: n for name, n in self.constants.items() if name not in others})
         names = {"TFMSET_" + name for name in ("H", "ASSERT", "LAYOUT", *seen, *others)}
         self.same("names", names, set(re.findall(r"#define (\w+)|\benum\b", self.header)))
@@ -377,16 +384,17 @@ class Fields(LinesCase):
 CODES = ("DONE", "FONT_REFUSED", "OUT_OF_MEMORY", "NO_ROOM", "OUT_OF_RANGE", "NOT_UTF8", "UNCODED")
 # The arguments of a call, except arrays and the last one, and what changes the code that it returns.
 ARGUMENTS = {"data": read(DEMO, "rb"), "size": 0, "policy": 0, "options": Options(), "encoding": b"t1", "text": b"ox",
-             "form": Form(1, 1, 1), "line": Line(refusal=3), "room": 256}
-OTHERS = ({}, {"data": b"no font"}, {"room": 0}, {"data": b"no font", "room": 0},
-          {"size": 1 << 27, "options": Options(size=1 << 27), "line": Line(refusal=4)},
+             "form": Form(1, 1, 1), "line": Line(refusal=3), "spans": (Span * 1)((0, 2, 3, 256)), "room": 256, "table": 8192}
+OTHERS = ({}, {"data": b"no font"}, {"room": 0, "table": 0}, {"data": b"no font", "room": 0, "table": 0},
+          {"size": 1 << 27, "options": Options(size=1 << 27), "line": Line(refusal=5)},
           {"encoding": b"Ot1"}, {"text": b"\xff"}, {"text": "x€".encode()}, {"text": b"12pt"})
 FORMS = {"size": "text", "encode": "encoding text room", "check": "data", "fault_text": "data room", "font": "data size",
          **dict.fromkeys(("characters", "parameters", "pairs", "header_text"), "data size room"),
          "set": "data options text room room", "widths": "data options text room",
-         "records": "data options encoding text form room", "refusal_text": "line room"}
+         "records": "data options encoding text form room", "refusal_text": "line room", "prepare": "data size table",
+         "spans": "data options text spans room", "span_items": "data options text spans room room"}
 LAST = {"size": ctypes.c_uint32, "encode": "_Encoded", "check": "_Fault", "font": "_About",
-        **dict.fromkeys(("set", "widths"), "_Counts")}
+        **dict.fromkeys(("set", "widths", "spans", "span_items"), "_Counts")}
 ROOM = 16384  # bytes of each array; all of them, and of the last argument, have this value before a call
 BEFORE = b"\x55"
 
@@ -399,15 +407,16 @@ class Codes(LinesCase):
         arguments, memory = [], []
         for word in FORMS[name].split():
             value = {**ARGUMENTS, **changes}[word]
-            memory += [ctypes.create_string_buffer(BEFORE * ROOM, ROOM)] if word == "room" else []
-            first = [memory[-1]] if word == "room" else [value] if isinstance(value, bytes) else []
+            array = word in ("room", "table")
+            memory += [ctypes.create_string_buffer(BEFORE * ROOM, ROOM)] if array else []
+            first = [memory[-1]] if array else [value] if isinstance(value, (bytes, ctypes.Array)) else []
             value = ctypes.byref(value) if isinstance(value, ctypes.Structure) else value
-            arguments += [*first, len(value) if isinstance(value, bytes) else value]
+            arguments += [*first, len(value) if isinstance(value, (bytes, ctypes.Array)) else value]
         kind = LAST.get(name, ctypes.c_size_t)
         kind = getattr(self.tfmset, kind) if isinstance(kind, str) else kind
         before = BEFORE * ctypes.sizeof(kind)
         last = kind.from_buffer_copy(before)
-        code = getattr(self.tfmset._library, "tfmset_" + name)(*arguments, ctypes.byref(last))
+        code = getattr(loaded(self.prefix), "tfmset_" + name)(*arguments, ctypes.byref(last))
         return code, bytes(last) != before, any(array.raw != BEFORE * ROOM for array in memory)
 
     def contracts(self):

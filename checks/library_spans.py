@@ -6,8 +6,9 @@ are kept. lib/library_lines.c sets the words of its texts, too, with guarded arr
 """
 import ctypes
 import random
+import re
 
-from lib.base import rows
+from lib.base import read, rows
 from lib.clib import DONE, NO_ROOM, RANGE, REFUSED, U8, Counts, LibraryCase, Line, Options, Placed, Span, listed, loaded, values
 from lib.slow import Setter, random_font
 from lib.tfm import Font, sample, samples
@@ -103,6 +104,13 @@ class Spans(LibraryCase):
     def test_random_fonts(self, first):
         for seed in range(first, first + 50):
             self.agree(random_font(random.Random(seed)), random.Random(seed), 12)
+
+    def test_constants(self):
+        """The constants of the header are the numbers that the tests pass and get."""
+        names = ("OUTSIDE", "LEFT_EDGE", "RIGHT_EDGE", "NO_HYPHEN")
+        header = read(self.prefix + "/include/tfmset.h")
+        found = [int(re.search(rf"^#define TFMSET_{name} (\d+)u$", header, re.M)[1]) for name in names]
+        self.same("constants", [REFUSALS.index("outside"), 1, 2, NO_HYPHEN], found)
 
     def test_long_spans(self):
         data, text = sample("right_boundary"), b"a" * 65537
