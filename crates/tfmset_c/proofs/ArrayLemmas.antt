@@ -1,10 +1,9 @@
 -- An array is filled from its front.
-use Rattle.std.proofs.Common.{◌≡◌, add-one, map, ℕ, suc, ◌+◌, ◌-◌, ◌^◌, ◌<◌, ◌≤◌, List, [], ◌∷◌, ◌++◌, length, take, drop, min, arith, refl, ap, sym, ◌∙◌, append_assoc, append-nil, length-append, get_or, set, subst}
-use Rattle.std.proofs.Math.Seq.{drop-cons, set-append_seam, take-suc}
+use Rattle.std.proofs.Common.{◌≡◌, ℕ, ◌+◌, ◌-◌, ◌^◌, ◌<◌, ◌≤◌, List, [], ◌∷◌, ◌++◌, length, take, drop, min, arith, refl, ap, sym, ◌∙◌, append_assoc, append-nil, length-append, set, subst}
 use Rattle.std.proofs.lemmas.Slice.{drop-put_mid, take-put_mid}
 use borrow.Rule.Slice.PartMut.{put_mid}
 use Rattle.std.proofs.lemmas.Grind.{take-set_at}
-use Rattle.std.proofs.lemmas.List.{drop-drop, drop-set-lt, length-map, length-set, length-take-le, map-append, take-append-drop}
+use Rattle.std.proofs.lemmas.List.{drop-drop, drop-set-lt, length-set, take-append-drop}
 use Rattle.tfmset_c.specs.Arrays.{ArePut, HasRoom, IsFilled, IsPartly}
 use Rattle.tfmset_c.specs.Texts.{held}
 

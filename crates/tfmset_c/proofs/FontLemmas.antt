@@ -1,7 +1,5 @@
 -- A font that C passes is a TFM file or a table, and never both.
-use Rattle.std.proofs.Common.{◌≡◌, ◌≢◌, ◌⊎◌, inl, inr, ◌↔◌, ℕ, negsuc, pos, ◌+◌, ◌*◌, ◌^◌, ◌<◌, ◌≤◌, ◌==◌, Bool, true, false, List, [], ◌∷◌, length, Option, Some, None, if◌then◌else◌, arith, ap, refl, sym, ◌∙◌, w32}
-use Rattle.std.specs.Prelude.{slice_index}
-use Rattle.std.specs.Int.{cast_signed}
+use Rattle.std.proofs.Common.{◌≡◌, ◌≢◌, ◌⊎◌, inl, inr, ℕ, negsuc, pos, ◌+◌, ◌*◌, ◌^◌, ◌<◌, ◌≤◌, ◌==◌, false, List, [], ◌∷◌, length, Option, Some, None, arith, ap, refl, sym, ◌∙◌, w32}
 use Rattle.std.proofs.lemmas.Bool.Decides.{nat_tests}
 use Rattle.std.proofs.lemmas.Int.{to_z_pos}
 use Rattle.tfm_words.specs.declared.count_fault.CountFault.{CountFault}

@@ -1,6 +1,4 @@
 use Rattle.std.proofs.Common.{◌≡◌, Some, None, arith, ◌∙◌}
-use Rattle.prepared_font.specs.Layout.{IsPreparedFrom}
-use Rattle.tfm_tables.specs.Font.{FontValue}
 use Rattle.tfmset_c.specs.Reading.{font_at}
 use Rattle.tfmset_c.proofs.FontLemmas.{file_opens, no_file, other_size, table_opens}
 use Rattle.tfmset_c.proofs.spanning.open_font.Goals.{else-size-ne0-via-then-size-ne0+else-size, else-size-ne0-via-else-size-ne0}
