@@ -8,9 +8,10 @@ from lib.base import (DEMO, PROGRAM, Case, copy_for_scripts, environment, execut
                       write)
 
 MAINTAINER = "Jo Doe <jo@example.org>"
-FILES = ["usr/bin/tfmset", "usr/share/bash-completion/completions/tfmset", "usr/share/doc/tfmset/copyright",
-         "usr/share/fish/vendor_completions.d/tfmset.fish", "usr/share/man/man1/tfmset.1.gz",
-         "usr/share/zsh/vendor-completions/_tfmset"]
+FILES = ["usr/bin/tfmset", "usr/bin/tfmset-boxes", "usr/bin/tfmset-letters",
+         "usr/share/bash-completion/completions/tfmset", "usr/share/doc/tfmset/copyright",
+         "usr/share/fish/vendor_completions.d/tfmset.fish", "usr/share/man/man1/tfmset-boxes.1.gz",
+         "usr/share/man/man1/tfmset-letters.1.gz", "usr/share/man/man1/tfmset.1.gz", "usr/share/zsh/vendor-completions/_tfmset"]
 MACHINES = {3: "i386", 62: "amd64", 183: "arm64", 243: "riscv64"}  # numbers of the ELF format, and Debian's names
 
 
@@ -60,10 +61,11 @@ class Package(Case):
         wanted = f"tfmset {version} {MACHINES[machine]} tex optional {MAINTAINER}"
         self.same("fields", wanted, output("dpkg-deb", form, "-W", self.package))
 
-    def test_needed_version_of_the_c_library(self):
+    def test_needed_packages(self):
+        """The C library, in the newest version that a symbol requires, and Python for the scripts."""
         found = re.findall(rb"GLIBC_([0-9.]*[0-9])", read(PROGRAM, "rb"))
         newest = max(found, key=lambda version: [int(part) for part in version.split(b".")]).decode()
-        self.same("depends", f"libc6 (>= {newest})", output("dpkg-deb", "--showformat=${Depends}", "-W", self.package))
+        self.same("depends", f"libc6 (>= {newest}), python3", output("dpkg-deb", "--showformat=${Depends}", "-W", self.package))
 
     def test_files_and_checksums(self):
         top = self.top + "/files"
@@ -74,7 +76,8 @@ class Package(Case):
         for name, (source, _) in table("packaging")["installed"].items():
             name = f"{top}/usr/" + name.replace("site-functions", "vendor-completions")
             seen = gzip.decompress(read(name + ".gz", "rb")) if "/man/" in name else read(name, "rb")
-            self.same(f"{name} is its source", True, seen == read(PROGRAM if "/bin/" in name else source, "rb"))
+            self.same(f"{name} is its source", True, seen == read(PROGRAM if "crates" in source else source, "rb"))
+        self.compare_readers(top + "/usr/bin")
 
     def test_modes_and_owners(self):
         entries = [line.split() for line in output("dpkg-deb", "-c", self.package).splitlines()]
@@ -98,8 +101,6 @@ class Package(Case):
             self.skipTest("a package tfmset is installed")
         self.addCleanup(execute, "dpkg", "-P", "tfmset")
         self.same("it installs", 0, execute("dpkg", "-i", self.package)[0])
-        self.same("it runs", *(output(program, "stream", DEMO, given=b"five")
-                               for program in (PROGRAM, "/usr/bin/tfmset")))
+        self.compare_readers("/usr/bin")
         self.same("it is removed", 0, execute("dpkg", "-P", "tfmset")[0])
-        left = ["/usr/bin/tfmset", "/usr/share/doc/tfmset", "/usr/share/man/man1/tfmset.1.gz"]
-        self.same("no file remains", [], [name for name in left if os.path.exists(name)])
+        self.same("no file remains", [], [name for name in FILES if os.path.exists("/" + name)])

@@ -1,8 +1,8 @@
-"""The command table, the man page, the completions, scripts/install, and ./tfmset.
+"""The command table, the man pages, the completions, scripts/install, and ./tfmset.
 
 scripts/commands.toml has to agree with the help of the program and of each subcommand, and with the error
 messages of the parser; the files that scripts/command_pages writes have to be up to date. The examples of the man
-page are run. scripts/install is run in a copy, in which a short script replaces ./tfmset, so that nothing is built.
+pages are run. scripts/install is run in a copy, in which a short script replaces ./tfmset, so that nothing is built.
 ./tfmset is run in a repository of four crates, with a short script in place of rt.
 """
 import functools
@@ -25,6 +25,7 @@ CASES = table("packaging")
 PAGES = script("scripts/command_pages")
 TABLE = PAGES.Table()
 NAMES = [None, *TABLE.commands]
+MAN_PAGES = sorted(os.listdir(f"{ROOT}/man"))
 ESCAPES = {r"\-": "-", r"\(aq": "'", r"\(rs": "\\"}  # of the examples in the man page
 
 
@@ -94,24 +95,29 @@ class Help(Case):
         self.same("result", (0, "", ""), execute(ROOT + "/scripts/command_pages", "--check"))
 
 
-class ManPage(Case):
-    """The man page"""
+class ManPages(Case):
+    """The man pages"""
 
-    def test_version_and_subcommands(self):
-        page = read("man/tfmset.1")
-        self.assertIn(f'"{output(PROGRAM, "--version").strip()}"', page.split("\n.SH")[0])
-        commands = re.search(r"^\.SH COMMANDS\n(.*?)^\.S[HS] ", page, re.M | re.S)[1]
+    def test_subcommands(self):
+        commands = re.search(r"^\.SH COMMANDS\n(.*?)^\.S[HS] ", read("man/tfmset.1"), re.M | re.S)[1]
         self.same("subcommands", TABLE.names(), re.findall(r"^\.TP\n\.B (\w+)$", commands, re.M))
 
-    def test_warnings(self):
+    @rows((name, name) for name in MAN_PAGES)
+    def test_version(self, name):
+        self.assertIn(f'"{output(PROGRAM, "--version").strip()}"', read(f"man/{name}").split("\n.SH")[0])
+
+    @rows((name, name) for name in MAN_PAGES)
+    def test_warnings(self, name):
         """groff prints no warning."""
         self.need("groff")
-        self.same("result", (0, ""), execute("groff", "-man", "-ww", "-Tutf8", ROOT + "/man/tfmset.1")[::2])
+        self.same("result", (0, ""), execute("groff", "-man", "-ww", "-Tutf8", f"{ROOT}/man/{name}")[::2])
 
-    def test_examples(self):
-        self.need("kpsewhich", "cmr10")
-        blocks = re.findall(r"^\.EX\n(.*?)^\.EE", read("man/tfmset.1"), re.M | re.S)
-        os.symlink(PROGRAM, os.path.join(self.room, "tfmset"))
+    @rows((name, name) for name in MAN_PAGES)
+    def test_examples(self, name):
+        blocks = re.findall(r"^\.EX\n(.*?)^\.EE", read(f"man/{name}"), re.M | re.S)
+        if "kpsewhich" in "".join(blocks):
+            self.need("kpsewhich", "cmr10")
+        self.link_repository()
         env = environment(PATH=self.room + ":" + os.environ["PATH"])
         for block in blocks:
             command, *wanted = re.sub(r"\\\((?:aq|rs)|\\-", lambda found: ESCAPES[found[0]], block).splitlines()
@@ -215,7 +221,7 @@ class Install(Case):
 
     @rows((("PREFIX", "/a prefix", ""), ("PREFIX with DESTDIR", "/usr", "/staged")))
     def test_installs(self, prefix, staged):
-        """Five files are installed and named, with their modes, and the program works."""
+        """The files are installed and named, with their modes, and the programs work."""
         prefix, destination = self.room + prefix, staged and self.room + staged
         status, out, err = self.install(prefix, **({"DESTDIR": destination} if staged else {}))
         self.same("status", (0, ""), (status, err))
@@ -230,6 +236,7 @@ class Install(Case):
         wanted = read("examples/README.md").partition("```text\n")[2].partition("```")[0]
         seen = execute(top + "/bin/tfmset", "set", "examples/demo.tfm", "examples/lines.txt", cwd=ROOT)
         self.same("the program", (0, wanted, ""), seen)
+        self.compare_readers(top + "/bin")
 
     def test_a_file_in_the_way(self):
         """If a directory can't be made, the exit status is 1, and only the files that were installed are named."""

@@ -13,12 +13,9 @@ that isn't installed, it is compiled into a temporary directory, which LOCPATH n
 import os
 import re
 import shutil
-import sys
-import unicodedata
 import unittest
 
-from lib.base import (EXAMPLES, PROGRAM, ROOT, Case, bash, environment, execute, files, has, output, read,
-                      rows, script, shared, table, write)
+from lib.base import EXAMPLES, PROGRAM, ROOT, Case, bash, execute, files, has, output, read, rows, shared, table, write
 from lib.clib import LibraryCase
 from lib.docs import blocks, commands, font_errors, record_of, text_of, worked_examples
 from lib.tfm import path_of, sample, samples
@@ -26,7 +23,6 @@ from lib.tfm import path_of, sample, samples
 WEIGHT = 7
 RULES = table("pages")
 NEEDS = RULES["needs"]
-ENCODINGS = script("examples/font_encodings.py").ENCODINGS
 RUN = RULES["pages"] + [page for page in RULES["perhaps"] if list(commands(read(page)))]
 LIBRARY = "library for C"
 SAMPLES = "crates/test_support/src/fonts"
@@ -271,44 +267,8 @@ class Fonts(Case):
             self.same(f"{name} {'' if built else err[-300:]}", True, built == words_of(name))
 
 
-class Scripts(Case):
-    """The scripts of examples/"""
-
-    def script(self, name, *arguments, given=b"", **how):
-        return execute(sys.executable, f"{EXAMPLES}/{name}", *arguments, given=given, cwd=self.room,
-                       env=environment(LC_ALL="C"), **how)
-
-    def test_picture_of_the_readme(self):
-        self.link_repository()
-        recipe = next(command for command, _ in commands(read("docs/RECIPES.md")) if "boxes.svg" in command)
-        tmp = self.other_room()
-        bash(recipe, self.room, env=environment(tmp=tmp))
-        self.same("the picture is the recipe's", True, read(f"{tmp}/boxes.svg") == read("examples/boxes.svg"))
-        self.assertIn("](examples/boxes.svg)", read("README.md"))
-
-    @rows((name, name, file) for name, file in RULES["encodings"].items())
-    def test_letters(self, name, file):
-        """The letters of examples/font_encodings.py are those of TeX's encodings."""
-        self.need("kpsewhich")
-        glyphs, count = {}, 0
-        for names in ("glyphlist.txt", "texglyphlist.txt"):
-            path = bash(f"kpsewhich {names}", self.room)[1].strip()
-            for line in read(path).splitlines() if path else []:
-                glyph, _, codes = line.strip().split(",")[0].partition(";")
-                if codes and not line.startswith("#"):
-                    glyphs.setdefault(glyph, "".join(chr(int(code, 16)) for code in codes.split()))
-        path = bash(f"kpsewhich {file}", self.room)[1].strip()
-        if not path or not glyphs:
-            self.lack(file)
-        listed = re.sub("%.*", "", read(path, "rb").decode("latin-1"))
-        for code, glyph in enumerate(re.findall(r"/([\w.]+)", listed[listed.index("["):])):
-            if glyph not in RULES["unlisted"]:
-                plain = glyph.removesuffix(".dup").replace(".superior", "superior")
-                letter, wanted = (unicodedata.normalize("NFKD", text) for text in (
-                    ENCODINGS[name].get(code, ""), glyphs.get(plain, "?")))
-                count += 1
-                self.same(f"{code} {glyph}", wanted, letter)
-        self.none([], count, 100)
+class Encoded(Case):
+    """Text in UTF-8"""
 
     def encoded(self, name, text):
         """The codes that the program gives each line in an encoding, and its characters that have none."""
@@ -320,18 +280,6 @@ class Scripts(Case):
             yield ("".join(" " if item[0] == "s" else chr(int(item[1:])) for item in items if item[0] != "u"),
                    [chr(int(item[1:], 16)) for item in items if item[0] == "u"])
 
-    @rows((name, name) for name in ENCODINGS)
-    def test_the_program_is_the_inverse_of_letters(self, name):
-        # Every code with one letter that is set, in a line of its own, except the codes of the line feed and the space.
-        letters = [(code, letter) for code, letter in sorted(ENCODINGS[name].items())
-                   if len(letter) == 1 and code not in (10, 32) and letter not in RULES["not_set"].get(name, "")]
-        lines = list(self.encoded(name, "".join(f"{letter}\n" for _, letter in letters)))
-        records = "".join(f"1:1 set 0 {' '.join(f'c{ord(code)}=0' for code in line)}\n" for line, _ in lines)
-        back = self.script("letters", name, given=records.encode())[1].replace("1:1 0.00 ", "").splitlines()
-        wanted = [RULES["set_as"].get(name, {}).get(letter, letter) for _, letter in letters]
-        self.same("letters", ([], wanted), ([line for line in lines if line[1]], back))
-        self.none([], len(lines), max(len(letters), 90))
-
     @rows((f"{row['encoding']} {row['text']}", row) for row in RULES["encoded"])
     def test_encoded(self, row):
         """A text, its codes by TeX's encoding files, and its characters that have no codes."""
@@ -339,30 +287,9 @@ class Scripts(Case):
         self.same("codes", [("first", ""), (row["codes"], row.get("without", "")), ("last", "")],
                   [(codes, "".join(dict.fromkeys(uncoded))) for codes, uncoded in self.encoded(row["encoding"], text)])
 
-    @rows((" ".join((row["script"], *row["arguments"], row["given"])), row) for row in RULES["messages"])
-    def test_message(self, row):
-        """A script ends with one line on standard error and an exit status."""
-        self.file("listing", execute(PROGRAM, "list", f"{EXAMPLES}/demo.tfm")[1])
-        for name in ("demo.txt", "demo.tfm"):
-            shutil.copy(f"{EXAMPLES}/{name}", self.room)
-        status, out, err = self.script(row["script"], *row["arguments"], given=row["given"].encode())
-        self.same("result", (row["status"], "", 1), (status, out, err.count("\n")))
-        self.assertIn(row["message"], err)
 
-    def test_boxes_of_what_was_skipped(self):
-        """examples/boxes draws a skipped byte and a skipped character, with its code and its number."""
-        self.file("listing", output(PROGRAM, "list", "--size", "12pt", f"{EXAMPLES}/demo.tfm"))
-        status, out, err = self.script("boxes", "listing", given=b"1:1 set 401080 m65 c111=401080 u20AC\n")
-        self.same("result", (0, ""), (status, err))
-        self.same("labels", ["65", "111", "U+20AC"], re.findall(r"middle[^>]*>([^<]*)<", out))
-
-    def test_boxes_with_letters(self):
-        """examples/boxes draws letters in an encoding, the code of a character that has none, and amounts of kerns."""
-        self.file("listing", output(PROGRAM, "list", f"{EXAMPLES}/demo.tfm"))
-        record = b"1:1 set 900983 c14=550502 k-16384 c120=347340 k19660 c200=0\n"
-        status, out, err = self.script("boxes", "listing", "ot1", "655360", given=record)
-        self.same("result", (0, ""), (status, err))
-        self.same("labels", ["ffi", "-0.25", "x", "0.30", "200"], re.findall(r"middle[^>]*>([^<]*)<", out))
+class Renumber(Case):
+    """scripts/renumber"""
 
     @rows((name, name, given, message) for name, given, message in (
         ("JSON", '{"source":1}\n', "JSON is not read"), ("format 2", "records 2\n", "format 2 is not read"),
@@ -383,8 +310,3 @@ class Scripts(Case):
     def test_renumber_joins(self, given, wanted):
         """The records of all parts are numbered anew, and an end line has their number."""
         self.same("output", (0, wanted, ""), execute(f"{ROOT}/scripts/renumber", given=given.encode()))
-
-    def test_closed_pipe(self):
-        """A closed pipe ends a script without a message."""
-        self.same("result", (0, "a\n141\n", ""),
-                  bash(f"set -o pipefail; yes a | {EXAMPLES}/letters | head -n 1; echo $?", self.room))

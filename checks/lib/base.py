@@ -99,7 +99,7 @@ def copy_for_scripts(top, status=0):
     """Copies what scripts need. There ./tfmset installs the program, or ends with a status."""
     for name in ("scripts", "man", "completions", "examples"):
         shutil.copytree(f"{ROOT}/{name}", f"{top}/{name}")
-    for name in ("LICENSE-MIT", "LICENSE-APACHE"):
+    for name in ("LICENSE-MIT", "LICENSE-APACHE", "tfmset-letters", "tfmset-boxes"):
         shutil.copy(f"{ROOT}/{name}", top)
     out = f"{top}/crates/tfmset/out"
     build = f"mkdir -p '{out}' && cp '{PROGRAM}' '{out}/tfmset' || exit\nexec '{out}/tfmset' \"$@\"\n"
@@ -159,6 +159,14 @@ class Case(unittest.TestCase):
 
     def file(self, name, content):
         return write(os.path.join(self.room, name), content)
+
+    def compare_readers(self, programs):
+        """The programs of a directory print the letters of lines, and draw the picture of the README."""
+        records = output(f"{programs}/tfmset", "stream", "--record=json", DEMO, given=b"office ox\nstiff waves\n").encode()
+        letters = output(f"{programs}/tfmset-letters", given=records, cwd="/")
+        self.same("tfmset-letters", ["1:1 35.75 o[ffi]ce o{-0.25}x", "1 end complete 2"], letters.splitlines()[::2])
+        picture = output(f"{programs}/tfmset-boxes", "--encoding=ot1", DEMO, given=records, cwd="/")
+        self.same("tfmset-boxes draws examples/boxes.svg", True, picture == read("examples/boxes.svg"))
 
     def link_repository(self):
         """Links the files of the repository to the room of the test. There ./tfmset is the program."""
