@@ -4,8 +4,7 @@ import os
 import re
 import shutil
 
-from lib.base import (DEMO, PROGRAM, Case, copy_for_scripts, environment, execute, files, output, read, shared, table,
-                      write)
+from lib.base import PROGRAM, Case, copy_for_scripts, environment, execute, files, output, read, shared, table, write
 
 MAINTAINER = "Jo Doe <jo@example.org>"
 FILES = ["usr/bin/tfmset", "usr/bin/tfmset-boxes", "usr/bin/tfmset-letters",

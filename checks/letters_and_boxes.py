@@ -90,7 +90,7 @@ class Programs(Readers):
         first, second = (self.file(name, f"{name}:1 set 0\n") for name in "12")
         self.same("output", "1:1 0.00 \n2:1 0.00 \n", self.answer("letters", first, second))
         self.file("3", "3:1 set 0\n3:2 set O\n")
-        status, out, err = self.call("letters", second, "3", "--encoding=bytes")
+        status, out, err = self.call("letters", second, "--encoding=bytes", "3")
         self.same("result", (3, "2:1 0.00 \n3:1 0.00 \n", True), (status, out, "3, line 2: not a record" in err))
 
     def test_picture_of_the_readme(self):
