@@ -58,6 +58,13 @@ print(font.set("fox\\nﬁg Q", encoding="t1")[1], font.widths("\\ufeffo\\xadﬁ�
 print(font.set("\\xadoffice", 1, encoding="t1")[0])
 """, "Refusal(reason='missing', place=3, code=81) [Refusal(reason='missing', place=4, code=33)]\n"
      "Refusal(reason='steps', place=0, code=0)\n"),
+    ("Carriage returns, and a limit for all lines of a call", """
+text = b"ox\\r\\no\\r\\r\\nox\\r"
+print(font.widths(text, crlf=True), font.set(text, missing="skip", crlf=True)[0] == font.set(b"ox")[0])
+print(font.widths("ox\\r\\nox¡", encoding="t1", crlf=True), font.records(b"o\\r\\n", crlf=True))
+print(font.widths(b"ox\\nox\\nox", call_limit=3), font.records("ox\\nox", encoding="t1", call_limit=1))
+print(len(font.set(b"ox\\n" * 9999, call_limit=2**64 - 1)), font.widths(b"ox", 5, call_limit=1))
+""", "?"),
     ("The lines of a str end at line feeds only, whatever characters they have", """
 for name in tfmset.ENCODINGS:
     lines, wanted = [], []

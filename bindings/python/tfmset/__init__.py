@@ -344,13 +344,13 @@ def _front(buffer: ctypes.Array[ctypes.c_char], count: int) -> bytes:
     return bytes(memoryview(buffer)[:count])
 
 
-def _blocks(text: bytes) -> Iterator[bytes]:
-    """Yields the parts of a text, each of whole lines.
+def _blocks(text: bytes, options: _Options) -> Iterator[bytes]:
+    """Yields the parts of a text, each of whole lines. With a limit for a call there is one part.
 
     Python handles Ctrl-C only between two calls of the library. Each part is therefore about as long as the
     caller needs `_BLOCK_SECONDS` for, judging from the part before.
     """
-    begin, room = 0, _FIRST_BLOCK
+    begin, room = 0, len(text) if options.call_limit else _FIRST_BLOCK
     while len(text) - begin > room:
         end = text.rfind(b"\n", begin, begin + room) + 1 or text.find(b"\n", begin) + 1 or len(text)
         # The library ignores a byte order mark at the front of a text, and only there.
@@ -639,26 +639,31 @@ class Font:
         """The family in the header of the font, such as "CMR"; empty if the header has none."""
         return self._header_text(1)
 
-    def _settings(self, limit: int, missing: str) -> Tuple[Any, ...]:
+    def _settings(self, limit: int, missing: str, crlf: bool, call_limit: Optional[int]) -> Tuple[Any, ...]:
         """Returns the font and the options, as the functions that set lines expect them."""
         data, length, size = self._font
         if missing not in ("refuse", "skip"):
             raise ValueError(f"missing is {missing!r}, but must be 'refuse' or 'skip'")
         limit = _number("limit", limit, 1, _LARGEST_LIMIT)
-        return data, length, ctypes.byref(_Options(size=size, limit=limit, policy=int(missing == "skip")))
+        steps = 0 if call_limit is None else _number("call_limit", call_limit, 1, 2**64 - 1)
+        return data, length, _Options(steps, size, limit, int(missing == "skip"), int(bool(crlf)))
 
-    def _lines(self, text: Union[Text, str], limit: int, missing: str, encoding: Optional[str],
+    def _lines(self, text: Union[Text, str], settings: Tuple[Any, ...], encoding: Optional[str],
                with_items: bool) -> Lines:
         """Returns the results of the lines of a text, with or without their items."""
-        settings = self._settings(limit, missing)
-        content = _bytes("text", text) if encoding is None else encode(_string(text), encoding)
-        source = None if encoding is None else _Source(_string(text), encoding)
+        options, source = settings[-1], None
+        if encoding is None:
+            content = _bytes("text", text)
+        else:
+            # A carriage return has no codes in most encodings.
+            text = str.replace(_string(text), "\r\n", "\n") if options.crlf else _string(text)
+            content, source = encode(text, encoding), _Source(text, encoding)
         function = _library.tfmset_set if with_items else _library.tfmset_widths
         # The text has at most this many lines. The number of items is an estimate.
         room = len(content) + len(content) // 8 + 16 if with_items else 0
         lines, items = (_Line * (content.count(b"\n") + 1))(), (Item * room)()
         blocks, counts = [(0, 0)], _Counts()
-        for block in _blocks(content):
+        for block in _blocks(content, options):
             (line, item), code = blocks[-1], _NO_ROOM
             while code == _NO_ROOM:
                 arrays = [ctypes.byref(lines, line * ctypes.sizeof(_Line)), len(lines) - line]
@@ -674,13 +679,15 @@ class Font:
         return Lines(lines, items, blocks, source)
 
     @overload
-    def set(self, text: Text, limit: int = 1_048_576, missing: str = "refuse") -> Lines: ...
+    def set(self, text: Text, limit: int = 1_048_576, missing: str = "refuse", *, crlf: bool = False,
+            call_limit: Optional[int] = None) -> Lines: ...
 
     @overload
-    def set(self, text: str, limit: int = 1_048_576, missing: str = "refuse", *, encoding: str) -> Lines: ...
+    def set(self, text: str, limit: int = 1_048_576, missing: str = "refuse", *, encoding: str,
+            crlf: bool = False, call_limit: Optional[int] = None) -> Lines: ...
 
     def set(self, text: Union[Text, str], limit: int = 1_048_576, missing: str = "refuse", *,
-            encoding: Optional[str] = None) -> Lines:
+            encoding: Optional[str] = None, crlf: bool = False, call_limit: Optional[int] = None) -> Lines:
         """Sets the lines of a text and returns their results, with the items of each line.
 
         A line that takes more than `limit` steps is refused; `limit` is from 1 to 16,777,216. A missing
@@ -693,9 +700,15 @@ class Font:
         neighbours, unlike in `records`. A character without codes raises EncodingError, also with
         `missing="skip"`. In a refusal of a line of a str, `place` counts characters.
 
-        Raises ValueError if `limit`, `missing` or `encoding` has any other value; EncodingError; and
-        TypeError if `limit` isn't an int, or if `text` isn't bytes, a bytearray or a memoryview, or with
-        `encoding` a str.
+        With `crlf=True` one carriage return before a line feed belongs to the line ending; in the `place` of an
+        EncodingError both then count as one character. Once the lines have taken `call_limit` steps together,
+        each further line is refused with the reason 'steps' and takes no time; `call_limit` is from 1 to
+        2^64 - 1, or None for no limit. It bounds the time of a call with a font from a stranger. The call is
+        then made in one block, which Ctrl-C doesn't interrupt.
+
+        Raises ValueError if `limit`, `missing`, `encoding` or `call_limit` has any other value; EncodingError;
+        and TypeError if `limit` or `call_limit` isn't an int, or if `text` isn't bytes, a bytearray or a
+        memoryview, or with `encoding` a str.
 
         >>> lines = Font.from_file("examples/demo.tfm").set(b"fox Q", missing="skip")
         >>> [(item.kind, item.code) for item in lines[0].items]
@@ -703,18 +716,19 @@ class Font:
         >>> Font.from_file("examples/demo.tfm").set("fox\\nﬁg “”", encoding="ot1")[1]
         Refusal(reason='missing', place=3, code=92)
         """
-        return self._lines(text, limit, missing, encoding, True)
+        return self._lines(text, self._settings(limit, missing, crlf, call_limit), encoding, True)
 
     @overload
-    def widths(self, text: Text, limit: int = 1_048_576,
-               missing: str = "refuse") -> List[Union[int, Refusal]]: ...
+    def widths(self, text: Text, limit: int = 1_048_576, missing: str = "refuse", *, crlf: bool = False,
+               call_limit: Optional[int] = None) -> List[Union[int, Refusal]]: ...
 
     @overload
-    def widths(self, text: str, limit: int = 1_048_576, missing: str = "refuse", *,
-               encoding: str) -> List[Union[int, Refusal]]: ...
+    def widths(self, text: str, limit: int = 1_048_576, missing: str = "refuse", *, encoding: str,
+               crlf: bool = False, call_limit: Optional[int] = None) -> List[Union[int, Refusal]]: ...
 
     def widths(self, text: Union[Text, str], limit: int = 1_048_576, missing: str = "refuse", *,
-               encoding: Optional[str] = None) -> List[Union[int, Refusal]]:
+               encoding: Optional[str] = None, crlf: bool = False,
+               call_limit: Optional[int] = None) -> List[Union[int, Refusal]]:
         """Sets the lines of a text and returns the width of each line in sp, or a Refusal.
 
         The arguments and the exceptions are those of `set`.
@@ -722,7 +736,7 @@ class Font:
         >>> Font.from_file("examples/demo.tfm").widths(b"box\\nBox")
         [1025637, Refusal(reason='missing', place=0, code=66)]
         """
-        lines = self._lines(text, limit, missing, encoding, False)
+        lines = self._lines(text, self._settings(limit, missing, crlf, call_limit), encoding, False)
         # The lines are read as numbers, since making an object for each takes longer than setting it.
         numbers = struct.iter_unpack("qNNNIII0q", memoryview(lines._lines)[:len(lines)])
         return [_refusal(refusal, place, code, number, lines._source) if refusal else width
@@ -730,15 +744,17 @@ class Font:
 
     @overload
     def records(self, text: Text, limit: int = 1_048_576, missing: str = "refuse", *, version: int = 1,
-                source: int = 1, first_line: int = 1) -> bytes: ...
+                source: int = 1, first_line: int = 1, crlf: bool = False,
+                call_limit: Optional[int] = None) -> bytes: ...
 
     @overload
     def records(self, text: str, limit: int = 1_048_576, missing: str = "refuse", *, version: int = 1,
-                source: int = 1, first_line: int = 1, encoding: str) -> bytes: ...
+                source: int = 1, first_line: int = 1, encoding: str, crlf: bool = False,
+                call_limit: Optional[int] = None) -> bytes: ...
 
     def records(self, text: Union[Text, str], limit: int = 1_048_576, missing: str = "refuse", *,
-                version: int = 1, source: int = 1, first_line: int = 1,
-                encoding: Optional[str] = None) -> bytes:
+                version: int = 1, source: int = 1, first_line: int = 1, encoding: Optional[str] = None,
+                crlf: bool = False, call_limit: Optional[int] = None) -> bytes:
         """Sets the lines of a text and returns their records, as the program prints them.
 
         `version` is the record format: 1, 2, or 3 for JSON (`--record json` on the command line). `source`,
@@ -758,14 +774,14 @@ class Font:
         >>> Font.from_file("examples/demo.tfm").records("ox €", missing="skip", encoding="t1")
         b'1:1 set 874904 c111=334233 k-16384 c120=347340 s209715 u20AC\\n'
         """
-        settings, count, parts = self._settings(limit, missing), _size_t(), []
+        settings, count, parts = self._settings(limit, missing, crlf, call_limit), _size_t(), []
         content = _bytes("text", text) if encoding is None else _utf8(text, encoding)
         name = b"" if encoding is None else _named(encoding)
         version, source = _number("version", version, 1, 3), _number("source", source, 0, 2**64 - 1)
         form = _Form(source, _number("first_line", first_line, 0, 2**64 - 1 - len(content)), version)
         # For an estimate. A record in JSON is longer.
         byte, line = (24, 64) if version == 3 else (16, 32)
-        for block in _blocks(content):
+        for block in _blocks(content, settings[-1]):
             feeds = block.count(b"\n")
             count.value, code = byte * len(block) + line * (feeds + 2), _NO_ROOM
             while code == _NO_ROOM:
