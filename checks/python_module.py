@@ -64,7 +64,24 @@ print(font.widths(text, crlf=True), font.set(text, missing="skip", crlf=True)[0]
 print(font.widths("ox\\r\\nox¡", encoding="t1", crlf=True), font.records(b"o\\r\\n", crlf=True))
 print(font.widths(b"ox\\nox\\nox", call_limit=3), font.records("ox\\nox", encoding="t1", call_limit=1))
 print(len(font.set(b"ox\\n" * 9999, call_limit=2**64 - 1)), font.widths(b"ox", 5, call_limit=1))
-""", "?"),
+""", "[665189, Refusal(reason='missing', place=1, code=13), Refusal(reason='missing', place=2, code=13)] True\n"
+     "[665189, Refusal(reason='missing', place=2, code=189)] b'1:1 set 334233 c111=334233\\n'\n"
+     "[665189, Refusal(reason='steps', place=0, code=0), Refusal(reason='steps', place=0, code=0)] "
+     "b'1:1 set 665189 c111=334233 k-16384 c120=347340\\n1:2 refused steps 0\\n'\n9999 [665189]\n"),
+    ("Spans have the widths of words, and their items have their bytes", """
+text = b"an office, an ox"
+spans = [tfmset.Span(3, 6), (3, 2, True, True, 45), tfmset.Span(14, 2, left=False, right=False), (14, 2, True, True, 81),
+         (14, 3), (0, 0)]
+print([found if type(found) is int else tuple(found) for found in font.spans(text, spans)])
+print(font.widths(b"office\\nof-\\nox"))
+found = font.span_items(text, spans)
+print([(item.kind, item.code, item.offset, item.length) for item in found[0].items + found[2].items], tuple(found[3]))
+print(found[0].width, found[0].steps, [tuple(each) for each in font.spans(text, [(14, 2), (14, 2)], call_limit=3)[1:]])
+print(font.spans(text, spans * 5000)[:6] == font.spans(text, spans), len(font.span_items(text, spans * 5000)))
+print(len(font.prepared), font.spans(b"", []), font.span_items(b"", []))
+""", "[1468004, 753662, 665189, ('missing', 16, 81), ('outside', 0, 0), 0]\n[1468004, 753662, 665189]\n"
+     "[(0, 111, 3, 1), (0, 14, 4, 3), (0, 99, 7, 1), (0, 101, 8, 1), (0, 111, 14, 1), (1, 0, 15, 0), (0, 120, 15, 1)] "
+     "('missing', 16, 81)\n1468004 7 [('steps', 0, 0)]\nTrue 30000\n2168 [] []\n"),
     ("The lines of a str end at line feeds only, whatever characters they have", """
 for name in tfmset.ENCODINGS:
     lines, wanted = [], []
@@ -117,6 +134,8 @@ for call in (lambda: tfmset.Font(data, 0), lambda: tfmset.Font(data, 1 << 27), l
              lambda: font.set("x", encoding="Ot1"), lambda: font.set("x", encoding=1),
              lambda: font.records(b"", version=4), lambda: font.records(b"", source=-1),
              lambda: font.records(b"abc", first_line=1 << 64), lambda: font.set(b"x")[1],
+             lambda: font.spans("ox", []), lambda: font.spans(b"ox", [(0, -1)]), lambda: font.spans(b"", [], 0),
+             lambda: font.span_items(b"ox", [(0, 1, True, True, 256)]), lambda: font.set(b"", call_limit=0),
              lambda: tfmset.encode("5 €", "t1"), lambda: tfmset.encode("a\\ud800", "ot1"), lambda: tfmset.encode("naïve", "ot1"), lambda: tfmset.encode("\\U0001f600", "t1"),
              lambda: tfmset.Font(data[:9])):
     try:
@@ -142,6 +161,11 @@ ValueError: version is 4, but must be from 1 to 3
 ValueError: source is -1, but must be from 0 to 18,446,744,073,709,551,615
 ValueError: first_line is 18446744073709551616, but must be from 0 to 18,446,744,073,709,551,612
 IndexError: line index out of range
+TypeError: text must be bytes: a str needs the encoding of the font, as encoding='t1'
+ValueError: length is -1, but must be from 0 to 18,446,744,073,709,551,615
+ValueError: limit is 0, but must be from 1 to 16,777,216
+ValueError: hyphen is 256, but must be from 0 to 255
+ValueError: call_limit is 0, but must be from 1 to 18,446,744,073,709,551,615
 EncodingError: no code in t1 for U+20AC at index 2
 EncodingError: no code in ot1 for U+D800 at index 1
 EncodingError: no code in ot1 for U+00EF at index 2
@@ -261,8 +285,8 @@ print(sum(during) > 9)
 import inspect
 for method in tfmset.Font.set, tfmset.Font.records:
     print(*(f"{each.name}={each.default}" for each in inspect.signature(method).parameters.values() if each.default != each.empty))
-""", "limit=1048576 missing=refuse encoding=None\n"
-     "limit=1048576 missing=refuse version=1 source=1 first_line=1 encoding=None\n"),
+""", "limit=1048576 missing=refuse encoding=None crlf=False call_limit=None\n"
+     "limit=1048576 missing=refuse version=1 source=1 first_line=1 encoding=None crlf=False call_limit=None\n"),
     ("An allocation that fails in each method", """
 class Library:
     def __getattr__(self, name):

@@ -20,6 +20,8 @@ with the encoding of the font: `font.set("Straße", encoding="t1")`. All dimensi
 
 `encode` turns a str into the codes of a font. `ENCODINGS` are the names of the encodings.
 
+`Font.spans` and `Font.span_items` set parts of a text, such as words, without a call for each.
+
 `POINT` is the number of sp in a point. `CHARACTER`, `KERN`, `SPACE` and `SKIPPED` are the kinds of items.
 `BOUNDARY` stands for a boundary in `Font.pair` and `Font.pairs`.
 
@@ -55,12 +57,12 @@ from typing import (Any, Dict, Iterator, List, NamedTuple, Optional, Sequence, T
                     overload)
 
 from ._binding import (_DONE, _FONT_REFUSED, _NO_ROOM, _OUT_OF_MEMORY, _UNCODED, _About, _Character, _Counts,
-                       _Encoded, _Fault, _Form, _i32, _library, _Line, _Options, _Pair, _size_t, _u32, _version,
-                       __version__)
+                       _Encoded, _Fault, _Form, _i32, _library, _Line, _Options, _Pair, _Placed, _size_t, _Span,
+                       _u32, _version, __version__)
 
 __all__ = ["BOUNDARY", "CHARACTER", "ENCODINGS", "KERN", "POINT", "SKIPPED", "SPACE", "EncodingError", "Font",
-           "FontRefused", "Item", "Kern", "Ligature", "Line", "Lines", "Metrics", "Recipe", "Refusal",
-           "__version__", "encode", "version"]
+           "FontRefused", "Item", "Kern", "Ligature", "Line", "Lines", "Metrics", "PlacedItem", "Recipe",
+           "Refusal", "Span", "SpanItems", "__version__", "encode", "version"]
 
 POINT = 65536
 """The number of scaled points in a point."""
@@ -278,13 +280,16 @@ def _action(pair: _Pair) -> Action:
 
 
 class Refusal(NamedTuple):
-    """A line that is refused, with the reason. `place` and `code` depend on `reason`:
+    """A line or a span that is refused, with the reason. `place` and `code` depend on `reason`:
 
     - 'missing': the byte at the offset `place` (from 0) of the line is `code`, and the font has no such
       character. In a str, `place` is the index in the line of the character that has this code.
     - 'too-long': the line has `place` bytes, which are more than 65,535; `code` is 0. In a str, `place` is
       the number of its codes.
     - 'steps': the line takes more steps than the limit; `place` and `code` are 0
+    - 'outside': the span ends after the end of the text; `place` and `code` are 0
+
+    For a span, `place` of 'missing' is an offset in the text; that of a hyphen is the end of the span.
     """
 
     reason: str
@@ -309,7 +314,7 @@ def _reason(refusal: int) -> str:
     return str(text.decode("ascii").split(" ")[0])
 
 
-_REASONS = tuple(map(_reason, range(4)))
+_REASONS = tuple(map(_reason, range(5)))
 
 
 class _Source:
@@ -441,6 +446,51 @@ class Lines(Sequence[Outcome]):
 
     def __repr__(self) -> str:
         return f"<Lines: {len(self)}>"
+
+
+class Span(NamedTuple):
+    """A part of a text that is set as one run: `length` bytes from the byte offset `offset`.
+
+    Each of its bytes is a character of the font, also 10 and 32. `left` and `right` state whether the left
+    boundary of the font precedes it, and whether the right one follows it. `hyphen` is a code that is set
+    after its last byte, before the right boundary, or None.
+    """
+
+    offset: int
+    length: int
+    left: bool = True
+    right: bool = True
+    hyphen: Optional[int] = None
+
+
+class PlacedItem(NamedTuple):
+    """An item of a span: a character or a kern, and the bytes of the text that it comes from.
+
+    `kind` is CHARACTER or KERN, `code` the code of a character, otherwise 0, and `width` is in sp. A character
+    of the text comes from its own byte, and a ligature from the bytes of the characters that it replaces;
+    `length` is 0 for a kern, for the hyphen, and for a ligature that replaces no character of the text.
+    """
+
+    kind: int
+    code: int
+    width: int
+    offset: int
+    length: int
+
+
+class SpanItems(NamedTuple):
+    """A span that is set: its width in sp, the number of its steps, and its items, in order."""
+
+    width: int
+    steps: int
+    items: Tuple[PlacedItem, ...]
+
+
+def _span(span: Span) -> _Span:
+    """Returns a span as the library expects it."""
+    offset, length, left, right, hyphen = Span(*span)
+    return _Span(_number("offset", offset, 0, 2**64 - 1), _number("length", length, 0, 2**64 - 1),
+                 bool(left) + 2 * bool(right), 256 if hyphen is None else _number("hyphen", hyphen, 0, 255))
 
 
 _EXAMPLES = {"size": ", in sp, or a str with a unit, such as '10pt'",
@@ -792,6 +842,63 @@ class Font:
             parts.append(_front(array, count.value))
             form.first += feeds
         return b"".join(parts)
+
+    @functools.cached_property
+    def prepared(self) -> bytes:
+        """The table of the font at its size, with which `spans` and `span_items` need not read the font again:
+        the bytes that the C function tfmset_prepare writes."""
+        return bytes(self._list(ctypes.c_char, 4096, "prepare"))
+
+    def spans(self, text: Text, spans: Sequence[Span], limit: int = 1_048_576, *,
+              call_limit: Optional[int] = None) -> List[Union[int, Refusal]]:
+        """Sets spans of a text and returns the width of each span in sp, or a Refusal.
+
+        `text` is bytes, which are codes of the font. Each span is set as one run, such as a word or the part of
+        a word before a hyphen; a missing character refuses its span. `limit` and `call_limit` count the steps
+        of spans as those of lines in `set`.
+
+        Raises ValueError if a number is out of range, and TypeError for arguments of another type.
+
+        >>> font = Font.from_file("examples/demo.tfm")
+        >>> font.spans(b"an office", [Span(3, 6), Span(3, 2, hyphen=ord("-")), Span(5, 9)])
+        [1468004, 753662, Refusal(reason='outside', place=0, code=0)]
+        """
+        lines, _ = self._placed(text, spans, limit, call_limit, False)
+        return [_refusal(line.refusal, line.place, line.code, 0, None) if line.refusal else line.width
+                for line in lines]
+
+    def span_items(self, text: Text, spans: Sequence[Span], limit: int = 1_048_576, *,
+                   call_limit: Optional[int] = None) -> List[Union[SpanItems, Refusal]]:
+        """Sets spans of a text as `spans` does, and returns the items of each span, each with the bytes that it
+        comes from.
+
+        >>> found = Font.from_file("examples/demo.tfm").span_items(b"an office", [Span(3, 6)])[0]
+        >>> [(item.code, item.offset, item.length) for item in found.items]
+        [(111, 3, 1), (14, 4, 3), (99, 7, 1), (101, 8, 1)]
+        """
+        lines, items = self._placed(text, spans, limit, call_limit, True)
+        placed = [PlacedItem(item.kind, item.code, item.width, item.offset, item.length) for item in items]
+        return [_refusal(line.refusal, line.place, line.code, 0, None) if line.refusal else
+                SpanItems(line.width, line.steps, tuple(placed[line.first:line.first + line.count]))
+                for line in lines]
+
+    def _placed(self, text: Text, spans: Sequence[Span], limit: int, call_limit: Optional[int],
+                with_items: bool) -> Tuple[Any, Any]:
+        """Returns the results of spans, and with `with_items` their items."""
+        *_, options = self._settings(limit, "refuse", False, call_limit)
+        table, content = self.prepared, _bytes("text", text)
+        count, room = len(spans), len(content) + len(content) // 8 + 16
+        wanted, lines, counts = (_Span * count)(*map(_span, spans)), (_Line * count)(), _Counts()
+        arguments = (table, len(table), options, content, len(content), wanted, count, lines, count)
+        while with_items:
+            items = (_Placed * room)()
+            code = _library.tfmset_span_items(*arguments, items, room, ctypes.byref(counts))
+            if code != _NO_ROOM:
+                self._raise(code)
+                return lines, items[:counts.items]
+            room = counts.items
+        self._raise(_library.tfmset_spans(*arguments, ctypes.byref(counts)))
+        return lines, []
 
     def __repr__(self) -> str:
         return f"<Font of {len(self.data)} bytes at {self.size / POINT:g}pt>"

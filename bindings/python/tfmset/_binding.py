@@ -54,6 +54,14 @@ class _Counts(ctypes.Structure):
     _fields_ = [("lines", _size_t), ("items", _size_t)]
 
 
+class _Span(ctypes.Structure):
+    _fields_ = [("offset", _size_t), ("length", _size_t), ("edges", _u32), ("hyphen", _u32)]
+
+
+class _Placed(ctypes.Structure):
+    _fields_ = [("offset", _size_t), ("length", _size_t), ("kind", _u32), ("code", _u32), ("width", _i32)]
+
+
 # The number in this name changes when the layout of a struct or the arguments of a function change.
 _SONAME = "libtfmset.so.0"
 
@@ -91,6 +99,9 @@ def _load() -> ctypes.CDLL:
         "widths": call + text + array + out,
         "records": call + text + text + out + array + out,
         "refusal_text": out + array + out,
+        "prepare": sized + array + out,
+        "spans": call + text + array + array + out,
+        "span_items": call + text + array + array + array + out,
     }
     path = _path()
     try:
