@@ -12,7 +12,7 @@ import sys
 from lib.base import DEMO, EXAMPLES, PROGRAM, ROOT, bash, execute, read, rows
 from lib.clib import LibraryCase
 from lib.docs import blocks, commands
-from lib.tfm import BOUNDARY, Font
+from lib.tfm import BOUNDARY, Font, path_of
 from library import between, listing
 from library_lines import sanitizers
 
@@ -75,6 +75,26 @@ class Examples(LibraryCase):
         widths, beyond = (widths_of("\n".join(each).encode()) for each in (texts, longer))
         self.same("widths", [f"{width / 65536:.2f}" for width in widths], [line[1] for line in lines])
         self.same("breaks", True, max(widths) <= 100 * 65536 < min(beyond))
+
+    def test_words_broken_in_a_paragraph_in_c(self):
+        """A word is broken at its last mark that fits, and only there; each line has its width."""
+        text = r"the of\-fice staff of\-fered fif\-ty waf\-fles a stiff wind ruf\-fled my scarf"
+        out = self.built("examples/library/paragraph.c", "cc", "-std=c99")
+        lines = [line.rsplit("  ", 1) for line in self.output(out, DEMO, "50", given=self.file("text", text)).splitlines()]
+        texts = [line[0] for line in lines]
+        self.same("texts", ["the office", "staff of-", "fered fifty", "waffles a", "stiff wind", "ruffled my", "scarf"], texts)
+        widths, beyond = widths_of("\n".join(texts).encode()), widths_of(b"the office staff\nwaffles a stiff\nstiff wind ruf-")
+        self.same("widths", [f"{width / 65536:.2f}" for width in widths], [line[1] for line in lines])
+        self.same("breaks", True, max(widths) <= 50 * 65536 < min(beyond))
+
+    def test_font_of_a_stranger_in_c(self):
+        """A broken font is refused with its error, and an endless program takes no more than both limits."""
+        out = self.built("examples/library/stranger.c", "cc", "-std=c99")
+        for count, wanted in ((100, "100 of 200"), (5000, "1000 of 10000")):
+            text = self.file("text", "b\naa\n" * count)
+            self.same(wanted, wanted + " lines are set\n", self.output(out, path_of("endless_3"), given=text))
+        self.same("broken", (1, "the font is refused: 3 character range\n", ""),
+                  execute(out, os.path.join(ROOT, "README.md"), env=self.env))
 
     def test_words_in_c(self):
         """Each word has its width, and the bytes of its characters."""

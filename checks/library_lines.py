@@ -31,6 +31,7 @@ MOST_FONTS = 300
 IN_C = (("examples/library/ten_lines.c", (), DEMO), ("examples/library/widths.c", (DEMO, "box"), DEMO),
         ("examples/library/paragraph.c", (DEMO, "160"), "examples/demo.txt"),
         ("examples/library/words.c", (DEMO,), "examples/demo.txt"),
+        ("examples/library/stranger.c", (path_of("endless_3"),), "examples/demo.txt"),
         ("examples/library/threads.cpp", (DEMO, "README.md"), DEMO),
         ("checks/lib/pairs.c", (), path_of("right_boundary")), ("checks/lib/largest.c", (), DEMO))
 

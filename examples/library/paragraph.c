@@ -1,83 +1,123 @@
-/* Breaks a paragraph into lines of at most a given width. Each line takes as many words as fit.
+/* Breaks a paragraph into lines of at most a given width. Each line takes as many words as fit, and then
+ * perhaps the first part of a word, which may be broken, with a hyphen, where the text has \-, as in TeX.
  *
  * usage: paragraph FONT POINTS < TEXT   TEXT is read until its words fill 65,536 bytes
  *
- * One call returns the widths of all words, since each word is passed as a line. No ligature or kern crosses
- * a space. The width of a line is therefore exactly the sum of the widths of its words and of the spaces
- * between them. Missing characters are skipped. */
+ * One call returns the widths of all words and of their parts, which are spans of the text. No ligature or
+ * kern crosses a space. The width of a line is therefore exactly the sum of the widths of its words and of
+ * the spaces between them. */
 #include <stdio.h>
 #include <stdlib.h>
 #include <tfmset.h>
 
-enum { LONGEST = 65536, LARGEST_FONT = 131068, MOST_PARAMETERS = 32767 };
+enum { LONGEST = 65536, LARGEST_FONT = 131068, MOST_PARAMETERS = 32767, MOST_BREAKS = 64 };
 
 static uint8_t font[LARGEST_FONT], text[LONGEST];
-static struct tfmset_line words[LONGEST / 2 + 1];
+/* Each word, and after it two spans for each break: the part before it with a hyphen, the part after it. */
+static struct tfmset_span spans[2 * LONGEST];
+static struct tfmset_line widths[2 * LONGEST];
+static size_t count;
 /* Parameters that the font doesn't have stay 0. */
 static int32_t parameters[MOST_PARAMETERS];
 
-/* Reads words from standard input into `text`, with a line feed between two words. Returns the number of
- * bytes. */
+/* Adds the span of the bytes from `start` to before `end`. */
+static void add_span(size_t start, size_t end, uint32_t hyphen)
+{
+    spans[count].offset = start;
+    spans[count].length = end - start;
+    spans[count].edges = TFMSET_LEFT_EDGE | TFMSET_RIGHT_EDGE;
+    spans[count++].hyphen = hyphen;
+}
+
+/* Reads words from standard input into `text`, without their marks \-, and adds their spans. Returns the
+ * number of bytes. */
 static size_t read_words(void)
 {
-    size_t length = 0;
+    size_t length = 0, start = 0, breaks[MOST_BREAKS], found = 0, i;
     int byte;
-    while (length < LONGEST && (byte = getchar()) != EOF) {
-        if (byte > ' ')
-            text[length++] = (uint8_t)byte;
-        else if (length > 0 && text[length - 1] != '\n')
-            text[length++] = '\n';
-    }
+    do {
+        byte = length < LONGEST ? getchar() : EOF;
+        if (byte > ' ') {
+            if (byte == '-' && length > start && text[length - 1] == '\\' && found < MOST_BREAKS)
+                breaks[found++] = --length;
+            else
+                text[length++] = (uint8_t)byte;
+        } else if (length > start) {
+            add_span(start, length, TFMSET_NO_HYPHEN);
+            for (i = 0; i < found; i++) {
+                add_span(start, breaks[i], '-');
+                add_span(breaks[i], length, TFMSET_NO_HYPHEN);
+            }
+            start = length;
+            found = 0;
+        }
+    } while (byte != EOF);
     return length;
 }
 
-/* Prints the lines, each followed by its width in points. A word that is wider than `widest` has a line to
- * itself. */
-static void print_lines(const struct tfmset_counts *counts, int64_t space, int64_t widest)
+/* Prints a span after `gap`, which is the space before it or empty. */
+static void print_span(const char *gap, size_t i)
 {
-    const uint8_t *word = text;
+    fputs(gap, stdout);
+    fwrite(text + spans[i].offset, 1, spans[i].length, stdout);
+    if (spans[i].hyphen != TFMSET_NO_HYPHEN)
+        putchar('-');
+}
+
+/* Prints the lines, each followed by its width in points. A part that is wider than `widest` has a line to
+ * itself. */
+static void print_lines(int64_t space, int64_t widest)
+{
     int64_t width = 0;
-    size_t i;
-    for (i = 0; i < counts->lines; i++) {
-        if (i > 0 && width + space + words[i].width > widest) {
+    size_t word, next, part, rest;
+    for (word = 0; word < count; word = next) {
+        for (next = word + 1; next < count && spans[next].hyphen != TFMSET_NO_HYPHEN; next += 2) {
+        }
+        rest = word;
+        if (word > 0 && width + space + widths[word].width > widest) {
+            for (part = next; rest == word && part > word + 1; part -= 2) {
+                if (width + space + widths[part - 2].width <= widest) {
+                    print_span(" ", part - 2);
+                    width += space + widths[part - 2].width;
+                    rest = part - 1;
+                }
+            }
             printf("  %.2f\n", width / 65536.0);
             width = 0;
-        } else if (i > 0) {
-            putchar(' ');
+        } else if (word > 0) {
             width += space;
         }
-        while (word < text + LONGEST && *word != '\n' && *word != 0)
-            putchar(*word++);
-        word++;
-        width += words[i].width;
+        print_span(word > 0 && width > 0 ? " " : "", rest);
+        width += widths[rest].width;
     }
-    if (i > 0)
+    if (count > 0)
         printf("  %.2f\n", width / 65536.0);
 }
 
-int main(int count, char **arguments)
+int main(int argument_count, char **arguments)
 {
-    struct tfmset_options options = {0};
+    const struct tfmset_options options = {0};
     struct tfmset_counts counts;
     size_t length, i;
     FILE *file;
 
-    if (count != 3 || (file = fopen(arguments[1], "rb")) == NULL)
+    if (argument_count != 3 || (file = fopen(arguments[1], "rb")) == NULL)
         return EXIT_FAILURE;
     length = fread(font, 1, sizeof font, file);
     fclose(file);
-    options.policy = TFMSET_SKIP;
     if (tfmset_parameters(font, length, 0, parameters, MOST_PARAMETERS, &i) != TFMSET_DONE)
         return EXIT_FAILURE;
-    if (tfmset_widths(font, length, &options, text, read_words(), words, sizeof words / sizeof *words,
-                      &counts) != TFMSET_DONE)
+    i = read_words();
+    if (tfmset_spans(font, length, &options, text, i, spans, count, widths, sizeof widths / sizeof *widths,
+                     &counts) != TFMSET_DONE)
         return EXIT_FAILURE;
-    for (i = 0; i < counts.lines; i++) {
-        if (words[i].refusal != TFMSET_SET) {
-            fprintf(stderr, "word %zu is refused, for reason %u\n", i + 1, (unsigned)words[i].refusal);
+    for (i = 0; i < count; i++) {
+        if (widths[i].refusal != TFMSET_SET) {
+            fprintf(stderr, "the word at byte %zu is refused, for reason %u\n", spans[i].offset,
+                    (unsigned)widths[i].refusal);
             return EXIT_FAILURE;
         }
     }
-    print_lines(&counts, parameters[1], (int64_t)(atof(arguments[2]) * 65536));
+    print_lines(parameters[1], (int64_t)(atof(arguments[2]) * 65536));
     return EXIT_SUCCESS;
 }
