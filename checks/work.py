@@ -172,7 +172,7 @@ class Library(LibraryCase):
     def test_memory(self):
         """A call requests no memory for a byte or a line: all tables and lists are below 256 KB."""
         command = named([self.program, DEMO, "200 KB"])
-        for what, most in (("huge", 0), ("memory", 64 * 84)):  # 64 calls, of at most 42 requests
+        for what, most in (("huge", 0), ("memory", 70 * 84)):  # 70 calls, of at most 42 requests
             got = refuse.execute(command, what, most + 1, timeout=SECONDS)
             self.same(f"{what}: status, and requests that failed", (0, []), (got.status, got.told))
 

@@ -29,7 +29,8 @@ static struct tfmset_pair pairs[66049];
 static struct tfmset_character characters[256];
 static int32_t parameters[32767];
 static struct tfmset_placed placed[2 * ROOM];
-static const struct tfmset_span spans[] = {{0, 10, 3, 256}, {4, 65535, 3, 45}, {0, 65536, 0, 256}, {9, 1 << 20, 0, 256}};
+/* In the text of checks/library.py a word, a word with a hyphen, and a long one; and a span outside of it. */
+static const struct tfmset_span spans[] = {{0, 3, 3, 256}, {4, 6, 3, 45}, {56004, 60000, 3, 256}, {9, 1 << 20, 0, 256}};
 static const struct tfmset_form forms[] = {{1, 1, 1}, {1, 1, 2}, {1, 1, 3}};
 static struct {
     struct tfmset_encoded encoded;
