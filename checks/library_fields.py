@@ -284,6 +284,13 @@ class Fields(LinesCase):
             self.tfmset.encode("ß\n\u20ac", "ot1")
         fields = {"encoding": "ot1", "place": 2, "character": "\u20ac"}
         self.has({"args": ("ot1", 2, "\u20ac"), **fields}, raised.exception)
+        span = self.tfmset.Span(1, 2)
+        self.has({"offset": 1, "length": 2, "left": True, "right": True, "hyphen": None}, span)
+        placed = self.tfmset.Font(ARGUMENTS["data"]).span_items(b"box", [span])[0]
+        items = ((0, 111, 334233, 1, 1), (1, 0, -16384, 2, 0), (0, 120, 347340, 2, 1))
+        self.has({"width": 665189, "steps": 3, "items": items}, placed)
+        for item, one in zip(items, placed.items):
+            self.has(dict(zip(("kind", "code", "width", "offset", "length"), item)), one)
         found = {name: getattr(self.tfmset, name) for name in self.tfmset.__all__}
         wanted = {name: self.constants[name] for name in ("BOUNDARY", *KINDS.values())}
         wanted.update({"ENCODINGS": ("ot1", "t1", "ly1", "latin1"), "POINT": 65536,
@@ -296,7 +303,8 @@ class Fields(LinesCase):
         own, data = self.tfmset, ARGUMENTS["data"]
         font, text = own.Font(data), b"ox\nQ"
         lines, plain, encoded = font.set(text), {"text": text}, {"text": text.decode(), "encoding": "t1"}
-        settings, more = {"limit": 1, "missing": "skip"}, {"version": 1, "source": 1, "first_line": 1}
+        settings = {"limit": 1, "missing": "skip", "crlf": True, "call_limit": 1}
+        more, spans = {"version": 1, "source": 1, "first_line": 1}, [own.Span(0, 2), own.Span(1, 9)]
         yield "version", own.version, {}, [own.version()]
         yield "encode", own.encode, encoded, [own.encode(**encoded)]
         yield "Font", own.Font.__init__, {"data": data, "size": 1}, [None]
@@ -304,6 +312,10 @@ class Fields(LinesCase):
         yield "Font.metrics", font.metrics, {"code": 1}, map(font.metrics, (97, 65))
         yield "Font.pair", font.pair, {"left": 1, "right": 1}, (font.pair(*pair) for pair in (b"ox", b"fi", b"oo"))
         yield "Font.pairs", font.pairs, {}, [font.pairs()]
+        yield "Font.prepare", font.prepare, {}, [font.prepare()]
+        for function in font.spans, font.span_items:
+            given = {"text": b"ox", "spans": spans, "limit": 1, "call_limit": 1}
+            yield f"Font.{function.__name__}", function, given, [function(b"ox", spans)]
         for name, added in (("set", {}), ("widths", {}), ("records", more)):
             for function, given in zip(typing.get_overloads(getattr(own.Font, name)), (plain, encoded), strict=True):
                 result = getattr(font, name)(**given)
@@ -326,7 +338,7 @@ class Fields(LinesCase):
                 "Font.from_file": lambda **more: own.Font.from_file(DEMO, **more)}.get(title)
         call, found = call or getattr(font, title[5:]), []
         for value in (None, 0, 1, 1.0, words.get(name, "ox"), content, bytearray(content), memoryview(content), [1],
-                      slice(0, 1)):
+                      slice(0, 1), *([True] if name == "crlf" else [])):
             try:
                 call(**{**given, name: value})
             except (TypeError, ValueError):
@@ -343,7 +355,9 @@ class Fields(LinesCase):
             self.same(f"{title}: its result", types_of(*results), types_in(hints.pop("return")))
             if "path" in hints:
                 self.same("path", "PathLike[str] | str", types_in(hints.pop("path")))
-            self.same(f"{title}: arguments", set(given), set(hints))
+            if "spans" in hints:
+                self.same("spans", "Sequence[Span]", types_in(hints.pop("spans")))
+            self.same(f"{title}: arguments", set(given) - {"spans"}, set(hints))
             for name, kind in hints.items():
                 # With bytes, `encoding` is left out; no overload has None for it.
                 self.same(f"{title}: {name}", self.taken(title, given, name), types_in(kind))

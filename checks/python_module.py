@@ -78,7 +78,7 @@ found = font.span_items(text, spans)
 print([(item.kind, item.code, item.offset, item.length) for item in found[0].items + found[2].items], tuple(found[3]))
 print(found[0].width, found[0].steps, [tuple(each) for each in font.spans(text, [(14, 2), (14, 2)], call_limit=3)[1:]])
 print(font.spans(text, spans * 5000)[:6] == font.spans(text, spans), len(font.span_items(text, spans * 5000)))
-print(len(font.prepared), font.spans(b"", []), font.span_items(b"", []))
+print(len(font.prepare()), font.spans(b"", []), font.span_items(b"", []))
 """, "[1468004, 753662, 665189, ('missing', 16, 81), ('outside', 0, 0), 0]\n[1468004, 753662, 665189]\n"
      "[(0, 111, 3, 1), (0, 14, 4, 3), (0, 99, 7, 1), (0, 101, 8, 1), (0, 111, 14, 1), (1, 0, 15, 0), (0, 120, 15, 1)] "
      "('missing', 16, 81)\n1468004 7 [('steps', 0, 0)]\nTrue 30000\n2168 [] []\n"),

@@ -689,19 +689,20 @@ class Font:
         """The family in the header of the font, such as "CMR"; empty if the header has none."""
         return self._header_text(1)
 
-    def _settings(self, limit: int, missing: str, crlf: bool, call_limit: Optional[int]) -> Tuple[Any, ...]:
-        """Returns the font and the options, as the functions that set lines expect them."""
-        data, length, size = self._font
+    def _options(self, limit: int, missing: str, crlf: bool, call_limit: Optional[int]) -> _Options:
+        """Returns the options, as the functions that set lines and spans expect them."""
         if missing not in ("refuse", "skip"):
             raise ValueError(f"missing is {missing!r}, but must be 'refuse' or 'skip'")
+        if not isinstance(crlf, bool):
+            raise TypeError(f"crlf is {crlf!r}, but must be True or False")
         limit = _number("limit", limit, 1, _LARGEST_LIMIT)
         steps = 0 if call_limit is None else _number("call_limit", call_limit, 1, 2**64 - 1)
-        return data, length, _Options(steps, size, limit, int(missing == "skip"), int(bool(crlf)))
+        return _Options(steps, self._font[2], limit, int(missing == "skip"), int(crlf))
 
-    def _lines(self, text: Union[Text, str], settings: Tuple[Any, ...], encoding: Optional[str],
+    def _lines(self, text: Union[Text, str], options: _Options, encoding: Optional[str],
                with_items: bool) -> Lines:
         """Returns the results of the lines of a text, with or without their items."""
-        options, source = settings[-1], None
+        arguments, source = (*self._font[:2], ctypes.byref(options)), None
         if encoding is None:
             content = _bytes("text", text)
         else:
@@ -719,7 +720,7 @@ class Font:
                 arrays = [ctypes.byref(lines, line * ctypes.sizeof(_Line)), len(lines) - line]
                 if with_items:
                     arrays += [ctypes.byref(items, item * ctypes.sizeof(Item)), len(items) - item]
-                code = function(*settings, block, len(block), *arrays, ctypes.byref(counts))
+                code = function(*arguments, block, len(block), *arrays, ctypes.byref(counts))
                 if code == _NO_ROOM:
                     longer = (Item * (item + counts.items + room))()
                     ctypes.memmove(longer, items, item * ctypes.sizeof(Item))
@@ -766,7 +767,7 @@ class Font:
         >>> Font.from_file("examples/demo.tfm").set("fox\\nﬁg “”", encoding="ot1")[1]
         Refusal(reason='missing', place=3, code=92)
         """
-        return self._lines(text, self._settings(limit, missing, crlf, call_limit), encoding, True)
+        return self._lines(text, self._options(limit, missing, crlf, call_limit), encoding, True)
 
     @overload
     def widths(self, text: Text, limit: int = 1_048_576, missing: str = "refuse", *, crlf: bool = False,
@@ -786,7 +787,7 @@ class Font:
         >>> Font.from_file("examples/demo.tfm").widths(b"box\\nBox")
         [1025637, Refusal(reason='missing', place=0, code=66)]
         """
-        lines = self._lines(text, self._settings(limit, missing, crlf, call_limit), encoding, False)
+        lines = self._lines(text, self._options(limit, missing, crlf, call_limit), encoding, False)
         # The lines are read as numbers, since making an object for each takes longer than setting it.
         numbers = struct.iter_unpack("qNNNIII0q", memoryview(lines._lines)[:len(lines)])
         return [_refusal(refusal, place, code, number, lines._source) if refusal else width
@@ -824,30 +825,34 @@ class Font:
         >>> Font.from_file("examples/demo.tfm").records("ox €", missing="skip", encoding="t1")
         b'1:1 set 874904 c111=334233 k-16384 c120=347340 s209715 u20AC\\n'
         """
-        settings, count, parts = self._settings(limit, missing, crlf, call_limit), _size_t(), []
+        options, count, parts = self._options(limit, missing, crlf, call_limit), _size_t(), []
         content = _bytes("text", text) if encoding is None else _utf8(text, encoding)
         name = b"" if encoding is None else _named(encoding)
         version, source = _number("version", version, 1, 3), _number("source", source, 0, 2**64 - 1)
         form = _Form(source, _number("first_line", first_line, 0, 2**64 - 1 - len(content)), version)
         # For an estimate. A record in JSON is longer.
         byte, line = (24, 64) if version == 3 else (16, 32)
-        for block in _blocks(content, settings[-1]):
+        for block in _blocks(content, options):
             feeds = block.count(b"\n")
             count.value, code = byte * len(block) + line * (feeds + 2), _NO_ROOM
             while code == _NO_ROOM:
                 array = ctypes.create_string_buffer(count.value)
-                code = _library.tfmset_records(*settings, name, len(name), block, len(block), ctypes.byref(form),
-                                               array, len(array), ctypes.byref(count))
+                code = _library.tfmset_records(*self._font[:2], ctypes.byref(options), name, len(name), block,
+                                               len(block), ctypes.byref(form), array, len(array),
+                                               ctypes.byref(count))
             self._raise(code)
             parts.append(_front(array, count.value))
             form.first += feeds
         return b"".join(parts)
 
     @functools.cached_property
-    def prepared(self) -> bytes:
-        """The table of the font at its size, with which `spans` and `span_items` need not read the font again:
-        the bytes that the C function tfmset_prepare writes."""
+    def _table(self) -> bytes:
         return bytes(self._list(ctypes.c_char, 4096, "prepare"))
+
+    def prepare(self) -> bytes:
+        """Returns the table of the font at its size, with which C functions set spans without reading the font
+        again: the bytes that tfmset_prepare writes. `spans` and `span_items` use it."""
+        return self._table
 
     def spans(self, text: Text, spans: Sequence[Span], limit: int = 1_048_576, *,
               call_limit: Optional[int] = None) -> List[Union[int, Refusal]]:
@@ -885,10 +890,10 @@ class Font:
     def _placed(self, text: Text, spans: Sequence[Span], limit: int, call_limit: Optional[int],
                 with_items: bool) -> Tuple[Any, Any]:
         """Returns the results of spans, and with `with_items` their items."""
-        *_, options = self._settings(limit, "refuse", False, call_limit)
-        table, content = self.prepared, _bytes("text", text)
+        table, content = self._table, _bytes("text", text)
         count, room = len(spans), len(content) + len(content) // 8 + 16
         wanted, lines, counts = (_Span * count)(*map(_span, spans)), (_Line * count)(), _Counts()
+        options = ctypes.byref(self._options(limit, "refuse", False, call_limit))
         arguments = (table, len(table), options, content, len(content), wanted, count, lines, count)
         while with_items:
             items = (_Placed * room)()

@@ -83,7 +83,7 @@ def _path() -> str:
 def _load() -> ctypes.CDLL:
     """Loads the library and declares the types of its functions."""
     text, out, array = [ctypes.c_char_p, _size_t], [ctypes.c_void_p], [ctypes.c_void_p, _size_t]
-    sized, call = text + [_u32], text + [ctypes.POINTER(_Options)]
+    sized, call = text + [_u32], text + out
     functions = {
         "version": [],
         "size": text + out,
