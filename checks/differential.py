@@ -74,7 +74,7 @@ class Round:
         """Random options of `set`, `each` and `stream`: the arguments, the size, the policy and the record format."""
         size = self.chance.choice([None, 65536, 655360, self.chance.randrange(1, 2**27)])
         skip, form = self.chance.choice([False, True]), self.chance.choice(["1", "2", "json"])
-        words = ["--record", form, "--missing", "skip" if skip else "refuse"] + (["--size", str(size)] if size else [])
+        words = ["--record", form, "--missing", "skip" if skip else "refuse"] + (["--size", f"{size}sp"] if size else [])
         for name, most in (("workers", 16), ("capacity", 64), ("block", 8)):
             if self.chance.randrange(2):
                 words += [f"--{name}", str(self.chance.randint(1, most))]

@@ -148,19 +148,21 @@ module _ (rows : List Row) where
       (first_of (codes "format") rows ≡ Some (format_word layout.format))
       × IsEncoding layout.encoding
 
-  -- the values of `list`: the font, its size, and whether `--all` and `--verbose` are given
+  -- the values of `list`: the font, its size, whether that has no unit, and whether `--all` and `--verbose` are given
   abbrev pub IsListing : Listing → Type 0
   IsListing asked =
       (first_of (codes "FONT") rows ≡ Some asked.font.now)
       × IsSize asked.size
+      × (asked.plain_size ≡ has_plain_size)
       × IsFlag (one_of (codes "all") rows) asked.all
       × IsVerbose asked.verbose
 
-  -- the values of `pairs`: the font, its size, the layout, and whether `--verbose` is given
+  -- the values of `pairs`: the font, its size, whether that has no unit, the layout, and whether `--verbose` is given
   abbrev pub IsPairing : Pairing → Type 0
   IsPairing asked =
       (first_of (codes "FONT") rows ≡ Some asked.font.now)
       × IsSize asked.size
+      × (asked.plain_size ≡ has_plain_size)
       × IsPairsLayout asked.layout
       × IsVerbose asked.verbose
 

@@ -59,7 +59,8 @@ are in scaled points (65536 sp = 1pt), at the size of --size or, without this
 option, at the design size of the font. Only parameter 1, the slant, is a
 ratio: 1048576 means 1. With --all, the twelve counts are printed first, and
 the extensible recipes and every word (four bytes) of the file, in hexadecimal,
-are printed last.
+are printed last. If the size has no unit and is below 65536 sp, a warning is
+printed on standard error.
 
 Exit status:
   0  The contents were printed.
@@ -81,7 +82,8 @@ AMOUNT is in scaled points (65536 sp = 1pt), at the size of --size or, without
 this option, at the design size. OPERATION is a ligature operation: LIG, LIG/,
 /LIG, /LIG/, LIG/>, /LIG>, /LIG/> or /LIG/>>. CODE is the code of the character
 that it inserts. With --format csv, commas separate the fields, and the first
-line names them; json prints one JSON object per line.
+line names them; json prints one JSON object per line. If the size has no unit
+and is below 65536 sp, a warning is printed on standard error.
 
 With --encoding, the characters of LEFT, RIGHT and CODE are printed after these
 fields, in UTF-8: `86 65 kern -72819 V A`. The encoding has to be that of the
@@ -177,7 +179,9 @@ refused.
 Without --size, the font is set at its design size. A size is a number directly
 followed by pt, in, pc, cm, mm, bp, dd, cc or sp, such as 10.95pt or 4mm, and
 is rounded as TeX rounds it. A number without a unit is a whole number of
-scaled points: 655360 is 10pt. A size is 1 to 134217727 scaled points.
+scaled points: 655360 is 10pt. A size is 1 to 134217727 scaled points. If it is
+below 65536, which is 1pt, and has no unit, a warning is printed on standard
+error.
 
 A line that needs more steps than --limit is refused; this stops lig/kern
 programs that never end. A step is one ligature, one kern, or one move to the
@@ -193,8 +197,7 @@ nothing, since the output is printed at the end.
 
 With --verbose, the causes of errors are printed on standard error, with the
 names of files, and then how many lines were set, how many were refused for
-each reason, and how many end with a carriage return. If --size has no unit and
-is below 65536 scaled points, which are 1pt, a warning is printed there, too.
+each reason, and how many end with a carriage return.
 
 Exit status:
   0  Every line of every FILE was set, and the output was written.
@@ -226,8 +229,7 @@ line that it has printed is valid. With both commands, if the lines of a FILE
 could not all be read and set, its end line states the reason.
 
 Lines, records, --size, --limit, --missing, --crlf, --encoding and --record are
-as `tfmset set --help` describes them. If --size has no unit and is below 65536
-scaled points, which are 1pt, a warning is printed on standard error.
+as `tfmset set --help` describes them.
 
 --block is the largest number of lines that threads pass on together. Without
 this option, they pass on the lines of each read together, which takes the

@@ -202,6 +202,7 @@ fn asked_list<'a>(matches: &ArgMatches<'a>) -> Option<Listing<'a>>
     Some(Listing {
         font: text(matches, "FONT")?,
         size: asked_size(matches)?,
+        plain_size: asked_plain_size(matches),
         all: flag(matches, "all"),
         verbose: asked_verbose(matches),
     })
@@ -214,6 +215,7 @@ fn asked_pairs<'a>(matches: &ArgMatches<'a>) -> Option<Pairing<'a>>
     Some(Pairing {
         font: text(matches, "FONT")?,
         size: asked_size(matches)?,
+        plain_size: asked_plain_size(matches),
         layout: asked_pairs_layout(matches)?,
         verbose: asked_verbose(matches),
     })

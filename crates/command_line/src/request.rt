@@ -72,6 +72,8 @@ pub struct Listing<'a> {
     pub font: &'a str,
     /// The size of the font, in sp; `None` means its design size.
     pub size: Option<Size>,
+    /// Whether the size was given as a number without a unit.
+    pub plain_size: bool,
     /// Whether the counts, the extensible recipes and all words of the file are printed, too.
     pub all: bool,
     /// Whether the causes of errors are printed on standard error.
@@ -85,6 +87,8 @@ pub struct Pairing<'a> {
     pub font: &'a str,
     /// The size of the font, in sp; `None` means its design size.
     pub size: Option<Size>,
+    /// Whether the size was given as a number without a unit.
+    pub plain_size: bool,
     /// The format of the output, and the encoding whose characters are printed after the codes.
     pub layout: PairsLayout,
     /// Whether the causes of errors are printed on standard error.

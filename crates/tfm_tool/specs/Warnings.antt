@@ -1,30 +1,27 @@
 -- The warning for a size of less than one point that was given without a unit.
 -- This project's own.
-use Rattle.std.specs.Prelude.{ℕ, List, ◌++◌, cond, Option, Some, None, IsSome, codes, decimal, nat_lt, option_and_then}
+use Rattle.std.specs.Prelude.{ℕ, Bool, List, ◌++◌, cond, Option, Some, None, IsSome, codes, decimal, nat_lt, option_and_then}
 use Rattle.clap.specs.Words.{Text}
 use Rattle.command_line.specs.Asked.{IsAskedBy}
-use Rattle.command_line.specs.declared.request.Layout.{Layout}
 use Rattle.command_line.specs.declared.request.Request.{Request}
 use Rattle.command_line.specs.declared.request.Requested.{Requested}
-use Rattle.command_line.specs.declared.request.Request.TheVariants.{Set, Stream, Each}
+use Rattle.command_line.specs.declared.request.Request.TheVariants.{List as ListFont, Pairs, Set, Stream, Each}
 
 -- this number of sp, if it is below 65,536, which is one point
 abbrev pub below_one_point : ℕ → Option ℕ
 below_one_point size = cond (nat_lt size 65536) (Some size) None
 
--- the size of a layout, if it was given without a unit and is below one point
-abbrev pub small_size : Layout → Option ℕ
-small_size layout = cond layout.plain_size (option_and_then below_one_point layout.size) None
+-- this size, if there is one, it was given without a unit, and it is below one point
+abbrev pub small_size : Option ℕ → Bool → Option ℕ
+small_size size is_plain = cond is_plain (option_and_then below_one_point size) None
 
--- the size of a layout with `--verbose`, if it was given without a unit and is below one point
-abbrev pub small_size_of_verbose : Layout → Option ℕ
-small_size_of_verbose layout = cond layout.verbose (small_size layout) None
-
--- the size of which a request warns: `stream` always does, `set` and `each` only with `--verbose`
+-- the size of which a request warns, if it has one: that of `list`, `pairs`, `set`, `stream` or `each`
 abbrev pub warned_size : Request → Option ℕ
-warned_size (Stream setting) = small_size setting.layout
-warned_size (Set setting) = small_size_of_verbose setting.layout
-warned_size (Each jobs) = small_size_of_verbose jobs.layout
+warned_size (ListFont asked) = small_size asked.size asked.plain_size
+warned_size (Pairs asked) = small_size asked.size asked.plain_size
+warned_size (Set setting) = small_size setting.layout.size setting.layout.plain_size
+warned_size (Stream setting) = small_size setting.layout.size setting.layout.plain_size
+warned_size (Each jobs) = small_size jobs.layout.size jobs.layout.plain_size
 warned_size _ = None
 
 -- the line of the warning

@@ -30,9 +30,9 @@ use tfm_requests::{Done, Failure};
 /// otherwise, and after help or the version, 0. It is 2 or 3 if the arguments, a font or an encoding vector are
 /// refused, 4 if a font or a file wasn't read, and 5 if an allocation, a thread start or a write failed. With 2
 /// to 5 the reason is written to `err`: one line, or the text of `clap` if the arguments are invalid. If `err`
-/// fails, its error is ignored. If `stream`, or `set` or `each` with `--verbose`, has a size below 65,536
-/// without a unit, a warning is written to `err` before the font is read. With `--verbose`, the causes of
-/// errors and a summary of the lines are written to `err` after the output, before the text of a failure.
+/// fails, its error is ignored. If a size below 65,536 has no unit, a warning is written to `err` before the
+/// font is read, except with `check`, which needs no size. With `--verbose`, the causes of errors and a summary
+/// of the lines are written to `err` after the output, before the text of a failure.
 pub fn tool<R, S, I, O, E>(rt: &R, words: &[S], input: &mut I, out: &mut O, err: &mut E) -> u8
 where
     R: Files + AllocGlobal + Threads + Wait + Sync,

@@ -1,11 +1,12 @@
 //! The warning for a size of less than one point that was given without a unit.
 ghost use Rattle.std.specs.Prelude.{◌≡◌, None, OnOk};
 ghost use Rattle.std.specs.Io.KnownBytes.{Appends};
-ghost use Rattle.tfm_tool.specs.Warnings.{small_size, small_size_of_verbose, warned_size as warned_size_of, warning_text};
+ghost use Rattle.tfm_tool.specs.Warnings.{small_size, warned_size as warned_size_of, warning_text};
 
-use command_line::{Layout, Request};
+use command_line::Request;
 use std::io;
 use std::io::Write;
+use tfm_words::Size;
 
 /// Writes to `err` the warning for the size of a request, if it has one. If `err` fails, its error is ignored.
 pub(crate) fn warn<E: Write>(request: &Request<'_>, err: &mut E)
@@ -17,33 +18,29 @@ pub(crate) fn warn<E: Write>(request: &Request<'_>, err: &mut E)
     }
 }
 
-/// Returns the size of which a request warns, in sp.
+/// Returns the size of which a request warns, in sp, if it has one.
 fn warned_size(request: &Request<'_>) -> Option<u32>
     ensures { result ≡ warned_size_of request.now }
 {
     match request {
-        Request::Stream(setting) => small(&setting.layout),
-        Request::Set(setting) => small_if_verbose(&setting.layout),
-        Request::Each(jobs) => small_if_verbose(&jobs.layout),
-        _ => None,
+        Request::List(asked) => small(asked.size, asked.plain_size),
+        Request::Pairs(asked) => small(asked.size, asked.plain_size),
+        Request::Set(setting) | Request::Stream(setting) => {
+            small(setting.layout.size, setting.layout.plain_size)
+        }
+        Request::Each(jobs) => small(jobs.layout.size, jobs.layout.plain_size),
+        Request::Counts { .. } | Request::Check(_) => None,
     }
 }
 
-/// Returns the size in sp, if it was given without a unit and is below one point, and `--verbose` is given.
-fn small_if_verbose(layout: &Layout) -> Option<u32>
-    ensures { result ≡ small_size_of_verbose layout.now }
+/// Returns this size in sp, if there is one, it was given without a unit, and it is below one point.
+fn small(size: Option<Size>, is_plain: bool) -> Option<u32>
+    ensures { result ≡ small_size size is_plain }
 {
-    if layout.verbose { small(layout) } else { None }
-}
-
-/// Returns the size in sp, if it was given without a unit and is below one point.
-fn small(layout: &Layout) -> Option<u32>
-    ensures { result ≡ small_size layout.now }
-{
-    if !layout.plain_size {
+    if !is_plain {
         return None;
     }
-    let size = layout.size?.get();
+    let size = size?.get();
     if size < 0x1_0000 { Some(size) } else { None }
 }
 
