@@ -18,7 +18,7 @@ from lib.base import ROOT, Case, execute, read, rows, script, table, write
 WEIGHT = 4
 SCRIPT = script("scripts/clauses")
 DEFINITIONS = "docs/DEFINITIONS.md"
-QUOTING = ("docs/CALLING.md", "docs/PROVED.md")
+QUOTING = ("docs/PROVED.md",)
 
 USE = re.compile(r"use Rattle\.(\w+)\.specs\.(\w+)\.\{([^}]*)\}")
 LINK = re.compile(r"\[(\w+)\]\(\.\./crates/(\w+)/specs/(\w+)\.antt\)")
