@@ -27,7 +27,7 @@ MUTANTS = (
      FIELDS + "test_annotations"),
     (MODULE, "if not 0 <= index < count:", "if not index < count:", "library_lines.Module.test_exceptions"),
     (MODULE, "item + counts.items))\n", "counts.items))\n", "library_lines.Records.test_blocks"),
-    (MODULE, "map(_reason, range(4))", "map(_reason, (0, 2, 1, 3))", "library_lines.Module.test_sizes_texts_and_indices"))
+    (MODULE, "map(_reason, range(5))", "map(_reason, (0, 2, 1, 3, 4))", "library_lines.Module.test_sizes_texts_and_indices"))
 
 
 class Mutants(LibraryCase):
