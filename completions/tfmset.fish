@@ -76,13 +76,15 @@ complete -c tfmset -n '__tfmset_is set each stream' -l workers -x -a '(seq 1 16)
 complete -c tfmset -n '__tfmset_is set each stream' -l capacity -x -d 'Slots per queue between threads, 1 to 65536'
 complete -c tfmset -n '__tfmset_is set each stream' -l block -x -a '(seq 1 8)' -d 'Lines per message; leave it out with stream, use 8 with set and each'
 complete -c tfmset -n '__tfmset_is set each stream' -l record -x -a '1 2 json' -d 'Record format'
+complete -c tfmset -n '__tfmset_is check' -l quiet -d 'Leave out the lines of accepted fonts'
+complete -c tfmset -n '__tfmset_is check' -l summary -d 'Print a last line with the numbers of fonts'
 complete -c tfmset -n '__tfmset_is counts list pairs check set each stream' -s v -l verbose -d 'Print causes of errors on standard error'
 complete -c tfmset -n '__tfmset_is counts list pairs check set each stream' -s h -l help -d 'Print help'
 complete -c tfmset -n '__tfmset_is help; and test (__tfmset_count) -eq 0' -a 'counts list pairs check set each stream help'
 
 # Prints the options that have no value.
 function __tfmset_flags
-    string split ' ' -- '--all --crlf -v --verbose -h --help -V --version'
+    string split ' ' -- '--all --crlf --quiet --summary -v --verbose -h --help -V --version'
 end
 # end generated
 

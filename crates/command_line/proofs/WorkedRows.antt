@@ -58,6 +58,14 @@ module _ (choices : AllChoices) where
   unfolding clap_on_literals
   list_size = refl
 
+  check_quiet : read_in (codes "quiet") (codes "check" ∷ codes "--quiet" ∷ codes "f.tfm" ∷ []) ≡ Some (Some (codes "true"))
+  unfolding clap_on_literals
+  check_quiet = refl
+
+  check_summary : read_in (codes "summary") (codes "check" ∷ codes "f.tfm" ∷ codes "--summary" ∷ []) ≡ Some (Some (codes "true"))
+  unfolding clap_on_literals
+  check_summary = refl
+
   check_verbose : read_in (codes "verbose") (codes "check" ∷ codes "-v" ∷ codes "f.tfm" ∷ []) ≡ Some (Some (codes "true"))
   unfolding clap_on_literals
   check_verbose = refl
@@ -89,6 +97,14 @@ module _ (choices : AllChoices) where
   each_words = refl
 
   -- ---- values that aren't given
+
+  check_not_quiet : read_in (codes "quiet") (codes "check" ∷ codes "f.tfm" ∷ []) ≡ Some (Some (codes "false"))
+  unfolding clap_on_literals
+  check_not_quiet = refl
+
+  check_no_summary : read_in (codes "summary") (codes "check" ∷ codes "f.tfm" ∷ []) ≡ Some (Some (codes "false"))
+  unfolding clap_on_literals
+  check_no_summary = refl
 
   list_not_all : read_in (codes "all") (codes "list" ∷ codes "f.tfm" ∷ []) ≡ Some (Some (codes "false"))
   unfolding clap_on_literals

@@ -166,11 +166,13 @@ module _ (rows : List Row) where
       × IsPairsLayout asked.layout
       × IsVerbose asked.verbose
 
-  -- the fonts of `check`, in order, their size, and whether `--verbose` is given
+  -- the fonts of `check`, in order, their size, and whether `--quiet`, `--summary` and `--verbose` are given
   abbrev pub IsChecking : Checking → Type 0
   IsChecking asked =
       (all_of (codes "FONT") rows ≡ Some (texts asked.fonts.items))
       × IsSize asked.size
+      × IsFlag (one_of (codes "quiet") rows) asked.quiet
+      × IsFlag (one_of (codes "summary") rows) asked.summary
       × IsVerbose asked.verbose
 
   -- the values of `set` or `stream`: the font, the limit, the files in order, and the layout

@@ -127,9 +127,11 @@ pairs_shape choices =
     (size_rule ∷ with_default (codes "text") (choice_rule (codes "format") choices.formats) ∷ encoding_rule ∷ verbose_rule
     ∷ needed (new_rule (codes "FONT")) ∷ [])
 
--- `check` takes `--size`, the flag `--verbose`, and one or more fonts
+-- `check` takes `--size`, the flags `--quiet`, `--summary` and `--verbose`, and one or more fonts
 abbrev pub check_shape : Shape
-check_shape = subcommand_with (codes "check") (size_rule ∷ verbose_rule ∷ needed (words_rule (codes "FONT")) ∷ [])
+check_shape =
+    subcommand_with (codes "check")
+    (size_rule ∷ flag_rule (codes "quiet") ∷ flag_rule (codes "summary") ∷ verbose_rule ∷ needed (words_rule (codes "FONT")) ∷ [])
 
 -- `set` takes its options, a font, and one or more files; a block has one line by default
 abbrev pub set_shape : Choices → Shape

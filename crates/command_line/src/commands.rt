@@ -9,9 +9,9 @@ use crate::help::{
     ABOUT, AFTER_HELP, ALL_HELP, BLOCK_HELP, CAPACITY_HELP, CAUSES_HELP, CHECK_ABOUT,
     CHECK_AFTER_HELP, COUNTS_ABOUT, COUNTS_AFTER_HELP, CRLF_HELP, EACH_ABOUT, EACH_AFTER_HELP,
     ENCODING_HELP, FILE_HELP, FONT_HELP, FONTS_HELP, FORMAT_HELP, LIMIT_HELP, LIST_ABOUT,
-    LIST_AFTER_HELP, MISSING_HELP, PAIRS_ABOUT, PAIRS_AFTER_HELP, RECORD_HELP, SET_ABOUT,
-    SET_AFTER_HELP, SIZE_HELP, STREAM_ABOUT, STREAM_AFTER_HELP, STREAM_BLOCK_HELP,
-    STREAM_FILE_HELP, VERBOSE_HELP, WORDS_HELP, WORKERS_HELP,
+    LIST_AFTER_HELP, MISSING_HELP, PAIRS_ABOUT, PAIRS_AFTER_HELP, QUIET_HELP, RECORD_HELP,
+    SET_ABOUT, SET_AFTER_HELP, SIZE_HELP, STREAM_ABOUT, STREAM_AFTER_HELP, STREAM_BLOCK_HELP,
+    STREAM_FILE_HELP, SUMMARY_HELP, VERBOSE_HELP, WORDS_HELP, WORKERS_HELP,
 };
 use clap::{Arg, ArgAction, Command, value_parser};
 use std::alloc::{AllocError, Global};
@@ -93,6 +93,8 @@ fn check_command<'a>(alloc: Global) -> Result<Command<'a>, AllocError>
 {
     let command = subcommand(alloc, "check", CHECK_ABOUT, CHECK_AFTER_HELP);
     let command = with_argument(command, size_option(alloc).hide(true))?;
+    let command = with_argument(command, flag_option(alloc, "quiet", QUIET_HELP))?;
+    let command = with_argument(command, flag_option(alloc, "summary", SUMMARY_HELP))?;
     let command = with_argument(command, verbose_option(alloc, CAUSES_HELP))?;
     with_argument(command, many(alloc, "FONT", FONTS_HELP).required(true))
 }

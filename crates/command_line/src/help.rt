@@ -107,11 +107,15 @@ pub(crate) const CHECK_ABOUT: &str =
 pub(crate) const CHECK_AFTER_HELP: &str = "Examples, in the directory examples of the sources:
   tfmset check \"$(kpsewhich cmr10.tfm)\"
   tfmset check demo.tfm fonts/plain.tfm fonts/ligature_0.tfm
+  tfmset check --quiet --summary fonts/*.tfm
 
 Reads the FONTs in order and prints one line for each: `NAME: accepted`,
 `NAME: refused: ` and the first error of the font, or `NAME: not read`. A font
-that isn't accepted doesn't stop the check. With --verbose, the cause for each
-font that was not read is printed on standard error.
+that isn't accepted doesn't stop the check. With --quiet, the lines of accepted
+fonts are left out. With --summary, the last line has the numbers of fonts, as
+in `3 fonts: 2 accepted, 1 refused`, and if some were not read, their number,
+too. With --verbose, the cause for each font that was not read is printed on
+standard error.
 
 TeX may refuse to load a font that is accepted here: two rules of TeX are not
 checked. A code with the tag `list` must lead to codes from bc to ec and not
@@ -317,6 +321,10 @@ pub(crate) const RECORD_HELP: &str = "Record format: 1, 2 or json; 1 omits steps
 pub(crate) const FORMAT_HELP: &str = "Output format: text, csv or json";
 
 pub(crate) const ALL_HELP: &str = "Also print the counts, the extensible recipes and all words";
+
+pub(crate) const QUIET_HELP: &str = "Leave out the lines of accepted fonts";
+
+pub(crate) const SUMMARY_HELP: &str = "Print a last line with the numbers of fonts";
 
 pub(crate) const CAUSES_HELP: &str = "Print causes of errors on standard error";
 

@@ -230,7 +230,7 @@ fn asked_pairs_layout(matches: &ArgMatches<'_>) -> Option<PairsLayout>
     Some(PairsLayout { format, encoding })
 }
 
-/// Returns the fonts that `check` reads, and their size.
+/// Returns the fonts that `check` reads, and its options.
 fn asked_fonts<'a>(
     alloc: Global,
     matches: &ArgMatches<'a>,
@@ -244,11 +244,12 @@ fn asked_fonts<'a>(
         return Ok(None);
     };
     let fonts = Vec::from_slice(alloc, fonts)?;
-    let verbose = asked_verbose(matches);
     Ok(Some(Checking {
         fonts,
         size,
-        verbose,
+        quiet: flag(matches, "quiet"),
+        summary: flag(matches, "summary"),
+        verbose: asked_verbose(matches),
     }))
 }
 

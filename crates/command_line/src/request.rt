@@ -103,6 +103,10 @@ pub struct Checking<'a> {
     pub fonts: Vec<&'a str>,
     /// The size of all fonts, in sp; `None` means the design size of each font.
     pub size: Option<Size>,
+    /// Whether the lines of accepted fonts are left out.
+    pub quiet: bool,
+    /// Whether a last line with the numbers of fonts is printed.
+    pub summary: bool,
     /// Whether the causes of errors are printed on standard error.
     pub verbose: bool,
 }

@@ -1,14 +1,17 @@
--- Lemmas on the lines of fonts that are checked.
-use Rattle.std.proofs.Common.{arith, ◌≡◌, ℕ, ◌+◌, ◌<◌, ◌≤◌, Bool, true, false, List, [], ◌∷◌, ◌++◌, ◌∙◌, ◌⊎◌, inl, inr, cond, fold, length, max, take, get_or, Option, Some, None, Bor, refl, ap, sym, subst}
-use Rattle.std.proofs.lemmas.List.{append-nil, append_assoc, flat_map_more, get_or_default}
-use Rattle.std.proofs.lemmas.List.Sums.{count_by_more_no, count_by_more_yes, fold-append, sum_by-take-le}
-use Rattle.std.specs.Prelude.{codes, IfSome, if◌then◌else◌}
+-- Lemmas on the output for fonts that are checked.
+use Rattle.std.proofs.Common.{arith, ◌≡◌, ℕ, ◌+◌, ◌<◌, ◌≤◌, Bool, true, false, List, [], ◌∷◌, ◌++◌, ◌∙◌, inl, inr, cond, length, map, take, get_or, Option, Some, None, Bor, refl, ap, sym, subst}
+use Rattle.std.proofs.lemmas.Grind.{flat_map-append}
+use Rattle.std.proofs.lemmas.List.{append-nil, append_assoc, flat_map_more, get_or_default, map-append}
+use Rattle.std.proofs.lemmas.List.Elements.{filter-append}
+use Rattle.std.proofs.lemmas.List.Sums.{count_by_more_no, count_by_more_yes, sum_by-take-le}
+use Rattle.std.specs.Prelude.{codes, IfSome, if◌then◌else◌, ◌&&◌, not}
+use Rattle.command_line.specs.declared.request.Checking.{Checking}
 use Rattle.std.specs.Str.{bytes_eq}
 use Rattle.std.specs.Io.KnownBytes.{Appends, Keeps}
 use Rattle.font_texts.specs.declared.finding.Finding.{Finding}
 use Rattle.font_texts.specs.declared.finding.Finding.TheVariants.{Accepted, Refused, NotRead}
 use Rattle.font_texts.specs.Findings.{finding_line, finding_of, finding_with, findings_text}
-use Rattle.tfm_requests.specs.Checking.{AreChecked, IsFound, IsRowOf, dashes_in, finding_status}
+use Rattle.tfm_requests.specs.Checking.{AreChecked, AreWritten, IsFound, IsRowOf, check_status, dashes_in, is_accepted, rows_shown, summary_text}
 use Rattle.tfm_requests.specs.Kept.{HaveSameFont}
 use Rattle.tfm_requests.specs.Known.{font_bytes_of}
 use Rattle.tfm_requests.proofs.JobLemmas.{place_more}
@@ -37,25 +40,43 @@ unread_found (Some all) = inr refl
 
 -- ---- the rows of fonts
 
+-- the line of a font, if it is shown
+abbrev pub line_shown : Bool → List ℕ × Finding → List ℕ
+line_shown quiet row = cond (quiet && is_accepted row.1) [] (finding_line row)
+
+shown_alone : (name : List ℕ) (finding : Finding) → line_shown true (name, finding) ≡ findings_text (rows_shown true ((name, finding) ∷ []))
+shown_alone name Accepted = refl
+shown_alone name (Refused fault) = sym (append-nil (finding_line (name, Refused fault)))
+shown_alone name NotRead = sym (append-nil (finding_line (name, NotRead)))
+
+-- one row more is one line more, if it is shown
+shown_more : (quiet : Bool) (rows : List (List ℕ × Finding)) (name : List ℕ) (finding : Finding)
+    → findings_text (rows_shown quiet rows) ++ line_shown quiet (name, finding) ≡ findings_text (rows_shown quiet (rows ++ (name, finding) ∷ []))
+shown_more false rows name finding = flat_map_more finding_line [] rows (name, finding)
+shown_more true rows name finding =
+    ap (λ line. findings_text (rows_shown true rows) ++ line) (shown_alone name finding)
+    ∙ (sym (flat_map-append finding_line (rows_shown true rows) (rows_shown true ((name, finding) ∷ [])))
+    ∙ ap findings_text (sym (filter-append (λ row. not (is_accepted row.1)) rows ((name, finding) ∷ []))))
+
 module _ (known : List ℕ → Option (List ℕ)) (input : Option (List ℕ)) where
   -- no font has no line
-  pub none_checked : (w : Option (List ℕ)) → AreChecked known input [] w w 0
-  none_checked w = ([], tt, appends_nothing w, refl)
+  pub none_written : (quiet : Bool) (w : Option (List ℕ)) → AreWritten known input quiet [] w w []
+  none_written true w = ([], tt, appends_nothing w, refl)
+  none_written false w = ([], tt, appends_nothing w, refl)
 
-  -- one font more is one line more
-  pub one_checked : (names : List (Bor (List ℕ))) (i : ℕ) (d : Bor (List ℕ)) (finding : Finding) (w w' w'' : Option (List ℕ)) (status : ℕ)
-      → i < length names → AreChecked known input (take i names) w w' status
+  -- one font more is one finding more
+  pub one_written : (quiet : Bool) (names : List (Bor (List ℕ))) (i : ℕ) (d : Bor (List ℕ)) (finding : Finding) (findings : List Finding) (w w' w'' : Option (List ℕ))
+      → i < length names → AreWritten known input quiet (take i names) w w' findings
       → IfSome (font_bytes_of known input (get_or names i d).now) (λ all. IsFound all finding)
-      → Appends w' w'' (finding_line ((get_or names i d).now, finding))
-      → AreChecked known input (take (i + 1) names) w w'' (max status (finding_status finding))
-  one_checked names i d finding w w' w'' status within before found line =
+      → Appends w' w'' (line_shown quiet ((get_or names i d).now, finding))
+      → AreWritten known input quiet (take (i + 1) names) w w'' (findings ++ finding ∷ [])
+  one_written quiet names i d finding findings w w' w'' within before found line =
       let row : List ℕ × Finding = ((get_or names i d).now, finding) in (
         before.0 ++ row ∷ [],
         place_more (IsRowOf known input) names before.0 i (get_or names i d) row within (get_or_default names i d (get_or names i d) within) before.1 (refl, found),
-        subst (Appends w w'') (flat_map_more finding_line [] before.0 row)
-            (appends_more w w' w'' (findings_text before.0) (finding_line row) before.2 line),
-        ap (λ s. max s (finding_status finding)) before.3
-            ∙ sym (fold-append (λ highest row. max highest (finding_status row.1)) 0 before.0 (row ∷ [])),
+        subst (Appends w w'') (shown_more quiet before.0 (get_or names i d).now finding)
+            (appends_more w w' w'' (findings_text (rows_shown quiet before.0)) (line_shown quiet row) before.2 line),
+        ap (λ f. f ++ finding ∷ []) before.3 ∙ sym (map-append (λ (row : List ℕ × Finding). row.1) before.0 (row ∷ [])),
       )
 
 -- ---- standard input, which at most one name asks for
@@ -98,41 +119,7 @@ module _ (names : List (Bor (List ℕ))) (i : ℕ) (d : Bor (List ℕ)) (within 
       let more : dashes_in (take (i + 1) names) ≡ dashes_in (take i names) = count_by_more_no (λ name. bytes_eq name.now (codes "-")) names i d within is in
       other (not_dash (get_or names i d).now is) ∙ unread (sym more ∙ none)
 
--- ---- the three statuses of fonts
-
-abbrev IsOne : ℕ → Type 0
-IsOne status = (status ≡ 0) ⊎ ((status ≡ 1) ⊎ (status ≡ 4))
-
-one_of_finding : (finding : Finding) → IsOne (finding_status finding)
-one_of_finding Accepted = inl refl
-one_of_finding (Refused _) = inr (inl refl)
-one_of_finding NotRead = inr (inr refl)
-
-one_of_two : (a b : ℕ) → IsOne a → IsOne b → IsOne (max a b)
-one_of_two a b (inl p) (inl q) = rw (p, q) (inl refl)
-one_of_two a b (inl p) (inr (inl q)) = rw (p, q) (inr (inl refl))
-one_of_two a b (inl p) (inr (inr q)) = rw (p, q) (inr (inr refl))
-one_of_two a b (inr (inl p)) (inl q) = rw (p, q) (inr (inl refl))
-one_of_two a b (inr (inl p)) (inr (inl q)) = rw (p, q) (inr (inl refl))
-one_of_two a b (inr (inl p)) (inr (inr q)) = rw (p, q) (inr (inr refl))
-one_of_two a b (inr (inr p)) (inl q) = rw (p, q) (inr (inr refl))
-one_of_two a b (inr (inr p)) (inr (inl q)) = rw (p, q) (inr (inr refl))
-one_of_two a b (inr (inr p)) (inr (inr q)) = rw (p, q) (inr (inr refl))
-
-one_of_all : (rows : List (List ℕ × Finding)) (before : ℕ) → IsOne before → IsOne (fold (λ highest row. max highest (finding_status row.1)) before rows)
-one_of_all [] before one = one
-one_of_all (row ∷ rows) before one = one_of_all rows (max before (finding_status row.1)) (one_of_two before (finding_status row.1) one (one_of_finding row.1))
-
--- what is neither of the lower two is the highest one
-highest_left : (status : ℕ) → IsOne status → (status ≡ 0 → ⊥) → (status ≡ 1 → ⊥) → status ≡ 4
-highest_left status (inl p) not_0 not_1 = absurd (not_0 p)
-highest_left status (inr (inl p)) not_0 not_1 = absurd (not_1 p)
-highest_left status (inr (inr p)) not_0 not_1 = p
-
-pub checked_to_4 : (known : List ℕ → Option (List ℕ)) (input : Option (List ℕ)) (names : List (Bor (List ℕ))) (w w' : Option (List ℕ)) (status : ℕ)
-    → AreChecked known input names w w' status → (status ≡ 0 → ⊥) → (status ≡ 1 → ⊥) → AreChecked known input names w w' 4
-checked_to_4 known input names w w' status all not_0 not_1 =
-    subst (AreChecked known input names w w') (highest_left status (subst IsOne (sym all.3) (one_of_all all.0 0 (inl refl))) not_0 not_1) all
+-- ---- the whole output
 
 -- a text that was written stays
 pub kept_text : (w w' w'' : Option (List ℕ)) (text : List ℕ) → Appends w w' text → Keeps w' w'' → Appends w w'' text
@@ -141,7 +128,18 @@ kept_text (Some xs) None w'' text is kept = elim is [ ]
 kept_text (Some xs) (Some ys) None text is kept = elim kept [ ]
 kept_text (Some xs) (Some ys) (Some zs) text is kept = kept ∙ is
 
--- the lines stay as they were
-pub checked_kept : (known : List ℕ → Option (List ℕ)) (input : Option (List ℕ)) (names : List (Bor (List ℕ))) (w w' w'' : Option (List ℕ)) (status : ℕ)
-    → AreChecked known input names w w' status → Keeps w' w'' → AreChecked known input names w w'' status
-checked_kept known input names w w' w'' status all kept = (all.0, all.1, kept_text w w' w'' (findings_text all.0) all.2 kept, all.3)
+module _ (known : List ℕ → Option (List ℕ)) (input : Option (List ℕ)) (asked : Checking) where
+  -- the lines of the fonts, and then the summary, are the output
+  pub all_checked : (w w' w'' v : Option (List ℕ)) (findings : List Finding) (status : ℕ)
+      → AreWritten known input asked.quiet asked.fonts.items w w' findings
+      → Appends w' w'' (summary_text asked.summary findings) → Keeps w'' v → status ≡ check_status findings
+      → AreChecked known input asked w v status
+  all_checked w w' w'' v findings status written summary kept is =
+      let lines : List ℕ = findings_text (rows_shown asked.quiet written.0) in
+      let last : List ℕ = summary_text asked.summary (map (λ row. row.1) written.0) in (
+        written.0,
+        written.1,
+        kept_text w w'' v (lines ++ last)
+            (appends_more w w' w'' lines last written.2 (subst (λ f. Appends w' w'' (summary_text asked.summary f)) written.3 summary)) kept,
+        is ∙ ap check_status written.3,
+      )

@@ -121,7 +121,7 @@ module _ (known : List ℕ → Option (List ℕ)) (input before after : Option (
   IsDoneBy (Pairs asked) vector =
       IsText (λ text. (encoding : Option Encoding) × IsEncodingOf known vector asked.layout.encoding encoding
       × IsPairsText (font_bytes_of known input asked.font.now) asked.size asked.layout encoding text) before after
-  IsDoneBy (Check asked) vector = AreChecked known input asked.fonts.items before after
+  IsDoneBy (Check asked) vector = AreChecked known input asked before after
   IsDoneBy (Set setting) vector = IsSetFrom AtTheEnd (file_bytes_of known setting.files.items) setting vector
   IsDoneBy (Stream setting) vector = IsSetFrom AsTheyCome (stream_bytes_of known input setting.files.items) setting vector
   IsDoneBy (Each jobs) vector = IsEachSet known before after jobs vector

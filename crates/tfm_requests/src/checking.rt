@@ -1,8 +1,9 @@
-//! The subcommand `check`: writes a line for each font.
-ghost use Rattle.std.specs.Prelude.{◌≡◌, ◌≢◌, ◌≤◌, ◌⊎◌, false, codes, max, IfErr, IfOk, IfSome};
+//! The subcommand `check`: writes a line for each font, and a summary.
+ghost use Rattle.std.specs.Prelude.{◌≡◌, ◌≢◌, ◌≤◌, ◌⊎◌, ◌&&◌, [], false, codes, cond, count_by, string_bytes, IfErr, IfOk, IfSome, OnOk};
+ghost use Rattle.std.specs.Io.KnownBytes.{Appends};
 ghost use Rattle.font_texts.specs.Findings.{finding_line};
 ghost use Rattle.tfm_requests.specs.Causes.{IsCheckCause};
-ghost use Rattle.tfm_requests.specs.Checking.{AreChecked, IsFound, dashes_in, finding_status};
+ghost use Rattle.tfm_requests.specs.Checking.{AreChecked, AreWritten, IsFound, check_status, dashes_in, is_accepted as is_accepted_finding, is_refused, is_unread, fonts_noun, summary_end as summary_end_of, summary_line as summary_line_of, summary_text};
 ghost use Rattle.tfm_requests.specs.Known.{font_bytes_of};
 ghost use Rattle.tfm_requests.specs.Status.{done_status, is_stop, tool_status};
 
@@ -19,8 +20,8 @@ use std::alloc::{AllocError, Global};
 use std::io::{Read, Write};
 use tfm_words::Size;
 
-/// Does what `check` requests: reads each font in order, and writes the line of its finding. At most one name
-/// may be `-`.
+/// Does what `check` requests: reads each font in order, and writes the line of its finding, and then the line of
+/// `--summary` if it is requested. At most one name may be `-`.
 pub(crate) fn check<F, I, O>(
     alloc: Global,
     files: &F,
@@ -33,20 +34,17 @@ where
     I: Read,
     O: Write,
     ensures text { IfOk result (λ done. AreChecked (F.known files.now) (I.remaining input.old)
-        asked.now.fonts.items (O.contents out.old) (O.contents out.new) (done_status done)) }
+        asked.now (O.contents out.old) (O.contents out.new) (done_status done)) }
     ensures untouched { IfErr result (λ failure. is_stop failure ≡ false → out.new ≡ out.old) }
     ensures cause { IfErr result (IsCheckCause (F.known files.now) asked.now) }
 {
     if dashes(asked.fonts.as_slice()) > 1 {
         return Err(Failure::Request(RequestError::TwoFonts));
     }
-    let highest = check_all(alloc, files, asked, input, out)?;
+    let findings = check_all(alloc, files, asked, input, out)?;
+    write_summary(alloc, asked.summary, findings.as_slice(), out)?;
     flush(out)?;
-    match highest {
-        0 => Ok(Done::AllSet),
-        1 => Ok(Done::SomeRefused),
-        _ => Ok(Done::FontNotRead),
-    }
+    Ok(done_of(findings.as_slice()))
 }
 
 /// Returns the number of these names that are `-`.
@@ -56,47 +54,146 @@ fn dashes(names: &[&str]) -> usize
     names.iter().filter(|name| **name == "-").count()
 }
 
-/// Reads each font in order, and writes the line of its finding. Returns the highest of the statuses of the
-/// findings. At most one name may be `-`: the font of this name has all bytes of `input`.
+/// Reads each font in order, and writes the line of its finding, unless `--quiet` leaves it out. Returns the findings.
+/// At most one name may be `-`: the font of this name has all bytes of `input`.
 fn check_all<F, I, O>(
     alloc: Global,
     files: &F,
     asked: &Checking<'_>,
     input: &mut I,
     out: &mut O,
-) -> Result<u8, ToolFault>
+) -> Result<Vec<Finding>, ToolFault>
 where
     F: Opens,
     I: Read,
     O: Write,
     requires { dashes_in asked.now.fonts.items ≤ 1 }
-    ensures text { IfOk result (λ status. AreChecked (F.known files.now) (I.remaining input.old)
-        asked.now.fonts.items (O.contents out.old) (O.contents out.new) status) }
+    ensures text { IfOk result (λ findings. AreWritten (F.known files.now) (I.remaining input.old)
+        asked.now.quiet asked.now.fonts.items (O.contents out.old) (O.contents out.new) findings.items) }
     ensures fault { IfErr result (λ fault. (fault ≡ ToolFault.OutOfMemory) ⊎ (fault ≡ ToolFault.Write)) }
 {
-    let mut highest = 0;
+    let mut findings = Vec::with_capacity(alloc, asked.fonts.len())?;
     for name in &asked.fonts {
         let font = Checked {
             name,
             size: asked.size,
         };
         let (finding, line) = check_one(alloc, files, &font, input)?;
-        write_text(line.as_slice(), out)?;
-        highest = higher(highest, finding);
+        write_line(line.as_slice(), finding, asked.quiet, out)?;
+        findings.extend_from_slice(&[finding])?;
     }
-    Ok(highest)
+    Ok(findings)
 }
 
-/// Returns the higher of a status and the status of a finding.
-fn higher(status: u8, finding: Finding) -> u8
-    ensures { result ≡ max status (finding_status finding) }
+/// Writes the line of a font with this finding, unless it is accepted and `quiet` is set.
+fn write_line<O: Write>(
+    line: &[u8],
+    finding: Finding,
+    quiet: bool,
+    out: &mut O,
+) -> Result<(), ToolFault>
+    ensures text { OnOk result (Appends (O.contents out.old) (O.contents out.new)
+        (cond (quiet && is_accepted_finding finding) [] line.now)) }
+    ensures fault { IfErr result (λ fault. fault ≡ ToolFault.Write) }
 {
-    let own: u8 = match finding {
-        Finding::Accepted => 0,
-        Finding::Refused(_) => 1,
-        Finding::NotRead => 4,
-    };
-    status.max(own)
+    if quiet && is_accepted(finding) {
+        return Ok(());
+    }
+    write_text(line, out)
+}
+
+/// Returns whether a font with this finding is accepted.
+fn is_accepted(finding: Finding) -> bool
+    ensures { result ≡ is_accepted_finding finding }
+{
+    matches!(finding, Finding::Accepted)
+}
+
+/// Returns how many fonts with these findings are accepted.
+fn accepted_in(findings: &[Finding]) -> usize
+    ensures { result ≡ count_by is_accepted_finding findings.now }
+{
+    findings.iter().filter(|one| is_accepted(**one)).count()
+}
+
+/// Returns how many fonts with these findings are refused.
+fn refused_in(findings: &[Finding]) -> usize
+    ensures { result ≡ count_by is_refused findings.now }
+{
+    findings
+        .iter()
+        .filter(|one| matches!(**one, Finding::Refused(_)))
+        .count()
+}
+
+/// Returns how many fonts with these findings weren't read.
+fn unread_in(findings: &[Finding]) -> usize
+    ensures { result ≡ count_by is_unread findings.now }
+{
+    findings
+        .iter()
+        .filter(|one| matches!(**one, Finding::NotRead))
+        .count()
+}
+
+/// Returns the noun for this number of fonts.
+fn noun_of(count: usize) -> &'static str
+    ensures { result.now ≡ fonts_noun count }
+{
+    if count == 1 { "font" } else { "fonts" }
+}
+
+/// Writes the line of `--summary` for these findings, if `summary` is set.
+fn write_summary<O: Write>(
+    alloc: Global,
+    summary: bool,
+    findings: &[Finding],
+    out: &mut O,
+) -> Result<(), ToolFault>
+    ensures text { OnOk result (Appends (O.contents out.old) (O.contents out.new)
+        (summary_text summary findings.now)) }
+    ensures fault { IfErr result (λ fault. (fault ≡ ToolFault.OutOfMemory) ⊎ (fault ≡ ToolFault.Write)) }
+{
+    if !summary {
+        return Ok(());
+    }
+    let line = summary_line(alloc, findings)?;
+    write_text(line.as_bytes(), out)
+}
+
+/// Returns the line of `--summary` for these findings. Fails if an allocation fails.
+fn summary_line(alloc: Global, findings: &[Finding]) -> Result<String, AllocError>
+    ensures { IfOk result (λ line. string_bytes line ≡ summary_line_of findings.now) }
+{
+    let fonts = findings.len();
+    let noun = noun_of(fonts);
+    let accepted = accepted_in(findings);
+    let refused = refused_in(findings);
+    let end = summary_end(alloc, unread_in(findings))?;
+    format!(in alloc; "{fonts} {noun}: {accepted} accepted, {refused}{end}")
+}
+
+/// Returns the end of the line of `--summary`, by the number of fonts that weren't read.
+fn summary_end(alloc: Global, unread: usize) -> Result<String, AllocError>
+    ensures { IfOk result (λ text. string_bytes text ≡ summary_end_of unread) }
+{
+    if unread == 0 {
+        return String::from_str(alloc, " refused\n");
+    }
+    format!(in alloc; " refused, {unread} not read\n")
+}
+
+/// Returns how a check with these findings ended.
+fn done_of(findings: &[Finding]) -> Done
+    ensures { done_status result ≡ check_status findings.now }
+{
+    if unread_in(findings) > 0 {
+        return Done::FontNotRead;
+    }
+    if refused_in(findings) > 0 {
+        return Done::SomeRefused;
+    }
+    Done::AllSet
 }
 
 /// A font to be checked.
