@@ -65,7 +65,7 @@ pub other_size : (bytes : List ℕ) (size read : ℕ) → AreBytes bytes → IsW
 other_size bytes size read are whole sized some other = (
   record {
     range = λ never. absurd never;
-    font = λ font given. (((λ _. inr (differs font given)), λ _. refl), λ same. absurd (omega (arith, same)));
+    font = λ _ font given. ((λ _. differs font given, λ _. refl), λ same. absurd (omega (arith, same)));
     other = λ one. absurd (grind (arith, one));
   },
   inr (inr refl),
@@ -90,20 +90,19 @@ pub no_file : (bytes : List ℕ) (size answer : ℕ) (denial : Denial) → ((fon
 no_file bytes size answer Memory no_table accepted is = (
   record {
     range = λ never. absurd never;
-    font = λ font given. (((λ four. absurd (omega (arith, four, is))), λ other. absurd (by font given other)), λ one. absurd (omega (arith, one, is)));
+    font = λ _ font given. ((λ four. absurd (omega (arith, four, is)), λ other. absurd (by font given other)), λ one. absurd (omega (arith, one, is)));
     other = λ _. inl accepted;
   },
   inr (inl is),
 )
   where
-    by : (font : FontValue) → IsGiven bytes size font → ⊥ ⊎ IsOtherSize size font → ⊥
-    by font given (inl never) = never
-    by font (inl file) (inr other) = same_size bytes size font file.1 other
-    by font (inr prepared) (inr other) = no_table font prepared
+    by : (font : FontValue) → IsGiven bytes size font → IsOtherSize size font → ⊥
+    by font (inl file) other = same_size bytes size font file.1 other
+    by font (inr prepared) other = no_table font prepared
 no_file bytes size answer (Refused fault) no_table first is = (
   record {
     range = λ never. absurd never;
-    font = λ font given. absurd (by font given);
+    font = λ _ font given. absurd (by font given);
     other = λ one. absurd (grind (arith, one, is));
   },
   inl is,
@@ -117,37 +116,19 @@ no_file bytes size answer (Refused fault) no_table first is = (
 
 -- the code of a call whose argument is out of range
 pub out_for : (OutOfRange : Type 0) (size : ℕ) (bytes : List ℕ) → OutOfRange → IsAnswerFor OutOfRange size bytes 4
-out_for OutOfRange size bytes out = record {
-  range = λ _. refl;
-  font = λ font given. (((λ _. inl out), λ _. refl), λ same. absurd (omega (arith, same)));
-  other = λ one. absurd (grind (arith, one));
-}
+out_for OutOfRange size bytes out =
+    record { range = λ _. refl; font = λ within. absurd (within out); other = λ one. absurd (grind (arith, one)) }
 
 -- of a call that opens no font
 pub declined_for : (OutOfRange : Type 0) (size : ℕ) (bytes : List ℕ) (answer : ℕ) → (OutOfRange → ⊥) → IsNoFont size bytes answer → IsAnswerFor OutOfRange size bytes answer
-declined_for OutOfRange size bytes answer within none = record {
-  range = λ out. absurd (within out);
-  font = λ font given. (((λ four. inr (by ((none.0.font font given).0.0 four))), λ one. (none.0.font font given).0.1 (again one)), (none.0.font font given).1);
-  other = none.0.other;
-}
-  where
-    by : {A : Type 0} → ⊥ ⊎ A → A
-    by (inl never) = absurd never
-    by (inr a) = a
-
-    again : {A : Type 0} → OutOfRange ⊎ A → ⊥ ⊎ A
-    again (inl out) = absurd (within out)
-    again (inr a) = inr a
+declined_for OutOfRange size bytes answer within none =
+    record { range = λ out. absurd (within out); font = λ _. none.0.font (λ never. never); other = none.0.other }
 
 -- and of a call that opens one
 pub answered_for : (OutOfRange : Type 0) (size : ℕ) (bytes table : List ℕ) (answer : ℕ) → (OutOfRange → ⊥) → IsOpenFor size bytes table
     → (answer ≡ 0) ⊎ ((answer ≡ 2) ⊎ (answer ≡ 3)) → IsAnswerFor OutOfRange size bytes answer
 answered_for OutOfRange size bytes table answer within opened one = record {
   range = λ out. absurd (within out);
-  font = λ font given. (((λ four. absurd (grind (arith, one, four))), λ out. absurd (never font given out)), λ same. absurd (grind (arith, one, same)));
+  font = λ _ font given. ((λ four. absurd (grind (arith, one, four)), λ other. absurd ((opened.0 font given).1 other)), λ same. absurd (grind (arith, one, same)));
   other = λ _. opened.1;
 }
-  where
-    never : (font : FontValue) → IsGiven bytes size font → OutOfRange ⊎ IsOtherSize size font → ⊥
-    never font given (inl out) = within out
-    never font given (inr other) = (opened.0 font given).1 other

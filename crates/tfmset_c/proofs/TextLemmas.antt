@@ -21,7 +21,7 @@ use Rattle.line_records.specs.declared.result.LineResult.TheVariants.{Set as Set
 use Rattle.line_records.specs.Results.{IsResult, only_part, line_result, refusal_in, set_within}
 use Rattle.line_records.proofs.KeptLemmas.{alone_portions}
 use Rattle.tfm_tables.specs.Acceptance.{font_fault_of}
-use Rattle.tfmset_c.specs.Arrays.{AreLinesTold, ArePut, AreRecordsTold, AreTold, IsFilled, IsPartly, IsUnderWay}
+use Rattle.tfmset_c.specs.Arrays.{ArePut, AreRecordsTold, IsFilled, IsPartly, IsUnderWay}
 use Rattle.tfmset_c.specs.Options.{IsReadAs, IsSetWith, call_limit_of, lines_at, outcome_within, outcomes_at, outcomes_within, result_within, steps_in, steps_of, terms_at}
 use Rattle.tfmset_c.specs.Reading.{IsAnswer}
 use Rattle.tfmset_c.specs.Records.{record_within, records_told}
@@ -196,25 +196,10 @@ unfolding terms_at
 terms_are bytes options settings terms read set = set.value ∙ rw (read.size, read.limit, read.policy) refl
 
 -- and so are the results of the lines
-outcomes_are : (bytes text : List ℕ) (options : TfmsetOptions) (settings : Settings) (terms : TermsValue) → IsReadAs options settings → IsSetWith bytes settings terms
+pub outcomes_are : (bytes text : List ℕ) (options : TfmsetOptions) (settings : Settings) (terms : TermsValue) → IsReadAs options settings → IsSetWith bytes settings terms
     → outcomes_within terms settings.call_limit (lines_in settings.crlf text) ≡ outcomes_at bytes options text
 unfolding outcomes_at
 outcomes_are bytes text options settings terms read set = rw (terms_are bytes options settings terms read set, read.call_limit, read.crlf) refl
-
-pub set_called : (bytes text : List ℕ) (options : TfmsetOptions) (settings : Settings) (terms : TermsValue) (answer : ℕ) (counts_before counts : TfmsetCounts)
-    (lines_before lines : List TfmsetLine) (items_before items : List TfmsetItem) → IsReadAs options settings → IsSetWith bytes settings terms
-    → AreTold (outcomes_within terms settings.call_limit (lines_in settings.crlf text)) answer counts_before counts lines_before lines items_before items
-    → AreTold (outcomes_at bytes options text) answer counts_before counts lines_before lines items_before items
-set_called bytes text options settings terms answer counts_before counts lines_before lines items_before items read set told =
-    subst (λ outcomes. AreTold outcomes answer counts_before counts lines_before lines items_before items)
-    (outcomes_are bytes text options settings terms read set) told
-
-pub widths_called : (bytes text : List ℕ) (options : TfmsetOptions) (settings : Settings) (terms : TermsValue) (answer : ℕ) (counts_before counts : TfmsetCounts)
-    (before lines : List TfmsetLine) → IsReadAs options settings → IsSetWith bytes settings terms
-    → AreLinesTold (outcomes_within terms settings.call_limit (lines_in settings.crlf text)) answer counts_before counts before lines
-    → AreLinesTold (outcomes_at bytes options text) answer counts_before counts before lines
-widths_called bytes text options settings terms answer counts_before counts before lines read set told =
-    subst (λ outcomes. AreLinesTold outcomes answer counts_before counts before lines) (outcomes_are bytes text options settings terms read set) told
 
 pub records_called : (bytes text : List ℕ) (options : TfmsetOptions) (settings : Settings) (terms : TermsValue) (named : Option Form) (form asked : Form)
     (answer count_before count : ℕ) (before records : List ℕ) → IsReadAs options settings → IsSetWith bytes settings terms
@@ -239,5 +224,3 @@ pub neither : {A B C : Type 0} → (A → ⊥) → (B → ⊥) → (C → ⊥) �
 neither first second third (inl out) = first out
 neither first second third (inr (inl out)) = second out
 neither first second third (inr (inr out)) = third out
-
-pub ruleset called = (set_called, widths_called, records_called)

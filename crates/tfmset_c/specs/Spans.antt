@@ -1,6 +1,6 @@
 -- Spans of a text, and their results and items as C gets them.
 -- This project's own; the outcome of a span is defined in Spans of `spans`, and its items in Places of `spans`.
-use Rattle.std.specs.Prelude.{◌≡◌, ◌≢◌, ◌⊎◌, ℕ, pos, ◌+◌, ◌-◌, ◌==◌, ◌&&◌, ◌||◌, nat_le, nat_lt, Bool, false, List, [], ◌∷◌, ◌++◌, length, map, Some, None, if◌then◌else◌}
+use Rattle.std.specs.Prelude.{◌≡◌, ◌≢◌, ◌⊎◌, ℕ, ◌+◌, ◌-◌, ◌==◌, ◌&&◌, ◌||◌, nat_le, nat_lt, Bool, false, List, [], ◌∷◌, ◌++◌, length, map, Some, None, if◌then◌else◌}
 use Rattle.std.specs.List.{list_all, sum_by}
 use Rattle.std.specs.Option.{option_map_or}
 use Rattle.tfm_tables.specs.Font.{FontValue}
@@ -11,9 +11,9 @@ use Rattle.spans.specs.declared.placed_item.PlacedItem.{PlacedItem}
 use Rattle.spans.specs.declared.span.Span.{Span}
 use Rattle.spans.specs.Places.{places_of}
 use Rattle.spans.specs.Spans.{outcome_of}
-use Rattle.tfmset_c.specs.Arrays.{HasEffect, HasRoom, IsOverlaid, IsPartly}
+use Rattle.tfmset_c.specs.Arrays.{HasEffect, HasRoom, IsFilled, IsOverlaid, IsPartly}
 use Rattle.tfmset_c.specs.Options.{IsOutOfRange, call_limit_of, limit_of}
-use Rattle.tfmset_c.specs.Texts.{held, item_told}
+use Rattle.tfmset_c.specs.Texts.{held, item_told, refused_with}
 use Rattle.tfmset_c.specs.declared.lines.TfmsetCounts.{TfmsetCounts}
 use Rattle.tfmset_c.specs.declared.lines.TfmsetLine.{TfmsetLine}
 use Rattle.tfmset_c.specs.declared.options.TfmsetOptions.{TfmsetOptions}
@@ -48,11 +48,6 @@ pub record SpanTerms : Type 0 where
 
 -- ---- the results
 
--- the result of a span that is refused
-abbrev pub refused_with : ℕ → ℕ → ℕ → ℕ → ℕ → TfmsetLine
-refused_with first refusal place steps code =
-    record { width = pos 0; first = first; count = 0; place = place; steps = steps; refusal = refusal; code = code }
-
 -- the result of a span with this outcome; its first item has this index
 unfoldable pub span_told : ℕ → ℕ → TfmsetSpan → SpanOutcome → TfmsetLine
 span_told limit first span (Set size) =
@@ -65,7 +60,7 @@ span_told limit first span (Refused Outside) = refused_with first 4 0 0 0
 -- the result of a span of which this many steps are left for the call: if none is left, it is refused, and isn't set
 unfoldable pub span_within : SpanTerms → ℕ → ℕ → TfmsetSpan → TfmsetLine
 span_within terms left first span =
-    if left == 0 then refused_with first 3 0 0 0
+    if left == 0 then span_told 0 first span (Refused Steps)
     else span_told terms.limit first span (outcome_of terms.font terms.text (span_of span) terms.limit)
 
 -- the results of spans, in order: each span takes its steps from those that are left for the call; this many items
@@ -121,33 +116,39 @@ spans_at font options text spans = spans_told (terms_for font options text) (cal
 abbrev pub items_at : FontValue → TfmsetOptions → List ℕ → List TfmsetSpan → List TfmsetPlaced
 items_at font options text spans = items_told (terms_for font options text) spans (spans_at font options text spans)
 
--- the effect of a call that sets spans: the array has the results, and the counts are the numbers of results and of
--- their items
-abbrev pub AreSpansTold : List TfmsetLine → ℕ → TfmsetCounts → TfmsetCounts → List TfmsetLine → List TfmsetLine → Type 0
-AreSpansTold told answer counts_before counts before lines =
-    HasEffect (HasRoom (length told) (length before)) (IsOverlaid told before lines) (lines ≡ before)
-    (record { lines = held (length told); items = held (items_in told) }) answer counts_before counts
+-- the items, if they are wanted
+abbrev pub wanted : Bool → List TfmsetPlaced → List TfmsetPlaced
+wanted with_items items = if with_items then items else []
 
--- the same with their items
-abbrev pub AreItemsTold : List TfmsetLine → List TfmsetPlaced → ℕ → TfmsetCounts → TfmsetCounts → List TfmsetLine → List TfmsetLine
+-- the numbers of results and of their items
+abbrev pub counts_told : Bool → List TfmsetLine → List TfmsetPlaced → TfmsetCounts
+counts_told with_items told placed =
+    record { lines = held (length told); items = held (if with_items then length placed else items_in told) }
+
+-- the effect of a call that sets spans: the arrays have the results, and the items if they are wanted, and the counts are
+-- the numbers of results and of their items
+abbrev pub AreSpansTold : Bool → List TfmsetLine → List TfmsetPlaced → ℕ → TfmsetCounts → TfmsetCounts → List TfmsetLine → List TfmsetLine
     → List TfmsetPlaced → List TfmsetPlaced → Type 0
-AreItemsTold told placed answer counts_before counts lines_before lines items_before items =
-    HasEffect (HasRoom (length told) (length lines_before) × HasRoom (length placed) (length items_before))
-    (IsOverlaid told lines_before lines × IsOverlaid placed items_before items)
-    ((lines ≡ lines_before) × (items ≡ items_before))
-    (record { lines = held (length told); items = held (length placed) }) answer counts_before counts
+AreSpansTold with_items told placed answer counts_before counts lines_before lines items_before items =
+    HasEffect (HasRoom (length told) (length lines_before) × HasRoom (length (wanted with_items placed)) (length items_before))
+    (IsOverlaid told lines_before lines × IsOverlaid (wanted with_items placed) items_before items)
+    ((lines ≡ lines_before) × (items ≡ items_before)) (counts_told with_items told placed) answer counts_before counts
 
 -- ---- partly filled arrays: this project's own representation, which no definition above uses
 
--- an array has the first results, their items are counted, and the results of the other spans are still to be written
-pub record AreUnderWay (terms : SpanTerms) (all : List TfmsetLine) (left : ℕ) (rest : List TfmsetSpan) (counts : TfmsetCounts) (before lines : List TfmsetLine) : Type 0 where
-  pub items : ℕ
-  pub held_items : counts.items ≡ held items
-  pub counted : items + items_in (spans_told terms left items rest) ≡ items_in all
-  pub line : IsPartly all (spans_told terms left items rest) counts.lines before lines
+-- the arrays have the first results, which are counted, and their items, and those of the other spans are still to be
+-- written
+pub record AreUnderWay (terms : SpanTerms) (with_items : Bool) (all : List TfmsetLine) (placed : List TfmsetPlaced) (left : ℕ) (rest : List TfmsetSpan)
+    (counts : TfmsetCounts) (at : ℕ) (lines_before lines : List TfmsetLine) (items_before items : List TfmsetPlaced) : Type 0 where
+  pub items_so_far : ℕ
+  pub held_items : counts.items ≡ held items_so_far
+  pub counted : items_so_far + items_in (spans_told terms left items_so_far rest) ≡ items_in all
+  pub line : IsPartly all (spans_told terms left items_so_far rest) counts.lines lines_before lines
+  pub item : IsPartly (wanted with_items placed) (wanted with_items (items_told terms rest (spans_told terms left items_so_far rest))) at items_before items
 
--- and another array has their items
-pub record ArePlaced (terms : SpanTerms) (spans : List TfmsetSpan) (all : List TfmsetLine) (left : ℕ) (rest : List TfmsetSpan) (counts : TfmsetCounts)
+-- all of them are written, if they have room
+pub record AreFilled (with_items : Bool) (told : List TfmsetLine) (placed : List TfmsetPlaced) (counts : TfmsetCounts) (at : ℕ)
     (lines_before lines : List TfmsetLine) (items_before items : List TfmsetPlaced) : Type 0 where
-  pub under : AreUnderWay terms all left rest counts lines_before lines
-  pub item : IsPartly (items_told terms spans all) (items_told terms rest (spans_told terms left under.items rest)) counts.items items_before items
+  pub counted : counts ≡ counts_told with_items told placed
+  pub line : IsFilled told counts.lines lines_before lines
+  pub item : IsFilled (wanted with_items placed) at items_before items

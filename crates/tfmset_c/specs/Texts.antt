@@ -29,16 +29,18 @@ unfoldable pub items_in : Outcome → List Item
 items_in (Set items width steps) = items
 items_in (Refused refusal) = []
 
+-- the result of a line or a span that is refused
+abbrev pub refused_with : ℕ → ℕ → ℕ → ℕ → ℕ → TfmsetLine
+refused_with first refusal place steps code =
+    record { width = pos 0; first = first; count = 0; place = place; steps = steps; refusal = refusal; code = code }
+
 -- the result of a line; its first item has this index
 unfoldable pub line_told : ℕ → Outcome → TfmsetLine
 line_told first (Set items width steps) =
     record { width = width; first = first; count = length items; place = 0; steps = steps; refusal = 0; code = 0 }
-line_told first (Refused (Missing offset code)) =
-    record { width = pos 0; first = first; count = 0; place = offset; steps = 0; refusal = 1; code = code }
-line_told first (Refused (TooLong bytes)) =
-    record { width = pos 0; first = first; count = 0; place = bytes; steps = 0; refusal = 2; code = 0 }
-line_told first (Refused (Steps limit)) =
-    record { width = pos 0; first = first; count = 0; place = 0; steps = limit; refusal = 3; code = 0 }
+line_told first (Refused (Missing offset code)) = refused_with first 1 offset 0 code
+line_told first (Refused (TooLong bytes)) = refused_with first 2 bytes 0 0
+line_told first (Refused (Steps limit)) = refused_with first 3 0 limit 0
 
 -- a result without items is that of a line of bytes with this outcome
 abbrev pub IsOf : Outcome → LineResult → Type 0

@@ -44,25 +44,15 @@ pub struct TfmsetCharacter {
     pub repeated: u8,
 }
 
-/// Returns the number of a tag.
-fn tag_named(tag: Tag) -> u32
-    ensures { result ≡ tag_number tag }
+/// Returns the number of a tag, and its remainder, or 0 if it has none.
+fn tag_for_c(tag: Tag) -> (u32, u32)
+    ensures { (result.0 ≡ tag_number tag) × (result.1 ≡ tag_rest tag) }
 {
     match tag {
-        Tag::Plain => 0,
-        Tag::Lig(_) => 1,
-        Tag::List(_) => 2,
-        Tag::Ext(_) => 3,
-    }
-}
-
-/// Returns the remainder of a tag, or 0 if it has none.
-fn remainder(tag: Tag) -> u32
-    ensures { result ≡ tag_rest tag }
-{
-    match tag {
-        Tag::Plain => 0,
-        Tag::Lig(remainder) | Tag::List(remainder) | Tag::Ext(remainder) => u32::from(remainder),
+        Tag::Plain => (0, 0),
+        Tag::Lig(remainder) => (1, u32::from(remainder)),
+        Tag::List(remainder) => (2, u32::from(remainder)),
+        Tag::Ext(remainder) => (3, u32::from(remainder)),
     }
 }
 
@@ -119,6 +109,7 @@ fn character(font: &FontMetrics, words: &[u8], counts: &Counts, code: u8) -> Tfm
     let Some(tag) = font.tag(code) else {
         return nothing;
     };
+    let (number, remainder) = tag_for_c(tag);
     let [top, middle, bottom, repeated] = recipe(words, counts, tag);
     TfmsetCharacter {
         exists: 1,
@@ -126,8 +117,8 @@ fn character(font: &FontMetrics, words: &[u8], counts: &Counts, code: u8) -> Tfm
         height: metrics.height,
         depth: metrics.depth,
         italic: metrics.italic,
-        tag: tag_named(tag),
-        remainder: remainder(tag),
+        tag: number,
+        remainder,
         top,
         middle,
         bottom,

@@ -39,51 +39,21 @@ pub struct TfmsetFault {
 fn count_named(count: Count) -> u32
     ensures { result ≡ count_number count }
 {
-    match count {
-        Count::Lf => 0,
-        Count::Lh => 1,
-        Count::Bc => 2,
-        Count::Ec => 3,
-        Count::Nw => 4,
-        Count::Nh => 5,
-        Count::Nd => 6,
-        Count::Ni => 7,
-        Count::Nl => 8,
-        Count::Nk => 9,
-        Count::Ne => 10,
-        Count::Np => 11,
-    }
+    count as u32
 }
 
 /// Returns the number of a table.
 fn table_named(table: Table) -> u32
     ensures { result ≡ table_number table }
 {
-    match table {
-        Table::Header => 0,
-        Table::CharInfo => 1,
-        Table::Width => 2,
-        Table::Height => 3,
-        Table::Depth => 4,
-        Table::Italic => 5,
-        Table::LigKern => 6,
-        Table::Kern => 7,
-        Table::Exten => 8,
-        Table::Param => 9,
-    }
+    table as u32
 }
 
 /// Returns the number of a part of an instruction.
 fn part_named(part: Part) -> u32
     ensures { result ≡ part_number part }
 {
-    match part {
-        Part::Restart => 0,
-        Part::Next => 1,
-        Part::Ligature => 2,
-        Part::Kern => 3,
-        Part::Skip => 4,
-    }
+    part as u32
 }
 
 fn fault(number: u32, named: u32, place: usize) -> TfmsetFault

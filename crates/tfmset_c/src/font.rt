@@ -1,11 +1,9 @@
 //! `tfmset_font`, `tfmset_parameters` and `tfmset_header_text`: what a font states about itself.
-ghost use Rattle.std.specs.Prelude.{◌≡◌, ◌≢◌, ◌≤◌, ◌<◌, IfOk, is_some};
+ghost use Rattle.std.specs.Prelude.{◌≡◌, ◌≢◌, ◌≤◌, ◌<◌, IfOk};
 ghost use Rattle.tfm_tables.specs.Acceptance.{words_of};
 ghost use Rattle.tfm_tables.specs.Decoded.{parameters_of as all_parameters};
-ghost use Rattle.tfm_tables.specs.Program.{start_of};
-ghost use Rattle.tfm_tables.specs.declared.left_side.LeftSide.TheVariants.{Boundary};
 ghost use Rattle.tfmset_c.specs.Arrays.{IsListed};
-ghost use Rattle.tfmset_c.specs.Fonts.{flag, font_told, header_text_of, right_or_none};
+ghost use Rattle.tfmset_c.specs.Fonts.{font_told, header_text_of, right_or_none};
 ghost use Rattle.tfmset_c.specs.Reading.{IsAnswer, IsNoSize, font_at};
 
 use crate::arrays::report;
@@ -46,16 +44,6 @@ fn right_boundary(font: &FontMetrics) -> u32
     }
 }
 
-/// Returns 1 if the left boundary has a starting address, otherwise 0.
-fn left_boundary(font: &FontMetrics) -> u32
-    ensures { result ≡ flag (is_some (start_of font.now.words Boundary)) }
-{
-    match font.start(LeftSide::Boundary) {
-        Some(_) => 1,
-        None => 0,
-    }
-}
-
 /// Returns the data of a font as C gets them.
 #[tactic(auto, unfolding(crate::specs::Fonts::font_told))]
 fn font_for_c(font: &FontMetrics) -> TfmsetAbout
@@ -69,7 +57,7 @@ fn font_for_c(font: &FontMetrics) -> TfmsetAbout
         size: font.size().get(),
         check_sum: font.check_sum(),
         right_boundary: right_boundary(font),
-        left_boundary: left_boundary(font),
+        left_boundary: u32::from(font.start(LeftSide::Boundary).is_some()),
     }
 }
 

@@ -5,7 +5,7 @@ ghost use Rattle.line_records.specs.Results.{IsResult};
 ghost use Rattle.set_line.specs.declared.outcome.Outcome.{Outcome as OutcomeValue};
 ghost use Rattle.set_line.specs.declared.records.text_refusal.TextRefusal.{TextRefusal as TextRefusalValue};
 ghost use Rattle.tfmset_c.specs.Options.{steps_in, steps_of as steps_of_outcome};
-ghost use Rattle.tfmset_c.specs.Texts.{IsOf, item_told, line_told};
+ghost use Rattle.tfmset_c.specs.Texts.{IsOf, item_told, line_told, refused_with};
 
 use lig_kern::Item;
 use line_records::{LineResult, Sums};
@@ -93,32 +93,11 @@ pub fn result_of(outcome: &Outcome) -> LineResult
     }
 }
 
-/// Returns the result of a line of bytes as C gets it. `first` is the index of its first item.
-#[tactic(auto, unfolding(crate::specs::Texts::line_told))]
-pub fn line_for_c(set: LineResult, first: usize) -> TfmsetLine
-    requires { (outcome : OutcomeValue) × IsOf outcome set }
-    ensures { (outcome : OutcomeValue) → IsOf outcome set → result ≡ line_told first outcome }
+/// Returns the result of a line or a span without items: a refused one, or with refusal 0 an empty one. `first` is the
+/// index of its first item.
+pub fn refused_for_c(first: usize, refusal: u32, place: usize, steps: u32, code: u8) -> TfmsetLine
+    ensures { result ≡ refused_with first refusal place steps code }
 {
-    let refusal = match set {
-        LineResult::Set(sums) => {
-            return TfmsetLine {
-                width: sums.width,
-                first,
-                count: sums.items,
-                place: 0,
-                steps: sums.steps,
-                refusal: 0,
-                code: 0,
-            };
-        }
-        LineResult::Refused(TextRefusal::Line(refusal)) => refusal,
-        LineResult::Refused(_) => unreachable!(),
-    };
-    let (refusal, place, steps, code) = match refusal {
-        LineRefusal::Missing { offset, code } => (1, offset, 0, code),
-        LineRefusal::TooLong(bytes) => (2, bytes, 0, 0),
-        LineRefusal::Steps(limit) => (3, 0, limit, 0),
-    };
     TfmsetLine {
         width: 0,
         first,
@@ -127,6 +106,28 @@ pub fn line_for_c(set: LineResult, first: usize) -> TfmsetLine
         steps,
         refusal,
         code: u32::from(code),
+    }
+}
+
+/// Returns the result of a line of bytes as C gets it. `first` is the index of its first item.
+#[tactic(auto, unfolding(crate::specs::Texts::line_told))]
+pub fn line_for_c(set: LineResult, first: usize) -> TfmsetLine
+    requires { (outcome : OutcomeValue) × IsOf outcome set }
+    ensures { (outcome : OutcomeValue) → IsOf outcome set → result ≡ line_told first outcome }
+{
+    match set {
+        LineResult::Set(sums) => TfmsetLine {
+            width: sums.width,
+            count: sums.items,
+            steps: sums.steps,
+            ..refused_for_c(first, 0, 0, 0, 0)
+        },
+        LineResult::Refused(TextRefusal::Line(refusal)) => match refusal {
+            LineRefusal::Missing { offset, code } => refused_for_c(first, 1, offset, 0, code),
+            LineRefusal::TooLong(bytes) => refused_for_c(first, 2, bytes, 0, 0),
+            LineRefusal::Steps(limit) => refused_for_c(first, 3, 0, limit, 0),
+        },
+        LineResult::Refused(_) => unreachable!(),
     }
 }
 

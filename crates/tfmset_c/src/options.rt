@@ -1,7 +1,7 @@
 //! The options of a call that sets lines, and the text that it sets.
-ghost use Rattle.std.specs.Prelude.{◌≡◌, ◌≤◌, ◌<◌, IfOk, IfErr, MatchOption};
+ghost use Rattle.std.specs.Prelude.{◌≤◌, IfOk, IfErr, MatchOption};
 ghost use Rattle.tfmset_c.specs.Reading.{IsDenial};
-ghost use Rattle.tfmset_c.specs.Options.{IsOutOfRange, IsReadAs, IsSetWith, call_limit_of, limit_of, policy_of};
+ghost use Rattle.tfmset_c.specs.Options.{IsOutOfRange, IsReadAs, IsSetWith};
 
 use crate::reading::{Denial, MOST_SIZE, read_font};
 use set_line::{Limit, Policy, Terms};
@@ -50,36 +50,9 @@ pub struct Text<'a> {
     pub call_limit: u64,
 }
 
-/// Returns the limit of this many steps, or of 1,048,576 steps for 0. Returns `None` above 16,777,216.
-#[tactic(auto, unfolding(crate::specs::Options::limit_of))]
-fn limit_numbered(limit: u32) -> Option<Limit>
-    ensures { MatchOption result (16777216 < limit) (λ l. (l ≡ limit_of limit) × (limit ≤ 16777216)) }
-{
-    Limit::new(if limit == 0 { 1_048_576 } else { limit })
-}
-
-/// Returns the call limit of this many steps, or of 2^64 - 1 steps for 0.
-#[tactic(auto, unfolding(crate::specs::Options::call_limit_of))]
-fn call_limit_numbered(limit: u64) -> u64
-    ensures { result ≡ call_limit_of limit }
-{
-    if limit == 0 { u64::MAX } else { limit }
-}
-
-/// Returns the missing-character policy with this number: 0 refuses the line, and any other number skips the
-/// byte.
-#[tactic(auto, unfolding(crate::specs::Options::policy_of))]
-fn policy_numbered(policy: u32) -> Policy
-    ensures { result ≡ policy_of policy }
-{
-    if policy == 0 {
-        return Policy::Refuse;
-    }
-    Policy::Skip
-}
-
 impl TfmsetOptions {
     /// Returns these options as settings, or `None` if one of them is out of range.
+    #[tactic(auto, unfolding(crate::specs::Options::limit_of, crate::specs::Options::call_limit_of, crate::specs::Options::policy_of))]
     pub(crate) fn in_range(&self) -> Option<Settings>
         ensures { MatchOption result (IsOutOfRange self.now)
             (λ settings. IsReadAs self.now settings × (IsOutOfRange self.now → ⊥)) }
@@ -87,12 +60,24 @@ impl TfmsetOptions {
         if self.size > MOST_SIZE || self.policy > 1 || self.crlf > 1 {
             return None;
         }
-        let limit = limit_numbered(self.limit)?;
+        let limit = Limit::new(if self.limit == 0 {
+            1_048_576
+        } else {
+            self.limit
+        })?;
         Some(Settings {
             size: self.size,
             limit,
-            policy: policy_numbered(self.policy),
-            call_limit: call_limit_numbered(self.call_limit),
+            policy: if self.policy == 0 {
+                Policy::Refuse
+            } else {
+                Policy::Skip
+            },
+            call_limit: if self.call_limit == 0 {
+                u64::MAX
+            } else {
+                self.call_limit
+            },
             crlf: self.crlf == 1,
         })
     }

@@ -1,6 +1,6 @@
 //! Reads the font of a call, and defines the codes that the functions return.
 ghost use Rattle.std.specs.Prelude.{◌≡◌, ◌≤◌, IfOk, IfErr};
-ghost use Rattle.tfmset_c.specs.Reading.{IsDenial, IsOpened, asked_size, denial_number};
+ghost use Rattle.tfmset_c.specs.Reading.{IsDenial, IsOpened, denial_number};
 
 use std::alloc::Global;
 use tfm_tables::{Font, FontFault, FontMetrics};
@@ -41,24 +41,15 @@ impl Denial {
     }
 }
 
-/// Returns the size of this many sp, or `None` for 0, which requests the design size.
-#[tactic(auto, unfolding(crate::specs::Reading::asked_size))]
-fn size_numbered(size: u32) -> Option<Size>
-    requires { size ≤ 134217727 }
-    ensures { result ≡ asked_size size }
-{
-    Size::new(size)
-}
-
 /// Reads the font in these bytes, without the tables that are needed only to set lines. `size` is in sp, and
 /// 0 is the design size. Returns a `Denial` if the font is refused, or an allocation fails.
-#[tactic(auto, using(crate::proofs::ReadingLemmas::opened))]
+#[tactic(auto, using(crate::proofs::ReadingLemmas::opened), unfolding(crate::specs::Reading::asked_size))]
 pub fn read_metrics(alloc: Global, bytes: &[u8], size: u32) -> Result<FontMetrics, Denial>
     requires { size ≤ 134217727 }
     ensures ok { IfOk result (IsOpened bytes.now size) }
     ensures denied { IfErr result (IsDenial bytes.now) }
 {
-    match FontMetrics::read(alloc, bytes, size_numbered(size)) {
+    match FontMetrics::read(alloc, bytes, Size::new(size)) {
         Ok(font) => Ok(font),
         Err(FontFault::OutOfMemory) => Err(Denial::Memory),
         Err(fault) => Err(Denial::Refused(fault)),

@@ -216,7 +216,7 @@ fn write_records(
 /// out of range, if no encoding has this name, or if the sum of `form.first` and the length of the text is 2^64 or
 /// more. After 1 and 4 nothing is changed. After 2 `count` is unchanged. After 2 and 3 the contents of `records` are
 /// unspecified.
-#[tactic(auto, using(crate::proofs::TextLemmas::called))]
+#[tactic(auto, using(crate::proofs::TextLemmas::records_called))]
 #[unsafe(no_mangle)]
 pub extern "C" fn tfmset_records(
     alloc: Global,

@@ -208,7 +208,6 @@ fn set_widths(alloc: Global, text: Text, lines: &mut [TfmsetLine], counts: &mut 
 /// allocation fails; 3 if an array is too short, where `counts` has the lengths needed; 4 if an option is out of
 /// range. After 1 and 4 nothing is changed. After 2 `counts` is unchanged. After 2 and 3 the contents of the
 /// arrays are unspecified.
-#[tactic(auto, using(crate::proofs::TextLemmas::called))]
 #[unsafe(no_mangle)]
 pub extern "C" fn tfmset_set(
     alloc: Global,
@@ -244,7 +243,6 @@ pub extern "C" fn tfmset_set(
 
 /// Sets the lines of a text as [`tfmset_set`] does, without returning the items: only `lines` has to be long
 /// enough. The numbers in `lines` and `counts`, and the codes, are those of `tfmset_set`.
-#[tactic(auto, using(crate::proofs::TextLemmas::called))]
 #[unsafe(no_mangle)]
 pub extern "C" fn tfmset_widths(
     alloc: Global,

@@ -2,9 +2,9 @@
 ghost use Rattle.std.specs.Prelude.{◌≡◌, MatchOption};
 ghost use Rattle.std.specs.List.{list_all};
 ghost use Rattle.tfmset_c.specs.Options.{IsReadAs};
-ghost use Rattle.tfmset_c.specs.Spans.{IsNoCall, is_in_range, placed_told, refused_with, span_of, span_told};
+ghost use Rattle.tfmset_c.specs.Spans.{IsNoCall, is_in_range, placed_told, span_of, span_told};
 
-use crate::lines::{TfmsetLine, item_for_c};
+use crate::lines::{TfmsetLine, item_for_c, refused_for_c};
 use crate::options::{Settings, TfmsetOptions};
 use spans::{PlacedItem, Span, SpanOutcome, SpanRefusal};
 
@@ -78,49 +78,19 @@ pub fn span_for(span: &TfmsetSpan) -> Span
 pub fn span_for_c(outcome: SpanOutcome, span: &TfmsetSpan, limit: u32, first: usize) -> TfmsetLine
     ensures { result ≡ span_told limit first span.now outcome }
 {
-    let refusal = match outcome {
-        SpanOutcome::Set(size) => {
-            return TfmsetLine {
-                width: size.width,
-                first,
-                count: size.items,
-                place: 0,
-                steps: size.steps,
-                refusal: 0,
-                code: 0,
-            };
-        }
-        SpanOutcome::Refused(refusal) => refusal,
-    };
-    let (refusal, place, steps, code) = match refusal {
-        SpanRefusal::Missing { offset, code } => (1, offset, 0, code),
-        SpanRefusal::TooLong => (2, span.length, 0, 0),
-        SpanRefusal::Steps => (3, 0, limit, 0),
-        SpanRefusal::Outside => (4, 0, 0, 0),
-    };
-    TfmsetLine {
-        width: 0,
-        first,
-        count: 0,
-        place,
-        steps,
-        refusal,
-        code: u32::from(code),
-    }
-}
-
-/// Returns the result of a span for which no steps are left. `first` is the index of its first item.
-pub fn refused_for_call(first: usize) -> TfmsetLine
-    ensures { result ≡ refused_with first 3 0 0 0 }
-{
-    TfmsetLine {
-        width: 0,
-        first,
-        count: 0,
-        place: 0,
-        steps: 0,
-        refusal: 3,
-        code: 0,
+    match outcome {
+        SpanOutcome::Set(size) => TfmsetLine {
+            width: size.width,
+            count: size.items,
+            steps: size.steps,
+            ..refused_for_c(first, 0, 0, 0, 0)
+        },
+        SpanOutcome::Refused(refusal) => match refusal {
+            SpanRefusal::Missing { offset, code } => refused_for_c(first, 1, offset, 0, code),
+            SpanRefusal::TooLong => refused_for_c(first, 2, span.length, 0, 0),
+            SpanRefusal::Steps => refused_for_c(first, 3, 0, limit, 0),
+            SpanRefusal::Outside => refused_for_c(first, 4, 0, 0, 0),
+        },
     }
 }
 

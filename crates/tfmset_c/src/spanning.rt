@@ -1,21 +1,20 @@
-//! `tfmset_spans`: sets spans of a text into an array of the caller.
-ghost use Rattle.std.specs.Prelude.{◌≡◌, ◌≢◌, ◌≤◌, ◌⊎◌, IfErr, IfOk};
+//! `tfmset_spans` and `tfmset_span_items`: set spans of a text into arrays of the caller.
+ghost use Rattle.std.specs.Prelude.{◌≡◌, ◌≢◌, ◌≤◌, ◌⊎◌, [], true, false, IfErr, IfOk, map};
 ghost use Rattle.prepared_font.specs.Layout.{IsPreparedFrom};
 ghost use Rattle.tfm_tables.specs.Font.{FontValue};
-ghost use Rattle.tfmset_c.specs.Arrays.{IsFilled};
+ghost use Rattle.tfmset_c.specs.Arrays.{ArePut};
 ghost use Rattle.tfmset_c.specs.Prepared.{IsAnswerFor, IsGiven, IsNoFont, IsOpenFor};
-ghost use Rattle.tfmset_c.specs.Spans.{AreSpansTold, IsNoCall, items_in, job_terms, span_within, spans_at, spans_told};
-ghost use Rattle.tfmset_c.specs.Texts.{held};
+ghost use Rattle.tfmset_c.specs.Spans.{AreFilled, AreSpansTold, IsNoCall, items_at, items_told, job_terms, placed_told, span_items, span_within, spans_at, spans_told, wanted};
 
 use crate::arrays::{has_room, put_one};
 use crate::lines::{TfmsetCounts, TfmsetLine};
 use crate::options::TfmsetOptions;
 use crate::preparing::table_of;
 use crate::reading::{DONE, MEMORY, NO_ROOM, RANGE};
-use crate::span::{TfmsetSpan, refused_for_call, settings_for, span_for, span_for_c};
+use crate::span::{TfmsetPlaced, TfmsetSpan, placed_for_c, settings_for, span_for, span_for_c};
 use prepared_font::PreparedFont;
 use set_line::{Limit, OutOfMemory};
-use spans::SpanSetter;
+use spans::{PlacedItem, SpanOutcome, SpanRefusal, SpanSetter, place_span};
 use std::alloc::Global;
 
 /// The spans of a call, and how they are set.
@@ -31,6 +30,25 @@ pub struct SpanJob<'a> {
     pub limit: Limit,
     /// The steps of all spans together after which no further span is set.
     pub call_limit: u64,
+    /// Whether the items of the spans are wanted.
+    pub with_items: bool,
+}
+
+/// The arguments of a call.
+#[derive(Clone, Copy)]
+pub struct SpanCall<'a> {
+    font: &'a [u8],
+    options: &'a TfmsetOptions,
+    text: &'a [u8],
+    spans: &'a [TfmsetSpan],
+    with_items: bool,
+}
+
+/// What is kept from one span to the next one: a setter, and the items of the span if they are wanted.
+#[derive(Drop)]
+struct Kept {
+    setter: SpanSetter,
+    items: Vec<PlacedItem>,
 }
 
 /// Opens the font in these bytes: a table, or a TFM file, whose table is written to `made`. `size` is in sp; 0 is the
@@ -63,75 +81,148 @@ pub fn open_font<'a>(
 }
 
 /// Sets a span of which `left` steps are left for the call: without any it is refused, and isn't set. `first` is the
-/// index of its first item.
+/// index of its first item. Its items replace those in `kept`, if they are wanted.
 #[tactic(auto, unfolding(crate::specs::Spans::span_within))]
 fn set_within(
-    setter: &mut SpanSetter,
+    kept: &mut Kept,
     job: &SpanJob<'_>,
     left: u64,
     first: usize,
     span: &TfmsetSpan,
 ) -> Result<TfmsetLine, OutOfMemory>
-    ensures { (font : FontValue) → IsPreparedFrom font job.now.font.now
+    ensures line { (font : FontValue) → IsPreparedFrom font job.now.font.now
         → IfOk result (λ line. line ≡ span_within (job_terms font job.now.text.now job.now.limit) left first span.now) }
+    ensures items { (font : FontValue) → IsPreparedFrom font job.now.font.now
+        → IfOk result (λ line. map placed_told kept.new.items.items
+        ≡ wanted job.now.with_items (span_items (job_terms font job.now.text.now job.now.limit) span.now line)) }
 {
+    kept.items.clear();
     if left == 0 {
-        return Ok(refused_for_call(first));
+        let refused = SpanOutcome::Refused(SpanRefusal::Steps);
+        return Ok(span_for_c(refused, span, 0, first));
     }
-    let outcome = setter.set(job.font, job.text, &span_for(span), job.limit)?;
+    let one = span_for(span);
+    if job.with_items {
+        let outcome = place_span(job.font, job.text, &one, job.limit, &mut kept.items)?;
+        return Ok(span_for_c(outcome, span, job.limit.get(), first));
+    }
+    let outcome = kept.setter.set(job.font, job.text, &one, job.limit)?;
     Ok(span_for_c(outcome, span, job.limit.get(), first))
 }
 
-/// Sets spans, and writes their results into the array while there is room. Returns the numbers of results and items.
-/// If an allocation fails, the contents of the array are unspecified.
+/// Writes items, starting at index `first`, while there is room, and returns the index after all of them.
+#[tactic(auto, using(crate::proofs::ArrayLemmas::put_both))]
+fn put_all(items: &mut [TfmsetPlaced], first: usize, made: &[PlacedItem]) -> usize
+    ensures { ArePut (map placed_told made.now) first result items.old items.new }
+{
+    let mut at = first;
+    for item in made {
+        at = put_one(items, at, placed_for_c(*item));
+    }
+    at
+}
+
+/// Sets spans, and writes their results and, if they are wanted, their items into the arrays while there is room.
+/// Returns the numbers of results and items, and the number of items that are wanted. If an allocation fails, the
+/// contents of the arrays are unspecified.
 fn fill_spans(
     alloc: Global,
     job: &SpanJob<'_>,
     lines: &mut [TfmsetLine],
-) -> Result<TfmsetCounts, OutOfMemory>
-    ensures lines { (font : FontValue) → IsPreparedFrom font job.now.font.now → IfOk result (λ counts.
-        IsFilled (spans_told (job_terms font job.now.text.now job.now.limit) job.now.call_limit 0 job.now.spans.now)
-        counts.lines lines.old lines.new) }
-    ensures items { (font : FontValue) → IsPreparedFrom font job.now.font.now → IfOk result (λ counts. counts.items
-        ≡ held (items_in (spans_told (job_terms font job.now.text.now job.now.limit) job.now.call_limit 0 job.now.spans.now))) }
+    items: &mut [TfmsetPlaced],
+) -> Result<(TfmsetCounts, usize), OutOfMemory>
+    ensures { (font : FontValue) → IsPreparedFrom font job.now.font.now → IfOk result (λ filled.
+        AreFilled job.now.with_items
+        (spans_told (job_terms font job.now.text.now job.now.limit) job.now.call_limit 0 job.now.spans.now)
+        (items_told (job_terms font job.now.text.now job.now.limit) job.now.spans.now
+        (spans_told (job_terms font job.now.text.now job.now.limit) job.now.call_limit 0 job.now.spans.now))
+        filled.0 filled.1 lines.old lines.new items.old items.new) }
 {
-    let mut setter = SpanSetter::new(alloc);
+    let mut kept = Kept {
+        setter: SpanSetter::new(alloc),
+        items: Vec::new(alloc),
+    };
     let mut counts = TfmsetCounts { lines: 0, items: 0 };
+    let mut placed = 0;
     let mut left = job.call_limit;
     for span in job.spans {
-        let line = set_within(&mut setter, job, left, counts.items, span)?;
+        let line = set_within(&mut kept, job, left, counts.items, span)?;
         counts = TfmsetCounts {
             lines: put_one(lines, counts.lines, line),
             items: counts.items.saturating_add(line.count),
         };
+        placed = put_all(items, placed, &kept.items);
         left = left.saturating_sub(u64::from(line.steps));
     }
-    Ok(counts)
+    if job.with_items {
+        counts.items = placed;
+    }
+    Ok((counts, placed))
 }
 
-/// Sets spans into the array `lines`. Returns: 0 after success; 2 if an allocation fails, with `counts` unchanged; 3
-/// if the array is too short.
+/// Sets spans into the arrays. Returns: 0 after success; 2 if an allocation fails, with `counts` unchanged; 3 if an
+/// array is too short.
 #[tactic(auto, using(crate::proofs::ArrayLemmas::filled))]
 fn set_spans(
     alloc: Global,
     job: &SpanJob<'_>,
     lines: &mut [TfmsetLine],
+    items: &mut [TfmsetPlaced],
     counts: &mut TfmsetCounts,
 ) -> u32
     ensures answers { (result ≡ 0) ⊎ ((result ≡ 2) ⊎ (result ≡ 3)) }
     ensures kept { result ≡ 2 → counts.new ≡ counts.old }
-    ensures told { (font : FontValue) → IsPreparedFrom font job.now.font.now
-        → AreSpansTold (spans_told (job_terms font job.now.text.now job.now.limit) job.now.call_limit 0 job.now.spans.now)
-        result counts.old counts.new lines.old lines.new }
+    ensures told { (font : FontValue) → IsPreparedFrom font job.now.font.now → AreSpansTold job.now.with_items
+        (spans_told (job_terms font job.now.text.now job.now.limit) job.now.call_limit 0 job.now.spans.now)
+        (items_told (job_terms font job.now.text.now job.now.limit) job.now.spans.now
+        (spans_told (job_terms font job.now.text.now job.now.limit) job.now.call_limit 0 job.now.spans.now))
+        result counts.old counts.new lines.old lines.new items.old items.new }
 {
-    let Ok(told) = fill_spans(alloc, job, lines) else {
+    let Ok((told, placed)) = fill_spans(alloc, job, lines, items) else {
         return MEMORY;
     };
     *counts = told;
-    if has_room(told.lines, lines.len()) {
+    if has_room(told.lines, lines.len()) && has_room(placed, items.len()) {
         return DONE;
     }
     NO_ROOM
+}
+
+/// Opens the font of a call, and sets its spans.
+fn run(
+    alloc: Global,
+    call: SpanCall<'_>,
+    lines: &mut [TfmsetLine],
+    items: &mut [TfmsetPlaced],
+    counts: &mut TfmsetCounts,
+) -> u32
+    ensures answers { result ≤ 4 }
+    ensures font { IsAnswerFor (IsNoCall call.entry.options.now call.entry.spans.now) call.entry.options.now.size call.entry.font.now result }
+    ensures told { (value : FontValue) → IsGiven call.entry.font.now call.entry.options.now.size value → AreSpansTold call.entry.with_items
+        (spans_at value call.entry.options.now call.entry.text.now call.entry.spans.now)
+        (items_at value call.entry.options.now call.entry.text.now call.entry.spans.now)
+        result counts.old counts.new lines.old lines.new items.old items.new }
+    ensures counts { result ≢ 0 → result ≢ 3 → counts.new ≡ counts.old }
+    ensures kept { (result ≡ 1) ⊎ (result ≡ 4) → (lines.new ≡ lines.old) × (items.new ≡ items.old) }
+{
+    let Some(settings) = settings_for(call.options, call.spans) else {
+        return RANGE;
+    };
+    let mut made = Vec::new(alloc);
+    match open_font(alloc, call.font, settings.size, &mut made) {
+        Ok(font) => {
+            let job = SpanJob {
+                font: &font,
+                text: call.text,
+                spans: call.spans,
+                limit: settings.limit,
+                call_limit: settings.call_limit,
+                with_items: call.with_items,
+            };
+            set_spans(alloc, &job, lines, items, counts)
+        }
+        Err(code) => code,
+    }
 }
 
 /// Sets spans of a text, each as one run. `font` is a TFM file, or a table that `tfmset_prepare` wrote. Returns: 0 after
@@ -151,26 +242,49 @@ pub extern "C" fn tfmset_spans(
 ) -> u32
     ensures answers { result ≤ 4 }
     ensures font { IsAnswerFor (IsNoCall options.now spans.now) options.now.size font.now result }
-    ensures told { (value : FontValue) → IsGiven font.now options.now.size value
-        → AreSpansTold (spans_at value options.now text.now spans.now) result counts.old counts.new lines.old lines.new }
+    ensures told { (value : FontValue) → IsGiven font.now options.now.size value → AreSpansTold false
+        (spans_at value options.now text.now spans.now) (items_at value options.now text.now spans.now)
+        result counts.old counts.new lines.old lines.new [] [] }
     ensures counts { result ≢ 0 → result ≢ 3 → counts.new ≡ counts.old }
     ensures kept { (result ≡ 1) ⊎ (result ≡ 4) → lines.new ≡ lines.old }
 {
-    let Some(settings) = settings_for(options, spans) else {
-        return RANGE;
+    let call = SpanCall {
+        font,
+        options,
+        text,
+        spans,
+        with_items: false,
     };
-    let mut made = Vec::new(alloc);
-    match open_font(alloc, font, settings.size, &mut made) {
-        Ok(font) => {
-            let job = SpanJob {
-                font: &font,
-                text,
-                spans,
-                limit: settings.limit,
-                call_limit: settings.call_limit,
-            };
-            set_spans(alloc, &job, lines, counts)
-        }
-        Err(code) => code,
-    }
+    run(alloc, call, lines, &mut [], counts)
+}
+
+/// Sets spans of a text as [`tfmset_spans`] does, and returns their items, too, each with the bytes of the text that it
+/// comes from. The codes are those of `tfmset_spans`; after 3 `counts` has the lengths needed of both arrays.
+#[unsafe(no_mangle)]
+pub extern "C" fn tfmset_span_items(
+    alloc: Global,
+    font: &[u8],
+    options: &TfmsetOptions,
+    text: &[u8],
+    spans: &[TfmsetSpan],
+    lines: &mut [TfmsetLine],
+    items: &mut [TfmsetPlaced],
+    counts: &mut TfmsetCounts,
+) -> u32
+    ensures answers { result ≤ 4 }
+    ensures font { IsAnswerFor (IsNoCall options.now spans.now) options.now.size font.now result }
+    ensures told { (value : FontValue) → IsGiven font.now options.now.size value → AreSpansTold true
+        (spans_at value options.now text.now spans.now) (items_at value options.now text.now spans.now)
+        result counts.old counts.new lines.old lines.new items.old items.new }
+    ensures counts { result ≢ 0 → result ≢ 3 → counts.new ≡ counts.old }
+    ensures kept { (result ≡ 1) ⊎ (result ≡ 4) → (lines.new ≡ lines.old) × (items.new ≡ items.old) }
+{
+    let call = SpanCall {
+        font,
+        options,
+        text,
+        spans,
+        with_items: true,
+    };
+    run(alloc, call, lines, items, counts)
 }

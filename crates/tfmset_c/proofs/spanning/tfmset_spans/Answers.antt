@@ -1,13 +1,7 @@
-use Rattle.tfmset_c.proofs.FontLemmas.{answered_for, declined_for}
+use Rattle.std.proofs.Common.{refl}
 use Rattle.tfmset_c.proofs.spanning.tfmset_spans.Goals as goal
 
-pub returns-in-Ok-clause-font : goal.returns-in-Ok-clause-font
-returns-in-Ok-clause-font c = answered_for _ _ _ _ _ c.in-Some.ensures.1 (rw c.in-Some.ensures.0.size at c.in-Ok.ensures.ok) c.set_spans.ensures.answers
-
-pub returns-in-Ok-clause-told : goal.returns-in-Ok-clause-told
-returns-in-Ok-clause-told c = λ value given.
-    rw (c.in-Some.ensures.0.limit, c.in-Some.ensures.0.call_limit) at
-    (c.set_spans.ensures.told value ((rw c.in-Some.ensures.0.size at c.in-Ok.ensures.ok).0 value given).0)
-
-pub returns-clause-font : goal.returns-clause-font
-returns-clause-font c = declined_for _ _ _ _ c.in-Some.ensures.1 (rw c.in-Some.ensures.0.size at c.in-Err.ensures.code)
+pub returns-clause-told : goal.returns-clause-told
+returns-clause-told c = λ value given.
+    let set = c.run.ensures.told value given in
+    record { written = λ done. ((set.written done).0, refl); untouched = λ answer. ((set.untouched answer).0, refl); counted = set.counted; room = set.room; no_room = set.no_room; kept = set.kept }
