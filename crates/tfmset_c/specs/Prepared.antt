@@ -25,12 +25,13 @@ IsGiven bytes size font = ((font_fault_of bytes ≡ None) × (font ≡ font_at b
 abbrev pub IsOtherSize : ℕ → FontValue → Type 0
 IsOtherSize size font = (size ≢ 0) × (size ≢ font.size)
 
--- the code that a call returns, by its font, which is a TFM file or a table: 4 if an argument is out of range; if none
--- is, 4 exactly for a table of another size, and never 1 for a font; and 0, 2 and 3 only for an accepted TFM file or for
--- bytes with the header of a table
+-- the code that a call returns, by its font, which is a TFM file or a table: 4 if an argument is out of range; if
+-- none is, 4 exactly for a table of another size, and never 1 for a font; and 0, 2 and 3 only for an accepted TFM
+-- file or for bytes with the header of a table
 pub record IsAnswerFor (OutOfRange : Type 0) (size : ℕ) (bytes : List ℕ) (answer : ℕ) : Type 0 where
   pub range : OutOfRange → answer ≡ 4
-  pub font : (OutOfRange → ⊥) → (font : FontValue) → IsGiven bytes size font → ((answer ≡ 4) ↔ IsOtherSize size font) × (answer ≢ 1)
+  pub font : (OutOfRange → ⊥) → (font : FontValue) → IsGiven bytes size font
+      → ((answer ≡ 4) ↔ IsOtherSize size font) × (answer ≢ 1)
   pub other : (answer ≡ 0) ⊎ ((answer ≡ 2) ⊎ (answer ≡ 3)) → (font_fault_of bytes ≡ None) ⊎ IsWhole bytes
 
 -- a table that was opened for these bytes: that of the font that they are, whose size isn't another one
