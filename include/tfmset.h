@@ -8,37 +8,35 @@
  *     if (tfmset_characters(font, font_length, 0, characters, 256, &count) == TFMSET_DONE)
  *         printf("%ld\n", (long)characters['a'].width);
  *
- * Font: `font` points to the contents of a TFM file; for tfmset_spans and tfmset_span_items it may also be a
- * table that tfmset_prepare wrote. The bytes may be arbitrary: a function returns TFMSET_FONT_REFUSED for
- * bytes that aren't an accepted font. Each call reads the font again. The library keeps nothing between two
- * calls: there is no handle, and nothing has to be freed.
+ * Font: `font` points to the contents of a TFM file; for tfmset_spans and tfmset_span_items it may also point
+ * to a table that tfmset_prepare wrote. The bytes may be arbitrary: for bytes that aren't an accepted font
+ * all functions except tfmset_fault_text return TFMSET_FONT_REFUSED. Each call with a TFM file reads it
+ * again. The library keeps nothing between two calls: there is no handle, and nothing has to be freed.
  *
- * Size: `size` is the size to read the font at, from 1 to 134,217,727 scaled points, or 0 for the design
- * size. tfmset_size reads a size from a text with a unit. All dimensions are in scaled points, of which
- * 65,536 are one point.
+ * Size: `size` is from 1 to 134,217,727 scaled points, or 0 for the design size of the font. tfmset_size
+ * reads it from a text with a unit. All dimensions are in scaled points, of which 65,536 are one point.
  *
- * Lists: an array is followed by its length, the number of elements that the memory really has; a larger
- * number, such as SIZE_MAX, is undefined behaviour. A function with a last argument `count` reports a list.
- * After TFMSET_DONE, `*count` is the length of the list, which is at the front of the array. After
- * TFMSET_NO_ROOM, `*count` is the length that is needed. Nothing else is changed.
+ * Lists: each array is followed by its length. A length above the number of elements in memory, such as
+ * SIZE_MAX, is undefined behaviour. A function with a last argument `count` reports a list: after TFMSET_DONE
+ * `*count` elements at the front of the array, after TFMSET_NO_ROOM only `*count`, the length that is needed.
+ * Nothing else is changed, except by tfmset_records.
  *
- * Pointers: a pointer to an array or a text may be null if its length is 0; no other pointer may be null. The
- * memory that a function writes to may not overlap any other memory that it is given. The memory that it only
- * reads may overlap, and may be shared by several calls. Each pointer must be aligned as its type requires.
+ * Pointers: a pointer to an array or a text may be null if its length is 0; no other pointer may be null.
+ * Each pointer must be aligned for its type. Memory that a function writes to must not overlap any other
+ * memory that is passed to it. Memory that is only read may overlap, and several calls may share it.
  *
- * Memory: functions allocate memory with malloc and realloc, and free all of it before they return.
- * tfmset_version, tfmset_size and tfmset_encode allocate none. A call needs 64 KB of stack, and doesn't check
- * it; this is only tested.
+ * Memory: functions free all that they allocate, with malloc and realloc, before they return. tfmset_version,
+ * tfmset_size and tfmset_encode allocate nothing. Calls don't check the stack; in tests 64 KB were enough.
  *
  * Threads: any thread may call any function at any time. Don't call the library from a signal handler, or in
  * the child process after a fork of a process that has several threads.
  *
- * Time: a font's lig/kern program may run until a line has taken `limit` steps. The time of a call therefore
- * grows with the number of lines times `limit`, or, if it is smaller, with `call_limit` plus `limit`. For
- * fonts from strangers choose small limits.
+ * Time: a step is one kern, one ligature operation, or one move to the next element. The lig/kern program of
+ * a font may never end: a line may take `limit` steps, and a call `call_limit` plus `limit`. Choose small
+ * limits for fonts from untrusted sources.
  *
- * Text: the bytes of a line are codes of the font, and not Unicode. tfmset_encode turns a text in UTF-8 into
- * such bytes.
+ * Text: the bytes of a line are codes of the font, and 32 is a space. tfmset_records also takes a text in
+ * UTF-8, and tfmset_encode turns such a text into codes.
  *
  * Return value: each function except tfmset_version returns one of the seven TFMSET_ codes below. */
 #ifndef TFMSET_H
@@ -55,25 +53,24 @@
 extern "C" {
 #endif
 
-/* The function did what it was called for. */
+/* The call succeeded. */
 #define TFMSET_DONE 0u
 /* The font is refused; tfmset_check and tfmset_fault_text report its first error. */
 #define TFMSET_FONT_REFUSED 1u
 /* An allocation failed. The contents of the arrays of tfmset_set, tfmset_widths, tfmset_records, tfmset_spans
- * and tfmset_span_items are then unspecified. Otherwise nothing has changed. */
+ * and tfmset_span_items are then unspecified. Nothing else has changed. */
 #define TFMSET_OUT_OF_MEMORY 2u
 /* An array is too short. The last argument contains the lengths that are needed. */
 #define TFMSET_NO_ROOM 3u
-/* A number is out of its range, a text isn't a size, or a name isn't that of an encoding. Nothing has
- * changed. */
+/* A number is out of its range, a text isn't a size, or no encoding has a name. Nothing has changed. */
 #define TFMSET_OUT_OF_RANGE 4u
 /* tfmset_encode: the text isn't UTF-8. */
 #define TFMSET_NOT_UTF8 5u
 /* tfmset_encode: a character of the text has no codes in the encoding. */
 #define TFMSET_UNCODED 6u
 
-/* Returns the version of the library: for version X.Y.Z it is 1,000,000 * X + 1,000 * Y + Z.
- * TFMSET_VERSION is the version of this header. */
+/* Returns the version of the library: 1,000,000 * X + 1,000 * Y + Z for version X.Y.Z. TFMSET_VERSION is the
+ * version of this header. */
 #define TFMSET_VERSION 2000u
 uint32_t tfmset_version(void);
 
@@ -118,8 +115,7 @@ uint32_t tfmset_encode(const uint8_t *encoding, size_t encoding_length, const ui
 
 /* The first error of a font. docs/ERRORS.md in the sources describes each error, with an example. */
 struct tfmset_fault {
-    /* The rule that the font breaks, from 1 to 14, and further data by its number; a field that isn't named
-     * is 0:
+    /* `number` is the rule that the font breaks. `place` and `named` are 0 if the rule doesn't list them:
      *     1    the file is too short for the twelve counts; `place`: the number of bytes that are needed
      *     2    a count is out of range; `named`: the count
      *     3    the character range is invalid
@@ -129,11 +125,10 @@ struct tfmset_fault {
      *     7    the length of the file isn't the sum of the lengths of its parts
      *     8    the file has fewer bytes than its first count requires; `place`: the number that is needed
      *     9    the design size is negative, or is below one point
-     *     10   an index of a character is beyond the end of its table; `place`: its code; `named`: the table
-     *     11   the address of a character's instructions is beyond the last one; `place`: its code
+     *     10   an index of a character is beyond the end of its table; `place`: the code; `named`: the table
+     *     11   the address of a character's instructions is beyond the last one; `place`: the code
      *     12   entry 0 of a table isn't zero; `named`: the table
-     *     13   an entry of a table is too large; `place`: its index, from 0 (in table 9 from 1); `named`: the
-     *          table
+     *     13   a table entry is too large; `place`: its index, from 0 (in table 9 from 1); `named`: the table
      *     14   an instruction refers to something that doesn't exist; `place`: its address, from 0; `named`:
      *          0 restart (an indirect start), 1 next, 2 ligature, 3 kern, 4 skip
      * Counts: 0 lf, 1 lh, 2 bc, 3 ec, 4 nw, 5 nh, 6 nd, 7 ni, 8 nl, 9 nk, 10 ne, 11 np. Tables: 0 header,
@@ -153,39 +148,36 @@ uint32_t tfmset_fault_text(const uint8_t *font, size_t font_length, uint8_t *tex
 
 /* The numbers of parameters, of kerns and of instructions in the lig/kern program; the design size, and the
  * size that the font is read at; the check sum, as it is in the file; the code of the right boundary
- * character, or 256 if the font has none; 1 if the left boundary has a starting address in the lig/kern
- * program, otherwise 0. */
+ * character, or 256 for none; 1 if the left boundary has instructions, otherwise 0. */
 struct tfmset_about {
     size_t parameters, kerns, instructions;
     uint32_t design_size, size, check_sum, right_boundary, left_boundary;
 };
 
-/* Reports these values in `about`, which is unchanged after every code except TFMSET_DONE. */
+/* Fills `about`, which is unchanged after every code except TFMSET_DONE. */
 uint32_t tfmset_font(const uint8_t *font, size_t font_length, uint32_t size, struct tfmset_about *about);
 
-/* A character code: the dimensions and the tag of its character. */
+/* The character with a code: its dimensions and its tag. */
 struct tfmset_character {
     /* 1 if the font has the character. Otherwise 0, and all other fields are 0. */
     uint32_t exists;
     /* `italic` is the italic correction. */
     int32_t width, height, depth, italic;
-    /* 0: no tag. 1: the character has instructions in the lig/kern program. 2: it has a next larger
-     * character. 3: it has an extensible recipe. */
+    /* 0: no tag. 1: lig/kern instructions. 2: a next larger character. 3: an extensible recipe. */
     uint32_t tag;
-    /* Tag 1: the address of an instruction in the lig/kern program, as the file has it; if that instruction
-     * is an indirect start (docs/LIGATURES.md in the sources), it isn't followed. Tag 2: the code of the next
-     * larger character. Tag 3: the number of the recipe, from 0. Otherwise 0. */
+    /* Tag 1: the address of an instruction in the lig/kern program, as it is in the file: an indirect start
+     * (docs/LIGATURES.md in the sources) isn't followed. Tag 2: the code of the next larger character. Tag 3:
+     * the number of the recipe, from 0. Otherwise 0. */
     uint32_t remainder;
-    /* Tag 3: the codes of the pieces of the recipe, of which it may lack the first three: 0. Otherwise 0. */
+    /* Tag 3: the codes of the pieces of the recipe; 0 for a missing one of the first three. Otherwise 0. */
     uint8_t top, middle, bottom, repeated;
 };
 
-/* Reports the 256 characters of a font, by code. Code 32 may be a character here, although byte 32 of a text
- * is always a space. */
+/* Reports the 256 characters of a font, by code. Code 32 may be one, though byte 32 of a line is a space. */
 uint32_t tfmset_characters(const uint8_t *font, size_t font_length, uint32_t size,
                            struct tfmset_character *characters, size_t characters_length, size_t *count);
 
-/* Reports all parameters of a font, from number 1, at index 0: slant, space, stretch, shrink, x_height, quad,
+/* Reports all parameters of a font, with number 1 at index 0: slant, space, stretch, shrink, x_height, quad,
  * extra_space, and further ones. A font may have fewer. The slant is a ratio in units of 2^-20 and isn't
  * scaled. `space` is the width of a space in a line. */
 uint32_t tfmset_parameters(const uint8_t *font, size_t font_length, uint32_t size, int32_t *parameters,
@@ -226,19 +218,19 @@ uint32_t tfmset_header_text(const uint8_t *font, size_t font_length, uint32_t wh
  * item of kind TFMSET_SKIPPED. */
 #define TFMSET_REFUSE 0u
 #define TFMSET_SKIP 1u
-/* The step limit for which 0 stands, and the largest one. */
+/* The default step limit, which 0 also means, and the largest step limit. */
 #define TFMSET_DEFAULT_LIMIT 1048576u
 #define TFMSET_MOST_STEPS 16777216u
-/* How the lines of a call are set. A struct of zeros states the defaults. */
+/* How the lines or spans of a call are set. A struct of zeros has the defaults. */
 struct tfmset_options {
     /* Once the lines of a call have taken this many steps together, each further line is refused with
      * TFMSET_TOO_MANY_STEPS, and takes no time. A line that takes more steps than `limit` counts as `limit`
      * steps. 0: 2^64 - 1. */
     uint64_t call_limit;
-    /* The size of the font, and the largest number of steps of a line. 0: TFMSET_DEFAULT_LIMIT. */
+    /* `size` is that of the font, `limit` the largest number of steps of a line; 0: TFMSET_DEFAULT_LIMIT. */
     uint32_t size, limit;
-    /* TFMSET_REFUSE or TFMSET_SKIP. 1: one carriage return (13) before a line feed belongs to the line
-     * ending. 0: it is a byte of the line. */
+    /* `policy` is TFMSET_REFUSE or TFMSET_SKIP. `crlf` is 1 if one carriage return (13) before a line feed
+     * belongs to the line ending, and 0 if it is a byte of the line. */
     uint32_t policy, crlf;
 };
 
@@ -247,16 +239,16 @@ struct tfmset_options {
 #define TFMSET_KERN 1u
 #define TFMSET_SPACE 2u
 #define TFMSET_SKIPPED 3u
-/* An item of a line: its kind; the code of a character or of a skipped one, otherwise 0; and its width, which
- * is 0 for a skipped character. */
+/* An item of a line: its kind; its code if it is a character or a skipped one, otherwise 0; and its width,
+ * which is 0 for a skipped character. */
 struct tfmset_item {
     uint32_t kind, code;
     int32_t width;
 };
 
-/* The line is set, or refused: it has a missing character, and the policy is TFMSET_REFUSE; it has more than
- * 65,535 bytes, whatever they are; or it takes more steps than the limit, or no steps were left for it.
- * TFMSET_OUTSIDE is only for spans. */
+/* Whether a line is set, or why it is refused: it has a missing character, and the policy is TFMSET_REFUSE;
+ * it has more than 65,535 bytes, even if a character is missing; or it takes more steps than `limit`, or no
+ * steps were left for it. TFMSET_OUTSIDE is only for spans. */
 #define TFMSET_SET 0u
 #define TFMSET_MISSING 1u
 #define TFMSET_TOO_LONG 2u
@@ -275,12 +267,11 @@ struct tfmset_line {
     /* TFMSET_SET: the number of steps that the line took. TFMSET_TOO_MANY_STEPS: the limit, or 0 if no steps
      * were left for the line. Otherwise 0. */
     uint32_t steps;
-    /* One of the numbers above; for TFMSET_MISSING the code of the missing character, otherwise 0. */
+    /* `refusal` is one of the numbers above. `code` is that of a missing character, otherwise 0. */
     uint32_t refusal, code;
 };
 
-/* The number of lines in a text, and the number of items that all its lines have together. Counts
- * above 2^64 - 1 are reported as 2^64 - 1. */
+/* The numbers of lines in a text and of items in all lines. 2^64 - 1 also stands for larger numbers. */
 struct tfmset_counts {
     size_t lines, items;
 };
@@ -304,7 +295,7 @@ uint32_t tfmset_widths(const uint8_t *font, size_t font_length, const struct tfm
 
 /* The record format that the command line calls `json`. */
 #define TFMSET_JSON 3u
-/* The format and the numbers of records. */
+/* The format of records, and the numbers in them. */
 struct tfmset_form {
     /* The number of the source in each record, and the number of the first line. */
     uint64_t source, first;
@@ -313,9 +304,9 @@ struct tfmset_form {
 };
 
 /* Sets the lines of a text as tfmset_set does, and writes their records, as the program prints them, to the
- * array `records`, without the line `records 2` and without end lines. After TFMSET_NO_ROOM its contents are
- * unspecified. TFMSET_OUT_OF_RANGE is also returned if the sum of `form->first` and `text_length` is 2^64 or
- * more.
+ * array `records`, without the line `records 2` and without end lines. After TFMSET_NO_ROOM the contents of
+ * `records` are unspecified. TFMSET_OUT_OF_RANGE is also returned if the sum of `form->first` and
+ * `text_length` is 2^64 or more.
  *
  * `encoding` is empty or "bytes" if the bytes of the text are codes. For a text in UTF-8 it is the name of
  * the font's encoding, as for tfmset_encode. Lengths and offsets in the records then count bytes of the line
@@ -327,36 +318,36 @@ uint32_t tfmset_records(const uint8_t *font, size_t font_length, const struct tf
                         size_t text_length, const struct tfmset_form *form, uint8_t *records,
                         size_t records_length, size_t *count);
 
-/* Reports in words why a line is refused, as its record states it, such as "missing 7 65", or why a span is,
- * without a zero byte at its end. The text of a line that is set is empty. */
+/* Reports why a line or a span is refused, in the words of a record, such as "missing 7 65", without a zero
+ * byte at its end. The text is empty if the line is set. */
 uint32_t tfmset_refusal_text(const struct tfmset_line *line, uint8_t *text, size_t text_length,
                              size_t *count);
 
 /* Writes the table of a font at a size, with which the two functions below set spans without reading the font
- * again. `*count` is its length: 2,084 bytes, and four for each instruction and each kern. It contains no
- * pointers: it may be copied, stored, mapped, and shared by threads and processes. */
+ * again. `*count` is its length: 2,084 bytes, and four for each instruction and each kern. The table contains
+ * no pointers: it may be copied, stored, mapped, and shared by threads and processes. */
 uint32_t tfmset_prepare(const uint8_t *font, size_t font_length, uint32_t size, uint8_t *table,
                         size_t table_length, size_t *count);
 
-/* The edges of a span, whose sum is the field `edges`: the left boundary of the font precedes its codes; the
- * right boundary follows them. A whole word has both. No hyphen. */
+/* The left boundary of the font precedes the codes of a span; the right boundary follows them. */
 #define TFMSET_LEFT_EDGE 1u
 #define TFMSET_RIGHT_EDGE 2u
+/* The value of `hyphen` for a span without a hyphen. */
 #define TFMSET_NO_HYPHEN 256u
 /* A part of a text that is set as one run: `length` bytes from the byte offset `offset`. Each of its bytes is
- * a character, also 10 and 32. `hyphen` is a code that is set after them, before the right boundary, or
- * TFMSET_NO_HYPHEN. */
+ * a character code, even 10 and 32. `edges` is the sum of its edges; a whole word has both. `hyphen` is a
+ * code that is set after the bytes, before the right boundary, or TFMSET_NO_HYPHEN. */
 struct tfmset_span {
     size_t offset, length;
     uint32_t edges, hyphen;
 };
 
-/* Sets spans of a text. `font` is a TFM file, or a table that tfmset_prepare of this version wrote: with such
- * a table the results are those of its font at its size. A table that was changed is either refused, or gives
- * arbitrary results; it is never unsafe to use. Each span has one element of `lines`, in order, as a line has
- * in tfmset_widths, with these differences: TFMSET_OUTSIDE, which comes first, means that the span ends after
- * the end of the text; a missing character is always refused, and `place` is its offset in the text, for the
- * hyphen the end of the span. Steps of `limit` and `call_limit` are counted as those of lines.
+/* Sets spans of a text. `font` is a TFM file, or a table that tfmset_prepare of this version wrote, which
+ * gives the results of its font at its size. A table that was changed is either refused, or gives arbitrary
+ * results; it is never unsafe to use. Each span has one element of `lines`, in order, as a line has in
+ * tfmset_widths. TFMSET_OUTSIDE, which precedes other reasons, means that the span ends after the end of the
+ * text. A missing character always refuses its span; its `place` is the offset in the text, or for the hyphen
+ * the end of the span. `limit` and `call_limit` apply to spans as to lines.
  *
  * Returns TFMSET_OUT_OF_RANGE also if `policy` or `crlf` isn't 0, if `edges` or `hyphen` of a span is out of
  * range, or if `size` is neither 0 nor the size of the table. The counts are the numbers of spans and of
@@ -377,14 +368,13 @@ struct tfmset_placed {
     int32_t width;
 };
 
-/* Sets spans of a text as tfmset_spans does, and returns their items, as tfmset_set returns those of
- * lines. */
+/* Sets spans as tfmset_spans does, and returns their items, as tfmset_set returns those of lines. */
 uint32_t tfmset_span_items(const uint8_t *font, size_t font_length, const struct tfmset_options *options,
                            const uint8_t *text, size_t text_length, const struct tfmset_span *spans,
                            size_t spans_length, struct tfmset_line *lines, size_t lines_length,
                            struct tfmset_placed *items, size_t items_length, struct tfmset_counts *counts);
 
-/* The library was compiled for structs of this layout: their sizes, and the offsets of their last fields. */
+/* The library was compiled for these sizes of structs, and for these offsets of their last fields. */
 #if defined(__cplusplus) && __cplusplus >= 201103L
 #define TFMSET_ASSERT(name, fact) static_assert(fact, "the layout of a struct isn't that of libtfmset")
 #elif defined(__STDC_VERSION__) && __STDC_VERSION__ >= 201112L

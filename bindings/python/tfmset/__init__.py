@@ -1,10 +1,10 @@
 # SPDX-License-Identifier: MIT OR Apache-2.0
 """Sets lines of text with a TeX font metric (TFM) file, by calling the C library libtfmset.
 
-A `Font` is made from the bytes of a TFM file, and is read at its design size or at another size. Text is
-bytes: each byte is a character code of the font, byte 32 is a space, and byte 10 ends a line. Or it is a str,
-with the encoding of the font: `font.set("Straße", encoding="t1")`. All dimensions are in scaled points (sp);
-65,536 sp are one TeX point, and 72.27 TeX points are one inch.
+A `Font` is made from the bytes of a TFM file, and is read at its design size or at another size. A text is
+bytes: byte 32 is a space, byte 10 ends a line, and every other byte is a character code of the font. Or it is
+a str together with the encoding of the font: `font.set("Straße", encoding="t1")`. All dimensions are in
+scaled points (sp); 65,536 sp are one TeX point, and 72.27 TeX points are one inch.
 
     >>> import tfmset
     >>> font = tfmset.Font.from_file("examples/demo.tfm")
@@ -38,9 +38,9 @@ this module (the first two numbers of `__version__` have to be the same): the la
 differ.
 
 The library has no state. Any thread may call any function at any time, and calls of several threads run
-concurrently. Each call reads the font again, which for the font cmr10 takes up to 30 microseconds. It is
-therefore much faster to set many lines in one call than to make one call for each line. A long text is passed
-to the library in blocks of lines, and Ctrl-C takes effect between two blocks.
+concurrently. Each call that sets lines reads the font again, which takes up to 30 microseconds for cmr10. One
+call for many lines is therefore much faster than a call for each line. A long text is passed to the library
+in blocks of lines, and Ctrl-C takes effect between two blocks.
 """
 from __future__ import annotations
 
@@ -220,7 +220,7 @@ class FontRefused(ValueError):
 
 
 class Recipe(NamedTuple):
-    """The codes of the pieces of an extensible character. The first three are 0 for a piece that it lacks."""
+    """The codes of the pieces of an extensible character; 0 for a missing one of the first three."""
 
     top: int
     middle: int
@@ -234,9 +234,8 @@ class Metrics(NamedTuple):
     `italic` is the italic correction. The meaning of `remainder` depends on `tag`:
 
     - tag 0: the character has no tag; `remainder` is 0
-    - tag 1: the character has instructions in the lig/kern program; `remainder` is the address of an
-      instruction, as the file has it; if that instruction is an indirect start (docs/LIGATURES.md in the
-      sources), it isn't followed
+    - tag 1: the character has instructions in the lig/kern program; `remainder` is the address of one, as it
+      is in the file: an indirect start (docs/LIGATURES.md in the sources) isn't followed
     - tag 2: `remainder` is the code of the next larger character
     - tag 3: `remainder` is the number of its extensible recipe, and `recipe` has the pieces; for the other
       tags `recipe` is None
@@ -289,7 +288,7 @@ class Refusal(NamedTuple):
     - 'steps': the line takes more steps than the limit; `place` and `code` are 0
     - 'outside': the span ends after the end of the text; `place` and `code` are 0
 
-    For a span, `place` of 'missing' is an offset in the text; that of a hyphen is the end of the span.
+    For a span, `place` of 'missing' is an offset in the text, or for the hyphen the end of the span.
     """
 
     reason: str
@@ -352,8 +351,8 @@ def _front(buffer: ctypes.Array[ctypes.c_char], count: int) -> bytes:
 def _blocks(text: bytes, options: _Options) -> Iterator[bytes]:
     """Yields the parts of a text, each of whole lines. With a limit for a call there is one part.
 
-    Python handles Ctrl-C only between two calls of the library. Each part is therefore about as long as the
-    caller needs `_BLOCK_SECONDS` for, judging from the part before.
+    Python handles Ctrl-C only between two calls of the library. The length of each part is therefore chosen
+    so that the caller needs about `_BLOCK_SECONDS` for it, as estimated from the part before.
     """
     begin, room = 0, len(text) if options.call_limit else _FIRST_BLOCK
     while len(text) - begin > room:
@@ -451,9 +450,9 @@ class Lines(Sequence[Outcome]):
 class Span(NamedTuple):
     """A part of a text that is set as one run: `length` bytes from the byte offset `offset`.
 
-    Each of its bytes is a character of the font, also 10 and 32. `left` and `right` state whether the left
-    boundary of the font precedes it, and whether the right one follows it. `hyphen` is a code that is set
-    after its last byte, before the right boundary, or None.
+    Each of these bytes is a character code, even 10 and 32. `left` states whether the left boundary of the
+    font precedes the span, and `right` whether the right boundary follows it. `hyphen` is a code that is set
+    after the last byte, before the right boundary, or None.
     """
 
     offset: int
@@ -466,8 +465,8 @@ class Span(NamedTuple):
 class PlacedItem(NamedTuple):
     """An item of a span: a character or a kern, and the bytes of the text that it comes from.
 
-    `kind` is CHARACTER or KERN, `code` the code of a character, otherwise 0, and `width` is in sp. A character
-    of the text comes from its own byte, and a ligature from the bytes of the characters that it replaces;
+    `kind` is CHARACTER or KERN. `code` is that of a character, and 0 for a kern. `width` is in sp. A character
+    of the text comes from its own byte, and a ligature from the bytes of the characters that it replaces.
     `length` is 0 for a kern, for the hyphen, and for a ligature that replaces no character of the text.
     """
 
@@ -850,8 +849,8 @@ class Font:
         return bytes(self._list(ctypes.c_char, 4096, "prepare"))
 
     def prepare(self) -> bytes:
-        """Returns the table of the font at its size, with which C functions set spans without reading the font
-        again: the bytes that tfmset_prepare writes. `spans` and `span_items` use it."""
+        """Returns the table of the font at its size, the bytes that tfmset_prepare writes. With the table, the
+        library sets spans without reading the font again. `spans` and `span_items` use it."""
         return self._table
 
     def spans(self, text: Text, spans: Sequence[Span], limit: int = 1_048_576, *,
@@ -859,8 +858,8 @@ class Font:
         """Sets spans of a text and returns the width of each span in sp, or a Refusal.
 
         `text` is bytes, which are codes of the font. Each span is set as one run, such as a word or the part of
-        a word before a hyphen; a missing character refuses its span. `limit` and `call_limit` count the steps
-        of spans as those of lines in `set`.
+        a word before a hyphen; a missing character refuses its span. `limit` and `call_limit` apply to spans
+        as to lines in `set`.
 
         Raises ValueError if a number is out of range, and TypeError for arguments of another type.
 
