@@ -62,7 +62,8 @@ extern "C" {
 #define TFMSET_OUT_OF_MEMORY 2u
 /* An array is too short. The last argument contains the lengths that are needed. */
 #define TFMSET_NO_ROOM 3u
-/* A number is out of its range, a text isn't a size, or no encoding has a name. Nothing has changed. */
+/* A number is out of its range, a text isn't a size, or a name isn't that of an encoding. Nothing has
+ * changed. */
 #define TFMSET_OUT_OF_RANGE 4u
 /* tfmset_encode: the text isn't UTF-8. */
 #define TFMSET_NOT_UTF8 5u
@@ -346,8 +347,8 @@ struct tfmset_span {
  * gives the results of its font at its size. A table that was changed is either refused, or gives arbitrary
  * results; it is never unsafe to use. Each span has one element of `lines`, in order, as a line has in
  * tfmset_widths. TFMSET_OUTSIDE, which precedes other reasons, means that the span ends after the end of the
- * text. A missing character always refuses its span; its `place` is the offset in the text, or for the hyphen
- * the end of the span. `limit` and `call_limit` apply to spans as to lines.
+ * text. A span with a missing character is always refused; `place` is the character's offset in the text, or
+ * for the hyphen the end of the span. `limit` and `call_limit` apply to spans as to lines.
  *
  * Returns TFMSET_OUT_OF_RANGE also if `policy` or `crlf` isn't 0, if `edges` or `hyphen` of a span is out of
  * range, or if `size` is neither 0 nor the size of the table. The counts are the numbers of spans and of
