@@ -10,6 +10,8 @@ use Rattle.std.proofs.lemmas.Int.Digits.{digits_value_more}
 use Rattle.std.proofs.lemmas.Str.Parse.{digit_at, tells_all_ascii_digits}
 use Rattle.std.proofs.lemmas.Str.{digit_value_digit}
 use Rattle.std.proofs.lemmas.List.{drop_more}
+use Rattle.tex_sizes.specs.Lengths.{nearest_decimal}
+use Rattle.tex_sizes.specs.Sizes.{nearest_binary}
 
 digit_value_below : (c : ℕ) → is_ascii_digit c ≡ true → digit_value c < 10
 digit_value_below c is =
@@ -89,3 +91,7 @@ module _ (digits : List ℕ) (i : ℕ) (all : AllDigits 10 digits) (within : i <
       digit_in_front (digits_value 10 (drop (i + 1) digits)) power (get_or digits i 0 - 48) quotient (tens_positive (length (drop (i + 1) digits))) is
       ∙ ap (λ v. 2 ^ 17 * v / (10 * power)) (sym value_in_front)
       ∙ ap (λ p. 2 ^ 17 * digits_value 10 (drop i digits) / p) (sym power_in_front)
+
+-- Law: TeX reads an amount in points with five decimals as the same amount.
+read_with_five_decimals : (sp : ℕ) → nearest_binary 100000 (nearest_decimal 100000 sp) ≡ sp
+read_with_five_decimals sp = omega arith

@@ -1,6 +1,9 @@
--- Worked rows, computed from the definition alone. The sizes are those that TeX prints.
-use Rattle.std.proofs.Common.{◌≡◌, Some, None, refl, codes}
+-- Worked rows, computed from the definitions alone. The sizes, and the lengths in points, are those that TeX prints.
+use Rattle.std.proofs.Common.{◌≡◌, Some, None, pos, negsuc, refl, codes}
+use Rattle.std.specs.Fmt.{digits}
+use Rattle.tex_sizes.specs.Lengths.{decimal_in, decimal_text, length_text, points_power}
 use Rattle.tex_sizes.specs.Sizes.{size_of}
+use Rattle.tex_sizes.specs.declared.length_unit.LengthUnit.TheVariants.{ScaledPoints, Points, BigPoints, Millimetres, Centimetres, Inches, Picas}
 
 -- ---- each unit, as TeX prints it by \number\dimen0
 
@@ -157,3 +160,32 @@ exponent = refl
 
 letter : size_of (codes "x") ≡ None
 letter = refl
+
+-- ---- lengths
+
+-- as TeX prints them by \the; the last one is above the range of a dimension
+lengths_in_points :
+    (length_text Points (pos 0) ≡ codes "0.0pt")
+    × (length_text Points (pos 6554) ≡ codes "0.1pt")
+    × (length_text Points (pos 7) ≡ codes "0.0001pt")
+    × (length_text Points (pos 1) ≡ codes "0.00002pt")
+    × (length_text Points (pos 1024) ≡ codes "0.01563pt")
+    × (length_text Points (pos 65535) ≡ codes "0.99998pt")
+    × (length_text Points (negsuc 18204) ≡ codes "-0.27779pt")
+    × (length_text Points (pos 2585033) ≡ codes "39.44447pt")
+    × (length_text Points (pos 1073741823) ≡ codes "16383.99998pt")
+    × (length_text Points (pos 9223372036854775807) ≡ codes "140737488355327.99998pt")
+unfolding length_text decimal_in points_power decimal_text digits
+lengths_in_points = (refl, refl, refl, refl, refl, refl, refl, refl, refl, refl)
+
+-- two halves of a fifth decimal, an amount that is printed as zero, and one amount in each other unit
+lengths_in_units :
+    (length_text Inches (pos 1850112) ≡ codes "0.39062in")
+    × (length_text Inches (pos 5550336) ≡ codes "1.17188in")
+    × (length_text Centimetres (negsuc 2) ≡ codes "0.00000cm")
+    × (length_text Millimetres (negsuc 2) ≡ codes "-0.00002mm")
+    × (length_text Picas (pos 786432) ≡ codes "1.00000pc")
+    × (length_text BigPoints (pos 789381) ≡ codes "12.00000bp")
+    × (length_text ScaledPoints (negsuc 18204) ≡ codes "-18205")
+unfolding length_text decimal_in points_power decimal_text digits
+lengths_in_units = (refl, refl, refl, refl, refl, refl, refl)

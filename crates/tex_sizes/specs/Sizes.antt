@@ -32,11 +32,15 @@ unit_of text = cond (begins_with_point text) (rest_of (drop 1 text)) text
 
 -- ---- amounts
 
--- the number that the digits write as a decimal fraction, in units of 2^-16, rounded to the nearest, and
--- half of a unit upward. (TeX keeps 17 digits of a fraction. The other digits don't change this number,
--- since the numbers at which the rounding changes have at most 17 digits.)
+-- so many units of 1/power, in units of 2^-16, rounded to the nearest, and half of a unit upward
+abbrev pub nearest_binary : ℕ → ℕ → ℕ
+nearest_binary power number = (2 ^ 17 * number + power) / (2 * power)
+
+-- the number that the digits write as a decimal fraction, in units of 2^-16, rounded in this way. (TeX keeps
+-- 17 digits of a fraction. The other digits don't change this number, since the numbers at which the
+-- rounding changes have at most 17 digits.)
 abbrev pub fraction_value : List ℕ → ℕ
-fraction_value digits = (2 ^ 17 * digits_value 10 digits + 10 ^ length digits) / (2 * 10 ^ length digits)
+fraction_value digits = nearest_binary (10 ^ length digits) (digits_value 10 digits)
 
 -- the lengths of the units in points, except sp: inch, pica, centimetre, millimetre, big point, didot point
 -- and cicero
