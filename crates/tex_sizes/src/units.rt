@@ -1,6 +1,9 @@
 //! The units of a dimension.
 ghost use Rattle.std.specs.Prelude.{◌≡◌, ◌≤◌, IfSome};
+ghost use Rattle.tex_sizes.specs.Lengths.{unit_name};
 ghost use Rattle.tex_sizes.specs.Sizes.{ratio_in, unit_lengths};
+
+use crate::LengthUnit;
 
 /// The ratio of a unit to the point.
 #[derive(Clone, Copy)]
@@ -16,34 +19,22 @@ pub(crate) fn unit_ratio(unit: &[u8]) -> Option<Ratio>
     ensures range { IfSome result (λ r. (1 ≤ r.under) × (r.under ≤ r.over) × (r.over ≤ 14856)) }
 {
     if unit == b"pt".as_slice() {
-        return Some(Ratio { over: 1, under: 1 });
+        return length_of(LengthUnit::Points);
     }
     if unit == b"in".as_slice() {
-        return Some(Ratio {
-            over: 7227,
-            under: 100,
-        });
+        return length_of(LengthUnit::Inches);
     }
     if unit == b"pc".as_slice() {
-        return Some(Ratio { over: 12, under: 1 });
+        return length_of(LengthUnit::Picas);
     }
     if unit == b"cm".as_slice() {
-        return Some(Ratio {
-            over: 7227,
-            under: 254,
-        });
+        return length_of(LengthUnit::Centimetres);
     }
     if unit == b"mm".as_slice() {
-        return Some(Ratio {
-            over: 7227,
-            under: 2540,
-        });
+        return length_of(LengthUnit::Millimetres);
     }
     if unit == b"bp".as_slice() {
-        return Some(Ratio {
-            over: 7227,
-            under: 7200,
-        });
+        return length_of(LengthUnit::BigPoints);
     }
     if unit == b"dd".as_slice() {
         return Some(Ratio {
@@ -58,4 +49,21 @@ pub(crate) fn unit_ratio(unit: &[u8]) -> Option<Ratio>
         });
     }
     None
+}
+
+/// Returns the length of a unit in points, or `None` for `sp`.
+pub(crate) fn length_of(unit: LengthUnit) -> Option<Ratio>
+    ensures value { result ≡ ratio_in unit_lengths (unit_name unit) }
+    ensures range { IfSome result (λ r. (1 ≤ r.under) × (r.under ≤ r.over) × (r.over ≤ 14856)) }
+{
+    let (over, under) = match unit {
+        LengthUnit::ScaledPoints => return None,
+        LengthUnit::Points => (1, 1),
+        LengthUnit::BigPoints => (7227, 7200),
+        LengthUnit::Millimetres => (7227, 2540),
+        LengthUnit::Centimetres => (7227, 254),
+        LengthUnit::Inches => (7227, 100),
+        LengthUnit::Picas => (12, 1),
+    };
+    Some(Ratio { over, under })
 }
