@@ -7,7 +7,8 @@ short runs are set with each of 30 small random fonts, whose programs have all e
 boundaries. TeX runs once for each font, in batch mode, and \\showbox prints the contents of each box.
 
 Sizes of random texts such as 10.95pt are compared with \\number\\dimen0 after \\dimen0=10.95pt. The dimensions
-of `list --size` are compared with those of TeX's fonts at the same size.
+of `list --size` are compared with those of TeX's fonts at the same size. `list --unit pt` prints 6,000 amounts as
+TeX's \\the does, and in the other units they are compared with Python's fractions.
 
 The differences that docs/TEX.md lists are avoided in these ways. A space is written as \\ , which has the
 width of parameter 2 whatever precedes it, also at both ends. Bytes other than letters are written with
@@ -18,6 +19,8 @@ with the same fonts.
 import os
 import random
 import re
+import struct
+from fractions import Fraction
 
 from lib.base import PROGRAM, Case, environment, execute, output, read, rows
 from lib.clib import DONE, RANGE, U32, LibraryCase, call
@@ -166,6 +169,62 @@ class Listings(Case):
         wanted = self.dimensions(font, size, chars, params)
         self.same("dimensions", wanted, [*chars.values(), *params.values()])
         self.same("all", True, len(chars) == 128 and len(params) >= 5)
+
+
+# The units of --unit except sp and pt, in points.
+UNITS = {"bp": Fraction(7227, 7200), "mm": Fraction(7227, 2540), "cm": Fraction(7227, 254),
+         "in": Fraction(7227, 100), "pc": Fraction(12)}
+
+
+def amounts():
+    """Amounts in sp: small ones, multiples of 2^-6 pt, halves of the fifth decimal in inches, and random ones."""
+    chance = random.Random(7)
+    chosen = [*range(-70, 70), *(1024 * n for n in range(64)), *(1850112 * n for n in range(-8, 9)), 65535, -65536,
+              (1 << 24) - 1, -1 << 24]
+    return chosen + [chance.randrange(-1 << chance.randrange(25), 1 << 24) for _ in range(6000 - len(chosen))]
+
+
+def in_unit(amount, unit):
+    """An amount in a unit of UNITS, with five decimals."""
+    number = round(Fraction(abs(amount), 65536) / UNITS[unit] * 100000)
+    return f"{'-' if amount < 0 and number else ''}{number // 100000}.{number % 100000:05}{unit}"
+
+
+class Units(Case):
+    """Amounts in units"""
+
+    def kerns(self, size, unit):
+        """The kerns of a font without characters, as they are listed at a size in a unit."""
+        words = amounts()
+        counts = 18 + len(words), 2, 1, 0, 1, 1, 1, 1, 0, len(words), 0, 6
+        head = struct.pack(">12H6i", *counts, 0, 10 << 20, 0, 0, 0, 0)
+        self.file("kerns.tfm", head + struct.pack(f">{len(words)}i6i", *words, *words[:6]))
+        status, out, err = execute(PROGRAM, "list", "--size", size, "--unit", unit, "kerns.tfm", cwd=self.room)
+        self.same(f"{size} in {unit}", (0, ""), (status, err))
+        return [line.split()[2] for line in out.splitlines() if line.startswith("kern ")]
+
+    # Wrong definitions: the fifth decimal is cut off; half of it is rounded to the even one; no minus sign.
+    @rows((size, size) for size in ("16pt", "134217727sp"))
+    def test_points(self, size):
+        """An amount in pt is what \\the prints, if it is below 2^30 sp. At 16pt an amount is its word."""
+        self.need("tex")
+        numbers = list(map(int, self.kerns(size, "sp")))
+        self.assertTrue(size != "16pt" or numbers == amounts())
+        kept = [(number, text) for number, text in zip(numbers, self.kerns(size, "pt")) if abs(number) < 1 << 30]
+        lines = (f"\\dimen0={number}sp\\relax \\message{{[\\the\\dimen0]}}\n" for number, _ in kept)
+        self.file("points.tex", "\\catcode123=1 \\catcode125=2 \\batchmode\n" + "".join(lines) + "\\end\n")
+        env = environment(TEXINPUTS=".", max_print_line="100000")
+        execute("tex", "-ini", "-interaction=batchmode", "points.tex", cwd=self.room, env=env, timeout=100)
+        found = re.findall(r"\[([^]]*pt)\]", read(os.path.join(self.room, "points.log")))
+        self.same("in points", found, [text for _, text in kept])
+        self.none([], len(found), 2000)
+
+    @rows((unit, unit) for unit in UNITS)
+    def test_others(self, unit):
+        """In any other unit an amount has five decimals, and is rounded to the nearest, half to the even one."""
+        for size in ("16pt", "134217727sp"):
+            wanted = [in_unit(int(number), unit) for number in self.kerns(size, "sp")]
+            self.same(f"at {size}", wanted, self.kerns(size, unit))
 
 
 class Boxes(Case):

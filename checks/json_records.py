@@ -18,7 +18,7 @@ WEIGHT = 3
 CASES, SCHEMA = table("json_records"), json.loads(read("docs/records.schema.json"))
 BOUNDS = {"minimum", "maximum", "minLength", "maxLength", "minItems", "additionalProperties", "required"}
 KNOWN = {"$schema", "title", "description", "$defs", "$ref", "allOf", "oneOf", "type", "const", "enum",
-         "minimum", "maximum", "minLength", "maxLength", "prefixItems", "items", "minItems", "properties",
+         "minimum", "maximum", "minLength", "maxLength", "pattern", "prefixItems", "items", "minItems", "properties",
          "required", "additionalProperties"}
 TYPES = {"object": dict, "array": list, "integer": int, "string": str}
 # All bytes in words and by themselves, spaces, empty lines, lines on both sides of the longest, and some
@@ -91,7 +91,8 @@ def is_valid(value, its):
     if type(value) is int and not its.get("minimum", value) <= value <= its.get("maximum", value):
         return False
     if isinstance(value, str):
-        return its.get("minLength", 0) <= len(value) <= its.get("maxLength", len(value))
+        long = its.get("minLength", 0) <= len(value) <= its.get("maxLength", len(value))
+        return long and re.search(its.get("pattern", ""), value) is not None
     if isinstance(value, list):
         first = its.get("prefixItems", [])
         parts = list(zip(value, first)) + [(one, its.get("items", True)) for one in value[len(first):]]

@@ -82,6 +82,23 @@ class Pairs(Case):
             self.none([], self.compare(path, data), 1)
 
 
+    @rows((unit, unit) for unit in ("pt", "mm"))
+    def test_units(self, unit):
+        """With --unit, the amounts of kerns are those of `list`, and all else is the same in each format."""
+        data = sample("ligature_0", "21: FFFFFFFF 00000003")
+        path, wanted = self.file("font.tfm", data), []
+        kerns = [line.split()[2] for line in output(PROGRAM, "list", "--unit", unit, path).splitlines()
+                 if line.startswith("kern ")]
+        amounts = dict(zip(("-1", "1"), kerns))
+        for row in pair_rows(data, 655360):
+            wanted.append([*row[:3], amounts.get(str(row[3]), row[3])])
+        text, commas, objects = (self.lines(path, form, ["--unit", unit]) for form in ("text", "csv", "json"))
+        self.same("text", [" ".join(map(str, row)) for row in wanted], text)
+        self.same("CSV", [",".join(map(str, row)) for row in [FIELDS, *wanted]], commas)
+        self.same("JSON", [json.dumps(dict(zip(FIELDS, row)), separators=(",", ":")) for row in wanted], objects)
+        self.none([line for line in objects if not is_valid(json.loads(line), SCHEMA)])
+
+
 class Characters(Case):
     """Characters after the codes"""
 
@@ -176,7 +193,9 @@ REFUSED = (
     *(f'{{"left":{left},"right":{right},"action":"kern","value":0}}' for left, right in (
         (97, 256), (97, -1), (256, 97), (-1, 97))),
     *(f'{{"left":97,"right":98,"action":"kern","value":{value}}}' for value in (1 << 31, -(1 << 31) - 1)),
-    '{"left":97,"right":98,"action":"LIG","value":-1}',
+    *(f'{{"left":97,"right":98,"action":"kern","value":"{value}"}}' for value in (
+        "1", "1pt", "1.0", "1.0dd", "1.000000pt", ".5pt", "1.0pt ", " 1.0pt", "+1.0pt")),
+    '{"left":97,"right":98,"action":"LIG","value":"1.0pt"}', '{"left":97,"right":98,"action":"LIG","value":-1}',
     '{"left":97,"right":98,"action":"LIG>","value":0}',
     '{"left":97,"right":98,"action":"LIG","value":256}', '{"left":97,"right":98,"action":"kern"}',
     '{"left":97,"right":98,"action":"kern","value":0,"op":0}',

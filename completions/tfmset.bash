@@ -9,8 +9,8 @@ _tfmset_options() {
     case $1 in
         '') options='-h --help -V --version' ;;
         counts) options='-v --verbose -h --help' ;;
-        list) options='--size --all -v --verbose -h --help' ;;
-        pairs) options='--size --format --encoding -v --verbose -h --help' ;;
+        list) options='--size --unit --all -v --verbose -h --help' ;;
+        pairs) options='--size --unit --format --encoding -v --verbose -h --help' ;;
         check) options='--quiet --summary -v --verbose -h --help' ;;
         set) options='--size --limit --missing --crlf --encoding --workers --capacity --block --record -v --verbose -h --help' ;;
         each) options='--size --missing --crlf --encoding --workers --capacity --block --record -v --verbose -h --help' ;;
@@ -26,6 +26,7 @@ _tfmset_values() {
     values='' files=''
     case $1 in
         --size) values='' ;;
+        --unit) values='sp pt bp mm cm in pc' ;;
         --format) values='text csv json' ;;
         --limit) values='' ;;
         --missing) values='refuse skip' ;;

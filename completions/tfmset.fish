@@ -67,6 +67,7 @@ complete -c tfmset -n __tfmset_none -a stream -d 'Set lines, and print each reco
 complete -c tfmset -n __tfmset_none -a help -d 'Print help'
 complete -c tfmset -n '__tfmset_is list' -l all -d 'Also print the counts, the extensible recipes and all words'
 complete -c tfmset -n '__tfmset_is list pairs set each stream' -l size -x -d 'Font size, such as 12pt, or in scaled points, 1 to 134217727'
+complete -c tfmset -n '__tfmset_is list pairs' -l unit -x -a 'sp pt bp mm cm in pc' -d 'Unit of dimensions'
 complete -c tfmset -n '__tfmset_is pairs' -l format -x -a 'text csv json' -d 'Output format'
 complete -c tfmset -n '__tfmset_is set stream' -l limit -x -d 'Maximum steps per line, 1 to 16777216'
 complete -c tfmset -n '__tfmset_is set each stream' -l missing -x -a 'refuse skip' -d 'On a missing character'

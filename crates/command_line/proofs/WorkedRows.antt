@@ -168,7 +168,7 @@ module _ (choices : AllChoices) where
   unfolding clap_on_literals
   version = refl
 
-  no_font : fault_in (codes "list" ∷ []) ≡ MissingRequiredArgument ∷ []
+  no_font : fault_in (codes "counts" ∷ []) ≡ MissingRequiredArgument ∷ []
   unfolding clap_on_literals
   no_font = refl
 

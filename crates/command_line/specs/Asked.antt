@@ -12,7 +12,9 @@ use Rattle.clap.specs.declared.error.kind.ErrorKind.{ErrorKind}
 use Rattle.clap.specs.declared.error.kind.ErrorKind.TheVariants.{InvalidValue, MissingSubcommand, OutOfMemory, ValueValidation}
 use Rattle.encodings.specs.Names.{encoding_named}
 use Rattle.encodings.specs.declared.encoding.Encoding.{Encoding}
+use Rattle.tex_sizes.specs.Lengths.{unit_named}
 use Rattle.tex_sizes.specs.Sizes.{is_plain, size_of}
+use Rattle.tex_sizes.specs.declared.length_unit.LengthUnit.{LengthUnit}
 use Rattle.font_texts.specs.declared.pairs_format.PairsFormat.{PairsFormat}
 use Rattle.font_texts.specs.declared.pairs_layout.PairsLayout.{PairsLayout}
 use Rattle.font_texts.specs.declared.pairs_format.PairsFormat.TheVariants.{Text as TextFormat, Csv, Json as JsonFormat}
@@ -106,6 +108,10 @@ module _ (rows : List Row) where
   abbrev pub has_plain_size : Bool
   has_plain_size = option_map_or is_plain (first_of (codes "size") rows) false
 
+  -- the value of `--unit` is the name of this unit
+  abbrev pub IsUnit : LengthUnit → Type 0
+  IsUnit unit = option_and_then unit_named (first_of (codes "unit") rows) ≡ Some unit
+
   -- whether `--block` isn't given and has no default
   abbrev pub has_no_block : Bool
   has_no_block = is_none (first_of (codes "block") rows)
@@ -142,18 +148,21 @@ module _ (rows : List Row) where
       × (first_of (codes "record") rows ≡ Some (version_word layout.version))
       × IsVerbose layout.verbose
 
-  -- the format of the output of `pairs`, and the encoding of its characters
+  -- the format of the output of `pairs`, the encoding of its characters, and the unit of its kerns
   abbrev pub IsPairsLayout : PairsLayout → Type 0
   IsPairsLayout layout =
       (first_of (codes "format") rows ≡ Some (format_word layout.format))
       × IsEncoding layout.encoding
+      × IsUnit layout.unit
 
-  -- the values of `list`: the font, its size, whether that has no unit, and whether `--all` and `--verbose` are given
+  -- the values of `list`: the font, its size, whether that has no unit, the unit of dimensions, and whether
+  -- `--all` and `--verbose` are given
   abbrev pub IsListing : Listing → Type 0
   IsListing asked =
       (first_of (codes "FONT") rows ≡ Some asked.font.now)
       × IsSize asked.size
       × (asked.plain_size ≡ has_plain_size)
+      × IsUnit asked.unit
       × IsFlag (one_of (codes "all") rows) asked.all
       × IsVerbose asked.verbose
 

@@ -10,6 +10,7 @@ use Rattle.clap.specs.declared.builder.command.Command.TheViews.{out-Command as 
 use Rattle.clap.specs.declared.builder.action.ArgAction.TheVariants.{SetTrue}
 use Rattle.clap.specs.declared.builder.value_parser.ValueParser.{ValueParser}
 use Rattle.clap.specs.declared.builder.value_parser.ValueParser.TheVariants as parser
+use Rattle.tex_sizes.specs.Lengths.{unit_name, units as length_units}
 
 -- ---- arguments
 
@@ -60,6 +61,10 @@ record_words = codes "1" ∷ codes "2" ∷ codes "json" ∷ []
 abbrev pub format_words : List Text
 format_words = codes "text" ∷ codes "csv" ∷ codes "json" ∷ []
 
+-- the values of `--unit`
+abbrev pub unit_words : List Text
+unit_words = map unit_name length_units
+
 -- the parsers of `--missing` and `--record`
 pub record Choices : Type 0 where
   pub missing : ValueParser
@@ -67,9 +72,16 @@ pub record Choices : Type 0 where
   pub missing_taken : TakesWords missing_words missing
   pub records_taken : TakesWords record_words records
 
--- the parser of `--format`
+-- the parser of `--unit` of `list`
+pub record ListChoices : Type 0 where
+  pub units : ValueParser
+  pub units_taken : TakesWords unit_words units
+
+-- the parsers of `--unit` and `--format` of `pairs`
 pub record PairsChoices : Type 0 where
+  pub units : ValueParser
   pub formats : ValueParser
+  pub units_taken : TakesWords unit_words units
   pub formats_taken : TakesWords format_words formats
 
 -- the option of this name whose value is any text for a parse
@@ -79,6 +91,10 @@ text_rule name = record (new_rule name) { long = Some name; value_names = 1 }
 -- the option `--size`
 abbrev pub size_rule : Rule
 size_rule = text_rule (codes "size")
+
+-- the option `--unit` with this parser
+abbrev pub unit_rule : ValueParser → Rule
+unit_rule units = with_default (codes "sp") (choice_rule (codes "unit") units)
 
 -- the option `--encoding`
 abbrev pub encoding_rule : Rule
@@ -116,16 +132,19 @@ subcommand_with name rules = record (new_app name).top { rules = rules }
 abbrev pub counts_shape : Shape
 counts_shape = subcommand_with (codes "counts") (verbose_rule ∷ needed (new_rule (codes "FONT")) ∷ [])
 
--- `list` takes `--size`, the flags `--all` and `--verbose`, and one font
-abbrev pub list_shape : Shape
-list_shape = subcommand_with (codes "list") (size_rule ∷ flag_rule (codes "all") ∷ verbose_rule ∷ needed (new_rule (codes "FONT")) ∷ [])
+-- `list` takes `--size`, `--unit` with this parser, the flags `--all` and `--verbose`, and one font
+abbrev pub list_shape : ListChoices → Shape
+list_shape choices =
+    subcommand_with (codes "list")
+    (size_rule ∷ unit_rule choices.units ∷ flag_rule (codes "all") ∷ verbose_rule ∷ needed (new_rule (codes "FONT")) ∷ [])
 
--- `pairs` takes `--size`, `--format` with this parser, `--encoding`, the flag `--verbose`, and one font
+-- `pairs` takes `--size`, `--unit` and `--format` with these parsers, `--encoding`, the flag `--verbose`, and
+-- one font
 abbrev pub pairs_shape : PairsChoices → Shape
 pairs_shape choices =
     subcommand_with (codes "pairs")
-    (size_rule ∷ with_default (codes "text") (choice_rule (codes "format") choices.formats) ∷ encoding_rule ∷ verbose_rule
-    ∷ needed (new_rule (codes "FONT")) ∷ [])
+    (size_rule ∷ unit_rule choices.units ∷ with_default (codes "text") (choice_rule (codes "format") choices.formats)
+    ∷ encoding_rule ∷ verbose_rule ∷ needed (new_rule (codes "FONT")) ∷ [])
 
 -- `check` takes `--size`, the flags `--quiet`, `--summary` and `--verbose`, and one or more fonts
 abbrev pub check_shape : Shape
@@ -164,8 +183,9 @@ bare_app = record {
 abbrev pub command_with : List Shape → App
 command_with shapes = record { top = record bare_app.top { is_leaf = false }; subs = shapes }
 
--- the parsers of `pairs`, `set`, `stream` and `each`
+-- the parsers of `list`, `pairs`, `set`, `stream` and `each`
 pub record AllChoices : Type 0 where
+  pub list : ListChoices
   pub pairs : PairsChoices
   pub set : Choices
   pub stream : Choices
@@ -175,7 +195,7 @@ pub record AllChoices : Type 0 where
 abbrev pub tfmset_app : AllChoices → App
 tfmset_app choices =
     command_with
-    (counts_shape ∷ list_shape ∷ pairs_shape choices.pairs ∷ check_shape ∷ set_shape choices.set
+    (counts_shape ∷ list_shape choices.list ∷ pairs_shape choices.pairs ∷ check_shape ∷ set_shape choices.set
     ∷ stream_shape choices.stream ∷ each_shape choices.each ∷ [])
 
 -- ---- building the command

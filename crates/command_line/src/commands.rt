@@ -3,7 +3,7 @@ ghost use Rattle.std.specs.Prelude.{codes, IfOk, IsOkAnd};
 ghost use Rattle.clap.specs.declared.builder.value_parser.ValueParser.{ValueParser};
 ghost use Rattle.clap.specs.declared.builder.value_parser.ValueParser.TheVariants.{Names};
 ghost use Rattle.clap.specs.Words.{App, Rule, Shape, new_app, new_rule, with_rule, with_subcommand};
-ghost use Rattle.command_line.specs.Commands.{AllChoices, Choices, IsArgument, IsCommandOf, IsSubcommand, PairsChoices, TakesWords, bare_app, block_rule, check_shape, choice_rule, counts_shape, each_shape, encoding_rule, flag_rule, format_words, list_shape, missing_words, needed, number_rule, pairs_shape, record_words, run_rules, set_shape, setting_rules, size_rule, stream_shape, text_rule, tfmset_app, verbose_rule, with_default, with_rules, words_rule};
+ghost use Rattle.command_line.specs.Commands.{AllChoices, Choices, IsArgument, IsCommandOf, IsSubcommand, ListChoices, PairsChoices, TakesWords, bare_app, block_rule, check_shape, choice_rule, counts_shape, each_shape, encoding_rule, flag_rule, format_words, list_shape, missing_words, needed, number_rule, pairs_shape, record_words, run_rules, set_shape, setting_rules, size_rule, stream_shape, text_rule, tfmset_app, unit_rule, unit_words, verbose_rule, with_default, with_rules, words_rule};
 
 use crate::help::{
     ABOUT, AFTER_HELP, ALL_HELP, BLOCK_HELP, CAPACITY_HELP, CAUSES_HELP, CHECK_ABOUT,
@@ -11,7 +11,7 @@ use crate::help::{
     ENCODING_HELP, FILE_HELP, FONT_HELP, FONTS_HELP, FORMAT_HELP, LIMIT_HELP, LIST_ABOUT,
     LIST_AFTER_HELP, MISSING_HELP, PAIRS_ABOUT, PAIRS_AFTER_HELP, QUIET_HELP, RECORD_HELP,
     SET_ABOUT, SET_AFTER_HELP, SIZE_HELP, STREAM_ABOUT, STREAM_AFTER_HELP, STREAM_BLOCK_HELP,
-    STREAM_FILE_HELP, SUMMARY_HELP, VERBOSE_HELP, WORDS_HELP, WORKERS_HELP,
+    STREAM_FILE_HELP, SUMMARY_HELP, UNIT_HELP, VERBOSE_HELP, WORDS_HELP, WORKERS_HELP,
 };
 use clap::{Arg, ArgAction, Command, value_parser};
 use std::alloc::{AllocError, Global};
@@ -68,10 +68,11 @@ fn counts_command<'a>(alloc: Global) -> Result<Command<'a>, AllocError>
 }
 
 fn list_command<'a>(alloc: Global) -> Result<Command<'a>, AllocError>
-    ensures { IfOk result (IsSubcommand list_shape) }
+    ensures { IfOk result (λ made. (choices : ListChoices) × IsSubcommand (list_shape choices) made) }
 {
     let command = subcommand(alloc, "list", LIST_ABOUT, LIST_AFTER_HELP);
     let command = with_argument(command, size_option(alloc))?;
+    let command = with_argument(command, unit_option(alloc))?;
     let command = with_argument(command, flag_option(alloc, "all", ALL_HELP))?;
     let command = with_argument(command, verbose_option(alloc, CAUSES_HELP))?;
     with_argument(command, font_argument(alloc))
@@ -82,6 +83,7 @@ fn pairs_command<'a>(alloc: Global) -> Result<Command<'a>, AllocError>
 {
     let command = subcommand(alloc, "pairs", PAIRS_ABOUT, PAIRS_AFTER_HELP);
     let command = with_argument(command, size_option(alloc))?;
+    let command = with_argument(command, unit_option(alloc))?;
     let command = with_argument(command, format_option(alloc))?;
     let command = with_argument(command, encoding_option(alloc))?;
     let command = with_argument(command, verbose_option(alloc, CAUSES_HELP))?;
@@ -225,6 +227,14 @@ fn format_option<'a>(alloc: Global) -> Arg<'a>
 {
     let words = &["text", "csv", "json"];
     choice_option(alloc, "format", "F", FORMAT_HELP, words).default_value("text")
+}
+
+fn unit_option<'a>(alloc: Global) -> Arg<'a>
+    ensures { (parser : ValueParser) × TakesWords unit_words parser
+        × IsArgument (unit_rule parser) result }
+{
+    let words = &["sp", "pt", "bp", "mm", "cm", "in", "pc"];
+    choice_option(alloc, "unit", "U", UNIT_HELP, words).default_value("sp")
 }
 
 /// Builds an argument that takes one or more values.

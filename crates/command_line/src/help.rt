@@ -18,9 +18,10 @@ Examples, in the directory examples of the sources:
                             set each file with its own font and step limit
 
 `tfmset COMMAND --help` describes the options of a command and what it prints.
-All sizes and widths are printed in scaled points (sp): 65536 sp = 1pt. Errors
-are reported by one short line; with --verbose (-v), each command also prints
-their causes, with the names of files.
+Sizes and widths are printed in scaled points (sp): 65536 sp = 1pt; `list` and
+`pairs` print them in another unit with --unit. Errors are reported by one
+short line; with --verbose (-v), each command also prints their causes, with
+the names of files.
 
 Exit status:
   0  Success. Help and version output also end with 0.
@@ -62,6 +63,10 @@ the extensible recipes and every word (four bytes) of the file, in hexadecimal,
 are printed last. If the size has no unit and is below 65536 sp, a warning is
 printed on standard error.
 
+With --unit, dimensions are printed in another unit, with its name after the
+number: in pt as \\the of TeX prints them, such as 39.44447pt, and in bp, mm,
+cm, in or pc with five decimals. The slant stays a ratio.
+
 Exit status:
   0  The contents were printed.
   2  The arguments are invalid. The output is empty.
@@ -78,12 +83,13 @@ Prints a line for each pair of neighbours for which the lig/kern program of the
 font has an action: LEFT RIGHT kern AMOUNT, or LEFT RIGHT OPERATION CODE. LEFT
 is the code of a character of the font, or `left` for the left boundary. RIGHT
 is the code of a character of the font, or `right` for the right boundary.
-AMOUNT is in scaled points (65536 sp = 1pt), at the size of --size or, without
-this option, at the design size. OPERATION is a ligature operation: LIG, LIG/,
-/LIG, /LIG/, LIG/>, /LIG>, /LIG/> or /LIG/>>. CODE is the code of the character
-that it inserts. With --format csv, commas separate the fields, and the first
-line names them; json prints one JSON object per line. If the size has no unit
-and is below 65536 sp, a warning is printed on standard error.
+AMOUNT is in scaled points (65536 sp = 1pt) or in the unit of --unit, as in
+`tfmset list`, at the size of --size or, without this option, at the design
+size. OPERATION is a ligature operation: LIG, LIG/, /LIG, /LIG/, LIG/>, /LIG>,
+/LIG/> or /LIG/>>. CODE is the code of the character that it inserts. With
+--format csv, commas separate the fields, and the first line names them; json
+prints one JSON object per line. If the size has no unit and is below 65536 sp,
+a warning is printed on standard error.
 
 With --encoding, the characters of LEFT, RIGHT and CODE are printed after these
 fields, in UTF-8: `86 65 kern -72819 V A`. The encoding has to be that of the
@@ -91,7 +97,8 @@ font: ot1 for cmr10, t1 for ecrm1000, ly1, latin1, or the path of an encoding
 vector, as for `tfmset set`. For a code without a character, `none` is printed.
 A space, a no-break space, a soft hyphen or a control character is printed by
 its number, such as U+0020 for a space. With csv, a field without a character
-is empty; with json, a character is a string, or null.
+is empty; with json, a character is a string, or null, and an amount in a unit
+other than sp is a string.
 
 Exit status:
   0  The pairs were printed.
@@ -317,6 +324,8 @@ pub(crate) const ENCODING_ERROR: &str = "
   tip: a value with a slash or a period is the path of an encoding vector";
 
 pub(crate) const RECORD_HELP: &str = "Record format: 1, 2 or json; 1 omits steps";
+
+pub(crate) const UNIT_HELP: &str = "Unit: sp, pt, bp, mm, cm, in or pc";
 
 pub(crate) const FORMAT_HELP: &str = "Output format: text, csv or json";
 

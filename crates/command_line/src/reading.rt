@@ -3,7 +3,7 @@
 ghost use Rattle.std.specs.Prelude.{◌≡◌, [], map, IfErr, IfOk, Some, codes, option_map, unwrap_or};
 ghost use Rattle.clap.specs.Words.{all_of, first_of, found_of, kind_of, one_of, rows_of, subcommand_rows_of};
 ghost use Rattle.command_line.specs.Commands.{AllChoices, IsCommandOf, tfmset_app};
-ghost use Rattle.command_line.specs.Asked.{AreJobs, Asks, AsksFor, Finds, encoding_stated, format_word, has_no_block, has_plain_size, IsAskedBy, IsAskedOf, IsAskedWith, IsBlock, IsChecking, IsEncoding, IsFlag, IsLayout, IsListing, IsNumberIn, IsPairing, IsPairsLayout, IsPlan, IsRefusedBy, IsRefusedWith, IsSetting, IsSize, IsVerbose, is_path, kind_of_values, kind_without_request, misstates_encoding, misstates_size, policy_word, texts, vector_in, vector_named, version_word};
+ghost use Rattle.command_line.specs.Asked.{AreJobs, Asks, AsksFor, Finds, encoding_stated, format_word, has_no_block, has_plain_size, IsAskedBy, IsAskedOf, IsAskedWith, IsBlock, IsChecking, IsEncoding, IsFlag, IsLayout, IsListing, IsNumberIn, IsPairing, IsPairsLayout, IsPlan, IsRefusedBy, IsRefusedWith, IsSetting, IsSize, IsUnit, IsVerbose, is_path, kind_of_values, kind_without_request, misstates_encoding, misstates_size, policy_word, texts, vector_in, vector_named, version_word};
 
 use crate::commands::tfmset_command;
 use crate::help::{ENCODING_ERROR, SIZE_ERROR};
@@ -16,7 +16,7 @@ use run_plan::{Block, Capacity, Plan, Workers};
 use set_line::{Limit, Policy, Version};
 use std::alloc::{AllocError, Global};
 use std::convert::AsStr;
-use tex_sizes::{is_plain, read_size};
+use tex_sizes::{LengthUnit, is_plain, read_size};
 use tfm_words::Size;
 
 /// Parses the arguments that follow the program's name, and returns the request that they state, with the
@@ -203,6 +203,7 @@ fn asked_list<'a>(matches: &ArgMatches<'a>) -> Option<Listing<'a>>
         font: text(matches, "FONT")?,
         size: asked_size(matches)?,
         plain_size: asked_plain_size(matches),
+        unit: asked_unit(matches)?,
         all: flag(matches, "all"),
         verbose: asked_verbose(matches),
     })
@@ -221,13 +222,18 @@ fn asked_pairs<'a>(matches: &ArgMatches<'a>) -> Option<Pairing<'a>>
     })
 }
 
-/// Returns the format of the output of `pairs`, and the encoding of its characters.
+/// Returns the format of the output of `pairs`, the encoding of its characters, and the unit of its kerns.
 fn asked_pairs_layout(matches: &ArgMatches<'_>) -> Option<PairsLayout>
     ensures { Finds (IsPairsLayout (rows_of (found_of matches.now))) result }
 {
     let format = asked_format(matches)?;
     let encoding = asked_encoding(matches)?;
-    Some(PairsLayout { format, encoding })
+    let unit = asked_unit(matches)?;
+    Some(PairsLayout {
+        format,
+        encoding,
+        unit,
+    })
 }
 
 /// Returns the fonts that `check` reads, and its options.
@@ -416,6 +422,15 @@ fn asked_format(matches: &ArgMatches<'_>) -> Option<PairsFormat>
         "csv" => Some(PairsFormat::Csv),
         "json" => Some(PairsFormat::Json),
         _ => None,
+    }
+}
+
+fn asked_unit(matches: &ArgMatches<'_>) -> Option<LengthUnit>
+    ensures { Finds (IsUnit (rows_of (found_of matches.now))) result }
+{
+    match value_of(matches, "unit") {
+        Some(name) => LengthUnit::from_name(name),
+        None => None,
     }
 }
 

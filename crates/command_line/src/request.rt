@@ -3,6 +3,7 @@ use encodings::Encoding;
 use font_texts::PairsLayout;
 use run_plan::Plan;
 use set_line::{Limit, Policy, Version};
+use tex_sizes::LengthUnit;
 use tfm_words::Size;
 
 /// What the arguments state: a request, and the file with its encoding vector if `--encoding` names one.
@@ -74,6 +75,8 @@ pub struct Listing<'a> {
     pub size: Option<Size>,
     /// Whether the size was given as a number without a unit.
     pub plain_size: bool,
+    /// The unit of dimensions.
+    pub unit: LengthUnit,
     /// Whether the counts, the extensible recipes and all words of the file are printed, too.
     pub all: bool,
     /// Whether the causes of errors are printed on standard error.
@@ -89,7 +92,8 @@ pub struct Pairing<'a> {
     pub size: Option<Size>,
     /// Whether the size was given as a number without a unit.
     pub plain_size: bool,
-    /// The format of the output, and the encoding whose characters are printed after the codes.
+    /// The format of the output, the encoding whose characters are printed after the codes, and the unit of
+    /// kerns.
     pub layout: PairsLayout,
     /// Whether the causes of errors are printed on standard error.
     pub verbose: bool,

@@ -7,7 +7,7 @@ use Rattle.std.proofs.lemmas.List.Elements.{All-drop, All-take}
 use Rattle.std.specs.Fmt.{decimal}
 use Rattle.std.specs.List.{range_with_len}
 use Rattle.std.specs.Result.{result_unwrap_or}
-use Rattle.std.specs.Prelude.{◌==◌, All, codes, nat_le, nat_lt, sum}
+use Rattle.std.specs.Prelude.{◌==◌, All, codes, nat_le, nat_lt, pos, sum}
 use Rattle.tfm_words.specs.declared.count_fault.CountFault.{CountFault}
 use Rattle.tfm_words.specs.declared.count_fault.CountFault.TheVariants.{Truncated, CountRange, LengthEquation}
 use Rattle.tfm_words.specs.declared.count.Count.TheVariants.{Lf}
@@ -21,7 +21,10 @@ use Rattle.tfm_tables.specs.Header.{check_sum_of}
 use Rattle.font_texts.specs.AllListing.{all_listing_of, hex_text, recipe_rows, word_row, word_rows}
 use Rattle.font_texts.specs.CountsText.{count_rows, count_rows_text}
 use Rattle.font_texts.specs.Laws.{IsAccepted, ListingTellsFont, ListingTellsWords}
-use Rattle.font_texts.specs.Listing.{boundary_rows, char_rows, header_rows, kern_rows, listing_of, listing_row_of, listing_row_text, listing_rows_text, param_rows, size_rows, step_rows}
+use Rattle.tex_sizes.specs.Lengths.{length_text}
+use Rattle.tex_sizes.specs.declared.length_unit.LengthUnit.{LengthUnit}
+use Rattle.tex_sizes.specs.declared.length_unit.LengthUnit.TheVariants.{ScaledPoints}
+use Rattle.font_texts.specs.Listing.{Row, boundary_rows, char_rows, header_rows, kern_rows, listing_of, listing_row_of, listing_row_text, listing_rows_text, param_rows, size_rows, step_rows}
 use Rattle.font_texts.proofs.TextLemmas.{hex_equal, length-hex_text, numbers_equal, rows_equal, words_equal}
 
 -- ---- the words of an accepted font
@@ -103,25 +106,26 @@ grouped : (d r l e w : List ℕ) → ((((d ++ 10 ∷ []) ++ r) ++ l) ++ e) ++ w 
 grouped d r l e w = simp append_assoc
 
 -- the text after the line of the first count
-abbrev after_lf : FontValue → List ℕ
-after_lf font =
+abbrev after_lf : LengthUnit → FontValue → List ℕ
+after_lf unit font =
     count_rows_text (drop 1 (count_rows (counts_of font.words)))
-    ++ (listing_of font ++ (listing_rows_text (recipe_rows font) ++ listing_rows_text (word_rows font)))
+    ++ (listing_of unit font ++ (listing_rows_text (recipe_rows font) ++ listing_rows_text (word_rows font)))
 
 -- a full listing begins with the line of lf
-starts : (font : FontValue) → all_listing_of font ≡ 108 ∷ 102 ∷ 32 ∷ (decimal (counts_of font.words).lf ++ 10 ∷ after_lf font)
+starts : (unit : LengthUnit) (font : FontValue)
+    → all_listing_of unit font ≡ 108 ∷ 102 ∷ 32 ∷ (decimal (counts_of font.words).lf ++ 10 ∷ after_lf unit font)
 unfolding all_listing_of count_rows
-starts font =
+starts unit font =
     ap (λ t. 108 ∷ 102 ∷ 32 ∷ t)
-    (grouped (decimal (counts_of font.words).lf) (count_rows_text (drop 1 (count_rows (counts_of font.words)))) (listing_of font)
+    (grouped (decimal (counts_of font.words).lf) (count_rows_text (drop 1 (count_rows (counts_of font.words)))) (listing_of unit font)
     (listing_rows_text (recipe_rows font)) (listing_rows_text (word_rows font)))
 
 -- equal full listings have the same lf
-same_count : (font other : FontValue) → (counts_of font.words).lf < 2 ^ 15 → (counts_of other.words).lf < 2 ^ 15
-    → all_listing_of font ≡ all_listing_of other → (counts_of font.words).lf ≡ (counts_of other.words).lf
-same_count font other small few same =
-    numbers_equal (counts_of font.words).lf (counts_of other.words).lf (after_lf font) (after_lf other) (omega arith) (omega arith)
-    (ap (drop 3) (sym (starts font) ∙ same ∙ starts other))
+same_count : (unit : LengthUnit) (font other : FontValue) → (counts_of font.words).lf < 2 ^ 15 → (counts_of other.words).lf < 2 ^ 15
+    → all_listing_of unit font ≡ all_listing_of unit other → (counts_of font.words).lf ≡ (counts_of other.words).lf
+same_count unit font other small few same =
+    numbers_equal (counts_of font.words).lf (counts_of other.words).lf (after_lf unit font) (after_lf unit other) (omega arith) (omega arith)
+    (ap (drop 3) (sym (starts unit font) ∙ same ∙ starts unit other))
 
 -- the parts of the row of a word, grouped to the right
 row_grouped : (d h : List ℕ) → (d ++ 32 ∷ (h ++ [])) ++ 10 ∷ [] ≡ d ++ 32 ∷ (h ++ 10 ∷ [])
@@ -169,15 +173,15 @@ word_equal xs ys n i small few long wide below same =
 -- equal full listings have the same words: they begin with lf, so that the same number of rows at their ends
 -- are those of words, and equal rows are those of equal words
 -- Law: accepted fonts with equal full listings have the same words
-pub listing_tells : (font : FontValue) (other : FontValue) → ListingTellsWords font other
+pub listing_tells : (unit : LengthUnit) (font : FontValue) (other : FontValue) → ListingTellsWords unit font other
 unfolding all_listing_of word_rows
-listing_tells font other accepted read same =
+listing_tells unit font other accepted read same =
     let own = whole font accepted in
     let its = whole other read in
-    let lf = same_count font other own.small its.small same in
+    let lf = same_count unit font other own.small its.small same in
     let n = (counts_of font.words).lf in
     let before : FontValue → List ℕ =
-    λ f. (count_rows_text (count_rows (counts_of f.words)) ++ listing_of f) ++ listing_rows_text (recipe_rows f)
+    λ f. (count_rows_text (count_rows (counts_of f.words)) ++ listing_of unit f) ++ listing_rows_text (recipe_rows f)
     in let wide : length other.words ≡ 4 * n = its.whole ∙ ap (λ k. 4 * k) (sym lf) in
     let rows = rows_equal (word_row font.words) (word_row other.words) n (before font) (before other)
     (λ i below. length-row font.words n i own.whole below ∙ sym (length-row other.words n i wide below))
@@ -193,12 +197,18 @@ abbrev before_size : List ℕ → List ℕ
 before_size words =
     count_rows_text (count_rows (counts_of words))
     ++ (listing_row_text (listing_row_of (codes "checksum") (decimal (check_sum_of words)))
-    ++ listing_row_text (listing_row_of (codes "design") (decimal (result_unwrap_or (design_size_of words) 0))))
+    ++ listing_row_text (listing_row_of (codes "design") (length_text ScaledPoints (pos (result_unwrap_or (design_size_of words) 0)))))
+
+-- the rows after that of the size
+abbrev rows_after_size : FontValue → List Row
+rows_after_size font =
+    header_rows font ++ boundary_rows font ++ char_rows ScaledPoints font ++ step_rows ScaledPoints font
+    ++ kern_rows ScaledPoints font ++ param_rows ScaledPoints font
 
 -- the text after the line of the size
 abbrev after_size : FontValue → List ℕ
 after_size font =
-    listing_rows_text (header_rows font ++ boundary_rows font ++ char_rows font ++ step_rows font ++ kern_rows font ++ param_rows font)
+    listing_rows_text (rows_after_size font)
     ++ (listing_rows_text (recipe_rows font) ++ listing_rows_text (word_rows font))
 
 -- the parts of the full listing, grouped to the right, with the number of the size apart
@@ -208,13 +218,13 @@ size_grouped c t u d l e w = simp (append_assoc, append-nil)
 
 -- the full listing is the text before the size, the line of the size, and the text after it
 sized : (font : FontValue)
-    → all_listing_of font ≡ before_size font.words ++ 115 ∷ 105 ∷ 122 ∷ 101 ∷ 32 ∷ (decimal font.size ++ 10 ∷ after_size font)
-unfolding all_listing_of listing_of listing_row_text size_rows
+    → all_listing_of ScaledPoints font ≡ before_size font.words ++ 115 ∷ 105 ∷ 122 ∷ 101 ∷ 32 ∷ (decimal font.size ++ 10 ∷ after_size font)
+unfolding all_listing_of listing_of listing_row_text size_rows length_text
 sized font =
     size_grouped (count_rows_text (count_rows (counts_of font.words)))
     (listing_row_text (listing_row_of (codes "checksum") (decimal (check_sum_of font.words))))
-    (listing_row_text (listing_row_of (codes "design") (decimal (result_unwrap_or (design_size_of font.words) 0)))) (decimal font.size)
-    (listing_rows_text (header_rows font ++ boundary_rows font ++ char_rows font ++ step_rows font ++ kern_rows font ++ param_rows font))
+    (listing_row_text (listing_row_of (codes "design") (length_text ScaledPoints (pos (result_unwrap_or (design_size_of font.words) 0))))) (decimal font.size)
+    (listing_rows_text (rows_after_size font))
     (listing_rows_text (recipe_rows font)) (listing_rows_text (word_rows font))
 
 -- fonts with the same words and the same size are the same font
@@ -227,7 +237,7 @@ same_font font other words size =
 -- Law: they are the same font, with the same size, if both sizes are below 2^27 sp, which every `Size` is
 pub listing_tells_all : (font : FontValue) (other : FontValue) → ListingTellsFont font other
 listing_tells_all font other accepted read small few same =
-    let words = listing_tells font other accepted read same in
+    let words = listing_tells ScaledPoints font other accepted read same in
     let tail : FontValue → List ℕ = λ f. 115 ∷ 105 ∷ 122 ∷ 101 ∷ 32 ∷ (decimal f.size ++ 10 ∷ after_size f) in
     let both : before_size font.words ++ tail font ≡ before_size font.words ++ tail other =
     sym (sized font) ∙ same ∙ sized other ∙ ap (λ w. before_size w ++ tail other) (sym words)

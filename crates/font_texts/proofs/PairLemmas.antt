@@ -5,6 +5,7 @@ use Rattle.std.specs.Char.{encode_utf8}
 use Rattle.std.proofs.lemmas.Bool.Decides.{nat_tests}
 use Rattle.std.proofs.lemmas.List.{append-nil}
 use Rattle.encodings.specs.declared.encoding.Encoding.{Encoding}
+use Rattle.tex_sizes.specs.declared.length_unit.LengthUnit.{LengthUnit}
 use Rattle.tfm_tables.specs.Font.{FontValue}
 use Rattle.font_texts.specs.Pairs.{pairs_of}
 use Rattle.font_texts.specs.PairsText.{line_end, pair_front, pair_line, pairs_head, pairs_text_of}
@@ -48,17 +49,18 @@ pub ruleset words = (named, unnamed, unnamed_above)
 
 -- ---- without an encoding
 
-line_of_codes : (format : PairsFormat) (pair : Pair) → pair_line_with None format pair ≡ pair_line format pair
+line_of_codes : (unit : LengthUnit) (format : PairsFormat) (pair : Pair) → pair_line_with unit None format pair ≡ pair_line unit format pair
 unfolding pair_line_with characters_beside
-line_of_codes format pair = ap (λ front. front ++ line_end format) (append-nil (pair_front format pair))
+line_of_codes unit format pair = ap (λ front. front ++ line_end format) (append-nil (pair_front unit format pair))
 
-lines_of_codes : (format : PairsFormat) (pairs : List Pair) → flat_map (pair_line_with None format) pairs ≡ flat_map (pair_line format) pairs
-lines_of_codes format [] = refl
-lines_of_codes format (pair ∷ pairs) =
-    ap (λ line. line ++ flat_map (pair_line_with None format) pairs) (line_of_codes format pair)
-    ∙ ap (λ lines. pair_line format pair ++ lines) (lines_of_codes format pairs)
+lines_of_codes : (unit : LengthUnit) (format : PairsFormat) (pairs : List Pair)
+    → flat_map (pair_line_with unit None format) pairs ≡ flat_map (pair_line unit format) pairs
+lines_of_codes unit format [] = refl
+lines_of_codes unit format (pair ∷ pairs) =
+    ap (λ line. line ++ flat_map (pair_line_with unit None format) pairs) (line_of_codes unit format pair)
+    ∙ ap (λ lines. pair_line unit format pair ++ lines) (lines_of_codes unit format pairs)
 
 -- Law: the text of pairs without an encoding has codes only
-pub text_of_codes : (format : PairsFormat) (font : FontValue) → HasTextOfCodes format font
+pub text_of_codes : (unit : LengthUnit) (format : PairsFormat) (font : FontValue) → HasTextOfCodes unit format font
 unfolding pairs_text_with pairs_head_with pairs_text_of
-text_of_codes format font = ap (λ lines. pairs_head format ++ lines) (lines_of_codes format (pairs_of font))
+text_of_codes unit format font = ap (λ lines. pairs_head format ++ lines) (lines_of_codes unit format (pairs_of font))

@@ -5,6 +5,7 @@
 use Rattle.std.specs.Prelude.{ℕ, ◌/◌, ◌%◌, List, [], ◌∷◌, ◌++◌, codes, decimal, flat_map, map, slice_index, false}
 use Rattle.std.specs.Fmt.{digit_glyph}
 use Rattle.std.specs.List.{range_with_len}
+use Rattle.tex_sizes.specs.declared.length_unit.LengthUnit.{LengthUnit}
 use Rattle.tfm_words.specs.declared.table.Table.TheVariants.{Exten}
 use Rattle.tfm_words.specs.Counts.{counts_of}
 use Rattle.tfm_words.specs.Word.{word_at}
@@ -47,10 +48,10 @@ recipe_rows font = map (recipe_row (table_of font.words Exten)) (range_with_len 
 unfoldable pub word_rows : FontValue → List Row
 word_rows font = map (word_row font.words) (range_with_len 0 (counts_of font.words).lf)
 
--- the text of the full listing
-unfoldable pub all_listing_of : FontValue → List ℕ
-all_listing_of font =
+-- the text of the full listing, with its dimensions in a unit
+unfoldable pub all_listing_of : LengthUnit → FontValue → List ℕ
+all_listing_of unit font =
     count_rows_text (count_rows (counts_of font.words))
-    ++ listing_of font
+    ++ listing_of unit font
     ++ listing_rows_text (recipe_rows font)
     ++ listing_rows_text (word_rows font)

@@ -1,10 +1,12 @@
 -- The listing of a font: its lines, each with a name and the fields after it.
 -- This project's own text; the fields of tags and instructions are defined in ListingWords.
-use Rattle.std.specs.Prelude.{ℕ, ℤ, Bool, List, [], ◌∷◌, ◌++◌, map, filter, flat_map, codes, decimal, Option, Some, None}
-use Rattle.std.specs.Fmt.{signed_decimal}
+use Rattle.std.specs.Prelude.{ℕ, ℤ, ◌==◌, Bool, List, [], ◌∷◌, ◌++◌, map, filter, flat_map, codes, decimal, Option, Some, None, pos, if◌then◌else◌}
 use Rattle.std.specs.List.{range_with_len}
 use Rattle.std.specs.Option.{option_map}
 use Rattle.std.specs.Result.{result_unwrap_or}
+use Rattle.tex_sizes.specs.Lengths.{length_text}
+use Rattle.tex_sizes.specs.declared.length_unit.LengthUnit.{LengthUnit}
+use Rattle.tex_sizes.specs.declared.length_unit.LengthUnit.TheVariants.{ScaledPoints}
 use Rattle.tfm_words.specs.declared.table.Table.TheVariants.{LigKern, Kern, Param}
 use Rattle.tfm_words.specs.DesignSize.{design_size_of}
 use Rattle.tfm_tables.specs.declared.left_side.LeftSide.TheVariants.{Boundary}
@@ -54,12 +56,12 @@ unfoldable pub number_where : List ℕ → Option ℕ → List Row
 number_where name number = row_where name (option_map decimal number)
 
 -- the lines of the check sum, of the design size and of the size that the font is read at; both sizes are in
--- scaled points (sp)
-unfoldable pub size_rows : FontValue → List Row
-size_rows font =
+-- the unit
+unfoldable pub size_rows : LengthUnit → FontValue → List Row
+size_rows unit font =
     listing_row_of (codes "checksum") (decimal (check_sum_of font.words))
-    ∷ listing_row_of (codes "design") (decimal (result_unwrap_or (design_size_of font.words) 0))
-    ∷ listing_row_of (codes "size") (decimal font.size)
+    ∷ listing_row_of (codes "design") (length_text unit (pos (result_unwrap_or (design_size_of font.words) 0)))
+    ∷ listing_row_of (codes "size") (length_text unit (pos font.size))
     ∷ []
 
 -- the lines of those header entries that a header may be too short to contain: coding scheme, family,
@@ -80,61 +82,64 @@ boundary_rows font =
     ∷ []
 
 -- the line of an existing character
-unfoldable pub char_row : FontValue → ℕ → Row
-char_row font code = (
+unfoldable pub char_row : LengthUnit → FontValue → ℕ → Row
+char_row unit font code = (
   codes "char",
-  char_words code (measures_of font.words font.size code)
+  char_words unit code (measures_of font.words font.size code)
       (tag_with (tag_number (char_info_of font.words code)) (remainder_of (char_info_of font.words code))),
 )
 
 -- the line of the instruction at an address
-unfoldable pub step_row : FontValue → ℕ → Row
-step_row font i = (codes "step", step_words font i (step_at font.words i))
+unfoldable pub step_row : LengthUnit → FontValue → ℕ → Row
+step_row unit font i = (codes "step", step_words unit font i (step_at font.words i))
 
--- a line with an index and a signed amount
-abbrev pub amount_row : List ℕ → ℕ → ℤ → Row
-amount_row name number amount = (name, decimal number ∷ signed_decimal amount ∷ [])
+-- a line with an index and an amount in a unit
+abbrev pub amount_row : LengthUnit → List ℕ → ℕ → ℤ → Row
+amount_row unit name number amount = (name, decimal number ∷ length_text unit amount ∷ [])
 
--- the line of kern k, in scaled points (sp)
-unfoldable pub kern_row : FontValue → ℕ → Row
-kern_row font k = amount_row (codes "kern") k (kern_at font.words font.size k)
+-- the line of kern k
+unfoldable pub kern_row : LengthUnit → FontValue → ℕ → Row
+kern_row unit font k = amount_row unit (codes "kern") k (kern_at font.words font.size k)
 
--- the line of parameter n; the slant, number 1, is in units of 2^-20, and every other parameter is in scaled
--- points (sp)
-unfoldable pub param_row : FontValue → ℕ → Row
-param_row font n = amount_row (codes "param") n (parameter_of font.words font.size n)
+-- the unit of parameter n; the slant, number 1, is a ratio, and is printed as a number of units of 2^-20
+abbrev pub param_unit : LengthUnit → ℕ → LengthUnit
+param_unit unit n = if n == 1 then ScaledPoints else unit
+
+-- the line of parameter n
+unfoldable pub param_row : LengthUnit → FontValue → ℕ → Row
+param_row unit font n = amount_row (param_unit unit n) (codes "param") n (parameter_of font.words font.size n)
 
 -- the codes that a character may have, 0 to 255
 unfoldable pub all_codes : List ℕ
 all_codes = range_with_len 0 256
 
 -- the lines of the existing characters, in the order of their codes
-unfoldable pub char_rows : FontValue → List Row
-char_rows font = map (char_row font) (filter (exists font.words) all_codes)
+unfoldable pub char_rows : LengthUnit → FontValue → List Row
+char_rows unit font = map (char_row unit font) (filter (exists font.words) all_codes)
 
 -- the lines of the instructions, in the order of their addresses
-unfoldable pub step_rows : FontValue → List Row
-step_rows font = map (step_row font) (range_with_len 0 (entries_of font.words LigKern))
+unfoldable pub step_rows : LengthUnit → FontValue → List Row
+step_rows unit font = map (step_row unit font) (range_with_len 0 (entries_of font.words LigKern))
 
 -- the lines of the kerns, from 0
-unfoldable pub kern_rows : FontValue → List Row
-kern_rows font = map (kern_row font) (range_with_len 0 (entries_of font.words Kern))
+unfoldable pub kern_rows : LengthUnit → FontValue → List Row
+kern_rows unit font = map (kern_row unit font) (range_with_len 0 (entries_of font.words Kern))
 
 -- the lines of the parameters, from 1
-unfoldable pub param_rows : FontValue → List Row
-param_rows font = map (param_row font) (range_with_len 1 (entries_of font.words Param))
+unfoldable pub param_rows : LengthUnit → FontValue → List Row
+param_rows unit font = map (param_row unit font) (range_with_len 1 (entries_of font.words Param))
 
--- the lines of a font's listing
-abbrev pub listing_rows : FontValue → List Row
-listing_rows font =
-    size_rows font
+-- the lines of a font's listing, with its dimensions in a unit
+abbrev pub listing_rows : LengthUnit → FontValue → List Row
+listing_rows unit font =
+    size_rows unit font
     ++ header_rows font
     ++ boundary_rows font
-    ++ char_rows font
-    ++ step_rows font
-    ++ kern_rows font
-    ++ param_rows font
+    ++ char_rows unit font
+    ++ step_rows unit font
+    ++ kern_rows unit font
+    ++ param_rows unit font
 
 -- the text of the listing of a font
-unfoldable pub listing_of : FontValue → List ℕ
-listing_of font = listing_rows_text (listing_rows font)
+unfoldable pub listing_of : LengthUnit → FontValue → List ℕ
+listing_of unit font = listing_rows_text (listing_rows unit font)

@@ -1,9 +1,11 @@
--- The fields of a listing that aren't plain numbers: texts, flags, tags and instructions.
+-- The fields of a listing that aren't plain numbers: texts, flags, dimensions, tags and instructions.
 -- Public source: the eight names are those of tftopl.web, section 13, and The METAFONTbook, Appendix F; the
 -- rest is this project's own.
 use Rattle.std.specs.Prelude.{ℕ, ◌/◌, ◌%◌, ◌==◌, ◌&&◌, not, nat_lt, nat_le, Bool, List, [], ◌∷◌, ◌++◌, codes, decimal, find, flat_map, Option, if◌then◌else◌, false}
-use Rattle.std.specs.Fmt.{signed_decimal, digit_glyph}
+use Rattle.std.specs.Fmt.{digit_glyph}
 use Rattle.std.specs.Option.{option_map_or}
+use Rattle.tex_sizes.specs.Lengths.{length_text}
+use Rattle.tex_sizes.specs.declared.length_unit.LengthUnit.{LengthUnit}
 use Rattle.tfm_tables.specs.declared.metrics.Metrics.{Metrics}
 use Rattle.tfm_tables.specs.declared.step.Step.{Step}
 use Rattle.tfm_tables.specs.declared.tag.Tag.{Tag}
@@ -40,18 +42,18 @@ tag_words (Lig remainder) = codes "lig" ∷ decimal remainder ∷ []
 tag_words (ListOf remainder) = codes "list" ∷ decimal remainder ∷ []
 tag_words (Ext remainder) = codes "ext" ∷ decimal remainder ∷ []
 
--- the fields of the four dimensions of a character, in scaled points (sp), each with its name before it
-unfoldable pub measure_words : Metrics → List (List ℕ)
-measure_words metrics =
-    codes "width" ∷ signed_decimal metrics.width
-    ∷ codes "height" ∷ signed_decimal metrics.height
-    ∷ codes "depth" ∷ signed_decimal metrics.depth
-    ∷ codes "italic" ∷ signed_decimal metrics.italic
+-- the fields of the four dimensions of a character in a unit, each with its name before it
+unfoldable pub measure_words : LengthUnit → Metrics → List (List ℕ)
+measure_words unit metrics =
+    codes "width" ∷ length_text unit metrics.width
+    ∷ codes "height" ∷ length_text unit metrics.height
+    ∷ codes "depth" ∷ length_text unit metrics.depth
+    ∷ codes "italic" ∷ length_text unit metrics.italic
     ∷ []
 
 -- the fields of a character: its code, its dimensions and its tag
-unfoldable pub char_words : ℕ → Metrics → Tag → List (List ℕ)
-char_words code metrics tag = (decimal code ∷ measure_words metrics) ++ codes "tag" ∷ tag_words tag
+unfoldable pub char_words : LengthUnit → ℕ → Metrics → Tag → List (List ℕ)
+char_words unit code metrics tag = (decimal code ∷ measure_words unit metrics) ++ codes "tag" ∷ tag_words tag
 
 -- the ligature operations with their names in a property list
 abbrev pub operation_names : List (ℕ × List ℕ)
@@ -72,17 +74,17 @@ operation_name op = option_map_or (λ row. row.1) (find (λ row. row.0 == op) op
 
 -- the fields of the action of an instruction: it points to another instruction, or inserts a kern or a
 -- ligature character
-unfoldable pub action_words : FontValue → Step → List (List ℕ)
-action_words font step =
+unfoldable pub action_words : LengthUnit → FontValue → Step → List (List ℕ)
+action_words unit font step =
     if nat_lt 128 step.skip then codes "goto" ∷ decimal (target_of step) ∷ []
     else if nat_le 128 step.op
-    then codes "KRN" ∷ decimal (kern_index_of step) ∷ signed_decimal (kern_at font.words font.size (kern_index_of step)) ∷ []
+    then codes "KRN" ∷ decimal (kern_index_of step) ∷ length_text unit (kern_at font.words font.size (kern_index_of step)) ∷ []
     else operation_name step.op ∷ decimal step.remainder ∷ []
 
 -- the fields of an instruction: its address, its skip, the code to its right, and its action
-unfoldable pub step_words : FontValue → ℕ → Step → List (List ℕ)
-step_words font i step =
+unfoldable pub step_words : LengthUnit → FontValue → ℕ → Step → List (List ℕ)
+step_words unit font i step =
     decimal i
     ∷ codes "skip" ∷ decimal step.skip
     ∷ codes "next" ∷ decimal step.next
-    ∷ action_words font step
+    ∷ action_words unit font step

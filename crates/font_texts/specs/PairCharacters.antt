@@ -8,6 +8,7 @@ use Rattle.std.specs.Fmt.{digit_glyph}
 use Rattle.std.specs.Option.{option_map_or}
 use Rattle.encodings.specs.Characters.{character_of}
 use Rattle.encodings.specs.declared.encoding.Encoding.{Encoding}
+use Rattle.tex_sizes.specs.declared.length_unit.LengthUnit.{LengthUnit}
 use Rattle.lig_kern.specs.declared.action.Action.{Action}
 use Rattle.lig_kern.specs.declared.action.Action.TheVariants.{Kern, Lig}
 use Rattle.lig_kern.specs.declared.symbol.Symbol.{Symbol}
@@ -129,8 +130,9 @@ characters_beside (Some encoding) Json pair = json_members encoding pair
 -- ---- the text
 
 -- the line of a pair: its four fields, and then its characters
-unfoldable pub pair_line_with : Option Encoding → PairsFormat → Pair → List ℕ
-pair_line_with encoding format pair = pair_front format pair ++ characters_beside encoding format pair ++ line_end format
+unfoldable pub pair_line_with : LengthUnit → Option Encoding → PairsFormat → Pair → List ℕ
+pair_line_with unit encoding format pair =
+    pair_front unit format pair ++ characters_beside encoding format pair ++ line_end format
 
 -- the line before the pairs, which only CSV has
 unfoldable pub pairs_head_with : Option Encoding → PairsFormat → List ℕ
@@ -139,10 +141,11 @@ pairs_head_with (Some encoding) Text = []
 pairs_head_with (Some encoding) Csv = codes "left,right,action,value,left_character,right_character,value_character\n"
 pairs_head_with (Some encoding) Json = []
 
--- the text of the pairs of a font
-unfoldable pub pairs_text_with : Option Encoding → PairsFormat → FontValue → List ℕ
-pairs_text_with encoding format font = pairs_head_with encoding format ++ flat_map (pair_line_with encoding format) (pairs_of font)
+-- the text of the pairs of a font, with kerns in a unit
+unfoldable pub pairs_text_with : LengthUnit → Option Encoding → PairsFormat → FontValue → List ℕ
+pairs_text_with unit encoding format font =
+    pairs_head_with encoding format ++ flat_map (pair_line_with unit encoding format) (pairs_of font)
 
 -- without an encoding the text has codes only
-abbrev pub HasTextOfCodes : PairsFormat → FontValue → Type 0
-HasTextOfCodes format font = pairs_text_with None format font ≡ pairs_text_of format font
+abbrev pub HasTextOfCodes : LengthUnit → PairsFormat → FontValue → Type 0
+HasTextOfCodes unit format font = pairs_text_with unit None format font ≡ pairs_text_of unit format font

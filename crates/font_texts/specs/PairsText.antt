@@ -3,7 +3,9 @@
 -- METAFONTbook, Appendix F; JSON is RFC 8259, and CSV is RFC 4180 except that a line ends with a line feed;
 -- the rest is this project's own.
 use Rattle.std.specs.Prelude.{ℕ, Bool, List, [], ◌++◌, codes, decimal, flat_map, replicate, if◌then◌else◌}
-use Rattle.std.specs.Fmt.{signed_decimal}
+use Rattle.tex_sizes.specs.Lengths.{length_text}
+use Rattle.tex_sizes.specs.declared.length_unit.LengthUnit.{LengthUnit}
+use Rattle.tex_sizes.specs.declared.length_unit.LengthUnit.TheVariants.{ScaledPoints}
 use Rattle.lig_kern.specs.declared.action.Action.{Action}
 use Rattle.lig_kern.specs.declared.action.Action.TheVariants.{Kern, Lig}
 use Rattle.lig_kern.specs.declared.symbol.Symbol.{Symbol}
@@ -36,28 +38,35 @@ unfoldable pub action_name : Action → List ℕ
 action_name (Kern amount) = codes "kern"
 action_name (Lig code keep_left keep_right pass) = slash_if keep_left ++ codes "LIG" ++ slash_if keep_right ++ replicate pass 62
 
--- the value of an action: the amount of a kern, in scaled points (sp), or the code of a ligature character
-unfoldable pub action_value : Action → List ℕ
-action_value (Kern amount) = signed_decimal amount
-action_value (Lig code keep_left keep_right pass) = decimal code
+-- the value of an action: the amount of a kern in a unit, or the code of a ligature character
+unfoldable pub action_value : LengthUnit → Action → List ℕ
+action_value unit (Kern amount) = length_text unit amount
+action_value unit (Lig code keep_left keep_right pass) = decimal code
+
+-- the value of an action in JSON: a number, but a string for a kern in a unit other than sp
+unfoldable pub json_action_value : LengthUnit → Action → List ℕ
+json_action_value ScaledPoints action = action_value ScaledPoints action
+json_action_value unit (Kern amount) = codes "\"" ++ length_text unit amount ++ codes "\""
+json_action_value unit (Lig code keep_left keep_right pass) = decimal code
 
 -- the four fields of a pair with a separator between neighbours
-abbrev pub pair_fields : List ℕ → Pair → List ℕ
-pair_fields separator pair =
+abbrev pub pair_fields : LengthUnit → List ℕ → Pair → List ℕ
+pair_fields unit separator pair =
     symbol_word pair.left ++ separator ++ symbol_word pair.right ++ separator
-    ++ action_name pair.action ++ separator ++ action_value pair.action
+    ++ action_name pair.action ++ separator ++ action_value unit pair.action
 
 -- the same four fields as the members of a JSON object
-abbrev pub pair_members : Pair → List ℕ
-pair_members pair =
+abbrev pub pair_members : LengthUnit → Pair → List ℕ
+pair_members unit pair =
     codes "\"left\":" ++ json_symbol pair.left ++ codes ",\"right\":" ++ json_symbol pair.right
-    ++ codes ",\"action\":\"" ++ action_name pair.action ++ codes "\",\"value\":" ++ action_value pair.action
+    ++ codes ",\"action\":\"" ++ action_name pair.action ++ codes "\",\"value\":"
+    ++ json_action_value unit pair.action
 
 -- the line of a pair in a format, up to its end
-unfoldable pub pair_front : PairsFormat → Pair → List ℕ
-pair_front Text pair = pair_fields (codes " ") pair
-pair_front Csv pair = pair_fields (codes ",") pair
-pair_front Json pair = codes "{" ++ pair_members pair
+unfoldable pub pair_front : LengthUnit → PairsFormat → Pair → List ℕ
+pair_front unit Text pair = pair_fields unit (codes " ") pair
+pair_front unit Csv pair = pair_fields unit (codes ",") pair
+pair_front unit Json pair = codes "{" ++ pair_members unit pair
 
 -- the end of a line
 unfoldable pub line_end : PairsFormat → List ℕ
@@ -66,8 +75,8 @@ line_end Csv = codes "\n"
 line_end Json = codes "}\n"
 
 -- the line of a pair in a format
-abbrev pub pair_line : PairsFormat → Pair → List ℕ
-pair_line format pair = pair_front format pair ++ line_end format
+abbrev pub pair_line : LengthUnit → PairsFormat → Pair → List ℕ
+pair_line unit format pair = pair_front unit format pair ++ line_end format
 
 -- the line before the pairs, which only CSV has
 unfoldable pub pairs_head : PairsFormat → List ℕ
@@ -75,6 +84,6 @@ pairs_head Text = []
 pairs_head Csv = codes "left,right,action,value\n"
 pairs_head Json = []
 
--- the text of the pairs of a font
-unfoldable pub pairs_text_of : PairsFormat → FontValue → List ℕ
-pairs_text_of format font = pairs_head format ++ flat_map (pair_line format) (pairs_of font)
+-- the text of the pairs of a font, with kerns in a unit
+unfoldable pub pairs_text_of : LengthUnit → PairsFormat → FontValue → List ℕ
+pairs_text_of unit format font = pairs_head format ++ flat_map (pair_line unit format) (pairs_of font)

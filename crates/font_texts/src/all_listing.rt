@@ -12,21 +12,27 @@ use crate::appending::push_hex;
 use crate::counts::push_counts;
 use crate::listing;
 use std::alloc::{AllocError, Global};
+use tex_sizes::LengthUnit;
 use tfm_tables::{FontFault, FontMetrics};
 use tfm_words::{Counts, Size, Table, push_number, word_at};
 
 /// Reads a font at `size`, or at its design size for `None`, and returns its full listing: the lines of the
-/// twelve counts, the listing, a line for each extensible recipe (tftopl.web, section 14), and a line for
-/// each of the lf words of the file (bytes after these aren't part of the font). The error is that of
-/// `FontMetrics::read`, or `OutOfMemory` if an allocation fails after it.
-pub fn list_all_text(alloc: Global, bytes: &[u8], size: Option<Size>) -> Result<Vec<u8>, FontFault>
+/// twelve counts, the listing in this unit, a line for each extensible recipe (tftopl.web, section 14), and a
+/// line for each of the lf words of the file (bytes after these aren't part of the font). The error is that
+/// of `FontMetrics::read`, or `OutOfMemory` if an allocation fails after it.
+pub fn list_all_text(
+    alloc: Global,
+    bytes: &[u8],
+    size: Option<Size>,
+    unit: LengthUnit,
+) -> Result<Vec<u8>, FontFault>
     ensures text { IfOk result (λ text. (f : FontValue) × IsFontOf bytes.now size f
-        × (text.items ≡ all_listing_of f)) }
+        × (text.items ≡ all_listing_of unit f)) }
     ensures fault { IfErr result (IsRefusalOf bytes.now) }
 {
     let (counts, font) = accepted(alloc, bytes, size)?;
     let words = &bytes[..4 * usize::from(counts.lf())];
-    match text_of(alloc, words, &counts, &font) {
+    match text_of(alloc, words, &counts, &font, unit) {
         Ok(text) => Ok(text),
         Err(_) => Err(FontFault::OutOfMemory),
     }
@@ -59,12 +65,13 @@ fn text_of(
     words: &[u8],
     counts: &Counts,
     font: &FontMetrics,
+    unit: LengthUnit,
 ) -> Result<Vec<u8>, AllocError>
     requires counts { AreCountsOf words.now counts.now }
     requires words { font.now.words ≡ words.now }
-    ensures { IfOk result (λ text. text.items ≡ all_listing_of font.now) }
+    ensures { IfOk result (λ text. text.items ≡ all_listing_of unit font.now) }
 {
-    let listing = listing::text_of(alloc, font)?;
+    let listing = listing::text_of(alloc, font, unit)?;
     let mut text = Vec::new(alloc);
     push_counts(&mut text, counts)?;
     text.extend_from_slice(listing.as_slice())?;

@@ -1,13 +1,14 @@
 //! Makes the text of the pairs of a font.
 ghost use Rattle.std.specs.Prelude.{◌≡◌, ◌++◌, codes, flat_map, replicate, IfOk, OnOk};
 ghost use Rattle.font_texts.specs.PairCharacters.{pair_line_with, pairs_head_with, pairs_text_with};
-ghost use Rattle.font_texts.specs.PairsText.{action_name, action_value, json_symbol, line_end as end_of, pair_fields, pair_front, pair_members, slash_if, symbol_word};
+ghost use Rattle.font_texts.specs.PairsText.{action_name, action_value, json_action_value, json_symbol, line_end as end_of, pair_fields, pair_front, pair_members, slash_if, symbol_word};
 
 use crate::pair_characters::push_characters;
 use crate::pairing::pairs;
 use crate::{Pair, PairsFormat, PairsLayout};
 use lig_kern::{Action, Symbol};
 use std::alloc::{AllocError, Global};
+use tex_sizes::{LengthUnit, push_length};
 use tfm_tables::Font;
 use tfm_words::push_number;
 
@@ -23,7 +24,7 @@ const CHARACTERS_HEAD: &[u8] =
 /// the pairs. Fails if an allocation fails.
 #[tactic(auto, unfolding(crate::specs::PairCharacters::pairs_text_with))]
 pub fn pairs_text(alloc: Global, font: &Font, layout: PairsLayout) -> Result<Vec<u8>, AllocError>
-    ensures { IfOk result (λ text. text.items ≡ pairs_text_with layout.encoding layout.format font.now) }
+    ensures { IfOk result (λ text. text.items ≡ pairs_text_with layout.unit layout.encoding layout.format font.now) }
 {
     let pairs = pairs(alloc, font)?;
     let mut text = Vec::from_slice(alloc, head(layout))?;
@@ -46,7 +47,7 @@ fn head(layout: PairsLayout) -> &'static [u8]
 
 fn push_lines(text: &mut Vec<u8>, pairs: &[Pair], layout: PairsLayout) -> Result<(), AllocError>
     ensures { OnOk result (text.new.items ≡ text.old.items
-        ++ flat_map (pair_line_with layout.encoding layout.format) pairs.now) }
+        ++ flat_map (pair_line_with layout.unit layout.encoding layout.format) pairs.now) }
 {
     for pair in pairs {
         push_line(text, pair, layout)?;
@@ -57,9 +58,9 @@ fn push_lines(text: &mut Vec<u8>, pairs: &[Pair], layout: PairsLayout) -> Result
 #[tactic(auto, using(crate::proofs::ListingLemmas::joined), unfolding(crate::specs::PairCharacters::pair_line_with))]
 fn push_line(text: &mut Vec<u8>, pair: &Pair, layout: PairsLayout) -> Result<(), AllocError>
     ensures { OnOk result (text.new.items ≡ text.old.items
-        ++ pair_line_with layout.encoding layout.format pair.now) }
+        ++ pair_line_with layout.unit layout.encoding layout.format pair.now) }
 {
-    push_front(text, pair, layout.format)?;
+    push_front(text, pair, layout)?;
     push_characters(text, pair, layout)?;
     text.extend_from_slice(line_end(layout.format))
 }
@@ -76,19 +77,24 @@ fn line_end(format: PairsFormat) -> &'static [u8]
 
 /// Appends the line of a pair up to the end of its four fields.
 #[tactic(auto, unfolding(crate::specs::PairsText::pair_front))]
-fn push_front(text: &mut Vec<u8>, pair: &Pair, format: PairsFormat) -> Result<(), AllocError>
-    ensures { OnOk result (text.new.items ≡ text.old.items ++ pair_front format pair.now) }
+fn push_front(text: &mut Vec<u8>, pair: &Pair, layout: PairsLayout) -> Result<(), AllocError>
+    ensures { OnOk result (text.new.items ≡ text.old.items ++ pair_front layout.unit layout.format pair.now) }
 {
-    match format {
-        PairsFormat::Text => push_fields(text, pair, b" "),
-        PairsFormat::Csv => push_fields(text, pair, b","),
-        PairsFormat::Json => push_object(text, pair),
+    match layout.format {
+        PairsFormat::Text => push_fields(text, pair, b" ", layout.unit),
+        PairsFormat::Csv => push_fields(text, pair, b",", layout.unit),
+        PairsFormat::Json => push_object(text, pair, layout.unit),
     }
 }
 
 #[tactic(auto, using(crate::proofs::ListingLemmas::joined))]
-fn push_fields(text: &mut Vec<u8>, pair: &Pair, separator: &[u8]) -> Result<(), AllocError>
-    ensures { OnOk result (text.new.items ≡ text.old.items ++ pair_fields separator.now pair.now) }
+fn push_fields(
+    text: &mut Vec<u8>,
+    pair: &Pair,
+    separator: &[u8],
+    unit: LengthUnit,
+) -> Result<(), AllocError>
+    ensures { OnOk result (text.new.items ≡ text.old.items ++ pair_fields unit separator.now pair.now) }
 {
     push_symbol(text, pair.left)?;
     text.extend_from_slice(separator)?;
@@ -96,13 +102,13 @@ fn push_fields(text: &mut Vec<u8>, pair: &Pair, separator: &[u8]) -> Result<(), 
     text.extend_from_slice(separator)?;
     push_name(text, pair.action)?;
     text.extend_from_slice(separator)?;
-    push_value(text, pair.action)
+    push_value(text, pair.action, unit)
 }
 
 /// Appends a JSON object without its closing brace.
 #[tactic(auto, using(crate::proofs::ListingLemmas::joined))]
-fn push_object(text: &mut Vec<u8>, pair: &Pair) -> Result<(), AllocError>
-    ensures { OnOk result (text.new.items ≡ text.old.items ++ codes "{" ++ pair_members pair.now) }
+fn push_object(text: &mut Vec<u8>, pair: &Pair, unit: LengthUnit) -> Result<(), AllocError>
+    ensures { OnOk result (text.new.items ≡ text.old.items ++ codes "{" ++ pair_members unit pair.now) }
 {
     text.extend_from_slice(b"{\"left\":")?;
     push_json_symbol(text, pair.left)?;
@@ -111,7 +117,7 @@ fn push_object(text: &mut Vec<u8>, pair: &Pair) -> Result<(), AllocError>
     text.extend_from_slice(b",\"action\":\"")?;
     push_name(text, pair.action)?;
     text.extend_from_slice(b"\",\"value\":")?;
-    push_value(text, pair.action)
+    push_json_action(text, pair.action, unit)
 }
 
 #[tactic(auto, unfolding(crate::specs::PairsText::symbol_word))]
@@ -173,11 +179,25 @@ fn push_passes(text: &mut Vec<u8>, pass: u8) -> Result<(), AllocError>
 }
 
 #[tactic(auto, using(crate::proofs::ListingLemmas::signed), unfolding(crate::specs::PairsText::action_value))]
-fn push_value(text: &mut Vec<u8>, action: Action) -> Result<(), AllocError>
-    ensures { OnOk result (text.new.items ≡ text.old.items ++ action_value action) }
+fn push_value(text: &mut Vec<u8>, action: Action, unit: LengthUnit) -> Result<(), AllocError>
+    ensures { OnOk result (text.new.items ≡ text.old.items ++ action_value unit action) }
 {
     match action {
-        Action::Kern(amount) => push_number(text, b"", amount),
+        Action::Kern(amount) => push_length(text, b"", i64::from(amount), unit),
         Action::Lig { code, .. } => push_number(text, b"", code),
+    }
+}
+
+#[tactic(auto, using(crate::proofs::ListingLemmas::signed), unfolding(crate::specs::PairsText::json_action_value))]
+fn push_json_action(text: &mut Vec<u8>, action: Action, unit: LengthUnit) -> Result<(), AllocError>
+    ensures { OnOk result (text.new.items ≡ text.old.items ++ json_action_value unit action) }
+{
+    match (unit, action) {
+        (LengthUnit::ScaledPoints, _) => push_value(text, action, unit),
+        (_, Action::Lig { code, .. }) => push_number(text, b"", code),
+        (_, Action::Kern(amount)) => {
+            push_length(text, b"\"", i64::from(amount), unit)?;
+            text.extend_from_slice(b"\"")
+        }
     }
 }

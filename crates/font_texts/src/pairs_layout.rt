@@ -1,5 +1,6 @@
 use crate::PairsFormat;
 use encodings::Encoding;
+use tex_sizes::LengthUnit;
 
 /// The layout of the text of pairs.
 #[derive(Clone, Copy, Debug, PartialEq, Eq, Hash)]
@@ -9,4 +10,6 @@ pub struct PairsLayout {
     /// The encoding of the font: the characters that it gives the codes are printed after the codes. With `None`
     /// only codes are printed.
     pub encoding: Option<Encoding>,
+    /// The unit of kerns. In JSON a kern in a unit other than `sp` is a string.
+    pub unit: LengthUnit,
 }

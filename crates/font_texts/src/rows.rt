@@ -9,6 +9,7 @@ ghost use Rattle.font_texts.specs.ListingWords.{action_words, char_words, escape
 use crate::appending::push_escaped_text;
 use itoa::Integer;
 use std::alloc::AllocError;
+use tex_sizes::{LengthUnit, push_length};
 use tfm_tables::{FontMetrics, Metrics, Step, Tag};
 use tfm_words::push_number;
 
@@ -111,19 +112,20 @@ pub fn push_number_where(
     }
 }
 
-/// Appends one line: a name, an index and a signed amount.
+/// Appends one line: a name, an index and an amount of sp in a unit.
 #[tactic(auto, using(crate::proofs::ListingLemmas::signed), unfolding(crate::specs::Listing::listing_row_text))]
 pub fn push_amount_row(
     text: &mut Vec<u8>,
     name: &[u8],
     number: usize,
     amount: i32,
+    unit: LengthUnit,
 ) -> Result<(), AllocError>
-    ensures { OnOk result (text.new.items ≡ text.old.items ++ listing_row_text (amount_row name.now number amount)) }
+    ensures { OnOk result (text.new.items ≡ text.old.items ++ listing_row_text (amount_row unit name.now number amount)) }
 {
     text.extend_from_slice(name)?;
     push_number(text, b" ", number)?;
-    push_number(text, b" ", amount)?;
+    push_length(text, b" ", i64::from(amount), unit)?;
     text.extend_from_slice(b"\n")
 }
 
@@ -140,13 +142,13 @@ fn push_tag(text: &mut Vec<u8>, tag: Tag) -> Result<(), AllocError>
 }
 
 #[tactic(auto, using(crate::proofs::ListingLemmas::signed), unfolding(crate::specs::ListingWords::measure_words))]
-fn push_measures(text: &mut Vec<u8>, metrics: Metrics) -> Result<(), AllocError>
-    ensures { OnOk result (text.new.items ≡ text.old.items ++ spaced (measure_words metrics)) }
+fn push_measures(text: &mut Vec<u8>, metrics: Metrics, unit: LengthUnit) -> Result<(), AllocError>
+    ensures { OnOk result (text.new.items ≡ text.old.items ++ spaced (measure_words unit metrics)) }
 {
-    push_number(text, b" width ", metrics.width)?;
-    push_number(text, b" height ", metrics.height)?;
-    push_number(text, b" depth ", metrics.depth)?;
-    push_number(text, b" italic ", metrics.italic)
+    push_length(text, b" width ", i64::from(metrics.width), unit)?;
+    push_length(text, b" height ", i64::from(metrics.height), unit)?;
+    push_length(text, b" depth ", i64::from(metrics.depth), unit)?;
+    push_length(text, b" italic ", i64::from(metrics.italic), unit)
 }
 
 /// Appends the line of a character: its code, dimensions and tag.
@@ -156,12 +158,13 @@ pub fn push_char_row(
     code: u8,
     metrics: Metrics,
     tag: Tag,
+    unit: LengthUnit,
 ) -> Result<(), AllocError>
     ensures { OnOk result (text.new.items ≡ text.old.items
-        ++ listing_row_text (codes "char", char_words code metrics tag)) }
+        ++ listing_row_text (codes "char", char_words unit code metrics tag)) }
 {
     push_number(text, b"char ", code)?;
-    push_measures(text, metrics)?;
+    push_measures(text, metrics, unit)?;
     text.extend_from_slice(b" tag")?;
     push_tag(text, tag)?;
     text.extend_from_slice(b"\n")
@@ -192,9 +195,14 @@ fn push_ligature(text: &mut Vec<u8>, op: u8, remainder: u8) -> Result<(), AllocE
 }
 
 #[tactic(auto, using(crate::proofs::ListingLemmas::signed), unfolding(crate::specs::ListingWords::action_words))]
-fn push_action(text: &mut Vec<u8>, font: &FontMetrics, step: Step) -> Result<(), AllocError>
+fn push_action(
+    text: &mut Vec<u8>,
+    font: &FontMetrics,
+    step: Step,
+    unit: LengthUnit,
+) -> Result<(), AllocError>
     requires { step.skip ≤ 128 → 128 ≤ step.op → kern_index_of step < entries_of font.now.words Kern }
-    ensures { OnOk result (text.new.items ≡ text.old.items ++ spaced (action_words font.now step)) }
+    ensures { OnOk result (text.new.items ≡ text.old.items ++ spaced (action_words unit font.now step)) }
 {
     if step.skip > 128 {
         return push_number(text, b" goto ", step.target());
@@ -202,7 +210,7 @@ fn push_action(text: &mut Vec<u8>, font: &FontMetrics, step: Step) -> Result<(),
     match step.kern_index() {
         Some(kern) => {
             push_number(text, b" KRN ", kern)?;
-            push_number(text, b" ", font.kern(kern))
+            push_length(text, b" ", i64::from(font.kern(kern)), unit)
         }
         None => push_ligature(text, step.op, step.remainder),
     }
@@ -216,14 +224,15 @@ pub fn push_step_row(
     font: &FontMetrics,
     i: usize,
     step: Step,
+    unit: LengthUnit,
 ) -> Result<(), AllocError>
     requires { step.skip ≤ 128 → 128 ≤ step.op → kern_index_of step < entries_of font.now.words Kern }
     ensures { OnOk result (text.new.items ≡ text.old.items
-        ++ listing_row_text (codes "step", step_words font.now i step)) }
+        ++ listing_row_text (codes "step", step_words unit font.now i step)) }
 {
     push_number(text, b"step ", i)?;
     push_number(text, b" skip ", step.skip)?;
     push_number(text, b" next ", step.next)?;
-    push_action(text, font, step)?;
+    push_action(text, font, step, unit)?;
     text.extend_from_slice(b"\n")
 }

@@ -25,21 +25,15 @@ pub(crate) fn decimal_in(unit: LengthUnit, ratio: Ratio, sp: u64) -> Decimal
     ensures power { (10 ≤ result.power) × (result.power ≤ 100000) }
 {
     let sp = u128::from(sp);
-    match unit {
-        LengthUnit::Points => {
-            let power = points_power(sp);
-            let number = nearest(power, sp);
-            Decimal { number, power }
-        }
-        _ => {
-            let number = nearest_even(
-                100_000 * u128::from(ratio.under) * sp,
-                0x1_0000 * u128::from(ratio.over),
-            );
-            let power = 100_000;
-            Decimal { number, power }
-        }
+    if let LengthUnit::Points = unit {
+        let power = points_power(sp);
+        let number = nearest(power, sp);
+        return Decimal { number, power };
     }
+    let (over, under) = (u128::from(ratio.over), u128::from(ratio.under));
+    let number = nearest_even(100_000 * under * sp, 0x1_0000 * over);
+    let power = 100_000;
+    Decimal { number, power }
 }
 
 /// Returns 10 to the number of decimals of so many sp in points.
@@ -49,16 +43,12 @@ fn points_power(sp: u128) -> u128
     ensures value { result ≡ power_of_points sp }
     ensures range { (10 ≤ result) × (result ≤ 100000) }
 {
-    if reads_back(sp, 10) {
-        10
-    } else if reads_back(sp, 100) {
-        100
-    } else if reads_back(sp, 1000) {
-        1000
-    } else if reads_back(sp, 10_000) {
-        10_000
-    } else {
-        100_000
+    match sp {
+        sp if reads_back(sp, 10) => 10,
+        sp if reads_back(sp, 100) => 100,
+        sp if reads_back(sp, 1000) => 1000,
+        sp if reads_back(sp, 10_000) => 10_000,
+        _ => 100_000,
     }
 }
 

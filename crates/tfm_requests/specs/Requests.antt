@@ -9,6 +9,7 @@ use Rattle.font_texts.specs.CountsText.{counts_text_of, head_fault_of}
 use Rattle.font_texts.specs.Listing.{listing_of}
 use Rattle.font_texts.specs.PairCharacters.{pairs_text_with}
 use Rattle.font_texts.specs.declared.pairs_layout.PairsLayout.{PairsLayout}
+use Rattle.tex_sizes.specs.declared.length_unit.LengthUnit.{LengthUnit}
 use Rattle.tfm_tables.specs.Font.{FontValue, IsFontOf}
 use Rattle.set_line.specs.Terms.{TermsValue}
 use Rattle.encodings.specs.declared.encoding.Encoding.{Encoding}
@@ -24,6 +25,7 @@ use Rattle.command_line.specs.declared.request.Request.{Request}
 use Rattle.command_line.specs.declared.request.Request.TheVariants.{Counts, List as ListFont, Pairs, Check, Set, Stream, Each}
 use Rattle.command_line.specs.declared.request.Requested.{Requested}
 use Rattle.command_line.specs.declared.request.Jobs.{Jobs}
+use Rattle.command_line.specs.declared.request.Listing.{Listing}
 use Rattle.command_line.specs.declared.request.Setting.{Setting}
 use Rattle.tfm_requests.specs.Checking.{AreChecked}
 use Rattle.tfm_requests.specs.Known.{OfKnown, file_bytes_of, font_bytes_of, stream_bytes_of}
@@ -35,25 +37,25 @@ use Rattle.tfm_requests.specs.declared.batches.delivery.Delivery.TheVariants.{At
 
 -- ---- the text of a font
 
--- the listing of a font, or its full listing if the flag is true
-abbrev pub list_text_of : Bool → FontValue → List ℕ
-list_text_of true font = all_listing_of font
-list_text_of false font = listing_of font
+-- the listing of a font in a unit, or its full listing if the flag is true
+abbrev pub list_text_of : LengthUnit → Bool → FontValue → List ℕ
+list_text_of unit true font = all_listing_of unit font
+list_text_of unit false font = listing_of unit font
 
 -- the counts and the design size in these bytes have no error, and this is their text
 abbrev pub IsCountsText : Option (List ℕ) → List ℕ → Type 0
 IsCountsText bytes text = OfKnown bytes (λ all. (head_fault_of all ≡ None) × (text ≡ counts_text_of all))
 
--- this is the listing of the font in these bytes at this size, or at its design size
-abbrev pub IsListText : Option (List ℕ) → Option ℕ → Bool → List ℕ → Type 0
-IsListText bytes size all_of_it text =
-    OfKnown bytes (λ all. (font : FontValue) × IsFontOf all size font × (text ≡ list_text_of all_of_it font))
+-- this is the listing of the font in these bytes that is requested
+abbrev pub IsListText : Option (List ℕ) → Listing → List ℕ → Type 0
+IsListText bytes asked text =
+    OfKnown bytes (λ all. (font : FontValue) × IsFontOf all asked.size font × (text ≡ list_text_of asked.unit asked.all font))
 
--- these are the pairs of the font in these bytes at this size, or at its design size, in the format of the layout,
--- with the characters of this encoding
+-- these are the pairs of the font in these bytes at this size, or at its design size, in the format and the
+-- unit of the layout, with the characters of this encoding
 abbrev pub IsPairsText : Option (List ℕ) → Option ℕ → PairsLayout → Option Encoding → List ℕ → Type 0
 IsPairsText bytes size layout encoding text =
-    OfKnown bytes (λ all. (font : FontValue) × IsFontOf all size font × (text ≡ pairs_text_with encoding layout.format font))
+    OfKnown bytes (λ all. (font : FontValue) × IsFontOf all size font × (text ≡ pairs_text_with layout.unit encoding layout.format font))
 
 -- this text was written, and the exit status is 0
 abbrev pub IsText : (List ℕ → Type 0) → Option (List ℕ) → Option (List ℕ) → ℕ → Type 0
@@ -117,7 +119,7 @@ module _ (known : List ℕ → Option (List ℕ)) (input before after : Option (
   -- the output of a request, with the encoding vector that the arguments name, was written, and this is its exit status
   abbrev pub IsDoneBy : Request → Option (Bor (List ℕ)) → ℕ → Type 0
   IsDoneBy (Counts font _) vector = IsText (IsCountsText (font_bytes_of known input font.now)) before after
-  IsDoneBy (ListFont asked) vector = IsText (IsListText (font_bytes_of known input asked.font.now) asked.size asked.all) before after
+  IsDoneBy (ListFont asked) vector = IsText (IsListText (font_bytes_of known input asked.font.now) asked) before after
   IsDoneBy (Pairs asked) vector =
       IsText (λ text. (encoding : Option Encoding) × IsEncodingOf known vector asked.layout.encoding encoding
       × IsPairsText (font_bytes_of known input asked.font.now) asked.size asked.layout encoding text) before after

@@ -4,6 +4,7 @@ ghost use Rattle.std.specs.Io.KnownBytes.{Appends};
 ghost use Rattle.encodings.specs.declared.encoding.Encoding.{Encoding as EncodingValue};
 ghost use Rattle.font_texts.specs.CountsText.{counts_text_of, head_fault_of};
 ghost use Rattle.font_texts.specs.Listing.{listing_of};
+ghost use Rattle.tex_sizes.specs.declared.length_unit.LengthUnit.TheVariants.{ScaledPoints};
 ghost use Rattle.tfm_tables.specs.Font.{FontValue, IsFontOf, IsRefusalOf};
 ghost use Rattle.tfm_tables.specs.declared.fault.FontFault.{FontFault as Fault};
 ghost use Rattle.tfm_requests.specs.Causes.{IsFontError, IsHeadError, IsTextCause};
@@ -21,6 +22,7 @@ use font_texts::PairsLayout;
 use run_texts::{ToolFault, write_text};
 use std::alloc::Global;
 use std::io::{Read, Write};
+use tex_sizes::LengthUnit;
 use tfm_tables::{Font, FontFault};
 
 /// Writes the twelve counts and the design size of a font, one per line, as `font_texts::counts_text` returns
@@ -39,14 +41,14 @@ pub fn counts_text<W: Write>(alloc: Global, bytes: &[u8], out: &mut W) -> Result
     write_text(text.as_slice(), out)
 }
 
-/// Writes the listing of a font, as `font_texts::list_text` returns it. The error is `OutOfMemory` if an
-/// allocation fails, or `Write` if the writer fails.
+/// Writes the listing of a font in sp, as `font_texts::list_text` returns it. The error is `OutOfMemory` if
+/// an allocation fails, or `Write` if the writer fails.
 pub fn list_text<W: Write>(alloc: Global, font: &Font, out: &mut W) -> Result<(), ToolFault>
     ensures text { OnOk result
-        (Appends (W.contents out.old) (W.contents out.new) (listing_of font.now)) }
+        (Appends (W.contents out.old) (W.contents out.new) (listing_of ScaledPoints font.now)) }
     ensures fault { IfErr result (λ fault. (fault ≡ ToolFault.OutOfMemory) ⊎ (fault ≡ ToolFault.Write)) }
 {
-    let text = font_texts::list_text(alloc, font)?;
+    let text = font_texts::list_text(alloc, font, LengthUnit::ScaledPoints)?;
     write_text(text.as_slice(), out)
 }
 
@@ -82,7 +84,7 @@ where
     I: Read,
     ensures text { IfOk result (λ text. IsListText
         (font_bytes_of (F.known files.now) (I.remaining input.old) listed.now.font.now)
-        listed.now.size listed.now.all text.items) }
+        listed.now text.items) }
     ensures cause { IfErr result (IsFontError
         (font_bytes_of (F.known files.now) (I.remaining input.old) listed.now.font.now)) }
 {
@@ -94,13 +96,13 @@ where
 /// Returns the listing of the font in these bytes, or its full listing.
 fn list_bytes(alloc: Global, bytes: &[u8], listed: &Listing<'_>) -> Result<Vec<u8>, FontFault>
     ensures text { IfOk result (λ text. (f : FontValue) × IsFontOf bytes.now listed.now.size f
-        × (text.items ≡ list_text_of listed.now.all f)) }
+        × (text.items ≡ list_text_of listed.now.unit listed.now.all f)) }
     ensures fault { IfErr result (IsRefusalOf bytes.now) }
 {
     if listed.all {
-        return font_texts::list_all_text(alloc, bytes, listed.size);
+        return font_texts::list_all_text(alloc, bytes, listed.size, listed.unit);
     }
-    font_texts::list_file_text(alloc, bytes, listed.size)
+    font_texts::list_file_text(alloc, bytes, listed.size, listed.unit)
 }
 
 /// Reads the font of this name at this size.
@@ -147,8 +149,8 @@ where
     let font = read_font(alloc, files, asked, input)?;
     let encoding = encoding_of(alloc, files, vector, asked.layout.encoding)?;
     let layout = PairsLayout {
-        format: asked.layout.format,
         encoding,
+        ..asked.layout
     };
     match font_texts::pairs_text(alloc, &font, layout) {
         Ok(text) => Ok(text),

@@ -5,6 +5,7 @@ use std::process::Abort;
 use std::test::Fail;
 use test_support::fonts::lengths::{LONG, Lengths, amount_of};
 use test_support::fonts::{largest, largest_program};
+use tex_sizes::LengthUnit;
 use tfm_tables::{Font, LeftSide, Step, Tag};
 
 /// The font has all of its kerns, and no more.
@@ -99,7 +100,7 @@ fn is_listed<R: Abort + AllocGlobal>(
 ) -> Result<(), Fail> {
     let (finding, _) = check_text(rt.alloc(), "long.tfm", file, None)?;
     assert!(rt; finding == Finding::Accepted, "{case}");
-    let text = String::from_utf8(list_all_text(rt.alloc(), file, None)?)?;
+    let text = String::from_utf8(list_all_text(rt.alloc(), file, None, LengthUnit::ScaledPoints)?)?;
     assert_eq!(rt; text.lines().count(), lines, "{case}");
     for (name, line) in LINES {
         assert!(rt;

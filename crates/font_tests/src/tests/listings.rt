@@ -6,6 +6,7 @@ use std::alloc::Global;
 use std::test::Fail;
 use test_support::fonts::examples::ligature;
 use test_support::fonts::{A, BOUNDARY_EXISTS, HALF, Info, LIGATURE, NO_CHARACTERS, PLAIN, Sample};
+use tex_sizes::LengthUnit::{Points, ScaledPoints};
 use tfm_tables::Font;
 
 /// A header of 18 words, with a coding scheme, a family and a face; the length of a text precedes it.
@@ -81,7 +82,7 @@ static LISTINGS: [Row; 5] = [
 /// The listing of an accepted font.
 fn listing(alloc: Global, bytes: &[u8]) -> Result<Vec<u8>, Fail> {
     let font = Font::read(alloc, bytes, None)?;
-    Ok(list_text(alloc, &font)?)
+    Ok(list_text(alloc, &font, ScaledPoints)?)
 }
 
 #[test]
@@ -90,9 +91,24 @@ fn listings(rt: HostRuntime) -> Result<(), Fail> {
         let file = changed(rt.alloc(), font, changes)?;
         let text = listing(rt.alloc(), &file)?;
         assert!(rt; text.as_slice() == wanted.as_bytes(), "{wanted}");
-        let text = list_file_text(rt.alloc(), &file, None)?;
+        let text = list_file_text(rt.alloc(), &file, None, ScaledPoints)?;
         assert!(rt; text.as_slice() == wanted.as_bytes(), "of a file: {wanted}");
     }
+    Ok(())
+}
+
+#[test]
+fn a_listing_in_points(rt: HostRuntime) -> Result<(), Fail> {
+    let file = changed(rt.alloc(), &FULL, &[(8, 0x0112_0662), (9, 0x0321_0B07)])?;
+    let text = list_file_text(rt.alloc(), &file, None, Points)?;
+    let wanted = "checksum 0\ndesign 10.0pt\nsize 10.0pt\nright none\nleft none\n\
+        char 97 width 5.0pt height 5.0pt depth 0.3125pt italic -0.625pt tag list 98\n\
+        char 98 width 7.5pt height 2.5pt depth 7.5pt italic 5.0pt tag ext 7\n\
+        char 99 width 7.5pt height 0.0pt depth 0.0pt italic 0.0pt tag lig 2\n\
+        step 0 skip 0 next 98 LIG 99\nstep 1 skip 128 next 99 KRN 0 -0.625pt\n\
+        step 2 skip 128 next 98 KRN 1 0.3125pt\nkern 0 -0.625pt\nkern 1 0.3125pt\nparam 1 1\n\
+        param 2 5.0pt\nparam 3 -0.625pt\nparam 4 0.0pt\n";
+    assert!(rt; text.as_slice() == wanted.as_bytes());
     Ok(())
 }
 
@@ -144,12 +160,12 @@ static ALL: &str = "lf 17\nlh 2\nbc 65\nec 65\nnw 2\nnh 1\nnd 1\nni 1\nnl 0\nnk 
 fn all_of_a_font_is_listed(rt: HostRuntime) -> Result<(), Fail> {
     let mut bytes = RECIPES.file(rt.alloc())?;
     bytes.extend_from_slice(&[1, 2, 3, 4])?; // after the font
-    let text = list_all_text(rt.alloc(), &bytes, None)?;
+    let text = list_all_text(rt.alloc(), &bytes, None, ScaledPoints)?;
     assert!(rt; text.as_slice() == ALL.as_bytes());
     bytes.truncate(67);
-    let fault = list_all_text(rt.alloc(), &bytes, None).err();
+    let fault = list_all_text(rt.alloc(), &bytes, None, ScaledPoints).err();
     assert_eq!(rt; fault, truncated!(68));
-    let fault = list_file_text(rt.alloc(), &bytes, None).err();
+    let fault = list_file_text(rt.alloc(), &bytes, None, ScaledPoints).err();
     assert_eq!(rt; fault, truncated!(68));
     Ok(())
 }

@@ -10,6 +10,7 @@ use test_support::fonts::{
     A, A_FROM_0, BACK, Info, LEFT_BOUNDARY, NO_CHARACTERS, PLAIN, RIGHT_BOUNDARY, Sample,
     kern_before, last, ligature_before,
 };
+use tex_sizes::LengthUnit::ScaledPoints;
 use tfm_tables::{Font, Step};
 
 /// The pairs of the font in this file have this text.
@@ -19,7 +20,11 @@ fn has_text<R: Abort + AllocGlobal>(
     (encoding, format): (Option<Encoding>, PairsFormat),
     wanted: &str,
 ) -> Result<(), Fail> {
-    let layout = PairsLayout { format, encoding };
+    let layout = PairsLayout {
+        format,
+        encoding,
+        unit: ScaledPoints,
+    };
     let font = Font::read(rt.alloc(), file, None)?;
     let text = pairs_text(rt.alloc(), &font, layout)?;
     assert!(rt;

@@ -5,4 +5,4 @@ use Rattle.font_texts.proofs.pair_lines.push_lines.Given as goal
 
 abbrev pub invariant-loop-pair : goal.invariant-loop-pair
 invariant-loop-pair l =
-    l.text.items ≡ l.initial.text.items ++ flat_map (pair_line_with l.layout.encoding l.layout.format) (take l.pair-index l.pairs)
+    l.text.items ≡ l.initial.text.items ++ flat_map (pair_line_with l.layout.unit l.layout.encoding l.layout.format) (take l.pair-index l.pairs)

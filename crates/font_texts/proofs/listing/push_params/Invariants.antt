@@ -2,7 +2,7 @@
 use Rattle.std.proofs.Common.{◌≡◌, ◌++◌, map}
 use Rattle.std.specs.List.{range_with_len}
 use Rattle.font_texts.specs.Listing.{param_row, listing_rows_text}
-use Rattle.font_texts.proofs.listing.push_param_rows.Given as goal
+use Rattle.font_texts.proofs.listing.push_params.Given as goal
 
 abbrev pub invariant-loop-i : goal.invariant-loop-i
-invariant-loop-i l = l.text.items ≡ l.initial.text.items ++ listing_rows_text (map (param_row l.font) (range_with_len 1 l.i))
+invariant-loop-i l = l.text.items ≡ l.initial.text.items ++ listing_rows_text (map (param_row l.unit l.font) (range_with_len 1 l.i))
