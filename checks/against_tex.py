@@ -1,4 +1,5 @@
-"""`tfmset set` and TeX's own boxes, item by item: characters, kerns, spaces and widths.
+"""`tfmset set` and TeX's own boxes, item by item: characters, kerns, spaces and widths; and, with `--record box`,
+heights and depths.
 
 200 lines are set with each of 100 fonts, chosen evenly from the TeX trees. A line is one word, or a few words
 with spaces before, between and after them. Most pairs of characters are pairs for which the font has an
@@ -87,6 +88,13 @@ def items_of_box(box):
         else:
             raise ValueError(f"in a box of TeX: {line!r}")
     return scaled_points(re.match(r"\\hbox\(.*\)x(-?[\d.]+)$", box[0]).group(1)), items
+
+
+def box_of_box(box):
+    """The width, height and depth of a box, as TeX prints them, and the number of its spaces."""
+    height, depth, width = re.match(r"\\hbox\((.*)\+(.*)\)x(.*)$", box[0]).groups()
+    spaces = sum(line.startswith(".\\glue ") for line in box)
+    return f"box {width}pt {height}pt {depth}pt {spaces}"
 
 
 def items_of_record(record):
@@ -234,9 +242,9 @@ class Boxes(Case):
         super().setUp()
         self.need("tex", "kpsewhich", "cmr10")
 
-    def records(self, size, lines, limit):
+    def records(self, size, lines, limit, *options):
         self.file("lines", b"\n".join(lines) + b"\n")
-        options = ["--missing", "skip", "--limit", str(limit)] + (["--size", str(size)] if size else [])
+        options = [*options, "--missing", "skip", "--limit", str(limit)] + (["--size", str(size)] if size else [])
         status, out, err = execute(PROGRAM, "set", *options, "f.tfm", "lines", cwd=self.room, timeout=100)
         self.assertLess(status, 2, err)
         return out.split("\n")[:len(lines)]
@@ -260,11 +268,15 @@ class Boxes(Case):
         self.file("f.tfm", content)
         lines = list(random_lines(Font(content), seed, most))
         records = self.records(size, lines, limit)
-        kept = [pair for pair in zip(lines, records) if " refused steps " not in pair[1]]
-        boxes = self.boxes(size, [line for line, _ in kept])
+        boxed = self.records(size, lines, limit, "--record", "box", "--unit", "pt")
+        kept = [row for row in zip(lines, records, boxed) if " refused steps " not in row[1]]
+        self.same(f"{name}: refused lines", [record for record in records if " refused steps " in record],
+                  [record for record in boxed if " refused steps " in record])
+        boxes = self.boxes(size, [line for line, _, _ in kept])
         self.same(f"{name}: boxes", len(kept), len(boxes))
-        for (line, record), box in zip(kept, boxes):
+        for (line, record, boxed), box in zip(kept, boxes):
             self.same(f"{name}: {line!r}", items_of_box(box), items_of_record(record))
+            self.same(f"{name}: the box of {line!r}", box_of_box(box), boxed.split(" ", 1)[1])
         return sum(" (ligature " in line for box in boxes for line in box)
 
     @rows((f"fonts {first + 1} to {first + GROUP}", range(first, first + GROUP))

@@ -12,9 +12,9 @@ _tfmset_options() {
         list) options='--size --unit --all -v --verbose -h --help' ;;
         pairs) options='--size --unit --format --encoding -v --verbose -h --help' ;;
         check) options='--quiet --summary -v --verbose -h --help' ;;
-        set) options='--size --limit --missing --crlf --encoding --workers --capacity --block --record -v --verbose -h --help' ;;
-        each) options='--size --missing --crlf --encoding --workers --capacity --block --record -v --verbose -h --help' ;;
-        stream) options='--size --limit --missing --crlf --encoding --workers --capacity --block --record -v --verbose -h --help' ;;
+        set) options='--size --limit --missing --crlf --encoding --workers --capacity --block --record --unit -v --verbose -h --help' ;;
+        each) options='--size --missing --crlf --encoding --workers --capacity --block --record --unit -v --verbose -h --help' ;;
+        stream) options='--size --limit --missing --crlf --encoding --workers --capacity --block --record --unit -v --verbose -h --help' ;;
         help) options='' ;;
         *) options='' ;;
     esac
@@ -34,7 +34,8 @@ _tfmset_values() {
         --workers) values='1 2 3 4 5 6 7 8 9 10 11 12 13 14 15 16' ;;
         --capacity) values='' ;;
         --block) values='1 2 3 4 5 6 7 8' ;;
-        --record) values='1 2 json' ;;
+        --record) values='1 2 json box' ;;
+        --unit) values='sp pt bp mm cm in pc' ;;
         *) return 1 ;;
     esac
 }

@@ -1,17 +1,19 @@
 -- The request that the arguments after the program's name state, and the encoding vector that they name, by the
 -- values that a parse finds for them.
 -- This project's own.
-use Rattle.std.specs.Prelude.{◌≡◌, ◌⊎◌, ◌≤◌, ◌&&◌, ◌||◌, ◌==◌, ℕ, List, [], Bool, true, false, cond, Option, Some, None, IsSomeAnd, bytes_eq, codes, is_none, map, option_and_then, option_map, unwrap_or}
-use Rattle.std.specs.List.{list_any}
+use Rattle.std.specs.Prelude.{◌≡◌, ◌⊎◌, ◌≤◌, ◌&&◌, ◌||◌, ◌==◌, ℕ, List, [], ◌∷◌, Bool, true, false, cond, Option, Some, None, IsSomeAnd, bytes_eq, codes, is_none, map, not, option_and_then, option_map, unwrap_or}
+use Rattle.std.specs.List.{find, list_any}
 use Rattle.std.specs.Option.{option_map_or, option_or}
 use Rattle.std.specs.Borrow.{Bor}
 use Rattle.std.specs.Str.Parse.{IsNumeral, digits_value, without_leading_plus}
 use Rattle.clap.specs.Words.{HasKind, Row, Text, all_of, fault_of, first_of, kind_of, one_of, subcommand_of}
 use Rattle.clap.specs.declared.error.Error.{Error}
 use Rattle.clap.specs.declared.error.kind.ErrorKind.{ErrorKind}
-use Rattle.clap.specs.declared.error.kind.ErrorKind.TheVariants.{InvalidValue, MissingSubcommand, OutOfMemory, ValueValidation}
+use Rattle.clap.specs.declared.error.kind.ErrorKind.TheVariants.{ArgumentConflict, InvalidValue, MissingSubcommand, OutOfMemory, ValueValidation}
 use Rattle.encodings.specs.Names.{encoding_named}
 use Rattle.encodings.specs.declared.encoding.Encoding.{Encoding}
+use Rattle.line_records.specs.declared.record_format.RecordFormat.{RecordFormat}
+use Rattle.line_records.specs.declared.record_format.RecordFormat.TheVariants.{Items, Box}
 use Rattle.tex_sizes.specs.Lengths.{unit_named}
 use Rattle.tex_sizes.specs.Sizes.{is_plain, size_of}
 use Rattle.tex_sizes.specs.declared.length_unit.LengthUnit.{LengthUnit}
@@ -80,11 +82,22 @@ abbrev pub policy_word : Policy → Text
 policy_word Refuse = codes "refuse"
 policy_word Skip = codes "skip"
 
--- the value of `--record` for a record format
+-- the value of `--record` for a format of records with items
 abbrev pub version_word : Version → Text
 version_word One = codes "1"
 version_word Two = codes "2"
 version_word Json = codes "json"
+
+-- the format of records with items that a value of `--record` states
+abbrev pub version_named : Text → Option Version
+version_named value = find (λ version. bytes_eq value (version_word version)) (One ∷ Two ∷ Json ∷ [])
+
+-- the record format that the values of `--record` and `--unit` state: for `box` that of boxes in the unit, or in sp
+-- without a unit; another format states one only without a unit
+abbrev pub format_stated : Option Text → Text → Option RecordFormat
+format_stated unit value =
+    cond (bytes_eq value (codes "box")) (option_map Box (unit_named (unwrap_or unit (codes "sp"))))
+    (cond (is_none unit) (option_map Items (version_named value)) None)
 
 -- the value of `--format` for a format of pairs
 abbrev pub format_word : PairsFormat → Text
@@ -145,7 +158,7 @@ module _ (rows : List Row) where
       × IsEncoding layout.encoding
       × IsPlan layout.plan
       × (layout.whole_reads ≡ has_no_block)
-      × (first_of (codes "record") rows ≡ Some (version_word layout.version))
+      × (option_and_then (format_stated (first_of (codes "unit") rows)) (first_of (codes "record") rows) ≡ Some layout.format)
       × IsVerbose layout.verbose
 
   -- the format of the output of `pairs`, the encoding of its characters, and the unit of its kerns
@@ -223,9 +236,17 @@ misstates_size rows = option_map_or (λ text. is_none (size_of text)) (first_of 
 abbrev pub misstates_encoding : List Row → Bool
 misstates_encoding rows = option_map_or (λ text. is_none (encoding_stated text)) (first_of (codes "encoding") rows) false
 
--- the kind of the error if a parse has none and the values of a subcommand state no request; the size comes first
+-- `--unit` has a value, and `--record` has one other than `box`
+abbrev pub misplaces_unit : List Row → Bool
+misplaces_unit rows =
+    option_map_or (λ value. not (is_none (first_of (codes "unit") rows)) && not (bytes_eq value (codes "box"))) (first_of (codes "record") rows) false
+
+-- the kind of the error if a parse has none and the values of a subcommand state no request; the size comes first, and
+-- then the encoding
 abbrev pub kind_of_values : List Row → ErrorKind
-kind_of_values rows = cond (misstates_size rows) ValueValidation (cond (misstates_encoding rows) InvalidValue MissingSubcommand)
+kind_of_values rows =
+    cond (misstates_size rows) ValueValidation
+    (cond (misstates_encoding rows) InvalidValue (cond (misplaces_unit rows) ArgumentConflict MissingSubcommand))
 
 -- the kind of the error if a parse has none and the subcommand states no request
 abbrev pub kind_without_request : Option (Text × List Row) → ErrorKind
@@ -240,7 +261,7 @@ module _ (choices : AllChoices) (words : List Text) where
 
   -- the error of the arguments: out of memory, or the first error of a parse; or, if a parse has none, that
   -- they state no request, since `--size` states no size, since `--encoding` states no encoding and names no file,
-  -- or since there is no subcommand
+  -- since `--unit` is given without `--record box`, or since there is no subcommand
   abbrev pub IsRefusedWith : Error → Type 0
   IsRefusedWith error =
       HasKind (fault_of (tfmset_app choices) words) error

@@ -55,7 +55,7 @@ missing_words = codes "refuse" ∷ codes "skip" ∷ []
 
 -- the values of `--record`
 abbrev pub record_words : List Text
-record_words = codes "1" ∷ codes "2" ∷ codes "json" ∷ []
+record_words = codes "1" ∷ codes "2" ∷ codes "json" ∷ codes "box" ∷ []
 
 -- the values of `--format`
 abbrev pub format_words : List Text
@@ -65,12 +65,14 @@ format_words = codes "text" ∷ codes "csv" ∷ codes "json" ∷ []
 abbrev pub unit_words : List Text
 unit_words = map unit_name length_units
 
--- the parsers of `--missing` and `--record`
+-- the parsers of `--missing`, `--record` and `--unit`
 pub record Choices : Type 0 where
   pub missing : ValueParser
   pub records : ValueParser
+  pub units : ValueParser
   pub missing_taken : TakesWords missing_words missing
   pub records_taken : TakesWords record_words records
+  pub units_taken : TakesWords unit_words units
 
 -- the parser of `--unit` of `list`
 pub record ListChoices : Type 0 where
@@ -114,6 +116,7 @@ run_rules block choices =
     ∷ with_default (codes "16") (number_rule (codes "capacity") 65536)
     ∷ block
     ∷ with_default (codes "1") (choice_rule (codes "record") choices.records)
+    ∷ choice_rule (codes "unit") choices.units
     ∷ verbose_rule
     ∷ []
 

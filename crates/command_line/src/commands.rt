@@ -6,12 +6,13 @@ ghost use Rattle.clap.specs.Words.{App, Rule, Shape, new_app, new_rule, with_rul
 ghost use Rattle.command_line.specs.Commands.{AllChoices, Choices, IsArgument, IsCommandOf, IsSubcommand, ListChoices, PairsChoices, TakesWords, bare_app, block_rule, check_shape, choice_rule, counts_shape, each_shape, encoding_rule, flag_rule, format_words, list_shape, missing_words, needed, number_rule, pairs_shape, record_words, run_rules, set_shape, setting_rules, size_rule, stream_shape, text_rule, tfmset_app, unit_rule, unit_words, verbose_rule, with_default, with_rules, words_rule};
 
 use crate::help::{
-    ABOUT, AFTER_HELP, ALL_HELP, BLOCK_HELP, CAPACITY_HELP, CAUSES_HELP, CHECK_ABOUT,
-    CHECK_AFTER_HELP, COUNTS_ABOUT, COUNTS_AFTER_HELP, CRLF_HELP, EACH_ABOUT, EACH_AFTER_HELP,
-    ENCODING_HELP, FILE_HELP, FONT_HELP, FONTS_HELP, FORMAT_HELP, LIMIT_HELP, LIST_ABOUT,
-    LIST_AFTER_HELP, MISSING_HELP, PAIRS_ABOUT, PAIRS_AFTER_HELP, QUIET_HELP, RECORD_HELP,
-    SET_ABOUT, SET_AFTER_HELP, SIZE_HELP, STREAM_ABOUT, STREAM_AFTER_HELP, STREAM_BLOCK_HELP,
-    STREAM_FILE_HELP, SUMMARY_HELP, UNIT_HELP, VERBOSE_HELP, WORDS_HELP, WORKERS_HELP,
+    ABOUT, AFTER_HELP, ALL_HELP, BLOCK_HELP, BOX_UNIT_HELP, CAPACITY_HELP, CAUSES_HELP,
+    CHECK_ABOUT, CHECK_AFTER_HELP, COUNTS_ABOUT, COUNTS_AFTER_HELP, CRLF_HELP, EACH_ABOUT,
+    EACH_AFTER_HELP, ENCODING_HELP, FILE_HELP, FONT_HELP, FONTS_HELP, FORMAT_HELP, LIMIT_HELP,
+    LIST_ABOUT, LIST_AFTER_HELP, MISSING_HELP, PAIRS_ABOUT, PAIRS_AFTER_HELP, QUIET_HELP,
+    RECORD_HELP, SET_ABOUT, SET_AFTER_HELP, SIZE_HELP, STREAM_ABOUT, STREAM_AFTER_HELP,
+    STREAM_BLOCK_HELP, STREAM_FILE_HELP, SUMMARY_HELP, UNIT_HELP, VERBOSE_HELP, WORDS_HELP,
+    WORKERS_HELP,
 };
 use clap::{Arg, ArgAction, Command, value_parser};
 use std::alloc::{AllocError, Global};
@@ -174,6 +175,7 @@ fn run_options<'a>(
     let command = with_argument(command, capacity)?;
     let command = with_argument(command, block)?;
     let command = with_argument(command, record_option(alloc))?;
+    let command = with_argument(command, box_unit_option(alloc))?;
     with_argument(command, verbose_option(alloc, VERBOSE_HELP))
 }
 
@@ -217,8 +219,16 @@ fn record_option<'a>(alloc: Global) -> Arg<'a>
     ensures { (parser : ValueParser) × TakesWords record_words parser
         × IsArgument (with_default (codes "1") (choice_rule (codes "record") parser)) result }
 {
-    let words = &["1", "2", "json"];
+    let words = &["1", "2", "json", "box"];
     choice_option(alloc, "record", "V", RECORD_HELP, words).default_value("1")
+}
+
+fn box_unit_option<'a>(alloc: Global) -> Arg<'a>
+    ensures { (parser : ValueParser) × TakesWords unit_words parser
+        × IsArgument (choice_rule (codes "unit") parser) result }
+{
+    let words = &["sp", "pt", "bp", "mm", "cm", "in", "pc"];
+    choice_option(alloc, "unit", "U", BOX_UNIT_HELP, words)
 }
 
 fn format_option<'a>(alloc: Global) -> Arg<'a>

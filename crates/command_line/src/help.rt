@@ -197,7 +197,10 @@ error.
 A line that needs more steps than --limit is refused; this stops lig/kern
 programs that never end. A step is one ligature, one kern, or one move to the
 next element. Record format 2 adds the number of steps to the records of lines
-that were set; json prints the same data as one JSON object per line.
+that were set; json prints the same data as one JSON object per line. With box,
+the record of a line that was set is SOURCE:LINE box WIDTH HEIGHT DEPTH SPACES:
+the dimensions of TeX's \\hbox of the line, and its number of spaces. They are
+in sp, or in the unit of --unit, such as 35.74994pt or 12.56467mm.
 
 --workers is the largest number of threads that set lines. More of them can set
 a FILE in less time, if processors are free. Its lines are dealt to all of them
@@ -323,7 +326,12 @@ pub(crate) const ENCODING_ERROR: &str = "
 
   tip: a value with a slash or a period is the path of an encoding vector";
 
-pub(crate) const RECORD_HELP: &str = "Record format: 1, 2 or json; 1 omits steps";
+pub(crate) const RECORD_HELP: &str = "Record format: 1, 2, json or box; 1 omits steps";
+
+pub(crate) const BOX_UNIT_HELP: &str = "Unit of --record box: sp, pt, bp, mm, cm, in or pc";
+
+pub(crate) const UNIT_ERROR: &str =
+    "the argument '--unit <U>' can only be used with '--record box'";
 
 pub(crate) const UNIT_HELP: &str = "Unit: sp, pt, bp, mm, cm, in or pc";
 

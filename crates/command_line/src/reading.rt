@@ -1,17 +1,18 @@
 //! Returns the request that the arguments state, and the encoding vector that they name, from the values that
 //! a parse finds for them.
-ghost use Rattle.std.specs.Prelude.{◌≡◌, [], map, IfErr, IfOk, Some, codes, option_map, unwrap_or};
+ghost use Rattle.std.specs.Prelude.{◌≡◌, [], map, IfErr, IfOk, Some, codes, option_and_then, option_map, unwrap_or};
 ghost use Rattle.clap.specs.Words.{all_of, first_of, found_of, kind_of, one_of, rows_of, subcommand_rows_of};
 ghost use Rattle.command_line.specs.Commands.{AllChoices, IsCommandOf, tfmset_app};
-ghost use Rattle.command_line.specs.Asked.{AreJobs, Asks, AsksFor, Finds, encoding_stated, format_word, has_no_block, has_plain_size, IsAskedBy, IsAskedOf, IsAskedWith, IsBlock, IsChecking, IsEncoding, IsFlag, IsLayout, IsListing, IsNumberIn, IsPairing, IsPairsLayout, IsPlan, IsRefusedBy, IsRefusedWith, IsSetting, IsSize, IsUnit, IsVerbose, is_path, kind_of_values, kind_without_request, misstates_encoding, misstates_size, policy_word, texts, vector_in, vector_named, version_word};
+ghost use Rattle.command_line.specs.Asked.{AreJobs, Asks, AsksFor, Finds, encoding_stated, format_word, has_no_block, has_plain_size, IsAskedBy, IsAskedOf, IsAskedWith, IsBlock, IsChecking, IsEncoding, IsFlag, IsLayout, IsListing, IsNumberIn, IsPairing, IsPairsLayout, IsPlan, IsRefusedBy, IsRefusedWith, IsSetting, IsSize, IsUnit, IsVerbose, is_path, kind_of_values, kind_without_request, misstates_encoding, misstates_size, policy_word, texts, vector_in, vector_named, format_stated, misplaces_unit, version_named};
 
 use crate::commands::tfmset_command;
-use crate::help::{ENCODING_ERROR, SIZE_ERROR};
+use crate::help::{ENCODING_ERROR, SIZE_ERROR, UNIT_ERROR};
 use crate::request::{Checking, Jobs, Layout, Listing, Pairing, Request, Requested, Setting};
 use clap::error::ErrorKind;
 use clap::{ArgMatches, Command, Error};
 use encodings::Encoding;
 use font_texts::{PairsFormat, PairsLayout};
+use line_records::RecordFormat;
 use run_plan::{Block, Capacity, Plan, Workers};
 use set_line::{Limit, Policy, Version};
 use std::alloc::{AllocError, Global};
@@ -50,7 +51,8 @@ fn requested_of<'a, S: AsStr>(
 }
 
 /// Returns the error of arguments that state no request although the parse has no error: `--size` states no
-/// size, `--encoding` states no encoding and names no file, or there is no subcommand.
+/// size, `--encoding` states no encoding and names no file, `--unit` is given without `--record box`, or there is no
+/// subcommand.
 fn without_request<'a>(
     alloc: Global,
     command: &mut Command<'a>,
@@ -77,6 +79,9 @@ fn wrong_values<'a>(
     }
     if misnamed(matches) {
         return wrong_encoding(alloc, command, matches);
+    }
+    if misplaced(matches) {
+        return command.error(ErrorKind::ArgumentConflict, UNIT_ERROR);
     }
     no_subcommand(command)
 }
@@ -138,6 +143,16 @@ fn wrong_encoding<'a>(
         format!(in alloc; "invalid value '{value}' for '--encoding <E>'{ENCODING_ERROR}")?
     };
     command.error(ErrorKind::InvalidValue, message.as_str())
+}
+
+/// Returns whether `--unit` has a value, and `--record` has one other than `box`.
+fn misplaced(matches: &ArgMatches<'_>) -> bool
+    ensures { result ≡ misplaces_unit (rows_of (found_of matches.now)) }
+{
+    match value_of(matches, "record") {
+        Some(value) => value_of(matches, "unit").is_some() && value != "box",
+        None => false,
+    }
 }
 
 /// Returns the request of the subcommand that the parse found, or `None` if it states none.
@@ -329,7 +344,7 @@ fn asked_layout(matches: &ArgMatches<'_>) -> Option<Layout>
         encoding: asked_encoding(matches)?,
         plan: asked_plan(matches)?,
         whole_reads: asked_whole_reads(matches),
-        version: asked_version(matches)?,
+        format: asked_records(matches)?,
         verbose: asked_verbose(matches),
     })
 }
@@ -401,11 +416,36 @@ fn has_path_mark(value: &str) -> bool
     value.bytes().any(|byte| byte == b'/' || byte == b'.')
 }
 
-fn asked_version(matches: &ArgMatches<'_>) -> Option<Version>
-    ensures { Finds (λ version. first_of (codes "record") (rows_of (found_of matches.now))
-        ≡ Some (version_word version)) result }
+/// Returns the record format that `--record` and `--unit` state.
+fn asked_records(matches: &ArgMatches<'_>) -> Option<RecordFormat>
+    ensures { Finds (λ format. option_and_then (format_stated (first_of (codes "unit") (rows_of (found_of matches.now))))
+        (first_of (codes "record") (rows_of (found_of matches.now))) ≡ Some format) result }
 {
-    match text(matches, "record")? {
+    let unit = value_of(matches, "unit");
+    match value_of(matches, "record") {
+        Some(value) => format_of(unit, value),
+        None => None,
+    }
+}
+
+/// Returns the record format that these values of `--unit` and `--record` state. Only `box` takes a unit.
+fn format_of(unit: Option<&str>, value: &str) -> Option<RecordFormat>
+    ensures { result ≡ format_stated (option_map (λ text. text.now) unit.entry) value.now }
+{
+    if value == "box" {
+        return LengthUnit::from_name(unit.unwrap_or("sp")).map(RecordFormat::Box);
+    }
+    if unit.is_some() {
+        return None;
+    }
+    version_of(value).map(RecordFormat::Items)
+}
+
+/// Returns the format of records with items that a value of `--record` states.
+fn version_of(value: &str) -> Option<Version>
+    ensures { result ≡ version_named value.now }
+{
+    match value {
         "1" => Some(Version::One),
         "2" => Some(Version::Two),
         "json" => Some(Version::Json),

@@ -1,6 +1,7 @@
 //! The requests that arguments can state.
 use encodings::Encoding;
 use font_texts::PairsLayout;
+use line_records::RecordFormat;
 use run_plan::Plan;
 use set_line::{Limit, Policy, Version};
 use tex_sizes::LengthUnit;
@@ -61,7 +62,7 @@ pub struct Layout {
     /// `--block`.
     pub whole_reads: bool,
     /// The record format.
-    pub version: Version,
+    pub format: RecordFormat,
     /// Whether the causes of errors, and a summary, are printed on standard error.
     pub verbose: bool,
 }

@@ -2,22 +2,21 @@
 -- This project's own; the result of a line is defined in Results of `line_records`.
 use Rattle.std.specs.Prelude.{◌≡◌, ℕ, ◌==◌, List, length, flat_map, count_by, Option, Result, Err}
 use Rattle.lig_kern.specs.Result.{Setting}
-use Rattle.set_line.specs.declared.version.Version.{Version}
 use Rattle.set_line.specs.declared.outcome.LineRefusal.TheVariants.{TooLong}
 use Rattle.set_line.specs.declared.records.text_refusal.TextRefusal.{TextRefusal}
 use Rattle.set_line.specs.declared.records.text_refusal.TextRefusal.TheVariants.{Line}
-use Rattle.set_line.specs.Record.{text_record}
 use Rattle.set_line.specs.Terms.{TermsValue}
 use Rattle.line_chunks.specs.Chunks.{ChunkLine, whole, too_long}
 use Rattle.encodings.specs.declared.encoding.Encoding.{Encoding}
-use Rattle.line_records.specs.Results.{is_refused, line_result, result_text}
+use Rattle.line_records.specs.Results.{is_refused, line_result, result_record}
+use Rattle.line_records.specs.declared.record_format.RecordFormat.{RecordFormat}
 use Rattle.line_chunks.specs.Chunks.{ChunkValue, NumberedLine, lines_of_chunk}
 
 -- how the lines of a source are read, and how their records are written: the encoding, if there is one, and the
 -- record format
 pub record RecordStyle : Type 0 where
   pub encoding : Option Encoding
-  pub version : Version
+  pub format : RecordFormat
 
 -- what the records of a source depend on besides its lines: the settings, the number of the source, and the
 -- encoding and the record format
@@ -35,7 +34,7 @@ result_in terms encoding number (too_long count) = Err (Line (TooLong count))
 -- the record of a line with its line number
 abbrev pub record_in : MakerValue → NumberedLine → List ℕ
 record_in maker line =
-    text_record maker.source line.0 (result_text maker.style.version (result_in maker.terms maker.style.encoding line.0 line.1)) maker.style.version
+    result_record maker.style.format maker.terms.font maker.source line.0 (result_in maker.terms maker.style.encoding line.0 line.1)
 
 -- the records of lines with their line numbers, in order
 abbrev pub records_in : MakerValue → List NumberedLine → List ℕ

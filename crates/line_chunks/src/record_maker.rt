@@ -12,9 +12,9 @@ use crate::{Chunk, ChunkText, LineCounts};
 use dealt_lanes::Shared;
 use encodings::Encoding;
 use line_lane::Making;
-use line_records::{LineResult, LineWriter, RecordOf, SourceLine};
+use line_records::{LineResult, LineWriter, RecordFormat, RecordOf, SourceLine};
 use set_line::{
-    LineRefusal, OutOfMemory, RecordNumber, Terms, TextRefusal, Version, append_refusal, next_line,
+    LineRefusal, OutOfMemory, RecordNumber, Terms, TextRefusal, append_refusal, next_line,
 };
 use std::alloc::Global;
 use std::marker::Model;
@@ -27,7 +27,7 @@ pub struct RecordMaker {
     terms: Arc<Terms>,
     source: u64,
     encoding: Option<Encoding>,
-    version: Version,
+    format: RecordFormat,
     writer: LineWriter,
     /// The counts of the lines of the last chunk.
     pub(crate) counts: LineCounts,
@@ -47,12 +47,12 @@ impl Model for RecordMaker {
     ghost view = { λ m. record {
       terms = arc_value m.terms;
       source = m.source;
-      style = record { encoding = m.encoding; version = m.version };
+      style = record { encoding = m.encoding; format = m.format };
     } };
 
     ghost use Rattle.line_records.specs.Cells.{style_of};
 
-    ghost invariant = { λ m. m.writer ≡ style_of (arc_value m.terms) m.version };
+    ghost invariant = { λ m. m.writer ≡ style_of (arc_value m.terms) m.format };
 }
 
 /// Returns an empty text with room for this many bytes, or without any if an allocation fails.
@@ -68,19 +68,19 @@ fn with_room(alloc: Global, room: usize) -> Vec<u8>
 impl RecordMaker {
     /// Returns a maker of the records of the source with this number, in this format, for lines of bytes that
     /// are set with these settings. This allocates no memory.
-    pub fn new(alloc: Global, terms: Arc<Terms>, source: u64, version: Version) -> Self
+    pub fn new(alloc: Global, terms: Arc<Terms>, source: u64, format: RecordFormat) -> Self
         ensures { result ≡ record {
           terms = arc_value terms;
           source = source;
-          style = record { encoding = None; version = version };
+          style = record { encoding = None; format = format };
         } }
     {
-        let writer = LineWriter::new(alloc, &terms, version);
+        let writer = LineWriter::new(alloc, &terms, format);
         RecordMaker {
             terms,
             source,
             encoding: None,
-            version,
+            format,
             writer,
             counts: LineCounts::default(),
             last: 0,
@@ -94,7 +94,7 @@ impl RecordMaker {
         ensures { result ≡ record {
           terms = self.terms;
           source = self.source;
-          style = record { encoding = encoding; version = self.style.version };
+          style = record { encoding = encoding; format = self.style.format };
         } }
     {
         let mut maker = self;
@@ -119,7 +119,7 @@ impl RecordMaker {
             line: number,
         };
         let refusal = TextRefusal::Line(LineRefusal::TooLong(length));
-        append_refusal(text, number, refusal, self.version)?;
+        append_refusal(text, number, refusal, self.format.version())?;
         self.counts.count(LineResult::Refused(refusal));
         Ok(LineCount {
             lines: 1,
@@ -241,7 +241,7 @@ impl Making for RecordMaker {
 impl Shared for RecordMaker {
     fn share(&self) -> Result<RecordMaker, OutOfMemory> {
         let terms = Arc::try_clone(&self.terms)?;
-        let maker = RecordMaker::new(self.alloc, terms, self.source, self.version);
+        let maker = RecordMaker::new(self.alloc, terms, self.source, self.format);
         Ok(maker.with_encoding(self.encoding))
     }
 }

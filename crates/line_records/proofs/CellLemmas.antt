@@ -5,7 +5,7 @@ use Rattle.std.proofs.lemmas.Bool.{eqb-true, eqb-false, ltb-true, ltb-false}
 use Rattle.std.proofs.lemmas.Grind.{get_or-set_at}
 use Rattle.std.proofs.lemmas.List.{get_or-set_other, get_or-take, length-set, length-take}
 use Rattle.tfm_words.specs.Appending.{StaysInFront}
-use Rattle.set_line.specs.declared.version.Version.{Version}
+use Rattle.line_records.specs.declared.record_format.RecordFormat.{RecordFormat}
 use Rattle.line_records.specs.Additions.{Addition, added_of, one_step}
 use Rattle.line_records.specs.Cells.{AreCells, AreSame, IsCell, IsPair, IsTextOf, Style, symbol_of}
 use Rattle.line_records.specs.declared.pair.Pair.{Pair}
@@ -29,8 +29,8 @@ ligature_cell style pairs row next to few is = record {
 }
 
 -- a pair that is the same has the same text
-same_text : (version : Version) (added : Addition) (pair other : Pair) → IsTextOf version added pair → AreSame pair other → IsTextOf version added other
-same_text version added pair other is same = record {
+same_text : (format : RecordFormat) (added : Addition) (pair other : Pair) → IsTextOf format added pair → AreSame pair other → IsTextOf format added other
+same_text format added pair other is same = record {
   text = ap (λ n. take n other.text) (sym same.length) ∙ ap (λ bytes. take pair.length bytes) (sym same.text) ∙ is.text;
   width = sym same.width ∙ is.width;
   steps = sym same.steps ∙ is.steps;
@@ -39,11 +39,11 @@ same_text version added pair other is same = record {
 
 -- the cell of a pair
 pub pair_cell : (style : Style) (pairs : List Pair) (pair : Pair) (row next cell : ℕ) (added : Addition)
-    → added_of style.font style.policy (symbol_of style.font row) next ≡ Some added → IsTextOf style.version added pair → (next < 256 → symbol_of style.font next ≡ added.current)
+    → added_of style.font style.policy (symbol_of style.font row) next ≡ Some added → IsTextOf style.format added pair → (next < 256 → symbol_of style.font next ≡ added.current)
     → length pairs ≤ 65024 → ((d : Pair) → cell < length pairs → AreSame pair (get_or pairs cell d))
     → (length pairs ≤ cell → cell ≡ 65025) → IsCell style pairs row next cell
 pair_cell style pairs pair row next cell added is text own few same mark = record {
-  pair = λ d within. record { added = added; is = is; text = same_text style.version added pair (get_or pairs cell d) text (same d within); row = own };
+  pair = λ d within. record { added = added; is = is; text = same_text style.format added pair (get_or pairs cell d) text (same d within); row = own };
   mark = λ above. omega (arith, mark above);
   ligature = λ above. absurd (omega (arith, mark (omega arith)));
 }

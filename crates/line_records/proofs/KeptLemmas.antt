@@ -1,12 +1,11 @@
 -- A line that is set part by part.
-use Rattle.std.proofs.Common.{◌≡◌, ℕ, ◌+◌, ◌≤◌, ◌<◌, ◌||◌, ◌+ℤ◌, Bool, true, false, List, [], ◌∷◌, ◌++◌, length, drop, take, get_or, flat_map, Option, Some, None, arith, refl, ap, sym, subst, ◌∙◌, append-nil, append_assoc, length-append}
+use Rattle.std.proofs.Common.{◌≡◌, ℕ, ◌+◌, ◌≤◌, ◌<◌, ◌||◌, Bool, true, false, List, [], ◌∷◌, ◌++◌, length, drop, take, get_or, flat_map, Option, Some, None, arith, refl, ap, sym, subst, ◌∙◌, append-nil, append_assoc, length-append}
 use Rattle.std.specs.Prelude.{IfSome, cond, is_some, nat_eq, nat_le, not, ◌&&◌, if◌then◌else◌}
 use Rattle.std.specs.Bool.{then_some}
 use mir.Val.{bool_byte}
 use Rattle.std.specs.List.{list_any}
 use Rattle.std.specs.Option.{is_none, option_and_then, option_map, option_map_or}
 use Rattle.std.proofs.Math.Seq.{drop-append_seam, take-length}
-use Rattle.std.proofs.Math.IntN.{+ℤ_idr}
 use Rattle.std.proofs.lemmas.Grind.{flat_map-append}
 use Rattle.std.proofs.lemmas.List.Folds.{list_any_at}
 use Rattle.tfm_tables.specs.Font.{FontValue}
@@ -15,20 +14,21 @@ use Rattle.lig_kern.specs.declared.item.Item.TheVariants.{Skipped}
 use Rattle.lig_kern.specs.Result.{Setting}
 use Rattle.set_line.specs.declared.policy.Policy.{Policy}
 use Rattle.set_line.specs.declared.policy.Policy.TheVariants.{Refuse, Skip}
-use Rattle.set_line.specs.declared.version.Version.{Version}
 use Rattle.set_line.specs.Answer.{has_refused, is_refused, setting_of, within_limit}
 use Rattle.set_line.specs.Onward.{onward, setting}
 use Rattle.set_line.specs.Pieces.{Portion, portions_in, portions_of, skipped}
-use Rattle.set_line.specs.Record.{text_in}
 use Rattle.set_line.specs.Terms.{TermsValue}
 use Rattle.set_line.specs.Width.{total_width}
 use Rattle.set_line.proofs.OnwardLemmas.{onward-append, part_stops, part_then}
 use Rattle.encodings.specs.Lines.{break_number}
 use Rattle.encodings.specs.Parts.{PartValue, joined, part_numbers, uncoded_after, unless_break}
-use Rattle.line_records.specs.Kept.{AreListed, HasKept, IsKept, IsReached, gaps_in, refused_before, refused_in, refuses, set_after}
+use Rattle.line_records.specs.Boxes.{box_of, box_text, item_text, line_texts}
+use Rattle.line_records.specs.declared.record_format.RecordFormat.{RecordFormat}
+use Rattle.line_records.specs.declared.record_format.RecordFormat.TheVariants.{Items, Box}
+use Rattle.line_records.specs.Kept.{AreListed, HasKept, IsKept, IsReached, box_part, gaps_in, refused_before, refused_in, refuses, set_after}
 use Rattle.line_records.specs.Results.{only_part, line_portions, portions_before}
 use Rattle.line_records.specs.declared.keeping.Kept.{Kept}
-use Rattle.line_records.proofs.AddingLemmas.{total_width-append}
+use Rattle.line_records.proofs.BoxLemmas.{box_after, box_of-append, box_of-gap, no_texts}
 use Rattle.line_records.proofs.RunLemmas.{mapped}
 
 -- ---- portions after other items
@@ -122,15 +122,15 @@ codes_set terms so_far codes kept =
     ∙ ap (onward terms.font terms.limit so_far) (alone_portions terms.font codes)
 
 -- codes with a refused one have no setting
-pub refused_kept : (version : Version) (terms : TermsValue) (so_far : Setting) (codes texts : List ℕ) → has_refused terms.policy terms.font codes ≡ true
-    → IsKept version (set_after terms so_far (only_part codes)) texts None
+pub refused_kept : (format : RecordFormat) (terms : TermsValue) (so_far : Setting) (codes texts : List ℕ) → has_refused terms.policy terms.font codes ≡ true
+    → IsKept format terms.font (set_after terms so_far (only_part codes)) texts None
 unfolding set_after
-refused_kept version terms so_far codes texts is =
+refused_kept format terms so_far codes texts is =
     ap (λ (b : Bool). if b then None else onward terms.font terms.limit so_far (line_portions terms.font (only_part codes))) (codes_refused terms.policy terms.font codes ∙ is)
 
 -- ---- a part
 
-module _ (terms : TermsValue) (version : Version) (used gaps : ℕ) (all items : List Item) (texts : List ℕ) (listed : AreListed version all items gaps texts) (part : PartValue) where
+module _ (terms : TermsValue) (format : RecordFormat) (used gaps : ℕ) (all items : List Item) (texts : List ℕ) (listed : AreListed format all items gaps texts) (part : PartValue) where
   -- a part alone
   part_set : (uncoded : Option ℕ) → uncoded_after part ≡ uncoded → set_after terms (setting used all) (part ∷ [])
       ≡ (if refused_before terms.policy terms.font part.codes uncoded then None else onward terms.font terms.limit (setting used all) (portions_before terms.font part.codes uncoded))
@@ -147,40 +147,39 @@ module _ (terms : TermsValue) (version : Version) (used gaps : ℕ) (all items :
       part_set uncoded is ∙ ap (λ (r : Bool). if r then None else onward terms.font terms.limit (setting used all) (portions_before terms.font part.codes uncoded)) refused
 
   -- the lists after more items
-  listed_more : (more : List Item) (written : List ℕ) → written ≡ texts ++ flat_map (text_in version) more
-      → AreListed version (all ++ more) (items ++ more) gaps written
+  listed_more : (more : List Item) (written : List ℕ) → written ≡ texts ++ flat_map (item_text format) more
+      → AreListed format (all ++ more) (items ++ more) gaps written
   listed_more more written appended = record {
-    texts = appended ∙ ap (λ xs. xs ++ flat_map (text_in version) more) listed.texts ∙ sym (flat_map-append (text_in version) all more);
-    width =
-        total_width-append items more ∙ ap (λ w. w +ℤ total_width more) listed.width ∙ sym (total_width-append all more);
+    texts = appended ∙ ap (λ xs. xs ++ flat_map (item_text format) more) listed.texts ∙ sym (flat_map-append (item_text format) all more);
+    box = λ font. box_of-append font items more ∙ ap (λ box. box_after box font more) (listed.box font) ∙ sym (box_of-append font all more);
     count = omega (arith, listed.count, length-append items more, length-append all more);
   }
 
   -- a part without a character after it
   pub part_last : (right : Bool) (uncoded : Option ℕ) (steps : ℕ) (after : List Item) (written : List ℕ) → uncoded ≡ uncoded_after part → uncoded ≡ None → right ≡ is_none uncoded
       → has_refused terms.policy terms.font part.codes ≡ false → onward terms.font terms.limit (setting used items) (portions_in right terms.font part.codes) ≡ Some (setting steps after)
-      → written ≡ texts ++ flat_map (text_in version) (drop (length items) after)
-      → IsReached version (set_after terms (setting used all) (part ∷ [])) after (gaps + gaps_in part) written (Some steps)
+      → written ≡ texts ++ flat_map (item_text format) (drop (length items) after)
+      → IsReached format (set_after terms (setting used all) (part ∷ [])) after (gaps + gaps_in part) written (Some steps)
   part_last right uncoded steps after written at none is kept reached appended =
       let last : right ≡ true = is ∙ ap is_none none in
       let set = set_elsewhere terms.font terms.limit used steps items after all (portions_in true terms.font part.codes)
       (subst (λ r. onward terms.font terms.limit (setting used items) (portions_in r terms.font part.codes) ≡ Some (setting steps after)) last reached) in
       let more : List Item = set.0 in
-      let there : AreListed version (all ++ more) (items ++ more) gaps written =
-      listed_more more written (appended ∙ ap (λ xs. texts ++ flat_map (text_in version) xs) (ap (drop (length items)) set.1 ∙ drop-append_seam items more)) in
+      let there : AreListed format (all ++ more) (items ++ more) gaps written =
+      listed_more more written (appended ∙ ap (λ xs. texts ++ flat_map (item_text format) xs) (ap (drop (length items)) set.1 ∙ drop-append_seam items more)) in
       let here : uncoded_after part ≡ None = sym at ∙ none in
       let zero : gaps + gaps_in part ≡ gaps = ap (λ o. gaps + option_map_or (λ character. 1) o 0) here ∙ omega arith in (
         all ++ more,
         set_if None false here (alone_refused terms.policy terms.font part.codes ∙ kept) ∙ ap (onward terms.font terms.limit (setting used all)) (append-nil (portions_in true terms.font part.codes)) ∙ set.2,
-        subst (λ n. AreListed version (all ++ more) after n written) (sym zero) (subst (λ xs. AreListed version (all ++ more) xs gaps written) (sym set.1) there),
+        subst (λ n. AreListed format (all ++ more) after n written) (sym zero) (subst (λ xs. AreListed format (all ++ more) xs gaps written) (sym set.1) there),
       )
 
   -- a part with a character without codes after it, which is skipped
   pub part_gap : (right : Bool) (uncoded : Option ℕ) (character steps : ℕ) (after : List Item) (written : List ℕ) → uncoded ≡ uncoded_after part → uncoded ≡ Some character → right ≡ is_none uncoded
       → terms.policy ≡ Skip → has_refused terms.policy terms.font part.codes ≡ false → steps ≤ terms.limit
       → onward terms.font terms.limit (setting used items) (portions_in right terms.font part.codes) ≡ Some (setting steps after)
-      → written ≡ (texts ++ flat_map (text_in version) (drop (length items) after)) ++ text_in version (Skipped (256 + character))
-      → IsReached version (set_after terms (setting used all) (part ∷ [])) after (gaps + gaps_in part) written (Some steps)
+      → written ≡ (texts ++ flat_map (item_text format) (drop (length items) after)) ++ item_text format (Skipped (256 + character))
+      → IsReached format (set_after terms (setting used all) (part ∷ [])) after (gaps + gaps_in part) written (Some steps)
   unfolding setting_of onward
   part_gap right uncoded character steps after written at some is skips kept within reached appended =
       let inner : right ≡ false = is ∙ ap is_none some in
@@ -188,22 +187,22 @@ module _ (terms : TermsValue) (version : Version) (used gaps : ℕ) (all items :
       (subst (λ r. onward terms.font terms.limit (setting used items) (portions_in r terms.font part.codes) ≡ Some (setting steps after)) inner reached) in
       let more : List Item = set.0 in
       let gap : Item = Skipped (256 + character) in
-      let front : AreListed version (all ++ more) (items ++ more) gaps (texts ++ flat_map (text_in version) (drop (length items) after)) =
-      listed_more more _ (ap (λ xs. texts ++ flat_map (text_in version) xs) (ap (drop (length items)) set.1 ∙ drop-append_seam items more)) in
+      let front : AreListed format (all ++ more) (items ++ more) gaps (texts ++ flat_map (item_text format) (drop (length items) after)) =
+      listed_more more _ (ap (λ xs. texts ++ flat_map (item_text format) xs) (ap (drop (length items)) set.1 ∙ drop-append_seam items more)) in
       let here : uncoded_after part ≡ Some character = sym at ∙ some in
       let one : gaps + gaps_in part ≡ gaps + 1 = ap (λ o. gaps + option_map_or (λ character. 1) o 0) here in
       let none : refused_before terms.policy terms.font part.codes (Some character) ≡ false = ap (λ b. b || (refuses terms.policy && true)) kept ∙ ap (λ p. refuses p && true) skips in
-      let there : AreListed version ((all ++ more) ++ gap ∷ []) after (gaps + 1) written = record {
+      let there : AreListed format ((all ++ more) ++ gap ∷ []) after (gaps + 1) written = record {
         texts =
-            appended ∙ ap (λ xs. xs ++ text_in version gap) front.texts
-            ∙ ap (λ xs. flat_map (text_in version) (all ++ more) ++ xs) (sym (append-nil (text_in version gap))) ∙ sym (flat_map-append (text_in version) (all ++ more) (gap ∷ []));
-        width = ap total_width set.1 ∙ front.width ∙ sym (total_width-append (all ++ more) (gap ∷ []) ∙ +ℤ_idr (total_width (all ++ more)));
+            appended ∙ ap (λ xs. xs ++ item_text format gap) front.texts
+            ∙ ap (λ xs. flat_map (item_text format) (all ++ more) ++ xs) (sym (append-nil (item_text format gap))) ∙ sym (flat_map-append (item_text format) (all ++ more) (gap ∷ []));
+        box = λ font. ap (box_of font) set.1 ∙ front.box font ∙ sym (box_of-gap font (all ++ more) (256 + character));
         count = omega (arith, front.count, ap length set.1, length-append (all ++ more) (gap ∷ []));
       } in (
         (all ++ more) ++ gap ∷ [],
         set_if (Some character) false here none ∙ part_then terms.font terms.limit used steps all (all ++ more) ((all ++ more) ++ gap ∷ []) (portions_before terms.font part.codes (Some character)) (portions_in false terms.font part.codes) []
             (skipped (256 + character)) gap refl set.2 within refl refl,
-        subst (λ n. AreListed version ((all ++ more) ++ gap ∷ []) after n written) (sym one) there,
+        subst (λ n. AreListed format ((all ++ more) ++ gap ∷ []) after n written) (sym one) there,
       )
 
   -- a part that has no setting
@@ -293,20 +292,27 @@ none_is true (Some character) is = cc
 none_is false None is = cc
 
 -- codes that the table stopped at, if the byte there is refused
-pub maybe_refused : (version : Version) (terms : TermsValue) (so_far : Setting) (codes texts : List ℕ) (refuses : Bool) (kept : Option (Option Kept)) → kept ≡ then_some refuses None
-    → (refuses ≡ true → has_refused terms.policy terms.font codes ≡ true) → IfSome kept (IsKept version (set_after terms so_far (only_part codes)) texts)
-maybe_refused version terms so_far codes texts true kept is refused = rw is (refused_kept version terms so_far codes texts (refused refl))
-maybe_refused version terms so_far codes texts false kept is refused = rw is tt
+pub maybe_refused : (format : RecordFormat) (terms : TermsValue) (so_far : Setting) (codes texts : List ℕ) (refuses : Bool) (kept : Option (Option Kept)) → kept ≡ then_some refuses None
+    → (refuses ≡ true → has_refused terms.policy terms.font codes ≡ true) → IfSome kept (IsKept format terms.font (set_after terms so_far (only_part codes)) texts)
+maybe_refused format terms so_far codes texts true kept is refused = rw is (refused_kept format terms so_far codes texts (refused refl))
+maybe_refused format terms so_far codes texts false kept is refused = rw is tt
 
 -- a line whose parts are all set
-pub all_set : (terms : TermsValue) (version : Version) (all items : List Item) (gaps steps : ℕ) (texts : List ℕ) (kept : Kept) → AreListed version all items gaps texts
-    → kept.sums.width ≡ total_width items → kept.sums.steps ≡ steps → kept.sums.items ≡ length items + gaps → kept.length ≡ length texts
-    → HasKept version (setting steps all) texts kept
-all_set terms version all items gaps steps texts kept listed width count many long = record {
-  sums = record { width = width ∙ listed.width; steps = count; items = many ∙ listed.count };
+pub all_set : (terms : TermsValue) (format : RecordFormat) (all items : List Item) (gaps steps : ℕ) (texts written : List ℕ) (kept : Kept) → AreListed format all items gaps texts
+    → kept.sums.width ≡ total_width items → kept.sums.steps ≡ steps → kept.sums.items ≡ length items + gaps → written ≡ texts ++ box_part format terms.font items → kept.length ≡ length written
+    → HasKept format terms.font (setting steps all) written kept
+all_set terms format all items gaps steps texts written kept listed width count many appended long = record {
+  sums = record { width = width ∙ ap (λ box. box.width) (listed.box terms.font); steps = count; items = many ∙ listed.count };
   within = omega (arith, long);
-  text = ap (λ n. take n texts) long ∙ take-length texts ∙ listed.texts;
+  text =
+      ap (λ n. take n written) long ∙ take-length written ∙ appended ∙ ap (λ xs. xs ++ box_part format terms.font items) listed.texts
+      ∙ by format (listed.box terms.font);
 }
+  where
+    by : (format : RecordFormat) → box_of terms.font items ≡ box_of terms.font all
+        → flat_map (item_text format) all ++ box_part format terms.font items ≡ line_texts format terms.font all
+    by (Items version) box = append-nil (flat_map (item_text (Items version)) all)
+    by (Box unit) box = ap (λ xs. xs ++ box_part (Box unit) terms.font items) (no_texts unit all) ∙ ap (box_text unit) box
 
 pub gaps_counted : (uncoded : Option ℕ) → bool_byte (is_some uncoded) ≡ option_map_or (λ character. 1) uncoded 0
 gaps_counted None = refl

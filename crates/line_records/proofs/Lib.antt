@@ -1,4 +1,5 @@
 pub mod AddingLemmas
+pub mod BoxLemmas
 pub mod CellLemmas
 pub mod KeptLemmas
 pub mod LineLemmas
@@ -6,4 +7,5 @@ pub mod RefusalLemmas
 pub mod ResultLemmas
 pub mod RunLemmas
 pub mod StepLemmas
+pub mod WorkedRows
 pub mod WrittenLemmas

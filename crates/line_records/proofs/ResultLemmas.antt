@@ -31,8 +31,11 @@ use Rattle.encodings.specs.Lines.{Element, break_number, elements_at, encoded, f
 use Rattle.encodings.specs.Parts.{PartValue, parts_of, uncoded_after, unless_break, with_code}
 use Rattle.encodings.proofs.LawLemmas.{codes_are_bytes, soft_coded}
 use Rattle.encodings.proofs.PartLemmas.{last_part, parts_joined}
-use Rattle.line_records.specs.Kept.{IsKept, IsKeptResult, IsTried, refused_in, refuses, set_after}
-use Rattle.line_records.specs.Results.{only_part, is_refusal, is_refused as is_result_refused, line_portions, line_result, line_text, missing_at, missing_code_in, parts_in, refusal_in, result_text, set_within, uncoded_in, utf8_refusal}
+use Rattle.line_records.specs.Boxes.{box_record, version_of}
+use Rattle.line_records.specs.declared.record_format.RecordFormat.{RecordFormat}
+use Rattle.line_records.specs.declared.record_format.RecordFormat.TheVariants.{Items, Box}
+use Rattle.line_records.specs.Kept.{IsKept, IsKeptResult, IsTried, refused_in, refuses, set_after, set_record}
+use Rattle.line_records.specs.Results.{only_part, is_refusal, is_refused as is_result_refused, line_portions, line_result, missing_at, missing_code_in, parts_in, refusal_in, result_record, result_text, set_within, uncoded_in, utf8_refusal}
 use Rattle.line_records.specs.declared.keeping.Kept.{Kept}
 use Rattle.line_records.proofs.KeptLemmas.{alone_portions, codes_refused, or_false}
 use Rattle.line_records.proofs.RefusalLemmas.{element, long, missing_here, not_utf8, refusal_left}
@@ -231,10 +234,10 @@ module _ (terms : TermsValue) (encoding : Option Encoding) (first : Bool) (line 
 not_none : {A : Type 0} (a : A) → Some a ≡ None → ⊥
 not_none a is = cc
 
-module _ (terms : TermsValue) (first : Bool) (line : List ℕ) (version : Version) (texts : List ℕ) where
+module _ (terms : TermsValue) (first : Bool) (line : List ℕ) (format : RecordFormat) (texts : List ℕ) where
   -- a line of bytes
-  pub tried_bytes : (kept : Option Kept) → length line ≤ 65535 → IsKept version (set_after terms (setting 0 []) (only_part line)) texts kept
-      → IsTried terms None first line version texts kept
+  pub tried_bytes : (kept : Option Kept) → length line ≤ 65535 → IsKept format terms.font (set_after terms (setting 0 []) (only_part line)) texts kept
+      → IsTried terms None first line format texts kept
   unfolding refusal_in
   tried_bytes (Some kept) short is =
       let refused : refusal_of terms line ≡ None = none_met terms line short (sym (codes_refused terms.policy terms.font line) ∙ (was_kept terms (setting 0 []) is.0 (only_part line) is.1).0) in
@@ -248,7 +251,7 @@ module _ (terms : TermsValue) (first : Bool) (line : List ℕ) (version : Versio
 
   -- a line in UTF-8
   pub tried_text : (encoding : Encoding) (parts : List PartValue) (kept : Option Kept) → length line ≤ 65535 → fault_in line ≡ None
-      → parts ≡ parts_of (encoded encoding first line) → IsKept version (set_after terms (setting 0 []) parts) texts kept → IsTried terms (Some encoding) first line version texts kept
+      → parts ≡ parts_of (encoded encoding first line) → IsKept format terms.font (set_after terms (setting 0 []) parts) texts kept → IsTried terms (Some encoding) first line format texts kept
   unfolding refusal_in
   tried_text encoding parts (Some kept) short decoded are is =
       let made : set_after terms (setting 0 []) (parts_of (encoded encoding first line)) ≡ Some is.0 = ap (set_after terms (setting 0 [])) (sym are) ∙ is.1 in
@@ -260,13 +263,13 @@ module _ (terms : TermsValue) (first : Bool) (line : List ℕ) (version : Versio
       (ap (set_after terms (setting 0 [])) (sym are) ∙ is)
 
   -- a line that is too long
-  pub tried_long : (encoding : Option Encoding) → 65535 < length line → IsTried terms encoding first line version texts None
+  pub tried_long : (encoding : Option Encoding) → 65535 < length line → IsTried terms encoding first line format texts None
   unfolding refusal_in refusal_of
   tried_long None many = λ none. absurd (not_none _ (rw (lt-ltb 65535 (length line) many) at none))
   tried_long (Some encoding) many = λ none. absurd (not_none _ (long terms encoding first line many ∙ none))
 
   -- one that isn't UTF-8
-  pub tried_other : (encoding : Encoding) (offset : ℕ) → length line ≤ 65535 → fault_in line ≡ Some offset → IsTried terms (Some encoding) first line version texts None
+  pub tried_other : (encoding : Encoding) (offset : ℕ) → length line ≤ 65535 → fault_in line ≡ Some offset → IsTried terms (Some encoding) first line format texts None
   unfolding refusal_in
   tried_other encoding offset short is = λ none. absurd (not_none _ (not_utf8 terms encoding first line offset short is ∙ none))
 
@@ -292,11 +295,11 @@ code_part numbers none = ap only_part (all_codes numbers none) ∙ sym (last_par
         by false none rest = absurd (cc)
 
 -- a line without gaps
-pub tried_codes : (terms : TermsValue) (first : Bool) (line : List ℕ) (version : Version) (texts : List ℕ) (encoding : Encoding) (numbers codes : List ℕ) (kept : Option Kept)
+pub tried_codes : (terms : TermsValue) (first : Bool) (line : List ℕ) (format : RecordFormat) (texts : List ℕ) (encoding : Encoding) (numbers codes : List ℕ) (kept : Option Kept)
     → length line ≤ 65535 → fault_in line ≡ None → numbers ≡ encoded encoding first line → has_gaps numbers ≡ false → codes ≡ filter is_code numbers
-    → IsKept version (set_after terms (setting 0 []) (only_part codes)) texts kept → IsTried terms (Some encoding) first line version texts kept
-tried_codes terms first line version texts encoding numbers codes kept short decoded are none these is =
-    tried_text terms first line version texts encoding (only_part codes) kept short decoded (ap only_part these ∙ code_part numbers none ∙ ap parts_of are) is
+    → IsKept format terms.font (set_after terms (setting 0 []) (only_part codes)) texts kept → IsTried terms (Some encoding) first line format texts kept
+tried_codes terms first line format texts encoding numbers codes kept short decoded are none these is =
+    tried_text terms first line format texts encoding (only_part codes) kept short decoded (ap only_part these ∙ code_part numbers none ∙ ap parts_of are) is
 
 pub ruleset tried = (tried_bytes, tried_codes, tried_text, tried_long, tried_other, all_codes, parts_joined)
 
@@ -304,29 +307,33 @@ pub ruleset results = (found_result)
 
 -- ---- the record
 
--- the record of a line that is set, from the texts that were kept
-pub recorded : (version : Version) (source place : ℕ) (result : Result Setting TextRefusal) (texts before after : List ℕ) (kept : Kept) → IsKeptResult version result texts (Ok kept)
-    → after ≡ before ++ text_record source place (set kept.sums.width kept.sums.steps (take kept.length texts)) version
-    → after ≡ before ++ text_record source place (result_text version result) version
-recorded version source place result texts before after kept is appended =
+-- the record of a line that is set, from the text that was kept
+pub recorded : (format : RecordFormat) (font : FontValue) (source place : ℕ) (result : Result Setting TextRefusal) (texts before after : List ℕ) (kept : Kept)
+    → IsKeptResult format font result texts (Ok kept) → after ≡ before ++ set_record format source place kept.sums (take kept.length texts)
+    → after ≡ before ++ result_record format font source place result
+recorded (Items version) font source place result texts before after kept is appended =
     appended ∙ ap (λ r. before ++ text_record source place r version) (text ∙ ap (result_text version) (sym is.1))
   where
     text : set kept.sums.width kept.sums.steps (take kept.length texts) ≡ result_text version (Ok is.0)
     text = rw is.2.sums.width (rw is.2.sums.steps (rw is.2.text refl))
+recorded (Box unit) font source place result texts before after kept is appended =
+    appended ∙ ap (λ text. before ++ box_record source place text) is.2.text ∙ ap (λ r. before ++ result_record (Box unit) font source place r) (sym is.1)
 
-pub set_not_refused : (version : Version) (result : Result Setting TextRefusal) (texts : List ℕ) (kept : Kept) → IsKeptResult version result texts (Ok kept)
-    → false ≡ is_result_refused result
-set_not_refused version result texts kept is = ap is_result_refused (sym is.1)
+pub set_not_refused : (format : RecordFormat) (font : FontValue) (result : Result Setting TextRefusal) (texts : List ℕ) (kept : Kept)
+    → IsKeptResult format font result texts (Ok kept) → false ≡ is_result_refused result
+set_not_refused format font result texts kept is = ap is_result_refused (sym is.1)
 
-pub refused_recorded : (version : Version) (result : Result Setting TextRefusal) (refusal : TextRefusal) → result ≡ Err refusal → refused refusal ≡ result_text version result
-refused_recorded version result refusal is = ap (result_text version) (sym is)
+pub refused_recorded : (format : RecordFormat) (font : FontValue) (source place : ℕ) (result : Result Setting TextRefusal) (refusal : TextRefusal) → result ≡ Err refusal
+    → text_record source place (refused refusal) (version_of format) ≡ result_record format font source place result
+refused_recorded (Items version) font source place result refusal is = ap (result_record (Items version) font source place) (sym is)
+refused_recorded (Box unit) font source place result refusal is = ap (result_record (Box unit) font source place) (sym is)
 
 pub ruleset records = (recorded, set_not_refused, refused_recorded)
 
 -- ---- laws
 
 -- Law: a line of bytes has the record of its outcome
-pub text_of_bytes : (terms : TermsValue) (first : Bool) (line : List ℕ) (version : Version) → line_text terms None first line version ≡ text_result version (outcome_of terms line)
+pub text_of_bytes : (terms : TermsValue) (first : Bool) (line : List ℕ) (version : Version) → result_text version (line_result terms None first line) ≡ text_result version (outcome_of terms line)
 unfolding line_result refusal_in outcome_of text_result
 text_of_bytes terms first line version = by (refusal_of terms line)
   where

@@ -11,10 +11,13 @@ use Rattle.lig_kern.specs.declared.symbol.Symbol.TheVariants.{Left}
 use Rattle.lig_kern.specs.Result.{Setting}
 use Rattle.set_line.specs.Onward.{setting}
 use Rattle.set_line.specs.declared.policy.Policy.{Policy}
-use Rattle.set_line.specs.Record.{text_in}
 use Rattle.set_line.specs.Terms.{TermsValue}
 use Rattle.set_line.specs.Width.{total_width}
 use Rattle.line_records.specs.Additions.{Addition, added_of, after, alone, byte_added, ending_of, set_from}
+use Rattle.line_records.specs.Boxes.{item_text, line_texts}
+use Rattle.line_records.specs.declared.record_format.RecordFormat.{RecordFormat}
+use Rattle.line_records.specs.declared.record_format.RecordFormat.TheVariants.{Items}
+use Rattle.set_line.specs.declared.version.Version.{Version}
 use Rattle.line_records.specs.Cells.{Fits, Style, symbol_of}
 use Rattle.line_records.specs.Written.{IsSmall, IsStep, IsWhole, IsWritten, joined}
 use Rattle.line_records.specs.Kept.{IsKept, IsThatOf, set_after}
@@ -59,9 +62,9 @@ joined_twice set added (Some more) =
 
 -- what a step adds to what is written
 added_text : (style : Style) (line rest old new : List ℕ) (next : ℕ) (before after : Written) (way : IsWritten style line rest old before) (step : IsStep style before next old new after)
-    → take after.length new ≡ flat_map (text_in style.version) (way.set.items ++ step.added.items)
+    → take after.length new ≡ flat_map (item_text style.format) (way.set.items ++ step.added.items)
 added_text style line rest old new next before after way step =
-    step.text ∙ ap (λ xs. xs ++ flat_map (text_in style.version) step.added.items) way.text ∙ sym (flat_map-append (text_in style.version) way.set.items step.added.items)
+    step.text ∙ ap (λ xs. xs ++ flat_map (item_text style.format) step.added.items) way.text ∙ sym (flat_map-append (item_text style.format) way.set.items step.added.items)
 
 added_width : (style : Style) (line rest old new : List ℕ) (next : ℕ) (before after : Written) (way : IsWritten style line rest old before) (step : IsStep style before next old new after)
     → after.width ≡ total_width (way.set.items ++ step.added.items)
@@ -117,7 +120,7 @@ step_through style before next old middle new after step kept = record {
   added = step.added;
   is = step.is;
   row = step.row;
-  text = step.text ∙ ap (λ xs. xs ++ flat_map (text_in style.version) step.added.items) kept;
+  text = step.text ∙ ap (λ xs. xs ++ flat_map (item_text style.format) step.added.items) kept;
   width = step.width;
   steps = step.steps;
   count = step.count;
@@ -149,19 +152,22 @@ step_back style before next size old middle new behind (Some after) long kept st
     rw (whole_slice size new behind long) (step_through style before next old middle new after step kept)
 
 -- a line that is written and within the limit
-pub set_as : (style : Style) (terms : TermsValue) (line room : List ℕ) (whole : Written) (kept : Kept) → IsWhole style line room whole → Fits style terms
+pub set_as : (style : Style) (version : Version) (terms : TermsValue) (line room : List ℕ) (whole : Written) (kept : Kept) → style.format ≡ Items version → IsWhole style line room whole → Fits style terms
     → whole.steps ≤ terms.limit → whole.length ≤ length room → IsThatOf whole kept
-    → IsKept style.version (set_after terms (setting 0 []) (only_part line)) room (Some kept)
-set_as style terms line room whole kept is fits within inside same = (
+    → IsKept style.format terms.font (set_after terms (setting 0 []) (only_part line)) room (Some kept)
+set_as style version terms line room whole kept items is fits within inside same = (
   is.set,
   set,
   record {
     sums = record { width = same.width ∙ is.width; steps = same.steps ∙ is.steps; items = same.items ∙ is.count };
     within = omega (arith, same.length);
-    text = ap (λ n. take n room) same.length ∙ is.text;
+    text = ap (λ n. take n room) same.length ∙ is.text ∙ texts style.format items;
   },
 )
   where
+    texts : (format : RecordFormat) → format ≡ Items version → flat_map (item_text format) is.set.items ≡ line_texts format terms.font is.set.items
+    texts format items = rw items refl
+
     set : set_after terms (setting 0 []) (only_part line) ≡ Some is.set
     set =
         line_set terms line is.set

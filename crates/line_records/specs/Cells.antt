@@ -5,23 +5,23 @@ use Rattle.tfm_tables.specs.Font.{FontValue}
 use Rattle.lig_kern.specs.declared.symbol.Symbol.{Symbol}
 use Rattle.lig_kern.specs.declared.symbol.Symbol.TheVariants.{Left, Char}
 use Rattle.set_line.specs.declared.policy.Policy.{Policy}
-use Rattle.set_line.specs.declared.version.Version.{Version}
 use Rattle.set_line.specs.Pieces.{is_cut}
-use Rattle.set_line.specs.Record.{text_in}
 use Rattle.set_line.specs.Terms.{TermsValue}
 use Rattle.set_line.specs.Width.{total_width}
 use Rattle.line_records.specs.Additions.{Addition, added_of, one_step}
+use Rattle.line_records.specs.Boxes.{item_text}
 use Rattle.line_records.specs.declared.pair.Pair.{Pair}
+use Rattle.line_records.specs.declared.record_format.RecordFormat.{RecordFormat}
 
--- what a table depends on: the font, the missing-character policy, and the format of the texts
+-- what a table depends on: the font, the missing-character policy, and the format of the records
 pub record Style : Type 0 where
   pub font : FontValue
   pub policy : Policy
-  pub version : Version
+  pub format : RecordFormat
 
 -- what it depends on in these settings
-abbrev pub style_of : TermsValue → Version → Style
-style_of terms version = record { font = terms.font; policy = terms.policy; version = version }
+abbrev pub style_of : TermsValue → RecordFormat → Style
+style_of terms format = record { font = terms.font; policy = terms.policy; format = format }
 
 -- a table is for lines with these settings
 abbrev pub Fits : Style → TermsValue → Type 0
@@ -33,8 +33,8 @@ abbrev pub symbol_of : FontValue → ℕ → Symbol
 symbol_of font row = if is_cut font row then Left else Char row
 
 -- a pair has the text, the width, the steps and the number of items of an addition
-pub record IsTextOf (version : Version) (added : Addition) (pair : Pair) : Type 0 where
-  pub text : take pair.length pair.text ≡ flat_map (text_in version) added.items
+pub record IsTextOf (format : RecordFormat) (added : Addition) (pair : Pair) : Type 0 where
+  pub text : take pair.length pair.text ≡ flat_map (item_text format) added.items
   pub width : pair.width ≡ total_width added.items
   pub steps : pair.steps ≡ added.steps
   pub count : pair.count ≡ length added.items
@@ -52,7 +52,7 @@ pub record AreSame (one other : Pair) : Type 0 where
 pub record IsPair (style : Style) (current : Symbol) (next : ℕ) (pair : Pair) : Type 0 where
   pub added : Addition
   pub is : added_of style.font style.policy current next ≡ Some added
-  pub text : IsTextOf style.version added pair
+  pub text : IsTextOf style.format added pair
   pub row : next < 256 → symbol_of style.font next ≡ added.current
 
 -- a cell of the table is right: if it is an index, the pair there is right, and otherwise it is at least

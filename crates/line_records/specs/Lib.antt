@@ -1,4 +1,5 @@
 pub mod Additions
+pub mod Boxes
 pub mod Cells
 pub mod Kept
 pub mod Results

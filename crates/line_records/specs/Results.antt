@@ -15,6 +15,7 @@ use Rattle.set_line.specs.declared.records.text_refusal.TextRefusal.TheVariants.
 use Rattle.set_line.specs.declared.outcome.Outcome.{Outcome}
 use Rattle.set_line.specs.declared.outcome.Outcome.TheVariants.{Set, Refused}
 use Rattle.set_line.specs.declared.version.Version.{Version}
+use Rattle.set_line.specs.declared.version.Version.TheVariants.{One}
 use Rattle.set_line.specs.Answer.{refusal_of, setting_of_portions}
 use Rattle.set_line.specs.Pieces.{Portion, is_neither, portions_in, skipped}
 use Rattle.set_line.specs.Record.{TextResult, text_in, text_record}
@@ -25,6 +26,9 @@ use Rattle.encodings.specs.declared.encoding.Encoding.{Encoding}
 use Rattle.encodings.specs.declared.places.Place.{Place}
 use Rattle.encodings.specs.Lines.{Element, elements_at, elements_of, encoded, fault_in, first_uncoded, places_of}
 use Rattle.encodings.specs.Parts.{PartValue, parts_of, uncoded_after}
+use Rattle.line_records.specs.Boxes.{box_of, box_record, box_text}
+use Rattle.line_records.specs.declared.record_format.RecordFormat.{RecordFormat}
+use Rattle.line_records.specs.declared.record_format.RecordFormat.TheVariants.{Items, Box}
 use Rattle.line_records.specs.declared.result.Sums.{Sums}
 use Rattle.line_records.specs.declared.result.LineResult.{LineResult}
 use Rattle.line_records.specs.declared.result.LineResult.TheVariants.{Set as SetResult, Refused as RefusedResult}
@@ -117,16 +121,19 @@ IsResult result (RefusedResult refusal) = result ≡ Err refusal
 
 -- ---- its record
 
--- what a record in this format says of a result
+-- what a record in this format of items says of a result
 abbrev pub result_text : Version → Result Setting TextRefusal → TextResult
 result_text version (Ok setting) = set (total_width setting.items) setting.steps (flat_map (text_in version) setting.items)
 result_text version (Err refusal) = refused refusal
 
--- what the record of a line in this format says
-abbrev pub line_text : TermsValue → Option Encoding → Bool → List ℕ → Version → TextResult
-line_text terms encoding first line version = result_text version (line_result terms encoding first line)
+-- the record of a result, with the number of the source and the line number: with the items of a line that is set,
+-- or with their box
+abbrev pub result_record : RecordFormat → FontValue → ℕ → ℕ → Result Setting TextRefusal → List ℕ
+result_record (Items version) font source place result = text_record source place (result_text version result) version
+result_record (Box unit) font source place (Ok setting) = box_record source place (box_text unit (box_of font setting.items))
+result_record (Box unit) font source place (Err refusal) = text_record source place (refused refusal) One
 
--- the record of a line, with the number of the source and the line number
-abbrev pub line_record : TermsValue → Option Encoding → Bool → List ℕ → ℕ → ℕ → Version → List ℕ
-line_record terms encoding first line source place version =
-    text_record source place (line_text terms encoding first line version) version
+-- the record of a line
+abbrev pub line_record : TermsValue → Option Encoding → Bool → List ℕ → ℕ → ℕ → RecordFormat → List ℕ
+line_record terms encoding first line source place format =
+    result_record format terms.font source place (line_result terms encoding first line)

@@ -4,9 +4,9 @@ use Rattle.std.specs.Option.{option_map}
 use Rattle.lig_kern.specs.declared.symbol.Symbol.TheVariants.{Left}
 use Rattle.lig_kern.specs.Result.{Setting}
 use Rattle.set_line.specs.Onward.{setting}
-use Rattle.set_line.specs.Record.{text_in}
 use Rattle.set_line.specs.Width.{total_width}
 use Rattle.line_records.specs.Additions.{Addition, added_of, set_from}
+use Rattle.line_records.specs.Boxes.{item_text}
 use Rattle.line_records.specs.Cells.{Style, symbol_of}
 use Rattle.line_records.specs.declared.written.Written.{Written}
 
@@ -15,7 +15,7 @@ pub record IsStep (style : Style) (before : Written) (next : ℕ) (old new : Lis
   pub added : Addition
   pub is : added_of style.font style.policy (symbol_of style.font before.row) next ≡ Some added
   pub row : next < 256 → symbol_of style.font after.row ≡ added.current
-  pub text : take after.length new ≡ take before.length old ++ flat_map (text_in style.version) added.items
+  pub text : take after.length new ≡ take before.length old ++ flat_map (item_text style.format) added.items
   pub width : after.width ≡ before.width +ℤ total_width added.items
   pub steps : after.steps ≡ before.steps + added.steps
   pub count : after.count ≡ before.count + length added.items
@@ -28,7 +28,7 @@ joined set more = setting (set.steps + more.steps) (set.items ++ more.items)
 pub record IsWritten (style : Style) (line rest room : List ℕ) (so_far : Written) : Type 0 where
   pub set : Setting
   pub onward : set_from style.font style.policy Left line ≡ option_map (joined set) (set_from style.font style.policy (symbol_of style.font so_far.row) rest)
-  pub text : take so_far.length room ≡ flat_map (text_in style.version) set.items
+  pub text : take so_far.length room ≡ flat_map (item_text style.format) set.items
   pub width : so_far.width ≡ total_width set.items
   pub steps : so_far.steps ≡ set.steps
   pub count : so_far.count ≡ length set.items
@@ -46,7 +46,7 @@ pub record IsSmall (bytes : ℕ) (so_far : Written) : Type 0 where
 pub record IsWhole (style : Style) (line room : List ℕ) (whole : Written) : Type 0 where
   pub set : Setting
   pub is : set_from style.font style.policy Left line ≡ Some set
-  pub text : take whole.length room ≡ flat_map (text_in style.version) set.items
+  pub text : take whole.length room ≡ flat_map (item_text style.format) set.items
   pub width : whole.width ≡ total_width set.items
   pub steps : whole.steps ≡ set.steps
   pub count : whole.count ≡ length set.items

@@ -2,8 +2,9 @@
 ghost use Rattle.std.specs.Prelude.{◌≡◌, ◌≤◌, ◌<◌, [], IfSome, true, length, slice_index_or, vec_len};
 ghost use Rattle.tfm_words.specs.Appending.{StaysInFront};
 ghost use Rattle.line_records.specs.Additions.{one_step};
-ghost use Rattle.line_records.specs.Cells.{AreSame, IsCell, symbol_of};
+ghost use Rattle.line_records.specs.Cells.{AreSame, IsCell, style_of, symbol_of};
 ghost use Rattle.line_records.specs.declared.pair.Pair.{Pair as PairValue};
+ghost use Rattle.line_records.specs.declared.record_format.RecordFormat.TheVariants.{Items};
 
 use crate::adding::{Added, END, added_at, symbol_in};
 use crate::making::make_pair;
@@ -114,7 +115,7 @@ pub(crate) fn make_cell(
     requires few { vec_len pairs.old ≤ 65024 }
     ensures front { StaysInFront pairs.old.items pairs.new.items }
     ensures few { vec_len pairs.new ≤ 65024 }
-    ensures cell { IsCell (record { font = terms.now.font; policy = terms.now.policy; version = version })
+    ensures cell { IsCell (style_of terms.now (Items version))
         pairs.new.items row next result }
     ensures range { result < 65536 }
 {

@@ -3,6 +3,7 @@
 #![tactic(auto)]
 
 pub use line_writer::LineWriter;
+pub use record_format::RecordFormat;
 pub use record_of::{RecordOf, SourceLine};
 pub use result::{LineResult, Sums};
 
@@ -11,7 +12,9 @@ mod cells;
 mod keeping;
 mod line_writer;
 mod making;
+mod measuring;
 mod pair;
+mod record_format;
 mod record_of;
 mod refusing;
 mod result;

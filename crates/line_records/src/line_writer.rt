@@ -1,16 +1,17 @@
 ghost use Rattle.std.specs.Prelude.{◌≡◌, ◌++◌, None, IfOk, IfSome, OnErr, OnOk};
 ghost use Rattle.line_records.specs.Cells.{Fits, style_of};
-ghost use Rattle.line_records.specs.Kept.{IsKeptResult, IsTried};
+ghost use Rattle.line_records.specs.Kept.{IsKeptResult, IsTried, set_record};
 ghost use Rattle.line_records.specs.Results.{IsResult, line_record, line_result, refusal_in};
 
 use crate::keeping::{Kept, Lists, set_codes, set_parts};
+use crate::measuring::append_box;
 use crate::refusing::find_refusal;
 use crate::table::PairTable;
-use crate::{LineResult, RecordOf, SourceLine};
+use crate::{LineResult, RecordFormat, RecordOf, SourceLine, Sums};
 use encodings::{EncodeFault, EncodedLine, encode_line};
 use set_line::{
     LineRefusal, MOST_BYTES, OutOfMemory, Policy, RecordNumber, SetText, Terms, TextRefusal,
-    Version, append_refusal, append_set,
+    append_refusal, append_set,
 };
 use std::alloc::Global;
 use std::marker::Model;
@@ -31,14 +32,14 @@ struct Rooms {
 #[tactic(auto, using(crate::proofs::ResultLemmas::tried))]
 fn try_keep(
     rooms: &mut Rooms,
-    version: Version,
+    format: RecordFormat,
     of: &RecordOf<'_>,
     line: SourceLine<'_>,
 ) -> Result<Option<Kept>, OutOfMemory>
-    requires { IfSome rooms.old.table (λ table. table ≡ style_of of.now.terms.now version) }
+    requires { IfSome rooms.old.table (λ table. table ≡ style_of of.now.terms.now format) }
     ensures table { rooms.new.table ≡ rooms.old.table }
     ensures kept { IfOk result (IsTried of.now.terms.now of.now.encoding line.entry.first line.entry.bytes.now
-        version rooms.new.lists.texts.items) }
+        format rooms.new.lists.texts.items) }
 {
     if line.bytes.len() > MOST_BYTES {
         return Ok(None);
@@ -48,7 +49,7 @@ fn try_keep(
         let set = set_codes(
             &mut rooms.table,
             terms,
-            version,
+            format,
             line.bytes,
             &mut rooms.lists,
         )?;
@@ -60,29 +61,29 @@ fn try_keep(
         Err(EncodeFault::OutOfMemory) => return Err(OutOfMemory),
     }
     if rooms.codes.has_gaps() {
-        return Ok(set_parts(terms, version, rooms.codes.parts(), &mut rooms.lists)?);
+        return Ok(set_parts(terms, format, rooms.codes.parts(), &mut rooms.lists)?);
     }
     let codes = rooms.codes.codes();
-    Ok(set_codes(&mut rooms.table, terms, version, codes, &mut rooms.lists)?)
+    Ok(set_codes(&mut rooms.table, terms, format, codes, &mut rooms.lists)?)
 }
 
 /// Sets a line, or returns its refusal. The texts of its items are at the front of the list of texts.
 #[tactic(auto, using(crate::proofs::ResultLemmas::results))]
 fn keep(
     rooms: &mut Rooms,
-    version: Version,
+    format: RecordFormat,
     of: &RecordOf<'_>,
     line: SourceLine<'_>,
 ) -> Result<Result<Kept, TextRefusal>, OutOfMemory>
-    requires { IfSome rooms.old.table (λ table. table ≡ style_of of.now.terms.now version) }
+    requires { IfSome rooms.old.table (λ table. table ≡ style_of of.now.terms.now format) }
     ensures table { rooms.new.table ≡ rooms.old.table }
-    ensures kept { IfOk result (IsKeptResult version
+    ensures kept { IfOk result (IsKeptResult format of.now.terms.now.font
         (line_result of.now.terms.now of.now.encoding line.entry.first line.entry.bytes.now)
         rooms.new.lists.texts.items) }
     ensures memory { OnErr result
         (refusal_in of.now.terms.now of.now.encoding line.entry.first line.entry.bytes.now ≡ None) }
 {
-    let set = try_keep(rooms, version, of, line);
+    let set = try_keep(rooms, format, of, line);
     if let Ok(Some(kept)) = set {
         return Ok(Ok(kept));
     }
@@ -93,8 +94,34 @@ fn keep(
     Ok(Err(TextRefusal::Line(LineRefusal::Steps(of.terms.limit().get()))))
 }
 
-/// Sets lines and writes their records, in one format. A prepared writer has a table of texts, with which it sets
-/// each line that can be set with it. Any other line is set in the general way: [`set_stretch`] makes lists of
+/// Appends the record of a line that is set, with these sums and the text of its box or the texts of its items. If
+/// an allocation fails, the contents of `out` are as before.
+fn append_kept(
+    out: &mut Vec<u8>,
+    number: RecordNumber,
+    format: RecordFormat,
+    sums: Sums,
+    texts: &[u8],
+) -> Result<(), OutOfMemory>
+    ensures appended { OnOk result (out.new.items ≡ out.old.items
+        ++ set_record format number.source number.line sums texts.now) }
+    ensures unchanged { OnErr result (out.new.items ≡ out.old.items) }
+{
+    match format {
+        RecordFormat::Items(version) => {
+            let set = SetText {
+                width: sums.width,
+                steps: sums.steps,
+                texts,
+            };
+            append_set(out, number, set, version)
+        }
+        RecordFormat::Box(_) => append_box(out, number, texts),
+    }
+}
+
+/// Sets lines and writes their records, in one format. A prepared writer of records with items has a table of texts,
+/// with which it sets each line that can be set with it. Any other line is set in the general way: [`set_stretch`] makes lists of
 /// items, and their texts are written one after the other. The results are the same in both ways. Memory that is
 /// used for each line is kept for the next one, so that most lines need no allocation. In contracts, the value of
 /// a writer is its font, its missing-character policy and its record format.
@@ -104,7 +131,7 @@ fn keep(
 pub struct LineWriter {
     rooms: Rooms,
     policy: Policy,
-    version: Version,
+    format: RecordFormat,
     /// For the proof: the font.
     font: Snapshot<Font>,
 }
@@ -115,17 +142,17 @@ impl Model for LineWriter {
 
     ghost Value = { Style };
 
-    ghost view = { λ w. record { font = w.font.value; policy = w.policy; version = w.version } };
+    ghost view = { λ w. record { font = w.font.value; policy = w.policy; format = w.format } };
 
     ghost invariant = { λ w. IfSome w.rooms.table (λ table.
-        table ≡ record { font = w.font.value; policy = w.policy; version = w.version }) };
+        table ≡ record { font = w.font.value; policy = w.policy; format = w.format }) };
 }
 
 impl LineWriter {
     /// Returns a writer for lines with this font and policy, and for records in this format, which isn't
     /// prepared. This allocates no memory.
-    pub fn new(alloc: Global, terms: &Terms, version: Version) -> Self
-        ensures { result ≡ style_of terms.now version }
+    pub fn new(alloc: Global, terms: &Terms, format: RecordFormat) -> Self
+        ensures { result ≡ style_of terms.now format }
     {
         let rooms = Rooms {
             table: None,
@@ -138,21 +165,21 @@ impl LineWriter {
         LineWriter {
             rooms,
             policy: terms.policy(),
-            version,
+            format,
             font: Snapshot::of(terms.font()),
         }
     }
 
-    /// Prepares the writer for many lines: allocates a table of texts, 129 KB, unless it has one. The cells of the
-    /// table are made when they are first needed. If the allocation fails, the lines are set in the general way,
+    /// Prepares the writer for many lines: allocates a table of texts, 129 KB, unless it has one, or its records have
+    /// no items. The cells of the table are made when they are first needed. If the allocation fails, the lines are set in the general way,
     /// until a later call of this method succeeds.
     pub fn prepare(&mut self, terms: &Terms)
         requires { Fits self.old terms.now }
         ensures { self.new ≡ self.old }
     {
-        if self.rooms.table.is_none() {
+        if let (None, RecordFormat::Items(version)) = (&self.rooms.table, self.format) {
             let alloc = *self.rooms.lists.items.allocator();
-            self.rooms.table = PairTable::new(alloc, terms, self.version).ok();
+            self.rooms.table = PairTable::new(alloc, terms, version).ok();
         }
     }
 
@@ -170,7 +197,7 @@ impl LineWriter {
         ensures memory { OnErr result
             (refusal_in of.now.terms.now of.now.encoding line.entry.first line.entry.bytes.now ≡ None) }
     {
-        match keep(&mut self.rooms, self.version, of, line)? {
+        match keep(&mut self.rooms, self.format, of, line)? {
             Ok(kept) => Ok(LineResult::Set(kept.sums)),
             Err(refusal) => Ok(LineResult::Refused(refusal)),
         }
@@ -189,7 +216,7 @@ impl LineWriter {
         ensures kept { self.new ≡ self.old }
         ensures appended { OnOk result (out.new.items ≡ out.old.items
             ++ line_record of.now.terms.now of.now.encoding line.entry.first line.entry.bytes.now
-            of.now.source line.entry.number self.old.version) }
+            of.now.source line.entry.number self.old.format) }
         ensures result { IfOk result (IsResult
             (line_result of.now.terms.now of.now.encoding line.entry.first line.entry.bytes.now)) }
         ensures unchanged { OnErr result (out.new.items ≡ out.old.items) }
@@ -198,19 +225,15 @@ impl LineWriter {
             source: of.source,
             line: line.number,
         };
-        let kept = match keep(&mut self.rooms, self.version, of, line)? {
+        let kept = match keep(&mut self.rooms, self.format, of, line)? {
             Ok(kept) => kept,
             Err(refusal) => {
-                append_refusal(out, number, refusal, self.version)?;
+                append_refusal(out, number, refusal, self.format.version())?;
                 return Ok(LineResult::Refused(refusal));
             }
         };
-        let set = SetText {
-            width: kept.sums.width,
-            steps: kept.sums.steps,
-            texts: &self.rooms.lists.texts[..kept.length],
-        };
-        append_set(out, number, set, self.version)?;
+        let texts = &self.rooms.lists.texts[..kept.length];
+        append_kept(out, number, self.format, kept.sums, texts)?;
         Ok(LineResult::Set(kept.sums))
     }
 }

@@ -4,6 +4,7 @@ ghost use Rattle.std.specs.Option.{option_to_list};
 ghost use Rattle.set_line.specs.Record.{text_in};
 ghost use Rattle.set_line.specs.Width.{total_width};
 ghost use Rattle.line_records.specs.Cells.{IsTextOf};
+ghost use Rattle.line_records.specs.declared.record_format.RecordFormat.TheVariants.{Items};
 
 use crate::adding::{Added, Passed};
 use crate::pair::{BYTES, Pair};
@@ -108,7 +109,7 @@ fn count_of(added: &Added) -> usize
 /// Returns the pair of what a byte adds, or `None` if its text is too long.
 #[tactic(auto, using(crate::proofs::AddingLemmas::texts))]
 pub(crate) fn make_pair(added: &Added, version: Version) -> Option<Pair>
-    ensures { IfSome result (IsTextOf version added.now) }
+    ensures { IfSome result (IsTextOf (Items version) added.now) }
 {
     let mut room = [0; ROOM];
     let start = write_added(&mut room, added, version);

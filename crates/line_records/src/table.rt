@@ -1,6 +1,7 @@
 //! The table of texts of a font. A cell is made when it is first needed.
 ghost use Rattle.std.specs.Prelude.{◌≡◌, ◌<◌, IfOk};
-ghost use Rattle.line_records.specs.Cells.{Fits};
+ghost use Rattle.line_records.specs.Cells.{Fits, style_of};
+ghost use Rattle.line_records.specs.declared.record_format.RecordFormat.TheVariants.{Items};
 
 use crate::cells::{UNKNOWN, make_cell};
 use crate::pair::Pair;
@@ -28,21 +29,21 @@ pub(crate) struct PairTable {
 
 impl Model for PairTable {
     ghost use Rattle.line_records.specs.Cells.{AreCells, Style};
+    ghost use Rattle.line_records.specs.declared.record_format.RecordFormat.TheVariants.{Items};
 
     ghost Value = { Style };
 
-    ghost view = { λ t. record { font = t.font.value; policy = t.policy; version = t.version } };
+    ghost view = { λ t. record { font = t.font.value; policy = t.policy; format = Items t.version } };
 
     ghost invariant = { λ t.
-        AreCells (record { font = t.font.value; policy = t.policy; version = t.version }) t.pairs.items t.cells.items };
+        AreCells (record { font = t.font.value; policy = t.policy; format = Items t.version }) t.pairs.items t.cells.items };
 }
 
 impl PairTable {
     /// Returns the table of a font, in which no cell is made yet. Fails if an allocation fails.
     #[tactic(auto, using(crate::proofs::CellLemmas::tables))]
     pub fn new(alloc: Global, terms: &Terms, version: Version) -> Result<Self, AllocError>
-        ensures { IfOk result (λ table. table
-            ≡ record { font = terms.now.font; policy = terms.now.policy; version = version }) }
+        ensures { IfOk result (λ table. table ≡ style_of terms.now (Items version)) }
     {
         let mut cells = Vec::new(alloc);
         cells.resize(CELLS, UNKNOWN as u16)?;

@@ -9,8 +9,9 @@ use Rattle.set_line.specs.Terms.{TermsValue}
 use Rattle.set_line.specs.Answer.{answer_of}
 use Rattle.encodings.specs.declared.encoding.Encoding.{Encoding}
 use Rattle.set_line.specs.Record.{record_text, text_record}
-use Rattle.set_line.specs.declared.version.Version.{Version}
-use Rattle.line_records.specs.Results.{is_refused, result_text}
+use Rattle.line_records.specs.declared.record_format.RecordFormat.{RecordFormat}
+use Rattle.line_records.specs.declared.record_format.RecordFormat.TheVariants.{Items, Box}
+use Rattle.line_records.specs.Results.{is_refused, result_record}
 use Rattle.line_records.proofs.ResultLemmas.{refused_bytes, text_of_bytes}
 use Rattle.line_lane.specs.Lane.{answers_of}
 use Rattle.line_chunks.specs.Chunks.{ChunkLine, cut}
@@ -52,14 +53,14 @@ length-cuts : (lines : List (List ℕ)) → length (map cut lines) ≡ length li
 length-cuts lines = length-map lines cut
 
 -- the record of a line in a block
-record_of_cut : (terms : TermsValue) (encoding : Option Encoding) (version : Version) (source number : ℕ) (line : List ℕ)
-    → text_record source number (result_text version (result_in terms encoding number (cut line))) version ≡ record_with encoding version source number (answer_of terms line)
+record_of_cut : (terms : TermsValue) (encoding : Option Encoding) (format : RecordFormat) (source number : ℕ) (line : List ℕ)
+    → result_record format terms.font source number (result_in terms encoding number (cut line)) ≡ record_with encoding format source number (answer_of terms line)
 unfolding record_text
-record_of_cut terms None version source number line =
-    ap (λ r. text_record source number (result_text version r) version) (result_in-cut terms None number line)
+record_of_cut terms None (Items version) source number line =
+    ap (result_record (Items version) terms.font source number) (result_in-cut terms None number line)
     ∙ ap (λ r. text_record source number r version) (text_of_bytes terms (number == 1) line version)
-record_of_cut terms (Some encoding) version source number line =
-    ap (λ r. text_record source number (result_text version r) version) (result_in-cut terms (Some encoding) number line)
+record_of_cut terms None (Box unit) source number line = ap (result_record (Box unit) terms.font source number) (result_in-cut terms None number line)
+record_of_cut terms (Some encoding) format source number line = ap (result_record format terms.font source number) (result_in-cut terms (Some encoding) number line)
 
 -- and whether it is refused
 refused_of_cut : (terms : TermsValue) (encoding : Option Encoding) (number : ℕ) (line : List ℕ)
@@ -73,7 +74,7 @@ records_of_cuts : (maker : MakerValue) (first : ℕ) (lines : List (List ℕ))
 records_of_cuts maker first [] = refl
 records_of_cuts maker first (line ∷ lines) =
     ap (λ record'. record' ∷ map (record_in maker) (numbered_cuts (first + 1) lines))
-    (record_of_cut maker.terms maker.style.encoding maker.style.version maker.source first line)
+    (record_of_cut maker.terms maker.style.encoding maker.style.format maker.source first line)
     ∙ ap (λ more. record_of maker.style maker.source first (answer_of maker.terms line) ∷ more) (records_of_cuts maker (first + 1) lines)
 
 -- and the refused lines among them

@@ -1,4 +1,5 @@
 -- One event more: what came of a lane, its records and its lines.
+use Rattle.line_records.specs.Boxes.{version_of}
 use Rattle.std.proofs.Common.{◌≡◌, inl, inr, ℕ, ◌+◌, ◌<◌, ◌^◌, Bool, true, false, if◌then◌else◌, ◌==◌, List, [], ◌∷◌, ◌++◌, length, Some, arith, refl, ap, sym, ◌∙◌, append-nil, append_assoc, sum_by}
 use Rattle.std.specs.Prelude.{flat_map}
 use Rattle.std.specs.List.{concat}
@@ -97,12 +98,12 @@ lines_of_lane source version before count (text ∷ texts) end is =
 -- the lines of a lane are those of its results
 pub lane_lined : (source : ℕ) (style : RecordStyle) (events : List (LaneEvent ChunkTextValue)) (answers : List AnswerValue) (end : LaneEnd)
     → events ≡ lane_events (answers_among events) (Some end) → AreRecordsOf source style answers (answers_among events) → 1 + length answers < 2 ^ 64
-    → events_lines source style.version 0 events ≡ lane_lines source style answers end
+    → events_lines source (version_of style.format) 0 events ≡ lane_lines source style answers end
 lane_lined source style events answers end came are fits =
-    ap (events_lines source style.version 0) came
-    ∙ lines_of_lane source style.version 0 (records_of (answers_among events)) (answers_among events) end (omega arith)
-    ∙ ap (λ n. flat_map chunk_lines (answers_among events) ++ end_text source style.version (why_of end) n ∷ []) are.0
-    ∙ ap (λ lines. lines ++ end_text source style.version (why_of end) (length answers) ∷ []) (are.1 fits).1
+    ap (events_lines source (version_of style.format) 0) came
+    ∙ lines_of_lane source (version_of style.format) 0 (records_of (answers_among events)) (answers_among events) end (omega arith)
+    ∙ ap (λ n. flat_map chunk_lines (answers_among events) ++ end_text source (version_of style.format) (why_of end) n ∷ []) are.0
+    ∙ ap (λ lines. lines ++ end_text source (version_of style.format) (why_of end) (length answers) ∷ []) (are.1 fits).1
 
 -- the output of one event more
 pub text_more : (source : ℕ) (version : Version) (events : List (LaneEvent ChunkTextValue)) (event : LaneEvent ChunkTextValue)
@@ -123,4 +124,4 @@ records_joined source place style (answer ∷ answers) last =
 
 pub lane_joined : (source : ℕ) (style : RecordStyle) (answers : List AnswerValue) (end : LaneEnd)
     → concat (lane_lines source style answers end) ≡ lane_text source style answers (why_of end)
-lane_joined source style answers end = records_joined source 1 style answers (end_text source style.version (why_of end) (length answers))
+lane_joined source style answers end = records_joined source 1 style answers (end_text source (version_of style.format) (why_of end) (length answers))

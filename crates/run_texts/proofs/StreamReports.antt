@@ -1,4 +1,5 @@
 -- The reports of a run whose lines were written as they came.
+use Rattle.line_records.specs.Boxes.{version_of}
 use Rattle.std.proofs.Common.{◌≡◌, ◌<◌, ℕ, zero, suc, ◌+◌, ◌^◌, ◌≤◌, Bool, true, false, cond, ◌==◌, List, [], ◌∷◌, length, sum_by, All, Option, Some, inl, inr, arith, ap, sym, subst, ◌∙◌}
 use Rattle.std.proofs.lemmas.List.Elements.{All-cons, All-head, All-nil, All-tail}
 use Rattle.std.proofs.lemmas.Bool.{eq-eqb}
@@ -41,7 +42,7 @@ counts_refused events number (c ∷ counts) are = (are.0.1, omega (arith, c.few,
 
 -- the lines of a source of which this came
 own_lines : (style : RecordStyle) (events : List (Event ChunkTextValue)) (lines : List SourceLine) (number : ℕ) (answers : List AnswerValue) (end : LaneEnd) (count : LaneCount)
-    → AreLinesOf style.version events lines → of_lane number events ≡ lane_events (answers_in number events) (Some end)
+    → AreLinesOf (version_of style.format) events lines → of_lane number events ≡ lane_events (answers_in number events) (Some end)
     → AreRecordsOf (number + 1) style answers (answers_in number events) → IsCountOf count (answers_in number events)
     → of_source (number + 1) lines ≡ lane_lines (number + 1) style answers end
 own_lines style events lines number answers end count are came recorded counted =
@@ -83,7 +84,7 @@ module _ {S : Type 0} where
   -- the lines of the reports
   have_lines : (to_come : S → Option (List (List ℕ))) (failed : S → Option SourceFault) (style : RecordStyle) (events : List (Event ChunkTextValue)) (lines : List SourceLine)
       (number next : ℕ) (sources : List (S × Arc TermsValue Global)) (lanes : List (ClosedLane S)) (counts : List LaneCount) → next ≡ number + 1
-      → (closed : AreClosedIn to_come failed style events number sources lanes) → All (λ lane. IsSome lane.end) lanes → AreLinesOf style.version events lines
+      → (closed : AreClosedIn to_come failed style events number sources lanes) → All (λ lane. IsSome lane.end) lanes → AreLinesOf (version_of style.format) events lines
       → length counts ≡ length sources → AreCounts events number counts
       → HaveLines next style (reports_of to_come failed style events number sources lanes closed) lines
   have_lines to_come failed style events lines number next [] [] counts at closed whole are long counted = tt
@@ -108,7 +109,7 @@ module _ {S : Type 0} where
       (long : length counts ≡ length sources) (are : AreCounts events 0 counts) where
     -- all was written
     pub all_streamed : (after : Option (List ℕ)) (summary : Summary) → All (λ lane. IsSome lane.end) lanes
-        → AreOut style.version events before w block → Appends w after block
+        → AreOut (version_of style.format) events before w block → Appends w after block
         → summary ≡ summary_of_lanes (sum_by (λ count. count.refused) counts) lanes
         → (reports : List (LaneReport S)) × AreReported to_come failed sources reports × IsStreamed style reports before after × (summary ≡ summary_of_run style.encoding reports)
     all_streamed after summary whole (lines, lined, (written, appends, all)) rest is =
@@ -119,7 +120,7 @@ module _ {S : Type 0} where
             lines,
             (
               have_lines to_come failed style events lines 0 1 sources lanes counts (omega arith) closed whole lined long are,
-              subst (λ n. AreOfSources n lines) (sym (as_many to_come failed style events 0 sources lanes closed)) (of_sources style.version events lines (length sources) lined none),
+              subst (λ n. AreOfSources n lines) (sym (as_many to_come failed style events 0 sources lanes closed)) (of_sources (version_of style.format) events lines (length sources) lined none),
             ),
             subst (Appends before after) all (appends_more before w after written block appends rest),
           ),

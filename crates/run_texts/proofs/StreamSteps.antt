@@ -1,4 +1,5 @@
 -- A stream, event by event.
+use Rattle.line_records.specs.Boxes.{version_of}
 use Rattle.std.proofs.Common.{◌≡◌, ℕ, ◌+◌, ◌<◌, List, [], ◌∷◌, ◌++◌, length, get_or, Option, arith, refl, ap, sym, subst, ◌∙◌, append_assoc, append-nil, length-set}
 use Rattle.std.proofs.Math.ListN.{set}
 use Rattle.std.proofs.lemmas.List.{set-get_or}
@@ -20,10 +21,10 @@ use Rattle.run_texts.proofs.StreamEvents.{count_answered, count_ended, counts_at
 abbrev pub StandsSo : StreamStart → ℕ → Version → List LaneCount → Option (List ℕ) → List ℕ → List (Event ChunkTextValue) → Type 0
 StandsSo start name version counts written block events =
     (name ≡ start.name)
-    × (version ≡ start.style.version)
+    × (version ≡ (version_of start.style.format))
     × (length counts ≡ start.lanes)
     × AreCounts events 0 counts
-    × AreOut start.style.version events start.before written block
+    × AreOut (version_of start.style.format) events start.before written block
 
 -- the lines of one event more
 out_more : (version : Version) (events : List (Event ChunkTextValue)) (before after : Option (List ℕ)) (block block' : List ℕ) (lane : ℕ) (event : LaneEvent ChunkTextValue) (texts : List (List ℕ))
@@ -49,7 +50,7 @@ goes_on start name name' version version' counts counts' w w' b b' events same_n
   same_version ∙ form,
   ap length same_counts ∙ lanes,
   subst (AreCounts events 0) (sym same_counts) are,
-  (lines, lined, moves_more start.before w w' (head_text start.style.version ++ merged_text lines) b b' out moves),
+  (lines, lined, moves_more start.before w w' (head_text (version_of start.style.format) ++ merged_text lines) b b' out moves),
 )
 
 -- the writer was flushed
@@ -59,10 +60,10 @@ flushed start name version counts w w' b events keeps stands =
     goes_on start name name version version counts counts w w' b b events refl refl refl ([], nothing_appended w w' keeps, refl) stands
 
 -- a stream begins
-pub begins : (name : ℕ) (style : RecordStyle) (counts : List LaneCount) (w : Option (List ℕ)) (block : List ℕ) → AreCounts [] 0 counts → block ≡ head_text style.version
-    → StandsSo (record { before = w; name = name; style = style; lanes = length counts }) name style.version counts w block []
-begins name style counts w block none is =
-    (refl, refl, refl, none, ([], (refl, λ lane. refl), ([], appends_nothing w, is ∙ sym (append-nil (head_text style.version)))))
+pub begins : (name : ℕ) (style : RecordStyle) (version : Version) (counts : List LaneCount) (w : Option (List ℕ)) (block : List ℕ) → version ≡ version_of style.format → AreCounts [] 0 counts
+    → block ≡ head_text version → StandsSo (record { before = w; name = name; style = style; lanes = length counts }) name version counts w block []
+begins name style version counts w block asked none is =
+    (refl, asked, refl, none, ([], (refl, λ lane. refl), ([], appends_nothing w, is ∙ ap head_text asked ∙ sym (append-nil (head_text (version_of style.format))))))
 
 -- the text of a block was taken
 pub taken : (start : StreamStart) (name : ℕ) (version : Version) (counts : List LaneCount) (w : Option (List ℕ)) (b b' : List ℕ) (events : List (Event ChunkTextValue))
@@ -78,7 +79,7 @@ taken start name version counts w b b' events lane block count new within at mor
       form,
       length-set counts lane new ∙ lanes,
       counts_set events 0 lane lane counts (Answered block) new (omega arith) within (count_answered count new lane events block was records refused) are,
-      out_more start.style.version events start.before w b b' lane (Answered block) (chunk_lines block) refl more out,
+      out_more (version_of start.style.format) events start.before w b b' lane (Answered block) (chunk_lines block) refl more out,
     )
 
 -- an end was taken
@@ -90,7 +91,7 @@ pub ended : (start : StreamStart) (name : ℕ) (version : Version) (counts : Lis
 ended start name version counts w b b' events lane end count within at more (named, form, lanes, are, out) =
     let was : IsCountOf count (answers_in lane events) =
     subst (λ n. IsCountOf n (answers_in lane events)) (sym at) (counts_at events 0 lane lane counts count (omega arith) within are) in
-    let line : end_text (lane + 1) version (why_of end) count.records ∷ [] ≡ event_lines (lane + 1) start.style.version (records_of (answers_in lane events)) (Ended end) =
+    let line : end_text (lane + 1) version (why_of end) count.records ∷ [] ≡ event_lines (lane + 1) (version_of start.style.format) (records_of (answers_in lane events)) (Ended end) =
     ap (λ n. end_text (lane + 1) version (why_of end) n ∷ []) was.0 ∙ ap (λ v. end_text (lane + 1) v (why_of end) (records_of (answers_in lane events)) ∷ []) form in
     let same : set counts lane count ≡ counts = ap (set counts lane) at ∙ set-get_or counts lane count in (
       named,
@@ -98,6 +99,6 @@ ended start name version counts w b b' events lane end count within at more (nam
       lanes,
       subst (AreCounts (events ++ (lane, Ended end) ∷ []) 0) same
           (counts_set events 0 lane lane counts (Ended end) count (omega arith) within (count_ended count lane events end was) are),
-      out_more start.style.version events start.before w b b' lane (Ended end) (end_text (lane + 1) version (why_of end) count.records ∷ []) line
+      out_more (version_of start.style.format) events start.before w b b' lane (Ended end) (end_text (lane + 1) version (why_of end) count.records ∷ []) line
           (more ∙ ap (λ t. b ++ t) (sym (append-nil (end_text (lane + 1) version (why_of end) count.records)))) out,
     )

@@ -4,6 +4,7 @@ use Rattle.std.specs.Prelude.{ℕ, ◌+◌, Bool, true, false, List, [], ◌∷�
 use Rattle.std.specs.List.{list_any}
 use Rattle.std.specs.Option.{option_map_or}
 use Rattle.encodings.specs.declared.encoding.Encoding.{Encoding}
+use Rattle.line_records.specs.Boxes.{version_of}
 use Rattle.line_chunks.specs.ChunkText.{RecordStyle}
 use Rattle.line_lane.specs.declared.fault.SourceFault.TheVariants.{Read, OutOfMemory, ReadBound}
 use Rattle.line_lane.specs.declared.ending.LaneEnd.{LaneEnd}
@@ -47,7 +48,7 @@ module _ {S : Type 0} where
   -- the output of a batch: the first line of the record format, if it has one, and the output of all lanes in
   -- order
   abbrev pub run_text : RecordStyle → List (LaneReport S) → List ℕ
-  run_text style lanes = head_text style.version ++ lanes_text 1 style lanes
+  run_text style lanes = head_text (version_of style.format) ++ lanes_text 1 style lanes
 
   -- the summary of a batch with these reports of its lanes, whose lines have this encoding
   abbrev pub summary_of_run : Option Encoding → List (LaneReport S) → Summary

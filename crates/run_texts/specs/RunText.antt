@@ -10,27 +10,31 @@ use Rattle.line_lane.specs.declared.fault.SourceFault.TheVariants.{Read, OutOfMe
 use Rattle.line_lane.specs.declared.ending.LaneEnd.{LaneEnd}
 use Rattle.line_lane.specs.declared.ending.LaneEnd.TheVariants.{Complete, SourceFailed, GaveUp}
 use Rattle.encodings.specs.declared.encoding.Encoding.{Encoding}
+use Rattle.line_records.specs.Boxes.{version_of}
+use Rattle.line_records.specs.declared.record_format.RecordFormat.{RecordFormat}
+use Rattle.line_records.specs.declared.record_format.RecordFormat.TheVariants.{Items, Box}
 use Rattle.line_records.specs.Results.{is_refusal, is_refused, line_record, line_result}
 use Rattle.line_chunks.specs.ChunkText.{RecordStyle}
 use Rattle.run_texts.specs.declared.options.OutputOptions.{OutputOptions}
 
 -- the encoding and the record format of an output with these options
 abbrev pub style_of : {G : Type 0} → OutputOptions G → RecordStyle
-style_of options = record { encoding = options.encoding; version = options.version }
+style_of options = record { encoding = options.encoding; format = options.format }
 
 -- the style of the output of lines of bytes in this record format
 abbrev pub bytes_style : Version → RecordStyle
-bytes_style version = record { encoding = None; version = version }
+bytes_style version = record { encoding = None; format = Items version }
 
--- the record of the line with this number: that of a line of bytes has the outcome of the answer, and a line in
--- UTF-8 is set with the settings of the answer
-abbrev pub record_with : Option Encoding → Version → ℕ → ℕ → AnswerValue → List ℕ
-record_with None version source place answer = record_text source place answer.outcome version
-record_with (Some encoding) version source place answer = line_record answer.terms (Some encoding) (place == 1) answer.line source place version
+-- the record of the line with this number: that of a line of bytes with its items has the outcome of the answer, and
+-- any other line is set with the settings of the answer
+abbrev pub record_with : Option Encoding → RecordFormat → ℕ → ℕ → AnswerValue → List ℕ
+record_with None (Items version) source place answer = record_text source place answer.outcome version
+record_with None (Box unit) source place answer = line_record answer.terms None (place == 1) answer.line source place (Box unit)
+record_with (Some encoding) format source place answer = line_record answer.terms (Some encoding) (place == 1) answer.line source place format
 
 -- the same for an output in this style
 abbrev pub record_of : RecordStyle → ℕ → ℕ → AnswerValue → List ℕ
-record_of style source place answer = record_with style.encoding style.version source place answer
+record_of style source place answer = record_with style.encoding style.format source place answer
 
 -- the records of lines; the first one has this line number
 abbrev pub records_from : ℕ → ℕ → RecordStyle → List AnswerValue → List ℕ
@@ -69,7 +73,7 @@ head_text Json = []
 
 -- the records and the end line of a source
 abbrev pub lane_text : ℕ → RecordStyle → List AnswerValue → List ℕ → List ℕ
-lane_text source style answers why = records_from source 1 style answers ++ end_text source style.version why (length answers)
+lane_text source style answers why = records_from source 1 style answers ++ end_text source (version_of style.format) why (length answers)
 
 -- ---- refused lines
 

@@ -4,6 +4,7 @@ use Rattle.std.specs.Prelude.{◌≡◌, ℕ, ◌+◌, List, [], ◌∷◌, ◌+
 use Rattle.std.specs.Io.KnownBytes.{Appends}
 use Rattle.set_line.specs.declared.version.Version.{Version}
 use Rattle.set_run.specs.Events.{Event, answers_in, of_lane}
+use Rattle.line_records.specs.Boxes.{version_of}
 use Rattle.line_chunks.specs.ChunkText.{ChunkTextValue, RecordStyle}
 use Rattle.run_texts.specs.RunText.{head_text}
 use Rattle.run_texts.specs.LaneText.{events_lines, records_of, refused_of}
@@ -51,7 +52,7 @@ module _ {W : Type 0} where
   abbrev pub IsStreamOf : (W → Option (List ℕ)) → StreamStart → Stream W → List (Event ChunkTextValue) → Type 0
   IsStreamOf contents start stream events =
       (stream.out.ghost_name ≡ start.name)
-      × (stream.version ≡ start.style.version)
+      × (stream.version ≡ version_of start.style.format)
       × (length stream.counts.items ≡ start.lanes)
       × AreCounts events 0 stream.counts.items
-      × AreOut start.style.version events start.before (contents stream.out.now) stream.buffer.items
+      × AreOut (version_of start.style.format) events start.before (contents stream.out.now) stream.buffer.items

@@ -4,6 +4,7 @@ use Rattle.std.specs.Prelude.{◌≡◌, ℕ, ◌+◌, ◌≤◌, ◌==◌, List
 use Rattle.std.specs.List.{concat}
 use Rattle.std.specs.Io.KnownBytes.{Appends}
 use Rattle.set_line.specs.Answer.{AnswerValue}
+use Rattle.line_records.specs.Boxes.{version_of}
 use Rattle.line_chunks.specs.ChunkText.{RecordStyle}
 use Rattle.line_lane.specs.declared.ending.LaneEnd.{LaneEnd}
 use Rattle.set_run.specs.declared.report.LaneReport.{LaneReport}
@@ -18,7 +19,7 @@ record_lines source place style (answer ∷ answers) =
 -- the output lines of a source: the record of each of its results, and then its end line
 abbrev pub lane_lines : ℕ → RecordStyle → List AnswerValue → LaneEnd → List (List ℕ)
 lane_lines source style answers end =
-    record_lines source 1 style answers ++ end_text source style.version (why_of end) (length answers) ∷ []
+    record_lines source 1 style answers ++ end_text source (version_of style.format) (why_of end) (length answers) ∷ []
 
 -- a line of the output, with the number of its source
 abbrev pub SourceLine : Type 0
@@ -56,4 +57,4 @@ module _ {S : Type 0} where
   -- merged
   abbrev pub IsStreamed : RecordStyle → List (LaneReport S) → Option (List ℕ) → Option (List ℕ) → Type 0
   IsStreamed style reports before after =
-      (lines : List SourceLine) × IsMerge style reports lines × Appends before after (head_text style.version ++ merged_text lines)
+      (lines : List SourceLine) × IsMerge style reports lines × Appends before after (head_text (version_of style.format) ++ merged_text lines)

@@ -25,7 +25,7 @@ pub(crate) fn chunk_sources<R: Read + Drop, G>(
         let (reader, terms) = pair;
         let number = sources.len() as u64 + 1;
         let source = ChunkReader::new(alloc, reader, options.crlf, options.most_lines());
-        let maker = RecordMaker::new(alloc, terms, number, options.version);
+        let maker = RecordMaker::new(alloc, terms, number, options.format);
         sources.push((source, maker.with_encoding(options.encoding)))?;
     }
     Ok(sources)

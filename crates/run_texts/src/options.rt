@@ -1,7 +1,7 @@
 use encodings::Encoding;
 use line_chunks::LineCounts;
+use line_records::RecordFormat;
 use run_plan::{Block, Plan};
-use set_line::Version;
 use set_run::ItemOptions;
 use std::cell::Cell;
 
@@ -15,7 +15,7 @@ pub struct OutputOptions<'a, G> {
     /// which is also that of the lanes of a source.
     pub plan: Plan,
     /// The record format.
-    pub version: Version,
+    pub format: RecordFormat,
     /// The encoding of the font, if the lines are in UTF-8: they are set with the codes of their characters, and
     /// offsets in records count bytes of the line before it is encoded. Without an encoding each byte of a line
     /// is a code of the font.

@@ -5,6 +5,7 @@ ghost use Rattle.set_run.specs.declared.report.LaneReport.{LaneReport as Lane};
 ghost use Rattle.set_run.specs.declared.run_fault.RunFault.{RunFault as Fault};
 ghost use Rattle.set_run.specs.declared.run_fault.RunFault.TheVariants.{TooManySources, OutOfMemory as NoMemory, Thread};
 ghost use Rattle.tfm_tables.specs.declared.fault.FontFault.{FontFault as Refusal};
+ghost use Rattle.line_records.specs.Boxes.{version_of};
 ghost use Rattle.run_texts.specs.ChunkLanes.{AreReadReports};
 ghost use Rattle.run_texts.specs.RunText.{style_of};
 ghost use Rattle.run_texts.specs.Setting.{IsWritten};
@@ -36,7 +37,7 @@ where
     W: Write,
     K: Kept,
     requires lanes { K.lanes ≡ vec_len readers }
-    requires version { K.version ≡ options.now.version }
+    requires version { K.version ≡ version_of options.now.format }
     ensures text { IfOk result (λ summary. (reports : List (Lane Told))
         × AreReadReports T.remaining options.now.crlf readers.items reports
         × IsWritten (style_of options.now) reports (W.contents out.old) (W.contents out.new) summary) }
@@ -45,7 +46,7 @@ where
     ensures run { (fault : Fault) → result ≡ Err (ToolFault.Run fault) → out.new ≡ out.old }
     ensures font { (fault : Refusal) → result ≡ Err (ToolFault.Font fault) → ⊥ }
 {
-    let Ok(texts) = RunTexts::<K>::new(alloc, readers.len(), options.version) else {
+    let Ok(texts) = RunTexts::<K>::new(alloc, readers.len(), options.format.version()) else {
         return Err(ToolFault::Run(RunFault::OutOfMemory));
     };
     let Ok(sources) = chunk_sources(alloc, readers, options) else {

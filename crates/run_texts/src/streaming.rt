@@ -41,11 +41,12 @@ pub(crate) trait Beginning {
 impl Beginning for Brand {
     ghost use Rattle.std.specs.Prelude.{None};
     ghost use Rattle.set_line.specs.declared.version.Version.TheVariants.{One};
+    ghost use Rattle.line_records.specs.declared.record_format.RecordFormat.TheVariants.{Items};
 
     ghost start = { record {
       before = None;
       name = 0;
-      style = record { encoding = None; version = One };
+      style = record { encoding = None; format = Items One };
       lanes = 0;
     } };
 }
@@ -178,14 +179,15 @@ where
     if readers.len() > MOST_SOURCES {
         return Err(ToolFault::Run(RunFault::TooManySources));
     }
-    let buffer = first_buffer(alloc, options.version)?;
+    let version = options.format.version();
+    let buffer = first_buffer(alloc, version)?;
     let counts = no_answers(alloc, readers.len())?;
     let stream = Stream {
         out,
         buffer,
         counts,
         lines: LineCounts::default(),
-        version: options.version,
+        version,
     };
     let (stream, ran) = run_over::<R, T, G, W, Brand>(rt, alloc, readers, options, stream);
     let Stream {

@@ -1,4 +1,5 @@
 -- What is printed of readers is what is printed of what is known of them.
+use Rattle.line_records.specs.Boxes.{version_of}
 use Rattle.std.proofs.Common.{◌≡◌, ◌⊎◌, inl, inr, ℕ, Bool, List, [], ◌∷◌, ◌++◌, map, Option, Some, None, refl, ap, sym, subst, ◌∙◌}
 use Rattle.std.specs.List.{AllZip}
 use Rattle.std.specs.Prelude.{IfErr, IfOk, IfSome, Result, Ok, Err}
@@ -55,7 +56,7 @@ module _ {R : Type 0} (remaining : R → Option (List ℕ)) (crlf : Bool) where
       → IsDelivered delivery style reports w w' → Keeps w' w'' → IsDelivered delivery style reports w w''
   still_delivered AtTheEnd style reports w w' w'' is kept = kept_text w w' w'' (run_text style reports) is kept
   still_delivered AsTheyCome style reports w w' w'' is kept =
-      (is.0, is.1, kept_text w w' w'' (head_text style.version ++ merged_text is.0) is.2 kept)
+      (is.0, is.1, kept_text w w' w'' (head_text (version_of style.format) ++ merged_text is.0) is.2 kept)
 
   -- the output of a batch that was written, and then perhaps flushed
   pub printed_before : (delivery : Delivery) (style : RecordStyle)

@@ -65,7 +65,7 @@ IsText Is before after status = (text : List ℕ) × Is text × Appends before a
 
 -- how lines are read and their records written: the encoding, and the record format
 abbrev pub style_of : Output → RecordStyle
-style_of output = record { encoding = output.encoding; version = output.layout.now.version }
+style_of output = record { encoding = output.encoding; format = output.layout.now.format }
 
 -- the output for these reports was written: in the order of the sources, or the lines of all sources as they
 -- arrived
@@ -103,7 +103,7 @@ module _ (known : List ℕ → Option (List ℕ)) (before after : Option (List �
       × IsEncodingOf known vector jobs.layout.encoding encoding
       × ((sources : List (Told × TermsValue))
       × AllZip (IsSourceOfJob known jobs.layout) (jobs_in jobs.words.items) sources
-      × IsPrinted AtTheEnd sources (record { encoding = encoding; version = jobs.layout.version }) before after status)
+      × IsPrinted AtTheEnd sources (record { encoding = encoding; format = jobs.layout.format }) before after status)
 
 module _ (known : List ℕ → Option (List ℕ)) (input before after : Option (List ℕ)) where
   -- the output of a batch was written, in this encoding; its sources have these bytes, and the settings of the
@@ -114,7 +114,7 @@ module _ (known : List ℕ → Option (List ℕ)) (input before after : Option (
       × IsEncodingOf known vector setting.layout.encoding encoding
       × ((sources : List (Told × TermsValue))
       × AreSetSources known input setting bytes sources
-      × IsPrinted delivery sources (record { encoding = encoding; version = setting.layout.version }) before after status)
+      × IsPrinted delivery sources (record { encoding = encoding; format = setting.layout.format }) before after status)
 
   -- the output of a request, with the encoding vector that the arguments name, was written, and this is its exit status
   abbrev pub IsDoneBy : Request → Option (Bor (List ℕ)) → ℕ → Type 0

@@ -2,6 +2,7 @@
 ghost use Rattle.std.specs.Prelude.{◌≡◌, ◌≤◌, ◌<◌, ◌+◌, ◌++◌, ◌^◌, ◌⊎◌, None, Some, true, IfOk, IfSome, OnOk, length, MatchOption};
 ghost use Rattle.line_records.specs.Cells.{style_of};
 ghost use Rattle.line_records.specs.Results.{IsResult};
+ghost use Rattle.line_records.specs.declared.record_format.RecordFormat.TheVariants.{Items};
 ghost use Rattle.set_line.specs.Returns.{lines_in};
 ghost use Rattle.tfmset_c.specs.Arrays.{AreRecordsTold, IsFilled};
 ghost use Rattle.tfmset_c.specs.Options.{IsOutOfRange, call_limit_of, lines_at, result_within, terms_at};
@@ -15,7 +16,7 @@ use crate::lines::steps_of;
 use crate::options::{Text, TfmsetOptions, terms_of};
 use crate::reading::{DONE, MEMORY, NO_ROOM, RANGE};
 use encodings::Encoding;
-use line_records::{LineResult, LineWriter, RecordOf, SourceLine};
+use line_records::{LineResult, LineWriter, RecordFormat, RecordOf, SourceLine};
 use set_line::{
     LineRefusal, OutOfMemory, RecordNumber, TextRefusal, Version, append_refusal, next_line,
 };
@@ -93,9 +94,9 @@ fn form_of(encoding: &[u8], form: &TfmsetForm) -> Option<Form>
 
 /// Returns a writer for the lines of a text, which is prepared if the text is long enough.
 fn writer_for(alloc: Global, text: Text, version: Version) -> LineWriter
-    ensures { result ≡ style_of text.entry.terms.now version }
+    ensures { result ≡ style_of text.entry.terms.now (Items version) }
 {
-    let mut writer = LineWriter::new(alloc, text.terms, version);
+    let mut writer = LineWriter::new(alloc, text.terms, RecordFormat::Items(version));
     if text.bytes.len() > FEW_FOR_TABLE {
         writer.prepare(text.terms);
     }
@@ -112,7 +113,7 @@ fn append_within(
     next: NextLine<'_>,
     records: &mut Vec<u8>,
 ) -> Result<LineResult, OutOfMemory>
-    requires { writer.old ≡ style_of of.now.terms.now version }
+    requires { writer.old ≡ style_of of.now.terms.now (Items version) }
     ensures kept { writer.new ≡ writer.old }
     ensures appended { OnOk result (records.new.items ≡ records.old.items ++ record_within of.now.terms.now
         (record { encoding = of.now.encoding; version = version; source = of.now.source; first = 0 })

@@ -14,7 +14,7 @@ use crate::lines::{
 use crate::options::{Text, TfmsetOptions, terms_of};
 use crate::reading::{DONE, MEMORY, NO_ROOM, RANGE};
 use lig_kern::Item;
-use line_records::{LineResult, LineWriter, RecordOf, SourceLine};
+use line_records::{LineResult, LineWriter, RecordFormat, RecordOf, SourceLine};
 use set_line::{
     LineRefusal, OutOfMemory, Outcome, Terms, TextRefusal, Version, next_line, set_bytes,
 };
@@ -167,7 +167,7 @@ fn fill_widths(
         encoding: None,
         source: 0,
     };
-    let mut writer = LineWriter::new(alloc, text.terms, Version::One);
+    let mut writer = LineWriter::new(alloc, text.terms, RecordFormat::Items(Version::One));
     writer.prepare(text.terms);
     let mut counts = TfmsetCounts { lines: 0, items: 0 };
     let mut left = text.call_limit;

@@ -2,7 +2,7 @@
 use super::named::Named::*;
 use super::words::{RUNS, Row};
 use lig_kern::Item;
-use line_records::{LineResult, LineWriter, RecordOf, SourceLine};
+use line_records::{LineResult, LineWriter, RecordFormat, RecordOf, SourceLine};
 use set_line::{LineRefusal, OutOfMemory, Outcome, Policy, Terms, TextRefusal, Version, set_bytes};
 use std::alloc::Global;
 use std::process::Abort;
@@ -122,7 +122,7 @@ fn results_of(alloc: Global, terms: &Terms, line: &str) -> Result<[LineResult; 3
         first: true,
         bytes: line.as_bytes(),
     };
-    let mut writer = LineWriter::new(alloc, terms, Version::One);
+    let mut writer = LineWriter::new(alloc, terms, RecordFormat::Items(Version::One));
     let general = writer.result(&of, line)?;
     writer.prepare(terms);
     let made = writer.result(&of, line)?;

@@ -5,7 +5,7 @@ ghost use Rattle.line_records.specs.Cells.{Fits};
 use super::named::Named;
 use super::named::Named::*;
 use encodings::Encoding;
-use line_records::{LineWriter, RecordOf, SourceLine};
+use line_records::{LineWriter, RecordFormat, RecordOf, SourceLine};
 use set_line::Policy::{Refuse, Skip};
 use set_line::Version::{Json, One, Two};
 use set_line::{Limit, Line, OutOfMemory, Policy, Terms, Version, set};
@@ -226,9 +226,9 @@ fn is_written(
     line: SourceLine<'_>,
     (version, record): (Version, &str),
 ) -> Result<bool, OutOfMemory> {
-    let mut writer = LineWriter::new(alloc, of.terms, version);
+    let mut writer = LineWriter::new(alloc, of.terms, RecordFormat::Items(version));
     let general = appends(alloc, &mut writer, of, line, record)?;
-    let mut writer = LineWriter::new(alloc, of.terms, version);
+    let mut writer = LineWriter::new(alloc, of.terms, RecordFormat::Items(version));
     writer.prepare(of.terms);
     let made = appends(alloc, &mut writer, of, line, record)?;
     Ok(general && made && appends(alloc, &mut writer, of, line, record)?)

@@ -6,13 +6,15 @@ ghost use Rattle.line_records.specs.Cells.{Fits};
 use super::lines::settings;
 use super::{NO_ARGUMENTS, outcome, report};
 use encodings::Encoding;
-use line_records::{LineResult, LineWriter, RecordOf, SourceLine};
+use line_records::RecordFormat::{Box, Items};
+use line_records::{LineResult, LineWriter, RecordFormat, RecordOf, SourceLine};
 use set_line::{Answer, Policy, Terms, Version, record, set};
 use std::alloc::Global;
 use std::process::Abort;
 use std::test::Fail;
 use test_support::fonts::{A, PLAIN, Sample};
 use test_support::terms::terms_of;
+use tex_sizes::LengthUnit;
 
 const EARLIER: &str = "1 end complete 0\n";
 
@@ -28,6 +30,9 @@ const BY_TABLE: &str = "2:1 set 962560 steps 3 c97=327680 k-40960 c99=491520 k20
 /// The record of `a€b`.
 const UNCODED: &str = "{\"source\":2,\"line\":1,\"width\":491520,\"steps\":2,\"items\":[\
 [\"c\",97,327680],[\"u\",8364],[\"c\",98,163840]]}\n";
+
+/// The record of the box of `a€b`.
+const BOXED: &str = "2:1 box 7.5pt 0.0pt 0.0pt 0\n";
 
 /// The record of `ad`, if missing characters are refused.
 const REFUSED: &str =
@@ -104,7 +109,7 @@ fn writes<R: Abort>(
 fn is_written<R: Abort + AllocGlobal + Print>(
     rt: &R,
     policy: Policy,
-    (encoding, version): (Option<Encoding>, Version),
+    (encoding, format): (Option<Encoding>, RecordFormat),
     line: (&str, &str),
 ) -> Result<(), Fail> {
     let text = Vec::from_slice(rt.alloc(), EARLIER.as_bytes()).ok();
@@ -116,7 +121,7 @@ fn is_written<R: Abort + AllocGlobal + Print>(
         encoding,
         source: 2,
     };
-    let mut writer = LineWriter::new(rt.alloc(), &terms, version);
+    let mut writer = LineWriter::new(rt.alloc(), &terms, format);
     writer.prepare(&terms);
     let first = writes(rt, &mut writer, &of, line, &mut text);
     let second = writes(rt, &mut writer, &of, line, &mut text);
@@ -127,18 +132,34 @@ fn is_written<R: Abort + AllocGlobal + Print>(
 
 #[test]
 fn records_are_appended_by_the_table_of_texts(rt: HostRuntime) -> Result<(), Fail> {
-    is_written(&rt, Policy::Skip, (None, Version::Two), ("acb", BY_TABLE))
+    is_written(
+        &rt,
+        Policy::Skip,
+        (None, Items(Version::Two)),
+        ("acb", BY_TABLE),
+    )
 }
 
 #[test]
 fn records_of_a_refused_line_are_appended(rt: HostRuntime) -> Result<(), Fail> {
-    is_written(&rt, Policy::Refuse, (None, Version::Json), ("ad", REFUSED))
+    is_written(
+        &rt,
+        Policy::Refuse,
+        (None, Items(Version::Json)),
+        ("ad", REFUSED),
+    )
 }
 
 #[test]
 fn records_with_an_uncoded_character_are_appended(rt: HostRuntime) -> Result<(), Fail> {
-    let in_t1 = (Some(Encoding::T1), Version::Json);
+    let in_t1 = (Some(Encoding::T1), Items(Version::Json));
     is_written(&rt, Policy::Skip, in_t1, ("a€b", UNCODED))
+}
+
+#[test]
+fn records_of_a_box_are_appended(rt: HostRuntime) -> Result<(), Fail> {
+    let boxes = (Some(Encoding::T1), Box(LengthUnit::Points));
+    is_written(&rt, Policy::Skip, boxes, ("a€b", BOXED))
 }
 
 /// Whether the line has its result, which is that of as many steps as pairs of bytes. Otherwise an allocation failed.
@@ -182,7 +203,7 @@ fn a_line_with_3328_texts_is_set_by_the_table(rt: HostRuntime) -> Result<(), Fai
             line.extend_from_slice(&[left, right])?;
         }
     }
-    let mut writer = LineWriter::new(rt.alloc(), &terms, Version::One);
+    let mut writer = LineWriter::new(rt.alloc(), &terms, Items(Version::One));
     writer.prepare(&terms);
     let first = has_result(&rt, &mut writer, &terms, &line);
     assert!(rt; first || has_result(&rt, &mut writer, &terms, &line));

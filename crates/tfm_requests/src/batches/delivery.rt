@@ -69,7 +69,7 @@ where
     let layout = output.layout;
     let options = OutputOptions {
         plan: layout.plan,
-        version: layout.version,
+        format: layout.format,
         encoding: output.encoding,
         crlf: layout.crlf,
         whole_reads: layout.whole_reads,

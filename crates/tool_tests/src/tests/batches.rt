@@ -2,6 +2,7 @@
 //! batch, the number of workers and the start barrier.
 use super::doubles::{FREE, Interrupted, Ways, check, reader};
 use batch_support::{CountingGate, plan, with_terms};
+use line_records::RecordFormat;
 use run_texts::{OutputOptions, ReportOptions, set_readers, stream_readers, terms_of};
 use set_line::{Limit, Policy, Version};
 use set_run::{Plan, ReaderSource, RunFault};
@@ -99,7 +100,7 @@ fn deliver<R: Abort + Threads + Wait + Sync + AllocGlobal>(
     }
     let options = OutputOptions {
         plan: batch.plan,
-        version: Version::One,
+        format: RecordFormat::Items(Version::One),
         encoding: None,
         crlf: batch.crlf,
         whole_reads: batch.whole_reads,

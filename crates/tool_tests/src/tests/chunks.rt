@@ -2,6 +2,7 @@
 use super::doubles::{FREE, Ways, check, many_lines, reader};
 use line_chunks::{ChunkReader, ChunkText, RecordMaker};
 use line_lane::SourceFault;
+use line_records::RecordFormat;
 use set_line::Version;
 use set_run::ItemSource;
 use std::io::Read;
@@ -12,7 +13,7 @@ use test_support::{ReadCounts, TricklingReader};
 /// Returns a maker of records with the font `plain`, which refuses other characters.
 fn maker_of<R: Abort + AllocGlobal>(rt: &R) -> RecordMaker {
     let terms = plain_terms(rt.alloc()).expect(rt, "the settings");
-    RecordMaker::new(rt.alloc(), terms, 1, Version::One)
+    RecordMaker::new(rt.alloc(), terms, 1, RecordFormat::Items(Version::One))
 }
 
 /// Returns the records of the next chunk.

@@ -5,6 +5,7 @@
 use super::requests::{LINES, SKIPPED, vector};
 use batch_support::small_plan;
 use command_line::{Layout, Setting};
+use line_records::RecordFormat;
 use run_texts::ReportOptions;
 use set_line::{Limit, Policy, Version};
 use set_run::{NoGate, ReaderSource};
@@ -142,7 +143,7 @@ fn requested_of(alloc: Global, streams: bool) -> Option<Requested<'static>> {
         encoding: None,
         plan: small_plan()?,
         whole_reads: false,
-        version: Version::One,
+        format: RecordFormat::Items(Version::One),
         verbose: false,
     };
     let setting = Setting {

@@ -15,5 +15,5 @@ invariant-loop-part l = record {
   gaps : l.gaps + length (joined l.part-iterator) ≤ length (joined l.fn.parts);
   reached : (all : List Item)
       × (set_after l.terms (setting 0 []) l.fn.parts ≡ set_after l.terms (setting l.steps all) l.part-iterator)
-      × AreListed l.version all l.lists.items.items l.gaps l.lists.texts.items;
+      × AreListed l.format all l.lists.items.items l.gaps l.lists.texts.items;
 }

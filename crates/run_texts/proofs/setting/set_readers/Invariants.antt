@@ -1,6 +1,7 @@
 -- the run keeps a text for each source, in this version
+use Rattle.line_records.specs.Boxes.{version_of}
 use Rattle.run_texts.proofs.setting.set_readers.Given as goal
 use Rattle.std.specs.Vec.{vec_len}
 
 abbrev pub ghosts-set_and_write : goal.ghosts-set_and_write
-ghosts-set_and_write g a = record { lanes = vec_len a.readers; version = a.options.now.version }
+ghosts-set_and_write g a = record { lanes = vec_len a.readers; version = version_of a.options.now.format }

@@ -20,7 +20,7 @@ returns-in-Ok-clause-text g c =
     let lanes = map (told_lane remaining) run.lanes.items in
     let start : StreamStart = record { before = before; name = _; style = style_of c.args.options.now; lanes = length c.in_ok-counts.counts.items } in
     let collected = of_ok _ c.run_over-stream.result.1 run c.in-Ok.is c.run_over-stream.ensures.collected in
-    let came = collected (begins _ (style_of c.args.options.now) c.in_ok-counts.counts.items before c.in_ok-buffer.buffer.items c.in_ok-counts.ensures.none c.in_ok-buffer.ensures.head) in
+    let came = collected (begins _ (style_of c.args.options.now) c.version-version.result c.in_ok-counts.counts.items before c.in_ok-buffer.buffer.items c.version-version.ensures c.in_ok-counts.ensures.none c.in_ok-buffer.ensures.head) in
     let last = c.out-1.given.1 (sym (same_name lines_told fault_told sources lanes start
     s.out.ghost_name s.version s.counts.items (g.W.Write.contents s.out.now) before s.buffer.items came)) in
     let many = as_many_told remaining crlf c.args.readers.items in

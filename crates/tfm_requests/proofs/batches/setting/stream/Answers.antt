@@ -29,10 +29,10 @@ returns-clause-text g c =
     let none : setting.files.items ≡ [] = nil_from_length setting.files.items (omega (arith, eqb-true setting.files.len 0 (sym c.is_empty.ensures ∙ c.if-not-is_empty.false), setting.files.ok.0)) in
     let same : g.I.Read.remaining c.setting_terms.new.input ≡ bytes = search rules in
     let text = rw c.in_ok-readers.ensures at c.in_ok-set_readers.ensures.text in
-    let printed : IsPrinted c.args.batch.now.delivery told (record { encoding = c.in_ok-encoding.encoding; version = setting.layout.version })
+    let printed : IsPrinted c.args.batch.now.delivery told (record { encoding = c.in_ok-encoding.encoding; format = setting.layout.format })
     (g.O.Write.contents c.args.out.now) (g.O.Write.contents c.set_readers.new.out) (done_status c.in_ok-set_readers.field-0) =
     subst (λ left. IsPrinted c.args.batch.now.delivery ((told_unread setting.layout.crlf left, terms) ∷ [])
-    (record { encoding = c.in_ok-encoding.encoding; version = setting.layout.version })
+    (record { encoding = c.in_ok-encoding.encoding; format = setting.layout.format })
     (g.O.Write.contents c.args.out.now) (g.O.Write.contents c.set_readers.new.out) (done_status c.in_ok-set_readers.field-0)) same text in
     let are : AllZip (IsSourceWith setting.layout terms) (stream_bytes_of known bytes setting.files.items) told =
     subst (λ files. AllZip (IsSourceWith setting.layout terms) (stream_bytes_of known bytes files) told) (sym none) ((source_of_itself setting.layout.crlf bytes, refl), tt) in
