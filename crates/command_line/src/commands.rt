@@ -60,6 +60,19 @@ fn with<'a>(
     command.subcommand(subcommand?)
 }
 
+/// Builds the subcommand of this name by itself, whose errors have its usage.
+pub(crate) fn alone<'a>(alloc: Global, name: &str) -> Result<Command<'a>, AllocError> {
+    match name {
+        "list" => list_command(alloc)?.bin_name("tfmset list"),
+        "pairs" => pairs_command(alloc)?.bin_name("tfmset pairs"),
+        "check" => check_command(alloc)?.bin_name("tfmset check"),
+        "set" => set_command(alloc)?.bin_name("tfmset set"),
+        "stream" => stream_command(alloc)?.bin_name("tfmset stream"),
+        "each" => each_command(alloc)?.bin_name("tfmset each"),
+        _ => bare_command(alloc),
+    }
+}
+
 fn counts_command<'a>(alloc: Global) -> Result<Command<'a>, AllocError>
     ensures { IfOk result (IsSubcommand counts_shape) }
 {

@@ -5,7 +5,7 @@ ghost use Rattle.clap.specs.Words.{all_of, first_of, found_of, kind_of, one_of, 
 ghost use Rattle.command_line.specs.Commands.{AllChoices, IsCommandOf, tfmset_app};
 ghost use Rattle.command_line.specs.Asked.{AreJobs, Asks, AsksFor, Finds, encoding_stated, format_word, has_no_block, has_plain_size, IsAskedBy, IsAskedOf, IsAskedWith, IsBlock, IsChecking, IsEncoding, IsFlag, IsLayout, IsListing, IsNumberIn, IsPairing, IsPairsLayout, IsPlan, IsRefusedBy, IsRefusedWith, IsSetting, IsSize, IsUnit, IsVerbose, is_path, kind_of_values, kind_without_request, misstates_encoding, misstates_size, policy_word, texts, vector_in, vector_named, format_stated, misplaces_unit, version_named};
 
-use crate::commands::tfmset_command;
+use crate::commands::{alone, tfmset_command};
 use crate::help::{ENCODING_ERROR, SIZE_ERROR, UNIT_ERROR};
 use crate::request::{Checking, Jobs, Layout, Listing, Pairing, Request, Requested, Setting};
 use clap::error::ErrorKind;
@@ -61,12 +61,12 @@ fn without_request<'a>(
     ensures { IfOk result (λ error. kind_of error ≡ kind_without_request (subcommand_rows_of matches.now)) }
 {
     match matches.subcommand() {
-        Some((_, matches)) => wrong_values(alloc, command, matches),
+        Some((name, matches)) => wrong_values(alloc, &mut alone(alloc, name)?, matches),
         None => no_subcommand(command),
     }
 }
 
-/// Returns the error of the values of a subcommand that state no request.
+/// Returns the error of the values of this subcommand that state no request.
 fn wrong_values<'a>(
     alloc: Global,
     command: &mut Command<'a>,
