@@ -4,6 +4,7 @@ Python's json must be able to read each line of JSON, in which no name occurs tw
 spaces it must be the same line. Its names must be in the order of docs/TEXTS.md, and its values must be those
 of the line in record format 2. It must also conform to docs/records.schema.json; the validator here has the
 keywords that the schemas use. If Python's jsonschema is installed, it has to agree about the lines of the tables.
+The lines of `check --format json` are compared with those of text, and with docs/check.schema.json.
 """
 import functools
 import json
@@ -16,6 +17,7 @@ from library_lines import LinesCase
 
 WEIGHT = 3
 CASES, SCHEMA = table("json_records"), json.loads(read("docs/records.schema.json"))
+FINDINGS = json.loads(read("docs/check.schema.json"))
 BOUNDS = {"minimum", "maximum", "minLength", "maxLength", "minItems", "additionalProperties", "required"}
 KNOWN = {"$schema", "title", "description", "$defs", "$ref", "allOf", "oneOf", "type", "const", "enum",
          "minimum", "maximum", "minLength", "maxLength", "pattern", "prefixItems", "items", "minItems", "properties",
@@ -206,7 +208,7 @@ class Lines(Case):
     """Single lines"""
 
     def test_examples_of_the_page(self):
-        lines = re.findall(r"^\{.*", "\n".join(blocks("docs/TEXTS.md", r"\w*")), re.M)
+        lines = re.findall(r'^\{"source".*', "\n".join(blocks("docs/TEXTS.md", r"\w*")), re.M)
         for line in lines:
             self.same(line, True, is_valid(dict(pairs_of_json(line)), SCHEMA))
         self.none([], len(lines), 5)
@@ -245,3 +247,35 @@ class Lines(Case):
             self.same(line, True, valid(json.loads(line)))
         for line in CASES["refused_by_schema"]:
             self.same(line, False, valid(json.loads(line)))
+
+
+def finding_text(value):
+    """The line of text for an object of `check`."""
+    if "fonts" in value:
+        return "{fonts} fonts: {accepted} accepted, {refused} refused, {unread} not read".format(**value)
+    words = f": {value['error']} {value['words']}" if "error" in value else ""
+    return f"{value['font']}: {value['finding']}{words}"
+
+
+class Findings(Case):
+    """JSON of `check` next to its text"""
+
+    def test(self):
+        """Names with each byte, and fonts that are cut: each line of JSON is that of text, and conforms to the schema."""
+        names = [b"x%cy" % byte for byte in range(1, 256)] + [b"cut%d" % length for length in range(0, 60, 5)]
+        for name in names[-12:]:
+            self.file(name.decode(), sample("plain")[:int(name[3:])])
+        self.file("font", sample("plain"))
+        text, seen = (execute(PROGRAM, "check", "--files-from", "-", "--null", "--summary", "--format", form, "font",
+                              given=b"\0".join(names), cwd=self.room)[1].splitlines() for form in ("text", "json"))
+        values = [json.loads(line) for line in seen]
+        self.same("lines", text, [finding_text(value) for value in values])
+        self.same("again", seen, [json.dumps(value, separators=(",", ":")) for value in values])
+        self.none([value for value in values if not is_valid(value, FINDINGS)], len(values), len(names) + 2)
+
+    def test_each_bound_of_the_schema(self):
+        """The schema refuses these lines. Without any of its bounds, it accepts one of them."""
+        refused = CASES["refused_findings"]
+        self.none([line for line in refused if is_valid(json.loads(line), FINDINGS)], len(refused), 13)
+        loose, count = loose_bounds(FINDINGS, refused)
+        self.none(loose, count, 13)

@@ -71,6 +71,28 @@ class LongLine(Case):
         self.same(args, (1, wanted, ""), seen)
 
 
+class ManyNames(Case):
+    """A list of many fonts"""
+
+    # Mutant: the findings are kept in a list. Each takes 16 bytes or more, and all together the whole memory.
+    @rows((form, form) for form in ("text", "json"))
+    def test(self, form):
+        """The names of 99,999 fonts are read with hardly more memory than those of two."""
+        self.file("font", sample("plain"))
+        count = 99999
+        names = b"font\0none\0./font\0" * (count // 3)
+        most = min(space for space in range(2000, 60000, 500) if self.checked(b"font\0none\0", space, form)[0] == 4)
+        status, out, _ = self.checked(names, most + 500, form)
+        last = (f"{count} fonts: {count * 2 // 3} accepted, 0 refused, {count // 3} not read" if form == "text" else
+                f'{{"fonts":{count},"accepted":{count * 2 // 3},"refused":0,"unread":{count // 3}}}')
+        self.same("status", (4, count // 3 + 1, last), (status, out.count("\n"), out.splitlines()[-1]))
+
+    def checked(self, names, space, form):
+        """The result for a list of fonts, with so many KB of address space."""
+        command = f"ulimit -v {space}; exec '{PROGRAM}' check --files-from - --null --quiet --summary --format {form}"
+        return bash(command, self.room, given=names)
+
+
 class Sizes(Case):
     """Lines, paths and arguments of the largest sizes"""
 

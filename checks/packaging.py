@@ -80,8 +80,9 @@ class Help(Case):
             low, high = option["range"]
             self.assertIn(f"0 is not in {low}..={high}\n", message + "\n")
             self.assertIn(f"{low} to {high}", about)
-        else:
+        elif "choices" in option:
             choices = option["choices"]
+            choices = choices[command] if isinstance(choices, dict) else choices
             self.assertIn(f"[possible values: {', '.join(choices)}]", message)
             self.assertIn(", ".join(choices) + ", or a file" if "files" in option else
                           ", ".join(choices[:-1]) + " or " + choices[-1], about)

@@ -11,7 +11,7 @@ _tfmset_options() {
         counts) options='-v --verbose -h --help' ;;
         list) options='--size --unit --all -v --verbose -h --help' ;;
         pairs) options='--size --unit --format --encoding -v --verbose -h --help' ;;
-        check) options='--quiet --summary -v --verbose -h --help' ;;
+        check) options='--quiet --summary --format --files-from --null -v --verbose -h --help' ;;
         set) options='--size --limit --missing --crlf --encoding --workers --capacity --block --record --unit -v --verbose -h --help' ;;
         each) options='--size --missing --crlf --encoding --workers --capacity --block --record --unit -v --verbose -h --help' ;;
         stream) options='--size --limit --missing --crlf --encoding --workers --capacity --block --record --unit -v --verbose -h --help' ;;
@@ -35,7 +35,7 @@ _tfmset_values() {
         --capacity) values='' ;;
         --block) values='1 2 3 4 5 6 7 8' ;;
         --record) values='1 2 json box' ;;
-        --unit) values='sp pt bp mm cm in pc' ;;
+        --files-from) values='' files='*' ;;
         *) return 1 ;;
     esac
 }

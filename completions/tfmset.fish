@@ -67,8 +67,8 @@ complete -c tfmset -n __tfmset_none -a stream -d 'Set lines, and print each reco
 complete -c tfmset -n __tfmset_none -a help -d 'Print help'
 complete -c tfmset -n '__tfmset_is list' -l all -d 'Also print the counts, the extensible recipes and all words'
 complete -c tfmset -n '__tfmset_is list pairs set each stream' -l size -x -d 'Font size, such as 12pt, or in scaled points, 1 to 134217727'
-complete -c tfmset -n '__tfmset_is list pairs' -l unit -x -a 'sp pt bp mm cm in pc' -d 'Unit of dimensions'
-complete -c tfmset -n '__tfmset_is pairs' -l format -x -a 'text csv json' -d 'Output format'
+complete -c tfmset -n '__tfmset_is list pairs set each stream' -l unit -x -a 'sp pt bp mm cm in pc' -d 'Unit of dimensions'
+complete -c tfmset -n '__tfmset_is pairs check' -l format -x -a 'text csv json' -d 'Output format'
 complete -c tfmset -n '__tfmset_is set stream' -l limit -x -d 'Maximum steps per line, 1 to 16777216'
 complete -c tfmset -n '__tfmset_is set each stream' -l missing -x -a 'refuse skip' -d 'On a missing character'
 complete -c tfmset -n '__tfmset_is set each stream' -l crlf -d 'Leave out one carriage return before each line feed'
@@ -77,16 +77,17 @@ complete -c tfmset -n '__tfmset_is set each stream' -l workers -x -a '(seq 1 16)
 complete -c tfmset -n '__tfmset_is set each stream' -l capacity -x -d 'Slots per queue between threads, 1 to 65536'
 complete -c tfmset -n '__tfmset_is set each stream' -l block -x -a '(seq 1 8)' -d 'Lines per message; leave it out with stream, use 8 with set and each'
 complete -c tfmset -n '__tfmset_is set each stream' -l record -x -a '1 2 json box' -d 'Record format'
-complete -c tfmset -n '__tfmset_is set each stream' -l unit -x -a 'sp pt bp mm cm in pc' -d 'Unit of dimensions'
 complete -c tfmset -n '__tfmset_is check' -l quiet -d 'Leave out the lines of accepted fonts'
 complete -c tfmset -n '__tfmset_is check' -l summary -d 'Print a last line with the numbers of fonts'
+complete -c tfmset -n '__tfmset_is check' -l files-from -rF -d 'File with the names of further fonts'
+complete -c tfmset -n '__tfmset_is check' -l null -d 'Names in this file end with a zero byte'
 complete -c tfmset -n '__tfmset_is counts list pairs check set each stream' -s v -l verbose -d 'Print causes of errors on standard error'
 complete -c tfmset -n '__tfmset_is counts list pairs check set each stream' -s h -l help -d 'Print help'
 complete -c tfmset -n '__tfmset_is help; and test (__tfmset_count) -eq 0' -a 'counts list pairs check set each stream help'
 
 # Prints the options that have no value.
 function __tfmset_flags
-    string split ' ' -- '--all --crlf --quiet --summary -v --verbose -h --help -V --version'
+    string split ' ' -- '--all --crlf --quiet --summary --null -v --verbose -h --help -V --version'
 end
 # end generated
 

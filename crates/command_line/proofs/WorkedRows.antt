@@ -66,6 +66,18 @@ module _ (choices : AllChoices) where
   unfolding clap_on_literals
   check_summary = refl
 
+  check_list : text_in (codes "files-from") (codes "check" ∷ codes "--files-from" ∷ codes "-" ∷ codes "--null" ∷ []) ≡ Some (Some (codes "-"))
+  unfolding clap_on_literals
+  check_list = refl
+
+  check_null : read_in (codes "null") (codes "check" ∷ codes "--null" ∷ codes "f.tfm" ∷ []) ≡ Some (Some (codes "true"))
+  unfolding clap_on_literals
+  check_null = refl
+
+  check_json : text_in (codes "format") (codes "check" ∷ codes "--format=json" ∷ codes "f.tfm" ∷ []) ≡ Some (Some (codes "json"))
+  unfolding clap_on_literals
+  check_json = refl
+
   check_verbose : read_in (codes "verbose") (codes "check" ∷ codes "-v" ∷ codes "f.tfm" ∷ []) ≡ Some (Some (codes "true"))
   unfolding clap_on_literals
   check_verbose = refl
@@ -101,6 +113,10 @@ module _ (choices : AllChoices) where
   check_not_quiet : read_in (codes "quiet") (codes "check" ∷ codes "f.tfm" ∷ []) ≡ Some (Some (codes "false"))
   unfolding clap_on_literals
   check_not_quiet = refl
+
+  check_no_font : all_in (codes "FONT") (codes "check" ∷ []) ≡ Some None
+  unfolding clap_on_literals
+  check_no_font = refl
 
   check_no_summary : read_in (codes "summary") (codes "check" ∷ codes "f.tfm" ∷ []) ≡ Some (Some (codes "false"))
   unfolding clap_on_literals
@@ -202,9 +218,9 @@ module _ (choices : AllChoices) where
 
   -- ---- valid arguments
 
-  two_fonts : fault_in (codes "check" ∷ codes "--size" ∷ codes "12pt" ∷ codes "f.tfm" ∷ codes "-" ∷ []) ≡ []
+  sized_font : fault_in (codes "list" ∷ codes "--size" ∷ codes "12pt" ∷ codes "-" ∷ []) ≡ []
   unfolding clap_on_literals
-  two_fonts = refl
+  sized_font = refl
 
   largest_size : wrong_size_in (codes "check" ∷ codes "--size" ∷ codes "134217727" ∷ codes "f.tfm" ∷ codes "-" ∷ []) ≡ Some false
   unfolding clap_on_literals

@@ -9,7 +9,7 @@ use Rattle.std.specs.Str.Parse.{IsNumeral, digits_value, without_leading_plus}
 use Rattle.clap.specs.Words.{HasKind, Row, Text, all_of, fault_of, first_of, kind_of, one_of, subcommand_of}
 use Rattle.clap.specs.declared.error.Error.{Error}
 use Rattle.clap.specs.declared.error.kind.ErrorKind.{ErrorKind}
-use Rattle.clap.specs.declared.error.kind.ErrorKind.TheVariants.{ArgumentConflict, InvalidValue, MissingSubcommand, OutOfMemory, ValueValidation}
+use Rattle.clap.specs.declared.error.kind.ErrorKind.TheVariants.{ArgumentConflict, InvalidValue, MissingSubcommand, OutOfMemory, ValueValidation, MissingRequiredArgument}
 use Rattle.encodings.specs.Names.{encoding_named}
 use Rattle.encodings.specs.declared.encoding.Encoding.{Encoding}
 use Rattle.line_records.specs.declared.record_format.RecordFormat.{RecordFormat}
@@ -17,6 +17,8 @@ use Rattle.line_records.specs.declared.record_format.RecordFormat.TheVariants.{I
 use Rattle.tex_sizes.specs.Lengths.{unit_named}
 use Rattle.tex_sizes.specs.Sizes.{is_plain, size_of}
 use Rattle.tex_sizes.specs.declared.length_unit.LengthUnit.{LengthUnit}
+use Rattle.font_texts.specs.declared.finding.FindingFormat.{FindingFormat}
+use Rattle.font_texts.specs.declared.finding.FindingFormat.TheVariants.{Text as TextFinding, Json as JsonFinding}
 use Rattle.font_texts.specs.declared.pairs_format.PairsFormat.{PairsFormat}
 use Rattle.font_texts.specs.declared.pairs_layout.PairsLayout.{PairsLayout}
 use Rattle.font_texts.specs.declared.pairs_format.PairsFormat.TheVariants.{Text as TextFormat, Csv, Json as JsonFormat}
@@ -26,6 +28,7 @@ use Rattle.set_line.specs.declared.version.Version.{Version}
 use Rattle.set_line.specs.declared.version.Version.TheVariants.{One, Two, Json}
 use Rattle.run_plan.specs.declared.plan.Plan.{Plan}
 use Rattle.command_line.specs.Commands.{AllChoices, tfmset_app}
+use Rattle.command_line.specs.declared.request.CheckLayout.{CheckLayout}
 use Rattle.command_line.specs.declared.request.Checking.{Checking}
 use Rattle.command_line.specs.declared.request.Jobs.{Jobs}
 use Rattle.command_line.specs.declared.request.Layout.{Layout}
@@ -104,6 +107,11 @@ abbrev pub format_word : PairsFormat → Text
 format_word TextFormat = codes "text"
 format_word Csv = codes "csv"
 format_word JsonFormat = codes "json"
+
+-- the value of `--format` for a format of findings
+abbrev pub finding_format_word : FindingFormat → Text
+finding_format_word TextFinding = codes "text"
+finding_format_word JsonFinding = codes "json"
 
 -- a flag is set if its value is `true`, and isn't set if its value is `false` or it has none
 abbrev pub IsFlag : Option Text → Bool → Type 0
@@ -188,14 +196,28 @@ module _ (rows : List Row) where
       × IsPairsLayout asked.layout
       × IsVerbose asked.verbose
 
-  -- the fonts of `check`, in order, their size, and whether `--quiet`, `--summary` and `--verbose` are given
+  -- the size of the fonts of `check`, the format, and whether `--quiet`, `--summary` and `--verbose` are given
+  abbrev pub IsCheckLayout : CheckLayout → Type 0
+  IsCheckLayout layout =
+      IsSize layout.size
+      × (first_of (codes "format") rows ≡ Some (finding_format_word layout.format))
+      × IsFlag (one_of (codes "quiet") rows) layout.quiet
+      × IsFlag (one_of (codes "summary") rows) layout.summary
+      × IsVerbose layout.verbose
+
+  -- `check` has neither a font nor a list of fonts
+  abbrev pub has_no_font : Bool
+  has_no_font = is_none (all_of (codes "FONT") rows) && is_none (first_of (codes "files-from") rows)
+
+  -- the fonts of `check`, in order, the file with further names, whether `--null` is given, and the layout; there is
+  -- a font or such a file
   abbrev pub IsChecking : Checking → Type 0
   IsChecking asked =
-      (all_of (codes "FONT") rows ≡ Some (texts asked.fonts.items))
-      × IsSize asked.size
-      × IsFlag (one_of (codes "quiet") rows) asked.quiet
-      × IsFlag (one_of (codes "summary") rows) asked.summary
-      × IsVerbose asked.verbose
+      (has_no_font ≡ false)
+      × (unwrap_or (all_of (codes "FONT") rows) [] ≡ texts asked.fonts.items)
+      × (option_map (λ file. file.now) asked.list ≡ first_of (codes "files-from") rows)
+      × IsFlag (one_of (codes "null") rows) asked.null
+      × IsCheckLayout asked.layout
 
   -- the values of `set` or `stream`: the font, the limit, the files in order, and the layout
   abbrev pub IsSetting : Setting → Type 0
@@ -241,12 +263,12 @@ abbrev pub misplaces_unit : List Row → Bool
 misplaces_unit rows =
     option_map_or (λ value. not (is_none (first_of (codes "unit") rows)) && not (bytes_eq value (codes "box"))) (first_of (codes "record") rows) false
 
--- the kind of the error if a parse has none and the values of a subcommand state no request; the size comes first, and
--- then the encoding
+-- the kind of the error if a parse has none and the values of a subcommand state no request; the size comes first,
+-- and last that `check` has no font
 abbrev pub kind_of_values : List Row → ErrorKind
 kind_of_values rows =
     cond (misstates_size rows) ValueValidation
-    (cond (misstates_encoding rows) InvalidValue (cond (misplaces_unit rows) ArgumentConflict MissingSubcommand))
+    (cond (misstates_encoding rows) InvalidValue (cond (misplaces_unit rows) ArgumentConflict MissingRequiredArgument))
 
 -- the kind of the error if a parse has none and the subcommand states no request
 abbrev pub kind_without_request : Option (Text × List Row) → ErrorKind
@@ -261,7 +283,7 @@ module _ (choices : AllChoices) (words : List Text) where
 
   -- the error of the arguments: out of memory, or the first error of a parse; or, if a parse has none, that
   -- they state no request, since `--size` states no size, since `--encoding` states no encoding and names no file,
-  -- since `--unit` is given without `--record box`, or since there is no subcommand
+  -- since `--unit` is given without `--record box`, since `check` has no font, or since there is no subcommand
   abbrev pub IsRefusedWith : Error → Type 0
   IsRefusedWith error =
       HasKind (fault_of (tfmset_app choices) words) error

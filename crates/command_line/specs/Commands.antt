@@ -65,6 +65,10 @@ format_words = codes "text" ∷ codes "csv" ∷ codes "json" ∷ []
 abbrev pub unit_words : List Text
 unit_words = map unit_name length_units
 
+-- the values of `--format` of `check`
+abbrev pub check_format_words : List Text
+check_format_words = codes "text" ∷ codes "json" ∷ []
+
 -- the parsers of `--missing`, `--record` and `--unit`
 pub record Choices : Type 0 where
   pub missing : ValueParser
@@ -85,6 +89,11 @@ pub record PairsChoices : Type 0 where
   pub formats : ValueParser
   pub units_taken : TakesWords unit_words units
   pub formats_taken : TakesWords format_words formats
+
+-- the parser of `--format` of `check`
+pub record CheckChoices : Type 0 where
+  pub formats : ValueParser
+  pub formats_taken : TakesWords check_format_words formats
 
 -- the option of this name whose value is any text for a parse
 abbrev pub text_rule : Text → Rule
@@ -149,11 +158,14 @@ pairs_shape choices =
     (size_rule ∷ unit_rule choices.units ∷ with_default (codes "text") (choice_rule (codes "format") choices.formats)
     ∷ encoding_rule ∷ verbose_rule ∷ needed (new_rule (codes "FONT")) ∷ [])
 
--- `check` takes `--size`, the flags `--quiet`, `--summary` and `--verbose`, and one or more fonts
-abbrev pub check_shape : Shape
-check_shape =
+-- `check` takes `--size`, the flags `--quiet` and `--summary`, `--format` with this parser, `--files-from`, the flags
+-- `--null` and `--verbose`, and any number of fonts
+abbrev pub check_shape : CheckChoices → Shape
+check_shape choices =
     subcommand_with (codes "check")
-    (size_rule ∷ flag_rule (codes "quiet") ∷ flag_rule (codes "summary") ∷ verbose_rule ∷ needed (words_rule (codes "FONT")) ∷ [])
+    (size_rule ∷ flag_rule (codes "quiet") ∷ flag_rule (codes "summary")
+    ∷ with_default (codes "text") (choice_rule (codes "format") choices.formats) ∷ text_rule (codes "files-from")
+    ∷ flag_rule (codes "null") ∷ verbose_rule ∷ words_rule (codes "FONT") ∷ [])
 
 -- `set` takes its options, a font, and one or more files; a block has one line by default
 abbrev pub set_shape : Choices → Shape
@@ -186,10 +198,11 @@ bare_app = record {
 abbrev pub command_with : List Shape → App
 command_with shapes = record { top = record bare_app.top { is_leaf = false }; subs = shapes }
 
--- the parsers of `list`, `pairs`, `set`, `stream` and `each`
+-- the parsers of `list`, `pairs`, `check`, `set`, `stream` and `each`
 pub record AllChoices : Type 0 where
   pub list : ListChoices
   pub pairs : PairsChoices
+  pub check : CheckChoices
   pub set : Choices
   pub stream : Choices
   pub each : Choices
@@ -198,7 +211,7 @@ pub record AllChoices : Type 0 where
 abbrev pub tfmset_app : AllChoices → App
 tfmset_app choices =
     command_with
-    (counts_shape ∷ list_shape choices.list ∷ pairs_shape choices.pairs ∷ check_shape ∷ set_shape choices.set
+    (counts_shape ∷ list_shape choices.list ∷ pairs_shape choices.pairs ∷ check_shape choices.check ∷ set_shape choices.set
     ∷ stream_shape choices.stream ∷ each_shape choices.each ∷ [])
 
 -- ---- building the command

@@ -115,14 +115,20 @@ pub(crate) const CHECK_AFTER_HELP: &str = "Examples, in the directory examples o
   tfmset check \"$(kpsewhich cmr10.tfm)\"
   tfmset check demo.tfm fonts/plain.tfm fonts/ligature_0.tfm
   tfmset check --quiet --summary fonts/*.tfm
+  find . -name '*.tfm' -print0 | tfmset check --files-from - --null
 
 Reads the FONTs in order and prints one line for each: `NAME: accepted`,
 `NAME: refused: ` and the first error of the font, or `NAME: not read`. A font
 that isn't accepted doesn't stop the check. With --quiet, the lines of accepted
 fonts are left out. With --summary, the last line has the numbers of fonts, as
 in `3 fonts: 2 accepted, 1 refused`, and if some were not read, their number,
-too. With --verbose, the cause for each font that was not read is printed on
-standard error.
+too. With --format json, each line is a JSON object. With --verbose, the cause
+for each font that was not read is printed on standard error.
+
+With --files-from FILE, the fonts whose names are the lines of FILE are read
+after the FONTs, however many they are. An empty line names no font, and - in
+FILE is the name of a file. If FILE is -, the names are read from standard
+input. With --null, names end with a zero byte, as `find -print0` prints them.
 
 TeX may refuse to load a font that is accepted here: two rules of TeX are not
 checked. A code with the tag `list` must lead to codes from bc to ec and not
@@ -133,8 +139,9 @@ no code without a character.
 Exit status:
   0  Every FONT is accepted.
   1  Every FONT was read, but at least one is refused.
-  2  The arguments are invalid, or two FONTs are -. The output is empty.
-  4  At least one FONT could not be opened, or could not be read to its end.
+  2  The arguments are invalid, or more than one of FONTs and FILE is -. The
+     output is empty.
+  4  A FONT or FILE could not be opened, or could not be read to its end.
   5  Memory allocation or writing the output failed. The check stops there.";
 
 pub(crate) const SET_ABOUT: &str =
@@ -342,6 +349,15 @@ pub(crate) const ALL_HELP: &str = "Also print the counts, the extensible recipes
 pub(crate) const QUIET_HELP: &str = "Leave out the lines of accepted fonts";
 
 pub(crate) const SUMMARY_HELP: &str = "Print a last line with the numbers of fonts";
+
+pub(crate) const FINDING_FORMAT_HELP: &str = "Output format: text or json";
+
+pub(crate) const FILES_FROM_HELP: &str = "File with the names of further fonts, one per line";
+
+pub(crate) const NULL_HELP: &str = "Names in this file end with a zero byte";
+
+pub(crate) const FONT_ERROR: &str =
+    "the following required arguments were not provided:\n  <FONT>...";
 
 pub(crate) const CAUSES_HELP: &str = "Print causes of errors on standard error";
 

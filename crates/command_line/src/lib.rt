@@ -2,7 +2,9 @@
 #![tactic(auto)]
 
 pub use reading::requested;
-pub use request::{Checking, Jobs, Layout, Listing, Pairing, Request, Requested, Setting};
+pub use request::{
+    CheckLayout, Checking, Jobs, Layout, Listing, Pairing, Request, Requested, Setting,
+};
 
 mod commands;
 mod help;

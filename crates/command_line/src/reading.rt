@@ -3,15 +3,17 @@
 ghost use Rattle.std.specs.Prelude.{◌≡◌, [], map, IfErr, IfOk, Some, codes, option_and_then, option_map, unwrap_or};
 ghost use Rattle.clap.specs.Words.{all_of, first_of, found_of, kind_of, one_of, rows_of, subcommand_rows_of};
 ghost use Rattle.command_line.specs.Commands.{AllChoices, IsCommandOf, tfmset_app};
-ghost use Rattle.command_line.specs.Asked.{AreJobs, Asks, AsksFor, Finds, encoding_stated, format_word, has_no_block, has_plain_size, IsAskedBy, IsAskedOf, IsAskedWith, IsBlock, IsChecking, IsEncoding, IsFlag, IsLayout, IsListing, IsNumberIn, IsPairing, IsPairsLayout, IsPlan, IsRefusedBy, IsRefusedWith, IsSetting, IsSize, IsUnit, IsVerbose, is_path, kind_of_values, kind_without_request, misstates_encoding, misstates_size, policy_word, texts, vector_in, vector_named, format_stated, misplaces_unit, version_named};
+ghost use Rattle.command_line.specs.Asked.{AreJobs, Asks, AsksFor, Finds, encoding_stated, format_word, has_no_block, has_plain_size, IsAskedBy, IsAskedOf, IsAskedWith, IsBlock, IsChecking, IsEncoding, IsFlag, IsLayout, IsListing, IsNumberIn, IsPairing, IsPairsLayout, IsPlan, IsRefusedBy, IsRefusedWith, IsSetting, IsSize, IsUnit, IsVerbose, is_path, kind_of_values, kind_without_request, misstates_encoding, misstates_size, policy_word, texts, vector_in, vector_named, format_stated, misplaces_unit, version_named, finding_format_word, has_no_font as has_no_font_in, IsCheckLayout};
 
 use crate::commands::{alone, tfmset_command};
-use crate::help::{ENCODING_ERROR, SIZE_ERROR, UNIT_ERROR};
-use crate::request::{Checking, Jobs, Layout, Listing, Pairing, Request, Requested, Setting};
+use crate::help::{ENCODING_ERROR, FONT_ERROR, SIZE_ERROR, UNIT_ERROR};
+use crate::request::{
+    CheckLayout, Checking, Jobs, Layout, Listing, Pairing, Request, Requested, Setting,
+};
 use clap::error::ErrorKind;
 use clap::{ArgMatches, Command, Error};
 use encodings::Encoding;
-use font_texts::{PairsFormat, PairsLayout};
+use font_texts::{FindingFormat, PairsFormat, PairsLayout};
 use line_records::RecordFormat;
 use run_plan::{Block, Capacity, Plan, Workers};
 use set_line::{Limit, Policy, Version};
@@ -51,8 +53,8 @@ fn requested_of<'a, S: AsStr>(
 }
 
 /// Returns the error of arguments that state no request although the parse has no error: `--size` states no
-/// size, `--encoding` states no encoding and names no file, `--unit` is given without `--record box`, or there is no
-/// subcommand.
+/// size, `--encoding` states no encoding and names no file, `--unit` is given without `--record box`, `check` has no
+/// font, or there is no subcommand.
 fn without_request<'a>(
     alloc: Global,
     command: &mut Command<'a>,
@@ -83,7 +85,7 @@ fn wrong_values<'a>(
     if misplaced(matches) {
         return command.error(ErrorKind::ArgumentConflict, UNIT_ERROR);
     }
-    no_subcommand(command)
+    command.error(ErrorKind::MissingRequiredArgument, FONT_ERROR)
 }
 
 /// Returns the error of a missing subcommand.
@@ -258,20 +260,50 @@ fn asked_fonts<'a>(
 ) -> Result<Option<Checking<'a>>, AllocError>
     ensures { IfOk result (Finds (IsChecking (rows_of (found_of matches.now)))) }
 {
-    let Some(fonts) = words(matches, "FONT") else {
+    if has_no_font(matches) {
+        return Ok(None);
+    }
+    let fonts = asked_words(alloc, matches, "FONT")?;
+    let Some(layout) = asked_check_layout(matches) else {
         return Ok(None);
     };
-    let Some(size) = asked_size(matches) else {
-        return Ok(None);
-    };
-    let fonts = Vec::from_slice(alloc, fonts)?;
     Ok(Some(Checking {
         fonts,
-        size,
+        list: value_of(matches, "files-from"),
+        null: flag(matches, "null"),
+        layout,
+    }))
+}
+
+/// Returns whether `check` has neither a font nor a list of fonts.
+fn has_no_font(matches: &ArgMatches<'_>) -> bool
+    ensures { result ≡ has_no_font_in (rows_of (found_of matches.now)) }
+{
+    words(matches, "FONT").is_none() && value_of(matches, "files-from").is_none()
+}
+
+/// Returns the size of the fonts of `check`, and how the findings are printed.
+fn asked_check_layout(matches: &ArgMatches<'_>) -> Option<CheckLayout>
+    ensures { Finds (IsCheckLayout (rows_of (found_of matches.now))) result }
+{
+    Some(CheckLayout {
+        size: asked_size(matches)?,
+        format: asked_finding_format(matches)?,
         quiet: flag(matches, "quiet"),
         summary: flag(matches, "summary"),
         verbose: asked_verbose(matches),
-    }))
+    })
+}
+
+fn asked_finding_format(matches: &ArgMatches<'_>) -> Option<FindingFormat>
+    ensures { Finds (λ format. first_of (codes "format") (rows_of (found_of matches.now))
+        ≡ Some (finding_format_word format)) result }
+{
+    match text(matches, "format")? {
+        "text" => Some(FindingFormat::Text),
+        "json" => Some(FindingFormat::Json),
+        _ => None,
+    }
 }
 
 /// Returns the font, the limit, the files and the layout of `set` or `stream`.
@@ -281,7 +313,7 @@ fn asked_setting<'a>(
 ) -> Result<Option<Setting<'a>>, AllocError>
     ensures { IfOk result (Finds (IsSetting (rows_of (found_of matches.now)))) }
 {
-    let files = asked_files(alloc, matches)?;
+    let files = asked_words(alloc, matches, "FILE")?;
     let Some((font, limit, layout)) = font_limit_layout(matches) else {
         return Ok(None);
     };
@@ -307,13 +339,17 @@ fn font_limit_layout<'a>(matches: &ArgMatches<'a>) -> Option<(&'a str, Limit, La
     Some((font, limit, layout))
 }
 
-/// Returns the files with lines, an empty list if there are none.
-fn asked_files<'a>(alloc: Global, matches: &ArgMatches<'a>) -> Result<Vec<&'a str>, AllocError>
-    ensures { IfOk result (λ files.
-        unwrap_or (all_of (codes "FILE") (rows_of (found_of matches.now))) [] ≡ texts files.items) }
+/// Returns all values of this argument, an empty list if there are none.
+fn asked_words<'a>(
+    alloc: Global,
+    matches: &ArgMatches<'a>,
+    name: &str,
+) -> Result<Vec<&'a str>, AllocError>
+    ensures { IfOk result (λ words.
+        unwrap_or (all_of name.now (rows_of (found_of matches.now))) [] ≡ texts words.items) }
 {
-    match words(matches, "FILE") {
-        Some(files) => Vec::from_slice(alloc, files),
+    match words(matches, name) {
+        Some(words) => Vec::from_slice(alloc, words),
         None => Ok(Vec::new(alloc)),
     }
 }

@@ -1,9 +1,9 @@
 //! The requests that arguments can state.
 use encodings::Encoding;
-use font_texts::PairsLayout;
+use font_texts::{FindingFormat, PairsLayout};
 use line_records::RecordFormat;
 use run_plan::Plan;
-use set_line::{Limit, Policy, Version};
+use set_line::{Limit, Policy};
 use tex_sizes::LengthUnit;
 use tfm_words::Size;
 
@@ -104,10 +104,23 @@ pub struct Pairing<'a> {
 #[derive(Drop)]
 pub struct Checking<'a> {
     /// The names of the fonts, in order. At most one may be `-`, for standard input; `requested` doesn't
-    /// check this.
+    /// check this. The list is empty only if `list` has a name.
     pub fonts: Vec<&'a str>,
+    /// The name of a file with the names of further fonts; `-` is standard input.
+    pub list: Option<&'a str>,
+    /// Whether the names in that file end with a zero byte, and not with a line feed.
+    pub null: bool,
+    /// The other options.
+    pub layout: CheckLayout,
+}
+
+/// The options of `check`: how fonts are read, and how the findings are printed.
+#[derive(Clone, Copy)]
+pub struct CheckLayout {
     /// The size of all fonts, in sp; `None` means the design size of each font.
     pub size: Option<Size>,
+    /// The format of the output.
+    pub format: FindingFormat,
     /// Whether the lines of accepted fonts are left out.
     pub quiet: bool,
     /// Whether a last line with the numbers of fonts is printed.

@@ -1,6 +1,7 @@
 ghost use Rattle.std.specs.Prelude.{◌≡◌, ◌<◌, ◌++◌, OnOk, false, true};
 ghost use Rattle.std.specs.Fmt.{digit_glyph};
 ghost use Rattle.font_texts.specs.AllListing.{hex_byte, hex_text};
+ghost use Rattle.font_texts.specs.Findings.{json_escaped, json_text};
 ghost use Rattle.font_texts.specs.ListingWords.{escaped, escaped_text};
 
 use std::alloc::AllocError;
@@ -45,6 +46,27 @@ pub fn push_escaped_text(text: &mut Vec<u8>, bytes: &[u8]) -> Result<(), AllocEr
 {
     for byte in bytes {
         push_escaped(text, *byte)?;
+    }
+    Ok(())
+}
+
+#[tactic(auto, unfolding(crate::specs::Findings::json_escaped))]
+fn push_json_escaped(text: &mut Vec<u8>, byte: u8) -> Result<(), AllocError>
+    ensures { OnOk result (text.new.items ≡ text.old.items ++ json_escaped byte) }
+{
+    if !matches!(byte, 32..=126) || byte == b'\\' || byte == b'"' {
+        text.extend_from_slice(b"\\")?;
+    }
+    push_escaped(text, byte)
+}
+
+/// Appends a text for a JSON string: escaped as `push_escaped_text` does, and then with a backslash before each
+/// backslash and double quote.
+pub(crate) fn push_json_text(text: &mut Vec<u8>, bytes: &[u8]) -> Result<(), AllocError>
+    ensures { OnOk result (text.new.items ≡ text.old.items ++ json_text bytes.now) }
+{
+    for byte in bytes {
+        push_json_escaped(text, *byte)?;
     }
     Ok(())
 }

@@ -23,8 +23,9 @@ impl fmt::Display for Numbered {
     }
 }
 
+/// Returns the number of a font error.
 #[tactic(auto, unfolding(crate::specs::FaultWords::fault_number))]
-fn number_of(fault: FontFault) -> u8
+pub(crate) fn number_of(fault: FontFault) -> u8
     ensures { result ≡ fault_number fault }
 {
     match fault {

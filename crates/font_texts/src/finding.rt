@@ -16,6 +16,15 @@ pub enum Finding {
     NotRead,
 }
 
+/// A format of the lines of `check`.
+#[derive(Clone, Copy, Debug, PartialEq, Eq, Hash)]
+pub enum FindingFormat {
+    /// The name, a colon, and the finding.
+    Text,
+    /// A JSON object.
+    Json,
+}
+
 impl fmt::Display for Finding {
     ghost output = { λ finding. Some (finding_words finding) };
 

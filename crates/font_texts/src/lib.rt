@@ -4,10 +4,10 @@
 
 pub use all_listing::list_all_text;
 pub use appending::push_escaped_text;
-pub use checking::{check_text, finding_text};
+pub use checking::{check_font, finding_text};
 pub use counts::counts_text;
 pub use fault_words::Numbered;
-pub use finding::Finding;
+pub use finding::{Finding, FindingFormat};
 pub use listing::{list_file_text, list_text};
 pub use pair::Pair;
 pub use pair_lines::pairs_text;

@@ -1,20 +1,31 @@
 -- Lemmas on the output for fonts that are checked.
 use Rattle.std.proofs.Common.{arith, ◌≡◌, ℕ, ◌+◌, ◌<◌, ◌≤◌, Bool, true, false, List, [], ◌∷◌, ◌++◌, ◌∙◌, inl, inr, cond, length, map, take, get_or, Option, Some, None, Bor, refl, ap, sym, subst}
+use Rattle.std.proofs.lemmas.Bool.{lt-ltb, true≢false}
 use Rattle.std.proofs.lemmas.Grind.{flat_map-append}
 use Rattle.std.proofs.lemmas.List.{append-nil, append_assoc, flat_map_more, get_or_default, map-append}
 use Rattle.std.proofs.lemmas.List.Elements.{filter-append}
 use Rattle.std.proofs.lemmas.List.Sums.{count_by_more_no, count_by_more_yes, sum_by-take-le}
-use Rattle.std.specs.Prelude.{codes, IfSome, if◌then◌else◌, ◌&&◌, not}
+use Rattle.std.specs.Prelude.{codes, Result, Ok, Err, IfOk, IfSome, if◌then◌else◌, ◌&&◌, not}
+use Rattle.command_line.specs.declared.request.CheckLayout.{CheckLayout}
 use Rattle.command_line.specs.declared.request.Checking.{Checking}
+use Rattle.std.specs.List.{All, AllZip}
 use Rattle.std.specs.Str.{bytes_eq}
-use Rattle.std.specs.Io.KnownBytes.{Appends, Keeps}
+use Rattle.std.specs.Io.BufRead.{DropsThrough, drop_through, first_piece}
+use Rattle.std.specs.Io.Buffered.{reader_buffer, reader_capacity, reader_inner, reader_remaining}
+use Rattle.std.specs.Io.KnownBytes.{Appends, IsAtEnd, Keeps, prepend_known}
+use Rattle.std.specs.declared.io.buffered.BufReader.{BufReader}
 use Rattle.font_texts.specs.declared.finding.Finding.{Finding}
 use Rattle.font_texts.specs.declared.finding.Finding.TheVariants.{Accepted, Refused, NotRead}
+use Rattle.font_texts.specs.declared.finding.FindingFormat.{FindingFormat}
 use Rattle.font_texts.specs.Findings.{finding_line, finding_of, finding_with, findings_text}
-use Rattle.tfm_requests.specs.Checking.{AreChecked, AreWritten, IsFound, IsRowOf, check_status, dashes_in, is_accepted, rows_shown, summary_text}
+use Rattle.tfm_requests.specs.Checking.{AddsRows, AreChecked, AreListed, AreNamed, IsFound, IsOpenedList, IsRowOf, IsRowOfFile, IsWritten, Row, check_status, dashes_in, is_accepted, is_input, names_in, rows_shown, rows_text, separator_of, summary_text, tally_of, without_empty}
 use Rattle.tfm_requests.specs.Kept.{HaveSameFont}
 use Rattle.tfm_requests.specs.Known.{font_bytes_of}
+use Rattle.tfm_requests.specs.declared.font_list.FontList.{FontList}
+use Rattle.tfm_requests.specs.declared.font_list.FontList.TheVariants.{None as NoList, Input, File}
+use Rattle.tfm_requests.specs.declared.tally.Tally.{Tally}
 use Rattle.tfm_requests.proofs.JobLemmas.{place_more}
+use Rattle.tfm_requests.proofs.NameLemmas.{first_name}
 
 appends_nothing : (w : Option (List ℕ)) → Appends w w []
 appends_nothing None = tt
@@ -41,43 +52,175 @@ unread_found (Some all) = inr refl
 -- ---- the rows of fonts
 
 -- the line of a font, if it is shown
-abbrev pub line_shown : Bool → List ℕ × Finding → List ℕ
-line_shown quiet row = cond (quiet && is_accepted row.1) [] (finding_line row)
+abbrev pub line_shown : CheckLayout → Row → List ℕ
+line_shown layout row = cond (layout.quiet && is_accepted row.1) [] (finding_line layout.format row)
 
-shown_alone : (name : List ℕ) (finding : Finding) → line_shown true (name, finding) ≡ findings_text (rows_shown true ((name, finding) ∷ []))
-shown_alone name Accepted = refl
-shown_alone name (Refused fault) = sym (append-nil (finding_line (name, Refused fault)))
-shown_alone name NotRead = sym (append-nil (finding_line (name, NotRead)))
+shown_alone : (format : FindingFormat) (name : List ℕ) (finding : Finding)
+    → cond (is_accepted finding) [] (finding_line format (name, finding)) ≡ findings_text format (rows_shown true ((name, finding) ∷ []))
+shown_alone format name Accepted = refl
+shown_alone format name (Refused fault) = sym (append-nil (finding_line format (name, Refused fault)))
+shown_alone format name NotRead = sym (append-nil (finding_line format (name, NotRead)))
 
 -- one row more is one line more, if it is shown
-shown_more : (quiet : Bool) (rows : List (List ℕ × Finding)) (name : List ℕ) (finding : Finding)
-    → findings_text (rows_shown quiet rows) ++ line_shown quiet (name, finding) ≡ findings_text (rows_shown quiet (rows ++ (name, finding) ∷ []))
-shown_more false rows name finding = flat_map_more finding_line [] rows (name, finding)
-shown_more true rows name finding =
-    ap (λ line. findings_text (rows_shown true rows) ++ line) (shown_alone name finding)
-    ∙ (sym (flat_map-append finding_line (rows_shown true rows) (rows_shown true ((name, finding) ∷ [])))
-    ∙ ap findings_text (sym (filter-append (λ row. not (is_accepted row.1)) rows ((name, finding) ∷ []))))
+shown_more : (quiet : Bool) (format : FindingFormat) (rows : List Row) (name : List ℕ) (finding : Finding)
+    → findings_text format (rows_shown quiet rows) ++ cond (quiet && is_accepted finding) [] (finding_line format (name, finding))
+    ≡ findings_text format (rows_shown quiet (rows ++ (name, finding) ∷ []))
+shown_more false format rows name finding = flat_map_more (finding_line format) [] rows (name, finding)
+shown_more true format rows name finding =
+    ap (λ line. findings_text format (rows_shown true rows) ++ line) (shown_alone format name finding)
+    ∙ (sym (flat_map-append (finding_line format) (rows_shown true rows) (rows_shown true ((name, finding) ∷ [])))
+    ∙ ap (findings_text format) (sym (filter-append (λ row. not (is_accepted row.1)) rows ((name, finding) ∷ []))))
 
-module _ (known : List ℕ → Option (List ℕ)) (input : Option (List ℕ)) where
-  -- no font has no line
-  pub none_written : (quiet : Bool) (w : Option (List ℕ)) → AreWritten known input quiet [] w w []
-  none_written true w = ([], tt, appends_nothing w, refl)
-  none_written false w = ([], tt, appends_nothing w, refl)
+-- the line of one font was written
+pub adds_row : (layout : CheckLayout) (name : List ℕ) (finding : Finding) (before after : Option (List ℕ)) (tally all : Tally)
+    → Appends before after (line_shown layout (name, finding)) → ((rows : List Row) (name : List ℕ) → tally ≡ tally_of rows → all ≡ tally_of (rows ++ (name, finding) ∷ []))
+    → AddsRows layout ((name, finding) ∷ []) before tally after all
+adds_row layout name finding before after tally all line more = λ start rows written. (
+  subst (Appends start after) (shown_more layout.quiet layout.format rows name finding)
+      (appends_more start before after (rows_text layout rows) (line_shown layout (name, finding)) written.0 line),
+  more rows name written.1,
+)
 
-  -- one font more is one finding more
-  pub one_written : (quiet : Bool) (names : List (Bor (List ℕ))) (i : ℕ) (d : Bor (List ℕ)) (finding : Finding) (findings : List Finding) (w w' w'' : Option (List ℕ))
-      → i < length names → AreWritten known input quiet (take i names) w w' findings
+-- the lines of no font, and those of some fonts and then of others
+pub adds_none : (layout : CheckLayout) (w : Option (List ℕ)) (tally : Tally) → AddsRows layout [] w tally w tally
+adds_none layout w tally = λ start rows written. subst (λ r. IsWritten layout r start w tally) (sym (append-nil rows)) written
+
+pub adds_more : (layout : CheckLayout) (first next : List Row) (w w' w'' : Option (List ℕ)) (t t' t'' : Tally)
+    → AddsRows layout first w t w' t' → AddsRows layout next w' t' w'' t'' → AddsRows layout (first ++ next) w t w'' t''
+adds_more layout first next w w' w'' t t' t'' one other = λ start rows written.
+    subst (λ r. IsWritten layout r start w'' t'') (append_assoc rows first next) (other start (rows ++ first) (one start rows written))
+
+none_shown : (quiet : Bool) (format : FindingFormat) → findings_text format (rows_shown quiet []) ≡ []
+none_shown true format = refl
+none_shown false format = refl
+
+-- no font has no line
+pub none_written : (layout : CheckLayout) (w : Option (List ℕ)) (tally : Tally) → tally ≡ tally_of [] → IsWritten layout [] w w tally
+none_written layout w tally is = (subst (Appends w w) (sym (none_shown layout.quiet layout.format)) (appends_nothing w), is)
+
+module _ (known : List ℕ → Option (List ℕ)) (input : Option (List ℕ)) (layout : CheckLayout) where
+  -- these fonts of the arguments have possible findings, and their lines were written
+  abbrev pub HaveRows : List (Bor (List ℕ)) → Option (List ℕ) → Option (List ℕ) → Tally → Type 0
+  HaveRows names before after tally = (rows : List Row) × AllZip (IsRowOf known input) names rows × IsWritten layout rows before after tally
+
+  -- one font more is one row more
+  pub one_written : (names : List (Bor (List ℕ))) (i : ℕ) (d : Bor (List ℕ)) (finding : Finding) (w w' w'' : Option (List ℕ)) (t t' : Tally)
+      → i < length names → HaveRows (take i names) w w' t
       → IfSome (font_bytes_of known input (get_or names i d).now) (λ all. IsFound all finding)
-      → Appends w' w'' (line_shown quiet ((get_or names i d).now, finding))
-      → AreWritten known input quiet (take (i + 1) names) w w'' (findings ++ finding ∷ [])
-  one_written quiet names i d finding findings w w' w'' within before found line =
-      let row : List ℕ × Finding = ((get_or names i d).now, finding) in (
+      → AddsRows layout (((get_or names i d).now, finding) ∷ []) w' t w'' t'
+      → HaveRows (take (i + 1) names) w w'' t'
+  one_written names i d finding w w' w'' t t' within before found adds =
+      let row : Row = ((get_or names i d).now, finding) in (
         before.0 ++ row ∷ [],
         place_more (IsRowOf known input) names before.0 i (get_or names i d) row within (get_or_default names i d (get_or names i d) within) before.1 (refl, found),
-        subst (Appends w w'') (shown_more quiet before.0 (get_or names i d).now finding)
-            (appends_more w w' w'' (findings_text (rows_shown quiet before.0)) (line_shown quiet row) before.2 line),
-        ap (λ f. f ++ finding ∷ []) before.3 ∙ sym (map-append (λ (row : List ℕ × Finding). row.1) before.0 (row ∷ [])),
+        adds w before.0 before.2,
       )
+
+-- ---- the names of a list
+
+prepend_nothing : (known : Option (List ℕ)) → prepend_known [] known ≡ known
+prepend_nothing None = refl
+prepend_nothing (Some all) = refl
+
+-- a reader with an empty buffer
+pub reader_unread : {L A : Type 0} (remaining : L → Option (List ℕ)) (reader : BufReader L A) (list : L) → reader_inner reader ≡ list → reader_buffer reader ≡ []
+    → reader_capacity reader ≡ 8192 → reader_remaining remaining reader ≡ remaining list
+reader_unread remaining reader list inner empty capacity = rw (capacity, empty) (prepend_nothing (remaining (reader_inner reader)) ∙ ap remaining inner)
+
+pub no_name : (name : List ℕ) → length name ≡ 0 → [] ≡ without_empty (name ∷ [])
+no_name [] is = refl
+no_name (byte ∷ name) is = absurd (omega (arith, is))
+
+pub one_name : (name : List ℕ) → ¬ (length name ≡ 0) → name ∷ [] ≡ without_empty (name ∷ [])
+one_name [] some = absurd (some refl)
+one_name (byte ∷ name) some = sym (ap (λ some. cond some ((byte ∷ name) ∷ []) []) (lt-ltb 0 (length (byte ∷ name)) (omega arith)))
+
+module _ (separator : ℕ) where
+  -- what was taken of a list whose bytes are known: the names of these rows come first
+  abbrev pub AreTaken : Option (List ℕ) → Option (List ℕ) → List Row → Type 0
+  AreTaken None rest rows = Unit {0}
+  AreTaken (Some all) None rows = ⊥
+  AreTaken (Some all) (Some rest) rows = names_in separator all ≡ map (λ row. row.0) rows ++ names_in separator rest
+
+  pub none_taken : (list : Option (List ℕ)) → AreTaken list list []
+  none_taken None = tt
+  none_taken (Some all) = refl
+
+  -- the next name of a list
+  pub more_taken : (list old new : Option (List ℕ)) (rows added : List Row) (name : List ℕ) → AreTaken list old rows
+      → IfSome old (λ all. (0 < length all) × (name ≡ first_piece separator all)) → DropsThrough old new separator
+      → map (λ row. row.0) added ≡ without_empty (name ∷ []) → AreTaken list new (rows ++ added)
+  more_taken None old new rows added name taken first rest is = tt
+  more_taken (Some all) None new rows added name taken first rest is = elim taken [ ]
+  more_taken (Some all) (Some old) new rows added name taken first rest is =
+      subst (λ r. AreTaken (Some all) r (rows ++ added)) (sym rest)
+      (taken
+      ∙ (ap (λ l. map (λ row. row.0) rows ++ l) (first_name separator old first.0
+      ∙ ap (λ l. l ++ names_in separator (drop_through separator old)) (ap (λ n. without_empty (n ∷ [])) (sym first.1) ∙ sym is))
+      ∙ (sym (append_assoc (map (λ row. row.0) rows) (map (λ row. row.0) added) (names_in separator (drop_through separator old)))
+      ∙ ap (λ l. l ++ names_in separator (drop_through separator old)) (sym (map-append (λ (row : Row). row.0) rows added)))))
+
+  -- what is known of a piece
+  pub piece_of : {T E : Type 0} (bytes : T → List ℕ) (old new : Option (List ℕ)) (item : Result T E) (piece : T) → item ≡ Ok piece
+      → IfOk item (λ x. IfSome old (λ all. (0 < length all) × (bytes x ≡ first_piece separator all)) × DropsThrough old new separator)
+      → IfSome old (λ all. (0 < length all) × (bytes piece ≡ first_piece separator all)) × DropsThrough old new separator
+  piece_of bytes old new item piece is =
+      subst (λ item. IfOk item (λ x. IfSome old (λ all. (0 < length all) × (bytes x ≡ first_piece separator all)) × DropsThrough old new separator)) is
+
+  module _ (known : List ℕ → Option (List ℕ)) where
+    -- the list was read to its end
+    pub all_named : (list rest : Option (List ℕ)) (rows : List Row) → All (IsRowOfFile known) rows → AreTaken list rest rows → IsAtEnd rest
+        → AreNamed known separator list true rows
+    all_named None rest rows found taken end = (found, tt)
+    all_named (Some all) None rows found taken end = elim taken [ ]
+    all_named (Some all) (Some rest) rows found taken end =
+        (found, ([], taken ∙ ap (λ r. map (λ row. row.0) rows ++ names_in separator r) end, λ _. refl))
+
+    -- its first names were read
+    pub some_named : (list rest : Option (List ℕ)) (rows : List Row) → All (IsRowOfFile known) rows → AreTaken list rest rows
+        → AreNamed known separator list false rows
+    some_named None rest rows found taken = (found, tt)
+    some_named (Some all) None rows found taken = elim taken [ ]
+    some_named (Some all) (Some rest) rows found taken = (found, (names_in separator rest, taken, λ is. absurd (true≢false (sym is))))
+
+-- ---- what was opened for a list
+
+of_file : (known : List ℕ → Option (List ℕ)) (file list : Option (List ℕ)) (separator : ℕ) (ended : Bool) (rows : List Row)
+    → IfSome file (λ all. list ≡ Some all) → AreNamed known separator list ended rows → AreNamed known separator file ended rows
+of_file known None list separator ended rows is named = (named.0, tt)
+of_file known (Some all) list separator ended rows is named = subst (λ l. AreNamed known separator l ended rows) is named
+
+module _ (known : List ℕ → Option (List ℕ)) (input : Option (List ℕ)) {T : Type 0} (remaining : T → Option (List ℕ)) where
+  pub none_listed : (name : Option (Bor (List ℕ))) (opened : FontList T) → opened ≡ NoList → IsOpenedList known remaining name opened
+      → (separator : ℕ) → AreListed known input name separator true []
+  none_listed None opened is none separator = (refl, refl)
+  none_listed (Some file) opened is some separator = elim (subst (IsOpenedList known remaining (Some file)) is some) [ ]
+
+  pub input_listed : (name : Option (Bor (List ℕ))) (opened : FontList T) → opened ≡ Input → IsOpenedList known remaining name opened
+      → (separator : ℕ) (ended : Bool) (rows : List Row) → AreNamed known separator input ended rows → AreListed known input name separator ended rows
+  input_listed None opened is none separator ended rows named = let bad = sym is ∙ none in cc
+  input_listed (Some file) opened is dash separator ended rows named =
+      subst (λ d. AreNamed known separator (if d then input else known file.now) ended rows) (sym (subst (IsOpenedList known remaining (Some file)) is dash)) named
+
+  pub file_listed : (name : Option (Bor (List ℕ))) (opened : FontList T) (reader : T) → opened ≡ File reader → IsOpenedList known remaining name opened
+      → (separator : ℕ) (ended : Bool) (rows : List Row) → AreNamed known separator (remaining reader) ended rows → AreListed known input name separator ended rows
+  file_listed None opened reader is none separator ended rows named = let bad = sym is ∙ none in cc
+  file_listed (Some file) opened reader is from separator ended rows named =
+      let has = subst (IsOpenedList known remaining (Some file)) is from in
+      subst (λ d. AreNamed known separator (if d then input else known file.now) ended rows) (sym has.0)
+      (of_file known (known file.now) (remaining reader) separator ended rows has.1 named)
+
+input_at_start : (known : List ℕ → Option (List ℕ)) (dash : Bool) (start now other : Option (List ℕ)) (separator : ℕ) (ended : Bool) (rows : List Row) → (dash ≡ true → now ≡ start)
+    → AreNamed known separator (if dash then now else other) ended rows → AreNamed known separator (if dash then start else other) ended rows
+input_at_start known true start now other separator ended rows same named = subst (λ list. AreNamed known separator list ended rows) (same refl) named
+input_at_start known false start now other separator ended rows same named = named
+
+-- if the list is standard input, this wasn't read before
+pub listed_at_start : (known : List ℕ → Option (List ℕ)) (start now : Option (List ℕ)) (name : Option (Bor (List ℕ))) (separator : ℕ) (ended : Bool) (rows : List Row)
+    → (is_input name ≡ true → now ≡ start) → AreListed known now name separator ended rows → AreListed known start name separator ended rows
+listed_at_start known start now None separator ended rows same listed = listed
+listed_at_start known start now (Some file) separator ended rows same listed =
+    input_at_start known (bytes_eq file.now (codes "-")) start now (known file.now) separator ended rows same listed
 
 -- ---- standard input, which at most one name asks for
 
@@ -129,17 +272,23 @@ kept_text (Some xs) (Some ys) None text is kept = elim kept [ ]
 kept_text (Some xs) (Some ys) (Some zs) text is kept = kept ∙ is
 
 module _ (known : List ℕ → Option (List ℕ)) (input : Option (List ℕ)) (asked : Checking) where
-  -- the lines of the fonts, and then the summary, are the output
-  pub all_checked : (w w' w'' v : Option (List ℕ)) (findings : List Finding) (status : ℕ)
-      → AreWritten known input asked.quiet asked.fonts.items w w' findings
-      → Appends w' w'' (summary_text asked.summary findings) → Keeps w'' v → status ≡ check_status findings
-      → AreChecked known input asked w v status
-  all_checked w w' w'' v findings status written summary kept is =
-      let lines : List ℕ = findings_text (rows_shown asked.quiet written.0) in
-      let last : List ℕ = summary_text asked.summary (map (λ row. row.1) written.0) in (
-        written.0,
-        written.1,
-        kept_text w w'' v (lines ++ last)
-            (appends_more w w' w'' lines last written.2 (subst (λ f. Appends w' w'' (summary_text asked.summary f)) written.3 summary)) kept,
-        is ∙ ap check_status written.3,
+  -- the lines of the fonts of the arguments, those of the list, and then the summary, are the output
+  pub all_checked : (w w' w'' v v' : Option (List ℕ)) (tally all : Tally) (listed : List Row) (ended : Bool) (status : ℕ)
+      → HaveRows known input asked.layout asked.fonts.items w w' tally
+      → AreListed known input asked.list (separator_of asked.null) ended listed → AddsRows asked.layout listed w' tally w'' all
+      → Appends w'' v (summary_text asked.layout all) → Keeps v v' → status ≡ check_status ended all
+      → AreChecked known input asked w v' status
+  all_checked w w' w'' v v' tally all listed ended status fonts named adds summary kept is =
+      let written = adds w fonts.0 fonts.2 in
+      let rows = fonts.0 ++ listed in
+      let lines : List ℕ = rows_text asked.layout rows in
+      let last : List ℕ = summary_text asked.layout (tally_of rows) in (
+        fonts.0,
+        listed,
+        ended,
+        fonts.1,
+        named,
+        kept_text w v v' (lines ++ last)
+            (appends_more w w'' v lines last written.0 (subst (λ t. Appends w'' v (summary_text asked.layout t)) written.1 summary)) kept,
+        is ∙ ap (check_status ended) written.1,
       )

@@ -7,6 +7,7 @@ pub mod VectorLemmas
 pub mod EachLemmas
 pub mod WordLemmas
 pub mod JobLemmas
+pub mod NameLemmas
 pub mod CheckingLemmas
 pub mod SourceLemmas
 pub mod WorkedRows

@@ -1,5 +1,5 @@
 -- Words, fonts and files, and what the definitions alone make of them.
-use Rattle.std.proofs.Common.{arith, ◌≡◌, ℕ, ◌<◌, ◌≤◌, List, [], ◌∷◌, length, Some, Bor, codes, refl, sym, subst}
+use Rattle.std.proofs.Common.{arith, ◌≡◌, ℕ, ◌<◌, ◌≤◌, List, [], ◌∷◌, length, true, false, Some, Bor, codes, refl, sym, subst}
 use Rattle.std.proofs.lemmas.Bool.{true≢false}
 use Rattle.tfm_words.specs.CountFaults.{faults_within}
 use Rattle.tfm_words.specs.declared.count_fault.CountFault.TheVariants.{Truncated}
@@ -7,7 +7,10 @@ use Rattle.tfm_tables.specs.declared.fault.FontFault.TheVariants.{Counts as InCo
 use Rattle.command_line.specs.declared.request.Checking.{Checking}
 use Rattle.command_line.specs.declared.request.Layout.{Layout}
 use Rattle.command_line.specs.declared.request.Setting.{Setting}
-use Rattle.tfm_requests.specs.Checking.{dashes_in}
+use Rattle.std.specs.Fmt.{digits}
+use Rattle.font_texts.specs.declared.finding.Finding.TheVariants.{Accepted, NotRead}
+use Rattle.font_texts.specs.declared.finding.FindingFormat.TheVariants.{Json}
+use Rattle.tfm_requests.specs.Checking.{dashes_in, names_in, separator_of, summary_line, tally_of}
 use Rattle.tfm_requests.specs.Causes.{IsErrorOfCheck, IsErrorOfSetting, IsHeadError, IsJobError}
 use Rattle.tfm_requests.specs.Jobs.{IsErrorOfWords, IsLimitOf, WritesLimit, jobs_in}
 use Rattle.tfm_requests.specs.declared.failures.errors.FontError.TheVariants.{Refused}
@@ -77,3 +80,18 @@ first_of_two : (layout : Layout) → IsJobError (λ _. Some []) layout
     (jobs_in (word (codes "a") ∷ word (codes "1") ∷ word (codes "b") ∷ word (codes "c") ∷ word (codes "1") ∷ word (codes "d") ∷ [])) (JobRefused 1 (InCounts (Truncated 24)))
 unfolding faults_within
 first_of_two layout = ([], record { font = codes "a"; limit = 1; file = codes "b" }, record { font = codes "c"; limit = 1; file = codes "d" } ∷ [], refl, refl, λ k d below. absurd (omega (arith, below)), refl)
+
+-- ---- lists of fonts
+
+-- names with an empty line between them, and without a line feed at the end
+named_lines : names_in (separator_of false) (codes "a\n\nb c\n-") ≡ codes "a" ∷ codes "b c" ∷ codes "-" ∷ []
+named_lines = refl
+
+-- names that end with zero bytes, one of them with a line feed
+named_bytes : names_in (separator_of true) (97 ∷ 10 ∷ 98 ∷ 0 ∷ 255 ∷ 0 ∷ []) ≡ (97 ∷ 10 ∷ 98 ∷ []) ∷ (255 ∷ []) ∷ []
+named_bytes = refl
+
+-- the summary in JSON of a font that is accepted and one that isn't read
+counted_in_json : summary_line Json (tally_of ((codes "a", Accepted) ∷ (codes "b", NotRead) ∷ [])) ≡ codes "{\"fonts\":2,\"accepted\":1,\"refused\":0,\"unread\":1}\n"
+unfolding digits
+counted_in_json = refl

@@ -1,7 +1,7 @@
 -- The reason why a request fails: an error of its arguments, the first error of its fonts, or the error of its
 -- encoding vector. Of the other failures nothing is stated, except that they aren't one of these.
 -- This project's own; the order of font errors is defined in Acceptance of `tfm_tables`.
-use Rattle.std.specs.Prelude.{◌≡◌, ℕ, ◌+◌, ◌<◌, List, [], ◌∷◌, ◌++◌, codes, length, All, Option, Some, None}
+use Rattle.std.specs.Prelude.{◌≡◌, ℕ, ◌+◌, ◌<◌, List, [], ◌∷◌, ◌++◌, true, codes, length, All, Option, Some, None}
 use Rattle.tfm_tables.specs.Acceptance.{font_fault_of}
 use Rattle.tfm_tables.specs.Font.{FontValue, IsFontOf}
 use Rattle.font_texts.specs.CountsText.{head_fault_of}
@@ -13,7 +13,7 @@ use Rattle.command_line.specs.declared.request.Request.{Request as Asked}
 use Rattle.command_line.specs.declared.request.Request.TheVariants.{Counts, List as ListFont, Pairs, Check, Set, Stream, Each}
 use Rattle.command_line.specs.declared.request.Requested.{Requested}
 use Rattle.command_line.specs.declared.request.Setting.{Setting}
-use Rattle.tfm_requests.specs.Checking.{dashes_in}
+use Rattle.tfm_requests.specs.Checking.{dashes_in, is_input}
 use Rattle.tfm_requests.specs.Jobs.{IsErrorOfWords, JobValue, jobs_in}
 use Rattle.tfm_requests.specs.Known.{OfKnown, font_bytes_of}
 use Rattle.tfm_requests.specs.Status.{tool_status}
@@ -23,7 +23,7 @@ use Rattle.tfm_requests.specs.declared.failures.errors.FontError.TheVariants.{Re
 use Rattle.tfm_requests.specs.declared.failures.errors.JobError.{JobError}
 use Rattle.tfm_requests.specs.declared.failures.errors.JobError.TheVariants.{Refused as JobRefused}
 use Rattle.tfm_requests.specs.declared.failures.errors.RequestError.{RequestError}
-use Rattle.tfm_requests.specs.declared.failures.errors.RequestError.TheVariants.{TooManyFiles, FontAndText, TwoFonts}
+use Rattle.tfm_requests.specs.declared.failures.errors.RequestError.TheVariants.{TooManyFiles, FontAndText, FontAndList, TwoFonts}
 use Rattle.tfm_requests.specs.declared.failures.failure.Failure.{Failure}
 use Rattle.tfm_requests.specs.declared.failures.failure.Failure.TheVariants.{Usage, Request, Font, JobFont, Encoding, File, Tool}
 
@@ -36,9 +36,10 @@ IsErrorOfSetting setting TooManyFiles = 64 < length setting.files.items
 IsErrorOfSetting setting FontAndText = (setting.files.items ≡ []) × (setting.font.now ≡ codes "-")
 IsErrorOfSetting setting _ = ⊥
 
--- an error of the arguments of `check`: more than one font is standard input
+-- an error of the arguments of `check`: more than one font is standard input, or a font and the list of fonts are
 abbrev pub IsErrorOfCheck : Checking → RequestError → Type 0
 IsErrorOfCheck asked TwoFonts = 1 < dashes_in asked.fonts.items
+IsErrorOfCheck asked FontAndList = (0 < dashes_in asked.fonts.items) × (is_input asked.list ≡ true)
 IsErrorOfCheck asked _ = ⊥
 
 -- ---- the fonts

@@ -1,15 +1,27 @@
 -- The output of `check`, and its exit status.
--- This project's own.
-use Rattle.std.specs.Prelude.{◌≡◌, ◌⊎◌, ◌==◌, ℕ, List, [], ◌++◌, Bool, true, false, not, cond, codes, count_by, decimal, length, map, nat_lt, Option, IfSome}
+-- Public source: JSON is RFC 8259; the rest is this project's own.
+use Rattle.std.specs.Prelude.{◌≡◌, ◌⊎◌, ◌==◌, ◌^◌, ◌-◌, ℕ, List, [], ◌++◌, Bool, true, false, not, cond, codes, count_by, decimal, length, map, min, nat_lt, Option, Some, None, IfSome}
 use Rattle.std.specs.Borrow.{Bor}
 use Rattle.std.specs.Io.KnownBytes.{Appends}
-use Rattle.std.specs.List.{AllZip, filter}
+use Rattle.std.specs.List.{All, AllZip, filter, slice_split}
 use Rattle.std.specs.Str.{bytes_eq}
+use Rattle.command_line.specs.declared.request.CheckLayout.{CheckLayout}
 use Rattle.command_line.specs.declared.request.Checking.{Checking}
 use Rattle.font_texts.specs.declared.finding.Finding.{Finding}
 use Rattle.font_texts.specs.declared.finding.Finding.TheVariants.{Accepted, Refused, NotRead}
+use Rattle.font_texts.specs.declared.finding.FindingFormat.{FindingFormat}
+use Rattle.font_texts.specs.declared.finding.FindingFormat.TheVariants.{Text, Json}
 use Rattle.font_texts.specs.Findings.{finding_of, findings_text}
 use Rattle.tfm_requests.specs.Known.{font_bytes_of}
+use Rattle.tfm_requests.specs.declared.font_list.FontList.{FontList}
+use Rattle.tfm_requests.specs.declared.font_list.FontList.TheVariants.{None as NoList, Input, File}
+use Rattle.tfm_requests.specs.declared.tally.Tally.{Tally}
+
+-- ---- fonts and their findings
+
+-- the name of a font, and its finding
+abbrev pub Row : Type 0
+Row = List ℕ × Finding
 
 -- the font is accepted
 abbrev pub is_accepted : Finding → Bool
@@ -26,14 +38,28 @@ abbrev pub is_unread : Finding → Bool
 is_unread NotRead = true
 is_unread _ = false
 
--- the exit status for these findings: 4 if a font wasn't read, otherwise 1 if a font is refused, otherwise 0
-abbrev pub check_status : List Finding → ℕ
-check_status findings =
-    cond (nat_lt 0 (count_by is_unread findings)) 4 (cond (nat_lt 0 (count_by is_refused findings)) 1 0)
+-- a count, which saturates at 2^64 - 1
+abbrev pub counted : ℕ → ℕ
+counted number = min number (2 ^ 64 - 1)
+
+-- the numbers of these fonts: of all, and of those that are accepted, are refused and weren't read
+abbrev pub tally_of : List Row → Tally
+tally_of rows = record {
+  fonts = counted (length rows);
+  accepted = counted (count_by (λ row. is_accepted row.1) rows);
+  refused = counted (count_by (λ row. is_refused row.1) rows);
+  unread = counted (count_by (λ row. is_unread row.1) rows);
+}
+
+-- ---- the output
 
 -- the fonts whose lines are printed: all of them, or with `--quiet` those that aren't accepted
-abbrev pub rows_shown : Bool → List (List ℕ × Finding) → List (List ℕ × Finding)
+abbrev pub rows_shown : Bool → List Row → List Row
 rows_shown quiet rows = cond quiet (filter (λ row. not (is_accepted row.1)) rows) rows
+
+-- the lines of these fonts
+abbrev pub rows_text : CheckLayout → List Row → List ℕ
+rows_text layout rows = findings_text layout.format (rows_shown layout.quiet rows)
 
 -- the end of the line of `--summary`, by the number of fonts that weren't read
 abbrev pub summary_end : ℕ → List ℕ
@@ -43,47 +69,106 @@ summary_end unread = cond (unread == 0) (codes " refused\n") (codes " refused, "
 abbrev pub fonts_noun : ℕ → List ℕ
 fonts_noun count = cond (count == 1) (codes "font") (codes "fonts")
 
--- the line of `--summary`: the number of fonts, and how many of them are accepted, are refused and weren't read
-abbrev pub summary_line : List Finding → List ℕ
-summary_line findings =
-    decimal (length findings)
+-- the line of `--summary` in a format: the number of fonts, and how many of them are accepted, are refused and weren't
+-- read
+abbrev pub summary_line : FindingFormat → Tally → List ℕ
+summary_line Text tally =
+    decimal tally.fonts
     ++ (codes " "
-    ++ (fonts_noun (length findings)
+    ++ (fonts_noun tally.fonts
     ++ (codes ": "
-    ++ (decimal (count_by is_accepted findings)
+    ++ (decimal tally.accepted
     ++ (codes " accepted, "
-    ++ (decimal (count_by is_refused findings) ++ summary_end (count_by is_unread findings)))))))
+    ++ (decimal tally.refused ++ summary_end tally.unread))))))
+summary_line Json tally =
+    codes "{\"fonts\":"
+    ++ (decimal tally.fonts
+    ++ (codes ",\"accepted\":"
+    ++ (decimal tally.accepted
+    ++ (codes ",\"refused\":"
+    ++ (decimal tally.refused ++ (codes ",\"unread\":" ++ (decimal tally.unread ++ codes "}\n")))))))
 
 -- the line after those of the fonts, if it is requested
-abbrev pub summary_text : Bool → List Finding → List ℕ
-summary_text summary findings = cond summary (summary_line findings) []
+abbrev pub summary_text : CheckLayout → Tally → List ℕ
+summary_text layout tally = cond layout.summary (summary_line layout.format tally) []
+
+-- the exit status: 4 if the list of fonts didn't end or a font wasn't read, otherwise 1 if a font is refused, otherwise 0
+abbrev pub check_status : Bool → Tally → ℕ
+check_status ended tally = cond ended (cond (nat_lt 0 tally.unread) 4 (cond (nat_lt 0 tally.refused) 1 0)) 4
+
+-- the lines of these fonts were written, and these are their numbers
+abbrev pub IsWritten : CheckLayout → List Row → Option (List ℕ) → Option (List ℕ) → Tally → Type 0
+IsWritten layout rows before after tally = Appends before after (rows_text layout rows) × (tally ≡ tally_of rows)
+
+-- if these were the lines and the numbers of some fonts before, they now are those with further fonts
+abbrev pub AddsRows : CheckLayout → List Row → Option (List ℕ) → Tally → Option (List ℕ) → Tally → Type 0
+AddsRows layout added before tally after all =
+    (start : Option (List ℕ)) (rows : List Row) → IsWritten layout rows start before tally → IsWritten layout (rows ++ added) start after all
+
+-- ---- the fonts that are checked
 
 -- the number of these names that are `-`, which is standard input
 abbrev pub dashes_in : List (Bor (List ℕ)) → ℕ
 dashes_in shown = count_by (λ name. bytes_eq name.now (codes "-")) shown
 
+-- this name of a list of fonts is `-`, which is standard input
+abbrev pub is_input : Option (Bor (List ℕ)) → Bool
+is_input None = false
+is_input (Some file) = bytes_eq file.now (codes "-")
+
+-- the byte after each name in a list of fonts: a line feed, or with `--null` zero
+abbrev pub separator_of : Bool → ℕ
+separator_of null = cond null 0 10
+
+-- these names without the empty ones
+abbrev pub without_empty : List (List ℕ) → List (List ℕ)
+without_empty names = filter (λ name. nat_lt 0 (length name)) names
+
+-- the names in a list of fonts: the bytes between separators, without empty names
+abbrev pub names_in : ℕ → List ℕ → List (List ℕ)
+names_in separator list = without_empty (slice_split (λ byte. byte == separator) list)
+
 -- a possible finding for a font with these bytes: the result of its check, or that it wasn't read
 abbrev pub IsFound : List ℕ → Finding → Type 0
 IsFound bytes finding = (finding ≡ finding_of bytes) ⊎ (finding ≡ NotRead)
 
+module _ (known : List ℕ → Option (List ℕ)) where
+  -- what was opened for the list of this name: nothing if there is none, standard input, or the file
+  abbrev pub IsOpenedList : {T : Type 0} → (T → Option (List ℕ)) → Option (Bor (List ℕ)) → FontList T → Type 0
+  IsOpenedList remaining None opened = opened ≡ NoList
+  IsOpenedList remaining (Some file) NoList = ⊥
+  IsOpenedList remaining (Some file) Input = bytes_eq file.now (codes "-") ≡ true
+  IsOpenedList remaining (Some file) (File reader) =
+      (bytes_eq file.now (codes "-") ≡ false) × IfSome (known file.now) (λ all. remaining reader ≡ Some all)
+
+  -- a possible finding for the file of this name, if its bytes are known
+  abbrev pub IsRowOfFile : Row → Type 0
+  IsRowOfFile row = IfSome (known row.0) (λ all. IsFound all row.1)
+
+  -- fonts in a list with these bytes, if they are known: in order, the files of all its names, or, if it wasn't read to
+  -- its end, of the first ones
+  abbrev pub AreNamed : ℕ → Option (List ℕ) → Bool → List Row → Type 0
+  AreNamed separator list ended rows =
+      All IsRowOfFile rows
+      × IfSome list (λ all. (rest : List (List ℕ)) × (names_in separator all ≡ map (λ row. row.0) rows ++ rest) × (ended ≡ true → rest ≡ []))
+
 module _ (known : List ℕ → Option (List ℕ)) (input : Option (List ℕ)) where
-  -- the row of a font: its name, and a possible finding for its bytes, if they are known
-  abbrev pub IsRowOf : Bor (List ℕ) → List ℕ × Finding → Type 0
+  -- the row of a font in the arguments: its name, and a possible finding for its bytes, if they are known
+  abbrev pub IsRowOf : Bor (List ℕ) → Row → Type 0
   IsRowOf name row = (row.0 ≡ name.now) × IfSome (font_bytes_of known input name.now) (λ all. IsFound all row.1)
 
-  -- these are possible findings for these fonts, in order, and the lines of those that are shown were written
-  abbrev pub AreWritten : Bool → List (Bor (List ℕ)) → Option (List ℕ) → Option (List ℕ) → List Finding → Type 0
-  AreWritten quiet fonts before after findings =
-      (rows : List (List ℕ × Finding))
-      × AllZip IsRowOf fonts rows
-      × Appends before after (findings_text (rows_shown quiet rows))
-      × (findings ≡ map (λ row. row.1) rows)
+  -- fonts in the list of this name; without a list there are none
+  abbrev pub AreListed : Option (Bor (List ℕ)) → ℕ → Bool → List Row → Type 0
+  AreListed None separator ended rows = (rows ≡ []) × (ended ≡ true)
+  AreListed (Some file) separator ended rows = AreNamed known separator (font_bytes_of known input file.now) ended rows
 
-  -- the lines of the fonts that are shown were written, in order, each with a possible finding, and then the line of
-  -- `--summary` if it is requested; and the exit status is the one for the findings of all fonts
+  -- the lines of the fonts that are shown were written, in order, first of those in the arguments and then of those in
+  -- the list, each with a possible finding, and then the line of `--summary` if it is requested; and the exit status is
+  -- the one for the findings of all fonts
   abbrev pub AreChecked : Checking → Option (List ℕ) → Option (List ℕ) → ℕ → Type 0
   AreChecked asked before after status =
-      (rows : List (List ℕ × Finding))
+      (rows : List Row) × (listed : List Row) × (ended : Bool)
       × AllZip IsRowOf asked.fonts.items rows
-      × Appends before after (findings_text (rows_shown asked.quiet rows) ++ summary_text asked.summary (map (λ row. row.1) rows))
-      × (status ≡ check_status (map (λ row. row.1) rows))
+      × AreListed asked.list (separator_of asked.null) ended listed
+      × Appends before after (rows_text asked.layout (rows ++ listed) ++ summary_text asked.layout (tally_of (rows ++ listed)))
+      × (status ≡ check_status ended (tally_of (rows ++ listed)))

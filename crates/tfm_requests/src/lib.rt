@@ -13,6 +13,8 @@ mod batches;
 mod checking;
 mod failures;
 mod files;
+mod font_list;
 mod performing;
 mod stated;
+mod tally;
 mod texts;

@@ -12,7 +12,7 @@ abbrev pub is_verbose : Request → Bool
 is_verbose (Counts _ verbose) = verbose
 is_verbose (ListFont asked) = asked.verbose
 is_verbose (Pairs asked) = asked.verbose
-is_verbose (Check asked) = asked.verbose
+is_verbose (Check asked) = asked.layout.verbose
 is_verbose (Set setting) = setting.layout.verbose
 is_verbose (Stream setting) = setting.layout.verbose
 is_verbose (Each jobs) = jobs.layout.verbose

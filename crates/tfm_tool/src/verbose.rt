@@ -25,7 +25,7 @@ fn is_verbose(request: &Request<'_>) -> bool
         Request::Counts { verbose, .. } => *verbose,
         Request::List(asked) => asked.verbose,
         Request::Pairs(asked) => asked.verbose,
-        Request::Check(asked) => asked.verbose,
+        Request::Check(asked) => asked.layout.verbose,
         Request::Set(setting) => setting.layout.verbose,
         Request::Stream(setting) => setting.layout.verbose,
         Request::Each(jobs) => jobs.layout.verbose,

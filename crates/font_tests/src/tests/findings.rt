@@ -1,6 +1,6 @@
 //! Findings of `check`, and the texts of errors.
 use super::faulty::BELOW_ONE;
-use font_texts::{Finding, check_text, finding_text};
+use font_texts::{Finding, FindingFormat, check_font, finding_text};
 use std::process::Abort;
 use std::test::Fail;
 use test_support::fonts::files::NO_CHARACTERS;
@@ -20,7 +20,8 @@ fn checks<R: Abort + AllocGlobal>(
     line: &str,
 ) -> Result<(), Fail> {
     for size in [None, Size::new(1), Size::new(134_217_727)] {
-        let (finding, text) = check_text(rt.alloc(), name, bytes, size)?;
+        let finding = check_font(rt.alloc(), bytes, size)?;
+        let text = finding_text(rt.alloc(), FindingFormat::Text, name.as_bytes(), finding)?;
         assert!(rt; finding == finding_of(fault), "{line}");
         assert!(rt; text.as_slice() == line.as_bytes(), "{line}");
     }
@@ -82,7 +83,7 @@ fn has_words<R: Abort + AllocGlobal>(
     finding: Finding,
     words: [&str; 2],
 ) -> Result<(), Fail> {
-    let text = finding_text(rt.alloc(), "x", finding)?;
+    let text = finding_text(rt.alloc(), FindingFormat::Text, b"x", finding)?;
     let [before, words] = words;
     let wanted = format!(in rt.alloc(); "x: {before}{words}\n")?;
     assert!(rt; text.as_slice() == wanted.as_bytes(), "{words}");

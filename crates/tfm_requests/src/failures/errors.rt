@@ -26,6 +26,9 @@ pub enum RequestError {
     /// More than one font of `check` is to be read from standard input.
     #[error("two fonts on standard input")]
     TwoFonts,
+    /// A font of `check` and the list of fonts are both to be read from standard input.
+    #[error("font and list both on standard input")]
+    FontAndList,
     /// An allocation failed.
     #[error("out of memory")]
     OutOfMemory,

@@ -46,7 +46,7 @@ fn files_with<'a>(
     vector: &'a [u8],
     long: &'a [u8],
     fonts: &'a [Vec<u8>; 3],
-) -> [NamedFile<'a>; 16] {
+) -> [NamedFile<'a>; 18] {
     [
         ("plain", &PLAIN),
         ("cut", &NO_CHARACTERS[..47]),
@@ -64,6 +64,8 @@ fn files_with<'a>(
         ("adb", b"adb\nad\nd a\na|b\n"),
         ("ada", b"ada"),
         ("empty", b"\n"),
+        ("names", b"plain\ncut\n\nno\nplain"),
+        ("zeros", b"cut\0plain\0"),
     ]
 }
 
@@ -102,7 +104,7 @@ const AT_LINE_3: &str = "tfmset: encoding refused: line 3\n";
 const CUT: &str = "tfmset: font refused: 8 truncated, 48 bytes needed\n";
 
 /// Arguments, what fails, as `ways_of` and `ends` have it, the openings, and how the request ends.
-static REQUESTS: [(&str, &str, u64, Ended<'static>); 62] = rows! {
+static REQUESTS: [(&str, &str, u64, Ended<'static>); 67] = rows! {
     // Whole outputs.
     "counts none", "", 0x8 => 0, COUNTS, "";
     "list -", "", 0 => 0, LISTING, "";
@@ -110,6 +112,13 @@ static REQUESTS: [(&str, &str, u64, Ended<'static>); 62] = rows! {
     "set --size 1310720 plain ab", "", 0x17 => 0, DOUBLED, "";
     "each --size 1310720 plain 9 ab", "", 0x17 => 0, DOUBLED, "";
     "check plain cut", "", 0x12 => 1, "plain: accepted\ncut: refused: 8 truncated, 48 bytes needed\n", "";
+    "check cut --files-from names", "", 0x212F1 => 4,
+        "cut: refused: 8 truncated, 48 bytes needed\nplain: accepted\n\
+         cut: refused: 8 truncated, 48 bytes needed\nno: not read\nplain: accepted\n", SOME_FONT;
+    "check --null --files-from zeros --format json --summary", "", 0x21 => 1,
+        "{\"font\":\"cut\",\"finding\":\"refused\",\"error\":8,\"words\":\"truncated, 48 bytes needed\"}\n\
+         {\"font\":\"plain\",\"finding\":\"accepted\"}\n\
+         {\"fonts\":2,\"accepted\":1,\"refused\":1,\"unread\":0}\n", "";
     "pairs --format csv --encoding v.enc plain", "", 0x13 => 0, FIELDS, "";
     "set plain ab", "", 0x17 => 0, AB, "";
     "stream - ab", "", 0x7 => 0, AB, "";
@@ -143,6 +152,8 @@ static REQUESTS: [(&str, &str, u64, Ended<'static>); 62] = rows! {
     // A read fails.
     "check plain cut", "plain", 0x12 =>
         4, "plain: not read\ncut: refused: 8 truncated, 48 bytes needed\n", SOME_FONT;
+    "check --files-from names", "names", 0x12F => 4,
+        "plain: accepted\ncut: refused: 8 truncated, 48 bytes needed\nno: not read\n", NOT_ENDED;
     "pairs --encoding v.enc plain", "v.enc", 0x13 => 4, "", NOT_READ;
     "set plain ab", "plain", 0x1 => 4, "", NO_FONT;
     "set - ab", "-", 0 => 4, "", NO_FONT;
@@ -177,7 +188,9 @@ static REQUESTS: [(&str, &str, u64, Ended<'static>); 62] = rows! {
     "each --encoding word.enc plain 9 no", "", 0x15 => 3, "", AT_LINE_3;
     "set --encoding v.enc plain lines no", "", 0x136F => 4, "", "tfmset: file 2 not read\n";
     "each --encoding v.enc plain 9 no plain 9 ab", "", 0x113F => 4, "", "tfmset: file 1 not read\n";
+    "check plain --files-from no", "", 0xF => 4, "", "tfmset: file 1 not read\n";
     // An error of the arguments: nothing is opened.
+    "check --files-from - -", "", 0 => 2, "", "tfmset: font and list both on standard input\n";
     "stream --encoding v.enc -", "", 0 => 2, "", "tfmset: font and text both on standard input\n";
     "check no - plain -", "", 0 => 2, "", "tfmset: two fonts on standard input\n";
     "each --encoding short.enc cut 9", "", 0 => 2, "", "tfmset: words not in threes\n";
