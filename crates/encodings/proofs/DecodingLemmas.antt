@@ -95,7 +95,7 @@ single_shorter singles text rest code len single cut =
 
 -- ---- plain bytes, which are their own codes
 
-plain_below : (singles : List ℕ) (byte : ℕ) → is_plain singles byte ≡ true → byte < 128
+pub plain_below : (singles : List ℕ) (byte : ℕ) → is_plain singles byte ≡ true → byte < 128
 plain_below singles byte is = ltb-true byte 128 (and_parts _ _ is).0
 
 plain_numbers : (encoding : Encoding) (byte : ℕ) → is_plain (singles_in encoding) byte ≡ true → numbers_of encoding byte ≡ byte ∷ []

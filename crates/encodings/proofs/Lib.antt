@@ -7,5 +7,6 @@ pub mod LineLemmas
 pub mod PartLemmas
 pub mod PlaceLemmas
 pub mod TableLemmas
+pub mod TextLemmas
 pub mod VectorLemmas
 pub mod WorkedRows

@@ -10,6 +10,7 @@ pub mod Parts
 pub mod Encoded
 pub mod Visited
 pub mod Decoding
+pub mod Texts
 pub mod Laws
 pub mod Characters
 pub mod CharacterTables

@@ -10,7 +10,7 @@ use crate::{EncodedLine, Encoding, codes_of};
 use std::alloc::AllocError;
 
 /// Returns whether a byte is an ASCII character whose only code, in this table, is the byte itself.
-fn is_plain(singles: &SingleCodes, byte: u8) -> bool
+pub(crate) fn is_plain(singles: &SingleCodes, byte: u8) -> bool
     ensures { result ≡ is_plain_in singles.now byte }
 {
     byte < 128 && singles[usize::from(byte)] == u16::from(byte)

@@ -8,6 +8,7 @@ pub use lines::{EncodeFault, encode_line, utf8_fault};
 pub use lookup::codes_of;
 pub use parts::{Part, Parts};
 pub use places::{Place, Places, first_uncoded};
+pub use texts::codes_in_text;
 pub use vector::Vector;
 
 mod characters;
@@ -20,6 +21,7 @@ mod lookup;
 mod parts;
 mod places;
 mod tables;
+mod texts;
 mod vector;
 mod vector_characters;
 mod vector_codes;

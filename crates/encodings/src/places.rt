@@ -5,8 +5,11 @@ ghost use Rattle.std.specs.Str.{is_utf8};
 ghost use Rattle.encodings.specs.Codes.{codes_of as codes_in};
 ghost use Rattle.encodings.specs.Decoding.{IsTextOf, begins_with_mark};
 ghost use Rattle.encodings.specs.Lines.{first_uncoded as first_uncoded_in, places_of};
+ghost use Rattle.encodings.specs.Texts.{IsKeptFront};
 
 use crate::cutting::split_first;
+use crate::tables::single_codes;
+use crate::texts::kept_len;
 use crate::{Encoding, codes_of};
 use std::marker::Model;
 use std::str;
@@ -76,6 +79,20 @@ impl<'a> Places<'a> {
             }),
             Err(_) => None,
         }
+    }
+
+    /// Takes characters at the front whose only code is the byte that they are, as most of ASCII, and line feeds.
+    /// This is faster than taking one after the other. Returns the offset of the first one, and their bytes.
+    #[tactic(auto, using(crate::proofs::TextLemmas::front))]
+    pub fn take_kept(&mut self, encoding: Encoding) -> (usize, &'a [u8])
+        ensures { IsKeptFront encoding result.0 result.1.now self.old self.new }
+    {
+        let offset = self.offset;
+        let len = kept_len(single_codes(encoding), self.rest.as_bytes());
+        let (kept, rest) = self.rest.split_at(len);
+        self.rest = rest;
+        self.offset = offset + len;
+        (offset, kept.as_bytes())
     }
 }
 
