@@ -1,5 +1,5 @@
 -- The codes of a text, and characters at its front that are taken together.
-use Rattle.std.proofs.Common.{◌≡◌, ℕ, zero, suc, ◌+◌, ◌<◌, ◌≤◌, Bool, true, false, List, [], ◌∷◌, ◌++◌, ◌||◌, cond, nat_eq, length, length-append, get_or, take, drop, map, flat_map, Option, Some, None, arith, refl, ap, sym, subst, ◌∙◌}
+use Rattle.std.proofs.Common.{◌≡◌, ℕ, zero, suc, ◌+◌, ◌^◌, ◌<◌, ◌≤◌, Bool, true, false, List, [], ◌∷◌, ◌++◌, ◌||◌, cond, nat_eq, length, length-append, get_or, take, drop, map, flat_map, Option, Some, None, arith, refl, ap, sym, subst, ◌∙◌}
 use Rattle.std.specs.List.{list_all}
 use Rattle.std.specs.Option.{is_none, option_map_or, unwrap_or}
 use Rattle.std.specs.Str.{chars, IsAscii, IsCharBoundary, IsUtf8}
@@ -65,32 +65,34 @@ kept_one encoding offset byte bytes places left code rest = record {
   codes = ap (λ o. unwrap_or o [] ++ codes_at encoding places) code ∙ ap (λ l. byte ∷ l) rest.codes;
   offsets = ap (λ o. map (λ _. offset) (unwrap_or o []) ++ offsets_at encoding places) code ∙ ap (λ l. offset ∷ l) rest.offsets;
   uncoded = ap (λ o. cond (is_none o) (record { offset = offset; character = byte } ∷ uncoded_at encoding places) (uncoded_at encoding places)) code ∙ rest.uncoded;
+  fewer = omega (arith, rest.fewer);
+  small = omega (arith, rest.small);
 }
 
 -- characters of which the first ones are kept
-kept_places : (encoding : Encoding) (offset : ℕ) (bytes characters : List ℕ) → list_all (is_kept (singles_in encoding)) bytes ≡ true
+kept_places : (encoding : Encoding) (offset : ℕ) (bytes characters : List ℕ) → offset + length bytes ≤ 2 ^ 63 → list_all (is_kept (singles_in encoding)) bytes ≡ true
     → IsKeptFront encoding offset bytes (places_from offset (bytes ++ characters)) (places_from (offset + length bytes) characters)
-kept_places encoding offset [] characters all =
-    subst (λ n. IsKeptFront encoding offset [] (places_from offset characters) (places_from n characters)) (omega arith) (record { codes = refl; offsets = refl; uncoded = refl })
-kept_places encoding offset (byte ∷ bytes) characters all =
+kept_places encoding offset [] characters small all =
+    subst (λ n. IsKeptFront encoding offset [] (places_from offset characters) (places_from n characters)) (omega arith) (record { codes = refl; offsets = refl; uncoded = refl; fewer = omega arith; small = small })
+kept_places encoding offset (byte ∷ bytes) characters small all =
     let both = and_parts _ _ all in
     let one = len_utf8_ascii byte (kept_below (singles_in encoding) byte both.0) in
     let next : offset + 1 + length bytes ≡ offset + length (byte ∷ bytes) = omega arith in
-    let rest = kept_places encoding (offset + 1) bytes characters both.1 in
+    let rest = kept_places encoding (offset + 1) bytes characters (omega (arith, small)) both.1 in
     subst (λ n. IsKeptFront encoding offset (byte ∷ bytes) (places_from offset (byte ∷ bytes ++ characters)) (places_from n characters)) next
     (subst (λ n. IsKeptFront encoding offset (byte ∷ bytes) (record { offset = offset; character = byte } ∷ places_from (offset + n) (bytes ++ characters)) (places_from (offset + 1 + length bytes) characters)) (sym one)
     (kept_one encoding offset byte bytes (places_from (offset + 1) (bytes ++ characters)) (places_from (offset + 1 + length bytes) characters) (kept_codes encoding byte both.0) rest))
 
-pub kept_front : (encoding : Encoding) (singles text kept rest : List ℕ) (places : List Place) (offset n : ℕ) → places ≡ places_from offset (chars text)
+pub kept_front : (encoding : Encoding) (singles text kept rest : List ℕ) (places : List Place) (offset n : ℕ) → offset + length text ≤ 2 ^ 63 → places ≡ places_from offset (chars text)
     → singles ≡ singles_in encoding → list_all (is_kept singles) (take n text) ≡ true → n ≤ length text → kept ≡ take n text → rest ≡ drop n text
     → IsKeptFront encoding offset kept places (places_from (offset + n) (chars rest))
-kept_front encoding singles text kept rest places offset n are table all within front back =
+kept_front encoding singles text kept rest places offset n small are table all within front back =
     let here : list_all (is_kept (singles_in encoding)) kept ≡ true = subst (λ l. list_all (is_kept l) kept ≡ true) table (ap (list_all (is_kept singles)) front ∙ all) in
     let ascii = kept_ascii (singles_in encoding) kept here in
     let whole : text ≡ kept ++ rest = sym (take-append-drop n text) ∙ ap (λ l. l ++ drop n text) (sym front) ∙ ap (λ l. kept ++ l) (sym back) in
     let spelled : chars text ≡ kept ++ chars rest = ap chars whole ∙ chars-append kept rest (IsUtf8-from_ascii kept ascii) ∙ ap (λ l. l ++ chars rest) (chars-IsAscii kept ascii) in
     let long : length kept ≡ n = ap length front ∙ length-take-le n text within in
-    rw (are, spelled, sym long) (kept_places encoding offset kept (chars rest) here)
+    rw (are, spelled, sym long) (kept_places encoding offset kept (chars rest) (omega (arith, long, small, within)) here)
 
 -- a text may be cut after them
 pub kept_boundary : (singles text : List ℕ) (n : ℕ) → IsUtf8 text → n ≤ length text → list_all (is_kept singles) (take n text) ≡ true → IsCharBoundary text n

@@ -1,6 +1,6 @@
 -- The codes of a text of several lines, with the offsets of the characters that they come from.
 -- This project's own; the codes of a character are defined in Codes.
-use Rattle.std.specs.Prelude.{◌≡◌, ℕ, Bool, cond, nat_eq, ◌||◌, List, [], ◌∷◌, ◌++◌, length, map, flat_map, Option, Some}
+use Rattle.std.specs.Prelude.{◌≡◌, ◌≤◌, ℕ, ◌+◌, ◌^◌, Bool, cond, nat_eq, ◌||◌, List, [], ◌∷◌, ◌++◌, length, map, flat_map, Option, Some}
 use Rattle.std.specs.List.{filter, range_with_len}
 use Rattle.std.specs.Option.{is_none, unwrap_or}
 use Rattle.encodings.specs.declared.encoding.Encoding.{Encoding}
@@ -34,6 +34,8 @@ pub record IsKeptFront (encoding : Encoding) (offset : ℕ) (bytes : List ℕ) (
   pub codes : codes_at encoding places ≡ bytes ++ codes_at encoding left
   pub offsets : offsets_at encoding places ≡ range_with_len offset (length bytes) ++ offsets_at encoding left
   pub uncoded : uncoded_at encoding places ≡ uncoded_at encoding left
+  pub fewer : length left ≤ length places
+  pub small : offset + length bytes ≤ 2 ^ 63
 
 -- whether a byte is a line feed or plain, in a table of single codes
 abbrev pub is_kept : List ℕ → ℕ → Bool
