@@ -152,7 +152,7 @@ class Functions(LibraryCase):
         none, text = (None, 0), (b"ox", 2)
         for name, *arguments in (
                 ("size", none), ("check", none),
-                *(("encode", given, line, none) for given in (none, (b"t1", 2)) for line in (none, text)),
+                *(("encode", given, line, none, none, none) for given in (none, (b"t1", 2)) for line in (none, text)),
                 ("fault_text", none, none), ("font", none, (0,)),
                 *((name, given, (0,), none) for name in ("characters", "parameters", "pairs", "header_text", "prepare")
                   for given in (none, font)),
@@ -290,8 +290,7 @@ class Linking(LibraryCase):
         for name in ("demo", "ligature_3", "endless_3", "left_boundary", "largest"):
             lines = [line.split() for line in self.output(program, path_of(name), text).splitlines()]
             self.same(f"{name}: functions", self.functions(), sorted("tfmset_" + line[0] for line in lines))
-            # The text has a character without codes, which tfmset_encode reports.
-            self.same(f"{name}: codes", {"0", "6"}, {line[1] for line in lines})
+            self.same(f"{name}: codes", {"0"}, {line[1] for line in lines})
             used = max(int(line[2]) for line in lines)
             print(f"{name}: {used} bytes of stack")
             self.assertLess(used, 64 * 1024)

@@ -21,8 +21,8 @@ from library import between
 from library_lines import LinesCase
 
 WEIGHT = 5
-STRUCTS = {"_Encoded": "encoded", "_Fault": "fault", "_About": "about", "_Character": "character", "_Pair": "pair",
-           "_Options": "options", "_Form": "form", "_Counts": "counts", "_Line": "line", "Item": "item"}
+STRUCTS = {"_Uncoded": "uncoded", "_Encoded": "encoded", "_Fault": "fault", "_About": "about", "_Character": "character",
+           "_Pair": "pair", "_Options": "options", "_Form": "form", "_Counts": "counts", "_Line": "line", "Item": "item"}
 # Structs and functions that the module doesn't use.
 OWN_STRUCTS = {"span": Span, "placed": Placed}
 OWN_FUNCTIONS = ("prepare", "spans", "span_items")
@@ -208,8 +208,7 @@ class Fields(LinesCase):
             "DEFAULT_LIMIT": widths(0, text=b"aa", font=(endless, len(endless)))[2],
             "CODING_SCHEME": next(n for n in (0, 1) if header_text(n) == head.header_text(2, 40)),
             "FAMILY": next(n for n in (1, 0) if header_text(n) == head.header_text(12, 20)),
-            "NOT_UTF8": encode(self.prefix, "t1", b"\xff", 1)[0],
-            "UNCODED": encode(self.prefix, "t1", "€".encode(), 3)[0],
+            "NOT_UTF8": encode(self.prefix, "t1", b"\xff", 1, 1, 1)[0],
             "JSON": next(n for n in (1, 2, 3) if self.tfmset.Font(data).records(b"o", version=n)[:1] == b"{")}
         # test_attributes, library_lines.c, library.py and library_spans.py compare the others.
         others = {*KINDS.values(), *REFUSALS.values(), "OUT_OF_MEMORY", "VERSION", *SPANS}
@@ -306,7 +305,7 @@ class Fields(LinesCase):
         settings = {"limit": 1, "missing": "skip", "crlf": True, "call_limit": 1}
         more, spans = {"version": 1, "source": 1, "first_line": 1}, [own.Span(0, 2), own.Span(1, 9)]
         yield "version", own.version, {}, [own.version()]
-        yield "encode", own.encode, encoded, [own.encode(**encoded)]
+        yield "encode", own.encode, {**encoded, "missing": "skip"}, [own.encode(**encoded)]
         yield "Font", own.Font.__init__, {"data": data, "size": 1}, [None]
         yield "Font.from_file", own.Font.from_file, {"size": 1}, [own.Font.from_file(DEMO)]
         yield "Font.metrics", font.metrics, {"code": 1}, map(font.metrics, (97, 65))
@@ -395,14 +394,14 @@ class Fields(LinesCase):
             self.same("headers that it includes", after, alone)
 
 
-CODES = ("DONE", "FONT_REFUSED", "OUT_OF_MEMORY", "NO_ROOM", "OUT_OF_RANGE", "NOT_UTF8", "UNCODED")
+CODES = ("DONE", "FONT_REFUSED", "OUT_OF_MEMORY", "NO_ROOM", "OUT_OF_RANGE", "NOT_UTF8")
 # The arguments of a call, except arrays and the last one, and what changes the code that it returns.
 ARGUMENTS = {"data": read(DEMO, "rb"), "size": 0, "policy": 0, "options": Options(), "encoding": b"t1", "text": b"ox",
              "form": Form(1, 1, 1), "line": Line(refusal=3), "spans": (Span * 1)((0, 2, 3, 256)), "room": 256, "table": 8192}
 OTHERS = ({}, {"data": b"no font"}, {"room": 0, "table": 0}, {"data": b"no font", "room": 0, "table": 0},
           {"size": 1 << 27, "options": Options(size=1 << 27), "line": Line(refusal=5)},
-          {"encoding": b"Ot1"}, {"text": b"\xff"}, {"text": "x€".encode()}, {"text": b"12pt"})
-FORMS = {"size": "text", "encode": "encoding text room", "check": "data", "fault_text": "data room", "font": "data size",
+          {"encoding": b"Ot1"}, {"text": b"\xff"}, {"text": b"12pt"})
+FORMS = {"size": "text", "encode": "encoding text room room room", "check": "data", "fault_text": "data room", "font": "data size",
          **dict.fromkeys(("characters", "parameters", "pairs", "header_text"), "data size room"),
          "set": "data options text room room", "widths": "data options text room",
          "records": "data options encoding text form room", "refusal_text": "line room", "prepare": "data size table",

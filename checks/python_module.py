@@ -100,6 +100,13 @@ for name in tfmset.ENCODINGS:
         refused = [line if isinstance(line, tfmset.Refusal) else "set" for line in found]
         print(name, min(len(lines), 240), refused == wanted)
 """, "".join(f"{name} 240 True\n" * 2 for name in ("ot1", "t1", "ly1", "latin1"))),
+    ("Characters without codes are left out on demand", """
+text = "o€x\\n" + "€" * 40 + "\\nß\ufeff"
+print(tfmset.encode(text, "t1", missing="skip"), tfmset.encode("€", "ly1", "skip"))
+print(font.widths(text, encoding="t1", missing="skip"), [len(line.items) for line in font.set(text, encoding="t1", missing="skip")])
+print(font.widths("\ufeffoß\xado\\n“¡oQ", encoding="ot1"))
+""", "b'ox\\n\\n\\xff' b'\\x01'\n[665189, 0, 0] [3, 0, 1]\n"
+     "[Refusal(reason='missing', place=2, code=25), Refusal(reason='missing', place=0, code=92)]\n"),
     ("A subclass of str counts as the characters that it has", """
 class Text(str):
     encode = lambda *_: b"\\xff"

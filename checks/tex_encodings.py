@@ -9,7 +9,9 @@ LaTeX's definition of LY1 is in a large package: an encoding file names the glyp
 """
 import fnmatch
 import glob
+import itertools
 import os
+import random
 import re
 import unicodedata
 
@@ -19,7 +21,7 @@ from lib.tfm import make, sample
 from library_lines import LinesCase
 
 WEIGHT = 4
-NOT_UTF8, UNCODED = 5, 6
+NOT_UTF8 = 5
 NAMES = ("ot1", "t1", "ly1", "latin1")
 # The values of --encoding that are compared with each encoding of LaTeX.
 VALUES = {"T1": "t1 ec.enc lm-ec.enc", "OT1": "ot1 7t.enc lm-rm.enc", "L7x": "lm-l7x.enc latin7x.enc",
@@ -227,39 +229,66 @@ class Pages(LinesCase):
             self.same(f"records {options}", records.splitlines(), seen)
 
 
+def encoded(codes_of, text):
+    """The result of tfmset_encode for the bytes of a text, where the characters of a dictionary have these codes: its
+    code, its lists, and the fields of its last argument."""
+    try:
+        letters = text.decode()
+    except UnicodeDecodeError as error:
+        return NOT_UTF8, None, (0, 0, error.start)
+    codes, offsets, uncoded, place = b"", [], [], 0
+    for letter in letters:
+        made = b"\n" if letter == "\n" else b"" if letter == "\ufeff" and place == 0 else codes_of.get(letter)
+        if made is None:
+            uncoded.append((place, ord(letter)))
+        codes, offsets = codes + (made or b""), offsets + [place] * len(made or b"")
+        place += len(letter.encode())
+    return DONE, (codes, offsets, uncoded), (len(codes), len(uncoded), 0)
+
+
 class Calls(LinesCase):
     """Calls of tfmset_encode"""
 
     def test_codes_and_rooms(self):
-        """Codes, counts, offsets and characters, in arrays with more room, just enough and too little."""
-        for name, text, wanted in (
-                ("t1", "Straße – ä\n", b"Stra\xffe \x15 \xe4\n"), ("ot1", "¡“ﬁ”!", b"!`\\fi\"!"),
-                ("bytes", "ä\n", b"\xc3\xa4\n"), ("ly1", "€\u00ad5", b"\x015"), ("latin1", "", b""),
-                ("t1", "\ufeffa\n\u00a0", b"a\n "), ("ot1", "ﬃ‘", b"ffi`")):
-            for room in {0, max(len(wanted) - 1, 0), len(wanted), len(wanted) + 3}:
-                enough = room >= len(wanted)
-                status, codes, report = encode(self.prefix, name, text.encode(), room)
-                self.same(f"{name} {text!r} {room}", (NO_ROOM, DONE)[enough], status)
-                self.same(f"{name} {text!r} {room}: report", (len(wanted), 0, 0), report)
+        """Codes, offsets and characters without codes, in arrays with more room, just enough and too little."""
+        for name, text, *wanted in (
+                ("t1", "Straße – ä\n", b"Stra\xffe \x15 \xe4\n", [0, 1, 2, 3, 4, 6, 7, 8, 11, 12, 14], []),
+                ("ot1", "¡“ﬁ”!", b"!`\\fi\"!", [0, 0, 2, 5, 5, 8, 11], []), ("bytes", "ä\n", b"\xc3\xa4\n", [0, 1, 2], []),
+                ("ly1", "€\u00ad5", b"\x015", [0, 5], []), ("latin1", "", b"", [], []),
+                ("t1", "\ufeffa\n\u00a0", b"a\n ", [3, 4, 5], []), ("ot1", "ﬃ‘", b"ffi`", [0, 0, 0, 3], []),
+                ("t1", "a€\n€b\ufeff", b"a\nb", [0, 4, 8], [(1, 0x20AC), (5, 0x20AC), (9, 0xFEFF)]),
+                ("ot1", "a\\b", b"ab", [0, 2], [(1, 92)]), ("latin1", "\U0001f600", b"", [], [(0, 0x1F600)])):
+            count, missing = len(wanted[0]), len(wanted[2])
+            for rooms in itertools.product(*({0, max(n - 1, 0), n, n + 3} for n in (count, count, missing))):
+                status, lists, report = encode(self.prefix, name, text.encode(), *rooms)
+                enough = count <= rooms[0] and rooms[1] in (0, *range(count, count + 4)) and missing <= rooms[2]
+                self.same(f"{name} {text!r} {rooms}", (NO_ROOM, DONE)[enough], status)
+                self.same(f"{name} {text!r} {rooms}: report", (count, missing, 0), report)
                 if enough:
-                    self.same(f"{name} {text!r} {room}: codes", wanted, codes)
+                    lines = wanted[0], wanted[1] if rooms[1] else [], wanted[2]
+                    self.same(f"{name} {text!r} {rooms}: lists", lines, lists)
         for name, text, status, report in (
-                ("t1", b"a\xc3\xa4\xff", NOT_UTF8, (0, 3, 0)),
-                ("t1", b"\xe2\x82\xac\xed\xa0\x80", NOT_UTF8, (0, 3, 0)),
-                ("t1", "ä\n€".encode(), UNCODED, (0, 3, 0x20AC)), ("ot1", b"a\\b", UNCODED, (0, 1, 92)),
-                ("latin1", "\U0001f600".encode(), UNCODED, (0, 0, 0x1F600)),
-                ("t1", "a\ufeff".encode(), UNCODED, (0, 1, 0xFEFF)), ("Ot1", b"a", RANGE, (9, 9, 9)),
-                ("", b"a", RANGE, (9, 9, 9)), ("t1\0", b"a", RANGE, (9, 9, 9)),
+                ("t1", b"a\xc3\xa4\xff", NOT_UTF8, (0, 0, 3)), ("t1", b"\xe2\x82\xac\xed\xa0\x80", NOT_UTF8, (0, 0, 3)),
+                ("Ot1", b"a", RANGE, (9, 9, 9)), ("", b"a", RANGE, (9, 9, 9)), ("t1\0", b"a", RANGE, (9, 9, 9)),
                 ("t\xff", b"a", RANGE, (9, 9, 9))):
-            self.same(f"{name} {text}", (status, None, report), encode(self.prefix, name, text, 9))
+            self.same(f"{name} {text}", (status, None, report), encode(self.prefix, name, text, 9, 9, 9))
 
     @rows((name, name) for name in NAMES)
     def test_characters(self, name):
-        """Each character has the codes of a line that it alone makes."""
+        """Each character has the codes of a line that it alone makes, alone and in texts of several, also damaged ones."""
         codes_of = table(self, name)
-        for letter, codes in codes_of.items():
-            self.same(f"{letter!r}", (DONE, codes), encode(self.prefix, name, letter.encode(), 4)[:2])
-        for letter in map(chr, (*range(11, 0xD800, 13), *range(0xE000, 0x110000, 997))):
-            if letter not in codes_of and letter != "\ufeff":
-                seen = encode(self.prefix, name, letter.encode(), 4)
-                self.same(f"{letter!r}", (UNCODED, None, (0, 0, ord(letter))), seen)
+        others = [letter for letter in map(chr, (*range(11, 0xD800, 13), *range(0xE000, 0x110000, 997)))
+                  if letter not in codes_of and letter != "\ufeff"]
+        for letter in (*codes_of, *others):
+            text = letter.encode()
+            self.same(f"{letter!r}", encoded(codes_of, text), encode(self.prefix, name, text, 4, 4, 1))
+        chance = random.Random(name)
+        groups = ([chr(n) for n in range(128)], "office \n", list(codes_of), [*others, "\ufeff", "\u00ad", "\n"])
+        for turn in range(2000):
+            letters = (chance.choice(chance.choices(groups, (8, 8, 3, 1))[0]) for _ in range(chance.randrange(60)))
+            text = bytearray("".join(letters).encode())
+            if text and turn % 4 == 0:
+                text[chance.randrange(len(text))] = chance.randrange(256)
+            seen = encode(self.prefix, name, bytes(text), *[len(text)] * 3)
+            wanted = encoded(codes_of, bytes(text))
+            self.same(f"{bytes(text)}", wanted, seen)

@@ -38,7 +38,7 @@
  * Text: the bytes of a line are codes of the font, and 32 is a space. tfmset_records also takes a text in
  * UTF-8, and tfmset_encode turns such a text into codes.
  *
- * Return value: each function except tfmset_version returns one of the seven TFMSET_ codes below. */
+ * Return value: each function except tfmset_version returns one of the six TFMSET_ codes below. */
 #ifndef TFMSET_H
 #define TFMSET_H
 
@@ -67,8 +67,6 @@ extern "C" {
 #define TFMSET_OUT_OF_RANGE 4u
 /* tfmset_encode: the text isn't UTF-8. */
 #define TFMSET_NOT_UTF8 5u
-/* tfmset_encode: a character of the text has no codes in the encoding. */
-#define TFMSET_UNCODED 6u
 
 /* Returns the version of the library: 1,000,000 * X + 1,000 * Y + Z for version X.Y.Z. TFMSET_VERSION is the
  * version of this header. */
@@ -83,35 +81,40 @@ uint32_t tfmset_version(void);
  * Returns TFMSET_DONE, or TFMSET_OUT_OF_RANGE if the text isn't a size from 1 to 134,217,727 scaled points. */
 uint32_t tfmset_size(const uint8_t *text, size_t text_length, uint32_t *size);
 
-/* The result of tfmset_encode. */
-struct tfmset_encoded {
-    /* TFMSET_DONE, TFMSET_NO_ROOM: the number of codes. Otherwise 0. */
-    size_t count;
-    /* TFMSET_NOT_UTF8: the offset of the byte in the text at which no character begins, from 0.
-     * TFMSET_UNCODED: the offset of the first byte of the first character that has no codes. Otherwise 0. */
+/* A character without codes: the offset of its first byte in the text, from 0, and its number in Unicode. */
+struct tfmset_uncoded {
     size_t offset;
-    /* TFMSET_UNCODED: the number of this character in Unicode. Otherwise 0. */
     uint32_t character;
 };
 
-/* Turns a text in UTF-8 into the codes of a font, which are the text for tfmset_set, tfmset_widths and
- * tfmset_records. `encoding` is the name of the font's encoding, which needs no zero byte at its end: "ot1"
- * (that of cmr10), "t1" (ecrm1000), "ly1", "latin1", or the same in capitals, or "bytes", with which the text
- * may be any bytes, and is copied. The codes of a character are those by which LaTeX sets it. Most characters
- * have one code, some have two or three, and the soft hyphen has none: its neighbours are neighbours in the
- * array. A character that LaTeX takes from another font, or puts together from an accent and a letter, has no
- * codes. Line feeds are kept. A byte order mark at the front of the text is left out.
+/* The result of tfmset_encode. */
+struct tfmset_encoded {
+    /* TFMSET_DONE, TFMSET_NO_ROOM: the numbers of codes and of characters without codes. Otherwise 0. */
+    size_t count, uncoded;
+    /* TFMSET_NOT_UTF8: the offset of the byte in the text at which no character begins. Otherwise 0. */
+    size_t offset;
+};
+
+/* Turns a text in UTF-8 into the codes of a font, which are the text for the functions that set lines and
+ * spans. `encoding` is the name of the font's encoding, which needs no zero byte at its end: "ot1" (that of
+ * cmr10), "t1" (ecrm1000), "ly1", "latin1", or the same in capitals, or "bytes", with which the text may be
+ * any bytes, and is copied. The codes of a character are those by which LaTeX sets it. Most characters have
+ * one code, some have two or three, and the soft hyphen has none: its neighbours are neighbours in the array.
+ * A character that LaTeX takes from another font, or puts together from an accent and a letter, has no codes,
+ * and is left out. Line feeds are kept. A byte order mark at the front of the text is left out.
  *
- * `codes` has `codes_length` bytes, and is always long enough if it is as long as the text. Returns
+ * `codes` gets the codes, `offsets` for each code the offset in the text of the character that it comes from,
+ * unless offsets_length is 0, and `uncoded` the characters without codes, in the order of the text. An array
+ * is always long enough if it is as long as the text. Returns
  *
- * TFMSET_DONE: the first `encoded->count` bytes of `codes` are the codes. The other bytes are unchanged.
- * TFMSET_NO_ROOM: `codes` is too short, and its contents are unspecified. `encoded->count` is the length that
- *     is needed.
- * TFMSET_OUT_OF_RANGE: no encoding has this name. `codes` and `encoded` are unchanged.
- * TFMSET_NOT_UTF8: the text isn't UTF-8. `codes` is unchanged.
- * TFMSET_UNCODED: the text is UTF-8, but a character has no codes. `codes` is unchanged. */
+ * TFMSET_DONE: the arrays have their elements at the front, and their other elements are unchanged.
+ * TFMSET_NO_ROOM: an array is too short. `encoded` has the lengths that are needed: `count` of `codes` and of
+ *     `offsets`, and `uncoded` of `uncoded`. The contents of the arrays are unspecified.
+ * TFMSET_OUT_OF_RANGE: no encoding has this name. Nothing has changed.
+ * TFMSET_NOT_UTF8: the text isn't UTF-8. The arrays are unchanged. */
 uint32_t tfmset_encode(const uint8_t *encoding, size_t encoding_length, const uint8_t *text,
-                       size_t text_length, uint8_t *codes, size_t codes_length,
+                       size_t text_length, uint8_t *codes, size_t codes_length, size_t *offsets,
+                       size_t offsets_length, struct tfmset_uncoded *uncoded, size_t uncoded_length,
                        struct tfmset_encoded *encoded);
 
 /* The first error of a font. docs/ERRORS.md in the sources describes each error, with an example. */
@@ -385,7 +388,8 @@ uint32_t tfmset_span_items(const uint8_t *font, size_t font_length, const struct
 #endif
 #define TFMSET_LAYOUT(name, size, last, offset) \
     TFMSET_ASSERT(name, sizeof(struct name) == (size) && offsetof(struct name, last) == (offset))
-TFMSET_LAYOUT(tfmset_encoded, 24, character, 16);
+TFMSET_LAYOUT(tfmset_uncoded, 16, character, 8);
+TFMSET_LAYOUT(tfmset_encoded, 24, offset, 16);
 TFMSET_LAYOUT(tfmset_fault, 16, named, 12);
 TFMSET_LAYOUT(tfmset_about, 48, left_boundary, 40);
 TFMSET_LAYOUT(tfmset_character, 32, repeated, 31);

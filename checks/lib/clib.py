@@ -32,7 +32,8 @@ Counts = struct((SIZE, "lines items"))
 Item = struct((U32, "kind code"), (I32, "width"))
 Span = struct((SIZE, "offset length"), (U32, "edges hyphen"))
 Placed = struct((SIZE, "offset length"), (U32, "kind code"), (I32, "width"))
-Encoded = struct((SIZE, "count offset"), (U32, "character"))
+Uncoded = struct((SIZE, "offset"), (U32, "character"))
+Encoded = struct((SIZE, "count uncoded offset"))
 
 
 def values(record):
@@ -60,15 +61,22 @@ def listed(prefix, name, data, *numbers, kind, room):
     return status, count.value, array[:count.value] if status == DONE else None
 
 
-def encode(prefix, name, text, room):
-    """The return code of tfmset_encode, the codes after code 0, or None, and the fields of its last argument.
-    No other byte of the array may change; after a code other than 0 and 3 none."""
-    array, encoded = ctypes.create_string_buffer(b"\t" * (room + 1)), Encoded(9, 9, 9)
-    name, function = name.encode("latin-1"), loaded(prefix).tfmset_encode
-    status = function(name, len(name), text, len(text), array, room, ctypes.byref(encoded))
-    count = encoded.count if status == DONE else room if status == NO_ROOM else 0
-    assert array.raw[count:] == b"\t" * (room + 1 - count) + b"\0", "bytes after the codes"
-    return status, array.raw[:count] if status == DONE else None, values(encoded)
+def encode(prefix, name, text, *rooms):
+    """The return code of tfmset_encode; after code 0 the codes, their offsets, and the offset and the number of each
+    character without codes; and the fields of its last argument. `rooms` are the lengths of the three arrays. No other
+    element may change; after a code other than 0 and 3 none."""
+    encoded, name, function = Encoded(9, 9, 9), name.encode("latin-1"), loaded(prefix).tfmset_encode
+    arrays = [(kind * (room + 1))() for kind, room in zip((U8, SIZE, Uncoded), rooms)]
+    for array in arrays:
+        ctypes.memset(array, 9, ctypes.sizeof(array))
+    status = function(name, len(name), text, len(text), *sum(zip(arrays, rooms), ()), ctypes.byref(encoded))
+    counts = rooms if status == NO_ROOM else (0, 0, 0)
+    if status == DONE:
+        counts = encoded.count, rooms[1] and encoded.count, encoded.uncoded
+    for array, count in zip(arrays, counts):
+        assert not bytes(array)[count * ctypes.sizeof(array) // len(array):].strip(b"\t"), "elements after the list"
+    codes, offsets, uncoded = (array[:count] for array, count in zip(arrays, counts))
+    return status, (bytes(codes), offsets, [*map(values, uncoded)]) if status == DONE else None, values(encoded)
 
 
 @functools.lru_cache(maxsize=None)
@@ -85,7 +93,7 @@ def loaded(prefix):
         function = getattr(library, "tfmset_" + name)
         function.argtypes, function.restype = kinds, U32
     name, array = [ctypes.c_char_p, SIZE], [ctypes.c_void_p, SIZE]
-    library.tfmset_encode.argtypes = name + name + array + [ctypes.c_void_p]
+    library.tfmset_encode.argtypes = name + name + array * 3 + [ctypes.c_void_p]
     library.tfmset_encode.restype = U32
     return library
 

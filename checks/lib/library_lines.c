@@ -644,7 +644,7 @@ static void check_memory(const struct expected *expected)
     uint8_t codes[3];
     size_t call;
     must(CALLED(size, ((const uint8_t *)"12pt", 4, &points)) == TFMSET_DONE && points == 786432, "a size is read");
-    must(CALLED(encode, (name, 2, accented, 3, codes, 3, &encoded)) == TFMSET_DONE && encoded.count == 2
+    must(CALLED(encode, (name, 2, accented, 3, codes, 3, NULL, 0, NULL, 0, &encoded)) == TFMSET_DONE && encoded.count == 2
          && codes[0] == 228 && codes[1] == 'a', "a text is encoded");
     for (call = 0; call < sizeof calls / sizeof *calls; call++) {
         for (all_fail = 0; all_fail < 2; all_fail++) {

@@ -29,6 +29,7 @@ static struct tfmset_pair pairs[66049];
 static struct tfmset_character characters[256];
 static int32_t parameters[32767];
 static struct tfmset_placed placed[2 * ROOM];
+static struct tfmset_uncoded uncoded[LINES];
 /* In the text of checks/library.py a word, a word with a hyphen, and a long one; and a span outside of it. */
 static const struct tfmset_span spans[] = {{0, 3, 3, 256}, {4, 6, 3, 45}, {56004, 60000, 3, 256}, {9, 1 << 20, 0, 256}};
 static const struct tfmset_form forms[] = {{1, 1, 1}, {1, 1, 2}, {1, 1, 3}};
@@ -79,7 +80,7 @@ static const struct tfmset_options *span_options_at(uint32_t size)
 #define CALL(name, arguments) CALLS(name, 1, 1, arguments)
 CALL(version, (tfmset_version() == TFMSET_VERSION ? TFMSET_DONE : TFMSET_OUT_OF_RANGE))
 CALL(size, tfmset_size((const uint8_t *)"10.95pt", 7, &out.size))
-CALLS(encode, 5, 1, tfmset_encode(NAME, text, text_length, bytes, sizeof bytes, &out.encoded))
+CALLS(encode, 5, 1, tfmset_encode(NAME, text, text_length, bytes, sizeof bytes, NULL, 0, uncoded, LINES, &out.encoded))
 CALL(check, tfmset_check(FONT, &out.fault))
 CALL(fault_text, tfmset_fault_text(FONT, bytes, sizeof bytes, &out.length))
 CALL(font, tfmset_font(FONT, at.size, &out.about))

@@ -49,6 +49,7 @@ import codecs
 import ctypes
 import dataclasses
 import functools
+import itertools
 import operator
 import os
 import struct
@@ -56,9 +57,9 @@ import time
 from typing import (Any, Dict, Iterator, List, NamedTuple, Optional, Sequence, Tuple, Type, Union,
                     overload)
 
-from ._binding import (_DONE, _FONT_REFUSED, _NO_ROOM, _OUT_OF_MEMORY, _UNCODED, _About, _Character, _Counts,
-                       _Encoded, _Fault, _Form, _i32, _library, _Line, _Options, _Pair, _Placed, _size_t, _Span,
-                       _u32, _version, __version__)
+from ._binding import (_DONE, _FONT_REFUSED, _NO_ROOM, _OUT_OF_MEMORY, _About, _Character, _Counts, _Encoded,
+                       _Fault, _Form, _i32, _library, _Line, _Options, _Pair, _Placed, _size_t, _Span, _u32,
+                       _Uncoded, _version, __version__)
 
 __all__ = ["BOUNDARY", "CHARACTER", "ENCODINGS", "KERN", "POINT", "SKIPPED", "SPACE", "EncodingError", "Font",
            "FontRefused", "Item", "Kern", "Ligature", "Line", "Lines", "Metrics", "PlacedItem", "Recipe",
@@ -155,35 +156,51 @@ def _named(encoding: str) -> bytes:
     return str.encode(encoding, "ascii", "replace")
 
 
-def encode(text: str, encoding: str) -> bytes:
+def _skips(missing: str) -> bool:
+    """Returns whether missing characters are skipped. Raises ValueError for another name than these two."""
+    if missing not in ("refuse", "skip"):
+        raise ValueError(f"missing is {missing!r}, but must be 'refuse' or 'skip'")
+    return missing == "skip"
+
+
+def _encoded(text: str, encoding: str, skips: bool, with_offsets: bool = False) -> Tuple[bytes, Any]:
+    """Returns the codes of a text, and with `with_offsets` the offset in UTF-8 of the character of each of them.
+    Raises EncodingError for a character without codes, unless `skips`."""
+    name, content = _named(encoding), _utf8(text, encoding)
+    length, encoded, room, code = len(content), _Encoded(), 16, _NO_ROOM
+    # A character has at most as many codes as bytes, and therefore these two arrays are always long enough.
+    codes, offsets = ctypes.create_string_buffer(max(length, 1)), (_size_t * (length * with_offsets))()
+    while code == _NO_ROOM:
+        uncoded = (_Uncoded * room)()
+        code = _library.tfmset_encode(name, len(name), content, length, codes, length, offsets, len(offsets),
+                                      uncoded, room, ctypes.byref(encoded))
+        room = encoded.uncoded
+    if code != _DONE:
+        raise ValueError("an argument is out of range")
+    if room and not skips:
+        place = len(content[:uncoded[0].offset].decode("utf-8"))
+        raise EncodingError(encoding, place, chr(uncoded[0].character))
+    return _front(codes, encoded.count), offsets
+
+
+def encode(text: str, encoding: str, missing: str = "refuse") -> bytes:
     """Returns the codes that the characters of a text have in a font, as LaTeX sets them.
 
     `encoding` is one of ENCODINGS, or the same in capitals. Most characters have one code, some have two or
     three, and the soft hyphen has none: its neighbours are neighbours in the result. Line feeds are kept, and a
     byte order mark (U+FEFF) at the front of the text is left out.
 
-    Raises EncodingError if a character has no codes: one that isn't in the encoding, or that LaTeX takes from
-    another font or puts together from an accent and a letter. Raises ValueError for any other name of an
-    encoding, and TypeError if an argument isn't a str.
+    Some characters have no codes: those that aren't in the encoding, and those that LaTeX takes from another
+    font or puts together from an accent and a letter. With `missing="refuse"` the first of them raises
+    EncodingError, and with `missing="skip"` they are left out. Raises ValueError for any other name of an
+    encoding or value of `missing`, and TypeError if an argument isn't a str.
 
     >>> encode("Straße – “naïve”", "t1")
     b'Stra\\xffe \\x15 \\x10na\\xefve\\x11'
-    >>> encode("¿“Qué?”", "latin1")
-    Traceback (most recent call last):
-    tfmset.EncodingError: no code in latin1 for U+201C at index 1
+    >>> encode("¿“Qué?”", "latin1", missing="skip")
+    b'\\xbfQu\\xe9?'
     """
-    name = _named(encoding)
-    content = _utf8(text, encoding)
-    # A character has at most as many codes as bytes, and therefore the array is always long enough.
-    length, encoded = len(content), _Encoded()
-    array = ctypes.create_string_buffer(max(length, 1))
-    code = _library.tfmset_encode(name, len(name), content, length, array, length, ctypes.byref(encoded))
-    if code == _UNCODED:
-        place = len(content[:encoded.offset].decode("utf-8"))
-        raise EncodingError(encoding, place, chr(encoded.character))
-    if code != _DONE:
-        raise ValueError("an argument is out of range")
-    return _front(array, encoded.count)
+    return _encoded(text, encoding, _skips(missing))[0]
 
 
 class FontRefused(ValueError):
@@ -321,19 +338,19 @@ class _Source:
 
     def __init__(self, text: str, encoding: str) -> None:
         self._text, self._encoding = text, encoding
-        self._lines: Optional[List[str]] = None
+
+    @functools.cached_property
+    def _places(self) -> Tuple[bytes, List[int], Any]:
+        """The text in UTF-8, the indices of the first codes of its lines, and the offset of each code."""
+        codes, offsets = _encoded(self._text, self._encoding, True, True)
+        lengths = (len(line) + 1 for line in bytes.split(codes, b"\n"))
+        return str.encode(self._text, "utf-8"), list(itertools.accumulate(lengths, initial=0)), offsets
 
     def index(self, number: int, offset: int) -> int:
         """Returns the index in the line `number` (from 0) of the character that has the code at an offset."""
-        if self._lines is None:
-            self._lines = str.split(self._text, "\n")
-        codes = 0
-        for index, character in enumerate(self._lines[number]):
-            # Alone, a byte order mark is at the front of a text, and the text has it nowhere else.
-            codes += len(encode(character, self._encoding))
-            if codes > offset:
-                return index
-        raise IndexError("offset out of range")
+        content, firsts, offsets = self._places
+        place = offsets[firsts[number] + offset]
+        return len(content[content.rfind(b"\n", 0, place) + 1:place].decode("utf-8"))
 
 
 def _refusal(refusal: int, place: int, code: int, number: int, source: Optional[_Source]) -> Refusal:
@@ -690,13 +707,12 @@ class Font:
 
     def _options(self, limit: int, missing: str, crlf: bool, call_limit: Optional[int]) -> _Options:
         """Returns the options, as the functions that set lines and spans expect them."""
-        if missing not in ("refuse", "skip"):
-            raise ValueError(f"missing is {missing!r}, but must be 'refuse' or 'skip'")
+        policy = int(_skips(missing))
         if not isinstance(crlf, bool):
             raise TypeError(f"crlf is {crlf!r}, but must be True or False")
         limit = _number("limit", limit, 1, _LARGEST_LIMIT)
         steps = 0 if call_limit is None else _number("call_limit", call_limit, 1, 2**64 - 1)
-        return _Options(steps, self._font[2], limit, int(missing == "skip"), int(crlf))
+        return _Options(steps, self._font[2], limit, policy, int(crlf))
 
     def _lines(self, text: Union[Text, str], options: _Options, encoding: Optional[str],
                with_items: bool) -> Lines:
@@ -707,7 +723,7 @@ class Font:
         else:
             # A carriage return has no codes in most encodings.
             text = str.replace(_string(text), "\r\n", "\n") if options.crlf else _string(text)
-            content, source = encode(text, encoding), _Source(text, encoding)
+            content, source = _encoded(text, encoding, bool(options.policy))[0], _Source(text, encoding)
         function = _library.tfmset_set if with_items else _library.tfmset_widths
         # The text has at most this many lines. The number of items is an estimate.
         room = len(content) + len(content) // 8 + 16 if with_items else 0
@@ -747,8 +763,9 @@ class Font:
 
         `text` is bytes, which are codes of the font; or a str, with `encoding`, the encoding of the font: one
         of ENCODINGS. Its codes are then those that `encode` returns, so that the neighbours of a soft hyphen are
-        neighbours, unlike in `records`. A character without codes raises EncodingError, also with
-        `missing="skip"`. In a refusal of a line of a str, `place` counts characters.
+        neighbours, unlike in `records`. A character without codes raises EncodingError; with `missing="skip"` it
+        is left out, has no item, and its neighbours are neighbours. In a refusal of a line of a str, `place`
+        counts characters.
 
         With `crlf=True` one carriage return before a line feed belongs to the line ending; in the `place` of an
         EncodingError both then count as one character. Once the lines have taken `call_limit` steps together,

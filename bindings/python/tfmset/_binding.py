@@ -8,13 +8,17 @@ from typing import Tuple
 
 __version__ = "0.2.0"
 
-_DONE, _FONT_REFUSED, _OUT_OF_MEMORY, _NO_ROOM, _OUT_OF_RANGE, _NOT_UTF8, _UNCODED = range(7)
+_DONE, _FONT_REFUSED, _OUT_OF_MEMORY, _NO_ROOM, _OUT_OF_RANGE, _NOT_UTF8 = range(6)
 _u8, _u32, _i32, _u64, _size_t = (ctypes.c_uint8, ctypes.c_uint32, ctypes.c_int32, ctypes.c_uint64,
                                   ctypes.c_size_t)
 
 
+class _Uncoded(ctypes.Structure):
+    _fields_ = [("offset", _size_t), ("character", _u32)]
+
+
 class _Encoded(ctypes.Structure):
-    _fields_ = [("count", _size_t), ("offset", _size_t), ("character", _u32)]
+    _fields_ = [("count", _size_t), ("uncoded", _size_t), ("offset", _size_t)]
 
 
 class _Fault(ctypes.Structure):
@@ -87,7 +91,7 @@ def _load() -> ctypes.CDLL:
     functions = {
         "version": [],
         "size": text + out,
-        "encode": text + text + array + out,
+        "encode": text + text + array + array + array + out,
         "check": text + out,
         "fault_text": text + array + out,
         "font": sized + out,

@@ -1,28 +1,28 @@
 -- The codes of a text while they are written.
-use Rattle.std.proofs.Common.{◌≡◌, ◌⊎◌, ℕ, ◌+◌, ◌-◌, ◌^◌, ◌<◌, ◌≤◌, Bool, true, false, List, [], ◌∷◌, ◌++◌, length, Some, None, flat_map, arith, refl, ap, sym, ◌∙◌, subst, length-append}
-use Rattle.std.specs.Prelude.{cond, codes as bytes_of, nat_eq, ◌≢◌, Option, ⊤, if◌then◌else◌}
-use Rattle.std.specs.Option.{option_map, option_map_or, unwrap_or}
+use Rattle.std.proofs.Common.{◌≡◌, ℕ, zero, suc, ◌+◌, ◌<◌, ◌≤◌, Bool, true, false, List, [], ◌∷◌, ◌++◌, length, get_or, map, take, Some, None, arith, refl, ap, sym, ◌∙◌, subst}
+use Rattle.std.specs.Prelude.{codes as bytes_of, Option, if◌then◌else◌}
+use Rattle.std.specs.List.{range_with_len}
+use Rattle.std.specs.Option.{option_map}
 use Rattle.std.specs.Str.Lossy.{utf8_valid_len}
 use Rattle.std.specs.Str.{bytes_eq, chars, is_utf8, IsUtf8}
 use lib.Utf8.{encode}
-use Rattle.std.proofs.lemmas.Bool.{eqb-true, false_from_ne_true}
+use Rattle.std.proofs.lemmas.Bool.{false_from_ne_true}
+use Rattle.std.proofs.lemmas.List.{length-map, map-append, take_more}
 use Rattle.std.proofs.lemmas.Slice.Eq.{bytes_eq-Decides}
 use Rattle.std.proofs.lemmas.Str.{IsUtf8-from_is_utf8}
 use Rattle.encodings.specs.declared.encoding.Encoding.{Encoding}
-use Rattle.encodings.specs.declared.encoding.Encoding.TheVariants.{Ot1, T1, Ly1, Latin1, Vector}
+use Rattle.encodings.specs.declared.encoding.Encoding.TheVariants.{Ot1, T1, Ly1, Latin1}
 use Rattle.encodings.specs.declared.places.Place.{Place}
-use Rattle.encodings.specs.Codes.{characters_of, codes_of, is_apart, others_of}
-use Rattle.encodings.specs.Lines.{break_number, fault_in, numbers_of, places_of, set_apart}
+use Rattle.encodings.specs.Lines.{fault_in, places_of}
 use Rattle.encodings.specs.Names.{capital_name_of, encoding_named, name_of}
-use Rattle.encodings.specs.Tables.{ot1_characters, t1_characters, ly1_characters, shared_others, ot1_others, t1_others, ly1_others}
-use Rattle.encodings.proofs.LawLemmas.{places_few}
-use Rattle.encodings.proofs.PlaceLemmas.{characters_in}
-use Rattle.encodings.proofs.VectorLemmas.{feed_alone}
-use Rattle.tfmset_c.specs.Arrays.{HasRoom}
-use Rattle.tfmset_c.specs.Encoded.{AreCodesTold, EncodedText, codes_at, encoded_as, encoding_told, first_without, report_of, result_at, text_codes}
-use Rattle.tfmset_c.specs.Encoded.EncodedText.{codes, not_utf8, uncoded}
+use Rattle.encodings.specs.Texts.{codes_at, offsets_at, text_codes, uncoded_at}
+use Rattle.encodings.proofs.TextLemmas.{text_few}
+use Rattle.tfmset_c.specs.Arrays.{ArePut, HasRoom, IsFilled, IsOverlaid, IsPartly}
+use Rattle.tfmset_c.specs.Encoded.{AreCodesTold, AreFilled, HaveRoom, IsCounted, TextCodes, codes_told, encoding_told, fault_told, offsets_for, report_of, uncoded_told}
 use Rattle.tfmset_c.specs.declared.encode.TfmsetEncoded.{TfmsetEncoded}
-use Rattle.tfmset_c.proofs.ArrayLemmas.{whole_put}
+use Rattle.tfmset_c.specs.declared.encode.TfmsetUncoded.{TfmsetUncoded}
+use Rattle.tfmset_c.specs.Texts.{held}
+use Rattle.tfmset_c.proofs.ArrayLemmas.{all_counted, all_put, nothing_put, put_both, whole_put}
 
 -- ---- names
 
@@ -63,106 +63,127 @@ bytes_told name text is bytes = ap encoding_told (sym is ∙ bytes) ∙ bytes_na
 
 pub ruleset names = (no_name, other_told, bytes_told)
 
--- ---- few codes
+-- ---- the arrays
 
-feed_numbers : (encoding : Encoding) → length (numbers_of encoding 10) ≡ 1
-unfolding numbers_of codes_of characters_of others_of ot1_characters t1_characters ly1_characters shared_others ot1_others t1_others ly1_others
-feed_numbers Ot1 = refl
-feed_numbers T1 = refl
-feed_numbers Ly1 = refl
-feed_numbers Latin1 = refl
-feed_numbers (Vector vector) = feed_alone vector
+-- elements that are written next
+pub put_next : {T : Type 0} (told to_come put rest before now after : List T) (at at' : ℕ) → IsPartly told to_come at before now → to_come ≡ put ++ rest
+    → ArePut put at at' now after → IsPartly told rest at' before after
+put_next {T} told to_come put rest before now after at at' partly is made = made.further told rest before (subst (λ (l : List T). IsPartly told l at before now) is partly)
 
-few_at : (encoding : Encoding) (character : ℕ) → length (unwrap_or (text_codes encoding character) []) ≤ length (numbers_of encoding character)
-unfolding numbers_of
-few_at encoding character = by (nat_eq character 10) refl
-  where
-    apart : (b : Bool) (made : List ℕ) → length made ≤ length (cond b (break_number ∷ made ++ break_number ∷ []) made)
-    apart true made = omega (arith, length-append made (break_number ∷ []))
-    apart false made = omega arith
+-- one more offset
+pub range_more : (first n : ℕ) → range_with_len first (n + 1) ≡ range_with_len first n ++ (first + n) ∷ []
+range_more first zero = ap (λ k. k ∷ []) (omega arith)
+range_more first (suc n) =
+    ap (range_with_len first) (let e : suc n + 1 ≡ suc (n + 1) = omega arith in e) ∙ ap (λ l. first ∷ l) (range_more (first + 1) n) ∙ ap (λ k. range_with_len first (suc n) ++ k ∷ []) (let e : first + 1 + n ≡ first + suc n = omega arith in e)
 
-    found : (o : Option (List ℕ)) → length (unwrap_or o []) ≤ length (option_map_or (set_apart character) o ((256 + character) ∷ []))
-    found None = omega arith
-    found (Some made) = apart (is_apart character) made
+pub same_more : (offset n : ℕ) (codes : List ℕ) → n < length codes → map (λ _. offset) (take (n + 1) codes) ≡ map (λ _. offset) (take n codes) ++ offset ∷ []
+same_more offset n codes within = ap (map (λ _. offset)) (take_more codes n 0 within) ∙ map-append (λ _. offset) (take n codes) (get_or codes n 0 ∷ [])
 
-    by : (b : Bool) → nat_eq character 10 ≡ b → length (unwrap_or (cond b (Some (10 ∷ [])) (codes_of encoding character)) []) ≤ length (numbers_of encoding character)
-    by true is = omega (arith, ap (λ c. length (numbers_of encoding c)) (eqb-true character 10 is), feed_numbers encoding)
-    by false is = found (codes_of encoding character)
+pub ruleset ranging = (put_both, range_more)
 
-few_codes : (encoding : Encoding) (places : List Place) → length (codes_at encoding places) ≤ length (flat_map (numbers_of encoding) (characters_in places))
-few_codes encoding [] = omega arith
-few_codes encoding (place ∷ places) =
-    omega (
-      arith,
-      few_at encoding place.character,
-      few_codes encoding places,
-      length-append (unwrap_or (text_codes encoding place.character) []) (codes_at encoding places),
-      length-append (numbers_of encoding place.character) (flat_map (numbers_of encoding) (characters_in places)),
-    )
+-- a character that has codes comes next
+pub coded_next : (encoding : Encoding) (place : Place) (places rest : List Place) (made : List ℕ) → places ≡ place ∷ rest → text_codes encoding place.character ≡ Some made
+    → (codes_at encoding places ≡ made ++ codes_at encoding rest) × (offsets_at encoding places ≡ map (λ _. place.offset) made ++ offsets_at encoding rest)
+    × (uncoded_at encoding places ≡ uncoded_at encoding rest)
+coded_next encoding place places rest made are coded = rw (are, coded) (refl, refl, refl)
 
--- a text has at most as many codes as bytes
-abbrev pub IsShort : ℕ → EncodedText → Type 0
-IsShort most (codes told) = length told ≤ most
-IsShort most (not_utf8 offset) = ⊤
-IsShort most (uncoded place) = ⊤
-
-pub told_few : (encoding : Option Encoding) (text : List ℕ) → IsShort (length text) (encoded_as encoding text)
-unfolding encoded_as fault_in
-told_few None text = omega arith
-told_few (Some encoding) text = by (is_utf8 text) refl
-  where
-    few : is_utf8 text ≡ true → length (codes_at encoding (places_of true text)) ≤ length text
-    few utf8 = omega (arith, few_codes encoding (places_of true text), places_few encoding true text (IsUtf8-from_is_utf8 text utf8))
-
-    found : (o : Option Place) → is_utf8 text ≡ true → IsShort (length text) (option_map_or uncoded o (codes (codes_at encoding (places_of true text))))
-    found None utf8 = few utf8
-    found (Some place) utf8 = tt
-
-    by : (b : Bool) → is_utf8 text ≡ b
-        → IsShort (length text) (option_map_or not_utf8 (if b then None else Some (utf8_valid_len text)) (result_at encoding (places_of true text)))
-    by true utf8 = found (first_without encoding (places_of true text)) utf8
-    by false bad = tt
-
--- an array as long as the text is long enough
-pub enough_room : (told : EncodedText) (text before after : List ℕ) (answer : ℕ) (report : TfmsetEncoded) → IsShort (length text) told
-    → AreCodesTold told answer report before after → length text < 2 ^ 64 - 1 → length text ≤ length before → answer ≡ 3 → ⊥
-unfolding HasRoom
-enough_room (codes told) text before after answer report few is short fits three =
-    is.1.no_room three (omega (arith, few, fits), omega (arith, few, short))
-enough_room (not_utf8 offset) text before after answer report few is short fits three = omega (arith, is.0, three)
-enough_room (uncoded place) text before after answer report few is short fits three = omega (arith, is.0, three)
+pub ruleset filling = (put_next, nothing_put)
 
 -- ---- the result of a text
 
--- the code that is returned
-pub code_of : (told : EncodedText) (before after : List ℕ) (answer : ℕ) (report : TfmsetEncoded) → AreCodesTold told answer report before after
-    → (answer ≢ 4) × ((answer ≡ 0) ⊎ ((3 ≤ answer) × (answer ≤ 6)))
-code_of (codes told) before after answer report is = grind arith
-code_of (not_utf8 offset) before after answer report is = grind arith
-code_of (uncoded place) before after answer report is = grind arith
-
-pub ruleset reported = (code_of, told_few, enough_room)
+-- a text of bytes
+pub bytes_filled : (o : Option Encoding) (text codes codes' offsets offsets' : List ℕ) (uncoded : List TfmsetUncoded) (count placed : ℕ) → o ≡ None → ArePut text 0 count codes codes'
+    → ArePut (range_with_len 0 (length text)) 0 placed offsets offsets'
+    → AreFilled (codes_told o text) (report_of count 0 0) placed codes codes' offsets offsets' uncoded uncoded
+unfolding codes_told
+bytes_filled o text codes codes' offsets offsets' uncoded count placed none put next = rw none (record {
+  codes_in = whole_put text codes codes' count put;
+  offsets_in = whole_put (range_with_len 0 (length text)) offsets offsets' placed next;
+  uncoded_in = nothing_put [] uncoded;
+  sound = refl;
+})
 
 -- a text in UTF-8
-pub text_fault : (o : Option Encoding) (encoding : Encoding) (text before : List ℕ) (offset : ℕ) → o ≡ Some encoding → Some offset ≡ fault_in text
-    → AreCodesTold (encoded_as o text) 5 (report_of 0 offset 0) before before
-unfolding encoded_as
-text_fault o encoding text before offset some is = rw (some, sym is) (refl, refl, refl)
+pub text_filled : (o : Option Encoding) (encoding : Encoding) (text codes codes' offsets offsets' : List ℕ) (uncoded uncoded' : List TfmsetUncoded) (places : List Place) (report : TfmsetEncoded) (placed : ℕ)
+    → o ≡ Some encoding → places ≡ places_of true text → IsFilled (codes_at encoding places) report.count codes codes'
+    → IsFilled (offsets_at encoding places) placed offsets offsets' → IsFilled (map uncoded_told (uncoded_at encoding places)) report.uncoded uncoded uncoded' → report.offset ≡ 0
+    → AreFilled (codes_told o text) report placed codes codes' offsets offsets' uncoded uncoded'
+unfolding codes_told
+text_filled o encoding text codes codes' offsets offsets' uncoded uncoded' places report placed some are first second third none =
+    rw (some, sym are) (record { codes_in = first; offsets_in = second; uncoded_in = third; sound = none })
 
-pub text_uncoded : (o : Option Encoding) (encoding : Encoding) (text before : List ℕ) (places : List Place) (place : Place) → o ≡ Some encoding → fault_in text ≡ None
-    → places ≡ places_of true text → Some place ≡ first_without encoding places
-    → AreCodesTold (encoded_as o text) 6 (report_of 0 place.offset place.character) before before
-unfolding encoded_as
-text_uncoded o encoding text before places place some decoded are found = rw (some, decoded, sym are, sym found) (refl, refl, refl)
+pub no_fault : (o : Option Encoding) (text : List ℕ) → ((encoding : Encoding) → o ≡ Some encoding → is_utf8 text ≡ true) → fault_told o text ≡ None
+unfolding fault_told fault_in
+no_fault None text utf8 = refl
+no_fault (Some encoding) text utf8 = rw (utf8 encoding refl) refl
 
-pub text_coded : (o : Option Encoding) (encoding : Encoding) (text : List ℕ) (places : List Place) → o ≡ Some encoding → fault_in text ≡ None
-    → places ≡ places_of true text → first_without encoding places ≡ None
-    → encoded_as o text ≡ codes (codes_at encoding places)
-unfolding encoded_as
-text_coded o encoding text places some decoded are none = rw (some, decoded, sym are, none) refl
+pub text_fault : (o : Option Encoding) (encoding : Encoding) (text : List ℕ) (offset : ℕ) → o ≡ Some encoding → Some offset ≡ fault_in text → fault_told o text ≡ Some offset
+unfolding fault_told
+text_fault o encoding text offset some is = rw some (sym is)
 
-pub text_copied : (o : Option Encoding) (text : List ℕ) → o ≡ None → encoded_as o text ≡ codes text
-unfolding encoded_as
-text_copied o text none = rw none refl
+pub fault_found : (text : List ℕ) → is_utf8 text ≡ false → None ≡ fault_in text → ⊥
+unfolding fault_in
+fault_found text bad none = cc (rw bad at none)
 
-pub ruleset texts = (text_fault, text_uncoded, text_coded, text_copied, whole_put)
+pub ruleset texts = (no_fault, text_fault, fault_found)
+
+-- ---- the effect of a call
+
+counted_as : (told : TextCodes) (report : TfmsetEncoded) (placed : ℕ) (codes codes' offsets offsets' : List ℕ) (uncoded uncoded' : List TfmsetUncoded)
+    → AreFilled told report placed codes codes' offsets offsets' uncoded uncoded' → report ≡ report_of (held (length told.codes)) (held (length told.uncoded)) 0
+counted_as told report placed codes codes' offsets offsets' uncoded uncoded' filled =
+    ap (λ n. report_of n report.uncoded report.offset) (all_counted filled.codes_in)
+    ∙ ap (λ n. report_of (held (length told.codes)) n report.offset) (all_counted filled.uncoded_in)
+    ∙ ap (report_of (held (length told.codes)) (held (length told.uncoded))) filled.sound
+
+-- an array of offsets that has room, or the length 0
+offsets_put : (told before after : List ℕ) (placed : ℕ) → IsFilled told placed before after → HasRoom (length (offsets_for (length before) told)) (length before)
+    → IsOverlaid (offsets_for (length before) told) before after
+offsets_put told [] [] placed filled room = refl
+offsets_put told [] (one ∷ after) placed filled room = absurd (omega (arith, filled.same_length))
+offsets_put told (one ∷ before) after placed filled room = all_put filled room
+
+pub no_offsets : (told : List ℕ) (room : ℕ) → room ≡ 0 → HasRoom (length (offsets_for room told)) room
+unfolding HasRoom
+no_offsets told zero none = (omega arith, omega arith)
+no_offsets told (suc room) none = absurd (omega (arith, none))
+
+pub some_offsets : (told : List ℕ) (room : ℕ) → (room ≡ 0 → ⊥) → offsets_for room told ≡ told
+some_offsets told zero some = absurd (some refl)
+some_offsets told (suc room) some = refl
+
+pub ruleset rooms = (no_offsets, some_offsets)
+
+-- there are few codes
+pub few_filled : (o : Option Encoding) (text : List ℕ) (report : TfmsetEncoded) (placed : ℕ) (codes codes' offsets offsets' : List ℕ) (uncoded uncoded' : List TfmsetUncoded)
+    → AreFilled (codes_told o text) report placed codes codes' offsets offsets' uncoded uncoded' → fault_told o text ≡ None → report.count + report.uncoded ≤ length text
+unfolding codes_told fault_told fault_in
+few_filled None text report placed codes codes' offsets offsets' uncoded uncoded' filled none =
+    omega (arith, all_counted filled.codes_in, all_counted filled.uncoded_in)
+few_filled (Some encoding) text report placed codes codes' offsets offsets' uncoded uncoded' filled none =
+    omega (arith, all_counted filled.codes_in, all_counted filled.uncoded_in, length-map (uncoded_at encoding (places_of true text)) uncoded_told, text_few encoding text (by (is_utf8 text) refl none))
+  where
+    by : (b : Bool) → is_utf8 text ≡ b → (if b then None else Some (utf8_valid_len text)) ≡ None → IsUtf8 text
+    by true utf8 none = IsUtf8-from_is_utf8 text utf8
+    by false bad none = cc
+
+pub effect_done : (told : TextCodes) (report : TfmsetEncoded) (placed : ℕ) (codes codes' offsets offsets' : List ℕ) (uncoded uncoded' : List TfmsetUncoded)
+    → AreFilled told report placed codes codes' offsets offsets' uncoded uncoded' → HaveRoom told (length codes') (length offsets') (length uncoded')
+    → AreCodesTold told 0 report codes codes' offsets offsets' uncoded uncoded'
+effect_done told report placed codes codes' offsets offsets' uncoded uncoded' filled fits =
+    let room : HaveRoom told (length codes) (length offsets) (length uncoded) = rw (filled.codes_in.same_length, filled.offsets_in.same_length, filled.uncoded_in.same_length) at fits in
+    record {
+      counted = λ _. counted_as told report placed codes codes' offsets offsets' uncoded uncoded' filled;
+      room = λ _. room;
+      no_room = λ three. absurd (omega (arith, three));
+      written = λ _. (all_put filled.codes_in room.0, offsets_put told.offsets offsets offsets' placed filled.offsets_in room.1, all_put filled.uncoded_in room.2);
+    }
+
+pub counted_all : (told : TextCodes) (report : TfmsetEncoded) (placed : ℕ) (codes codes' offsets offsets' : List ℕ) (uncoded uncoded' : List TfmsetUncoded)
+    → AreFilled told report placed codes codes' offsets offsets' uncoded uncoded' → IsCounted told report placed
+counted_all told report placed codes codes' offsets offsets' uncoded uncoded' filled =
+    record { codes = all_counted filled.codes_in; offsets = all_counted filled.offsets_in; uncoded = all_counted filled.uncoded_in }
+
+-- the encoding that a name has is the only one
+pub same_named : (o p : Option (Option Encoding)) (named encoding : Option Encoding) → o ≡ Some named → p ≡ Some encoding → p ≡ o → encoding ≡ named
+same_named o p named encoding one other same = cc

@@ -1,56 +1,84 @@
 -- A text in UTF-8 as the codes of a font, as C gets them.
--- This project's own; the codes of a character are defined in Codes of `encodings`.
-use Rattle.std.specs.Prelude.{◌≡◌, ℕ, true, cond, nat_eq, bytes_eq, codes as bytes_of, List, [], ◌∷◌, length, flat_map, Option, Some, None, if◌then◌else◌}
-use Rattle.std.specs.List.{find}
-use Rattle.std.specs.Option.{is_none, option_map, option_map_or, unwrap_or}
+-- This project's own; the codes of a character are defined in Codes of `encodings`, and those of a text in Texts.
+use Rattle.std.specs.Prelude.{◌≡◌, ℕ, ◌⊎◌, zero, suc, true, bytes_eq, codes as bytes_of, List, [], length, map, Option, Some, None, if◌then◌else◌}
+use Rattle.std.specs.List.{range_with_len}
+use Rattle.std.specs.Option.{option_map}
 use Rattle.encodings.specs.declared.encoding.Encoding.{Encoding}
 use Rattle.encodings.specs.declared.places.Place.{Place}
-use Rattle.encodings.specs.Codes.{codes_of}
 use Rattle.encodings.specs.Lines.{fault_in, places_of}
 use Rattle.encodings.specs.Names.{encoding_named}
-use Rattle.tfmset_c.specs.Arrays.{IsWritten}
+use Rattle.encodings.specs.Texts.{codes_at, offsets_at, uncoded_at}
+use Rattle.tfmset_c.specs.Arrays.{HasRoom, IsFilled, IsOverlaid}
 use Rattle.tfmset_c.specs.Texts.{held}
 use Rattle.tfmset_c.specs.declared.encode.TfmsetEncoded.{TfmsetEncoded}
+use Rattle.tfmset_c.specs.declared.encode.TfmsetUncoded.{TfmsetUncoded}
 
 -- what a name stands for, if it is known: an encoding, or with `bytes` none, so that each byte is a code
 unfoldable pub encoding_told : List ℕ → Option (Option Encoding)
 encoding_told name = if bytes_eq name (bytes_of "bytes") then Some None else option_map Some (encoding_named name)
 
--- the codes of a character of a text, if it has any: the line feed is kept, and ends a line
-abbrev pub text_codes : Encoding → ℕ → Option (List ℕ)
-text_codes encoding character = cond (nat_eq character 10) (Some (10 ∷ [])) (codes_of encoding character)
+-- a character without codes
+abbrev pub uncoded_told : Place → TfmsetUncoded
+uncoded_told place = record { offset = place.offset; character = place.character }
 
--- the first of these characters that has no codes
-abbrev pub first_without : Encoding → List Place → Option Place
-first_without encoding places = find (λ place. is_none (text_codes encoding place.character)) places
+-- the codes of a text, the offset of the character of each of them, and the characters without codes
+pub record TextCodes : Type 0 where
+  pub codes : List ℕ
+  pub offsets : List ℕ
+  pub uncoded : List TfmsetUncoded
 
--- the codes of these characters, in order
-abbrev pub codes_at : Encoding → List Place → List ℕ
-codes_at encoding places = flat_map (λ place. unwrap_or (text_codes encoding place.character) []) places
+-- those of a text; without an encoding its bytes are the codes
+unfoldable pub codes_told : Option Encoding → List ℕ → TextCodes
+codes_told None text = record { codes = text; offsets = range_with_len 0 (length text); uncoded = [] }
+codes_told (Some encoding) text = record {
+  codes = codes_at encoding (places_of true text);
+  offsets = offsets_at encoding (places_of true text);
+  uncoded = map uncoded_told (uncoded_at encoding (places_of true text));
+}
 
--- the result of a text: its codes, the byte offset at which it isn't UTF-8, or its first character without codes
-pub data EncodedText : Type 0 where
-  codes : List ℕ → EncodedText
-  not_utf8 : ℕ → EncodedText
-  uncoded : Place → EncodedText
+-- the offset at which a text isn't UTF-8; without an encoding it may be any bytes
+unfoldable pub fault_told : Option Encoding → List ℕ → Option ℕ
+fault_told None text = None
+fault_told (Some encoding) text = fault_in text
 
--- the result of a text in UTF-8 with these characters
-abbrev pub result_at : Encoding → List Place → EncodedText
-result_at encoding places = option_map_or uncoded (first_without encoding places) (codes (codes_at encoding places))
-
--- the result of a text; without an encoding its bytes are the codes
-unfoldable pub encoded_as : Option Encoding → List ℕ → EncodedText
-encoded_as None text = codes text
-encoded_as (Some encoding) text = option_map_or not_utf8 (fault_in text) (result_at encoding (places_of true text))
-
--- what is reported: the number of codes, a byte offset, and a character without codes
+-- what is reported: the numbers of codes and of characters without codes, and a byte offset
 abbrev pub report_of : ℕ → ℕ → ℕ → TfmsetEncoded
-report_of count offset character = record { count = count; offset = offset; character = character }
+report_of count uncoded offset = record { count = count; uncoded = uncoded; offset = offset }
 
--- the effect of a call that encodes a text with this result: 5 and 6 report why it has no codes, and leave the
--- array unchanged
-abbrev pub AreCodesTold : EncodedText → ℕ → TfmsetEncoded → List ℕ → List ℕ → Type 0
-AreCodesTold (codes told) answer report before after = (report ≡ report_of (held (length told)) 0 0) × IsWritten told answer before after
-AreCodesTold (not_utf8 offset) answer report before after = (answer ≡ 5) × (report ≡ report_of 0 offset 0) × (after ≡ before)
-AreCodesTold (uncoded place) answer report before after =
-    (answer ≡ 6) × (report ≡ report_of 0 place.offset place.character) × (after ≡ before)
+-- the offsets for an array of this length; one of length 0 gets none
+abbrev pub offsets_for : ℕ → List ℕ → List ℕ
+offsets_for zero offsets = []
+offsets_for (suc length) offsets = offsets
+
+-- all of these have room
+abbrev pub HaveRoom : TextCodes → ℕ → ℕ → ℕ → Type 0
+HaveRoom told codes offsets uncoded =
+    HasRoom (length told.codes) codes × HasRoom (length (offsets_for offsets told.offsets)) offsets × HasRoom (length told.uncoded) uncoded
+
+-- the effect of a call that encodes a text: after 0 and 3 the numbers are reported, after 0 the arrays have the codes,
+-- their offsets and the characters without codes, and after 3 some have no room
+pub record AreCodesTold (told : TextCodes) (answer : ℕ) (report : TfmsetEncoded) (codes_before codes offsets_before offsets : List ℕ) (uncoded_before uncoded : List TfmsetUncoded) : Type 0 where
+  pub counted : (answer ≡ 0) ⊎ (answer ≡ 3) → report ≡ report_of (held (length told.codes)) (held (length told.uncoded)) 0
+  pub room : answer ≡ 0 → HaveRoom told (length codes_before) (length offsets_before) (length uncoded_before)
+  pub no_room : answer ≡ 3 → HaveRoom told (length codes_before) (length offsets_before) (length uncoded_before) → ⊥
+  pub written : answer ≡ 0 → IsOverlaid told.codes codes_before codes × IsOverlaid (offsets_for (length offsets_before) told.offsets) offsets_before offsets × IsOverlaid told.uncoded uncoded_before uncoded
+
+-- 5 exactly for a text that isn't UTF-8, with the offset, and otherwise 0 or 3
+abbrev pub IsFaultTold : Option ℕ → ℕ → TfmsetEncoded → Type 0
+IsFaultTold None answer report = (answer ≡ 0) ⊎ (answer ≡ 3)
+IsFaultTold (Some offset) answer report = (answer ≡ 5) × (report ≡ report_of 0 0 offset)
+
+-- ---- partly filled arrays: this project's own representation, which no definition above uses
+
+-- these are the numbers of all elements
+pub record IsCounted (told : TextCodes) (report : TfmsetEncoded) (placed : ℕ) : Type 0 where
+  pub codes : report.count ≡ held (length told.codes)
+  pub offsets : placed ≡ held (length told.offsets)
+  pub uncoded : report.uncoded ≡ held (length told.uncoded)
+
+-- all elements are written, if they have room, and these are their numbers
+pub record AreFilled (told : TextCodes) (report : TfmsetEncoded) (placed : ℕ) (codes_before codes offsets_before offsets : List ℕ) (uncoded_before uncoded : List TfmsetUncoded) : Type 0 where
+  pub codes_in : IsFilled told.codes report.count codes_before codes
+  pub offsets_in : IsFilled told.offsets placed offsets_before offsets
+  pub uncoded_in : IsFilled told.uncoded report.uncoded uncoded_before uncoded
+  pub sound : report.offset ≡ 0

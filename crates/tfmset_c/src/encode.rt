@@ -1,21 +1,28 @@
 //! `tfmset_encode`: turns a text in UTF-8 into the codes of a font.
-ghost use Rattle.std.specs.Prelude.{◌≡◌, ◌≢◌, ◌≤◌, ◌<◌, ◌-◌, ◌^◌, ◌↔◌, ◌⊎◌, ℕ, List, None, Option, Some, MatchOption, length, true};
-ghost use Rattle.std.specs.Option.{is_none};
+ghost use Rattle.std.specs.Prelude.{◌≡◌, ◌≤◌, ◌<◌, ◌+◌, ◌^◌, ◌↔◌, ◌⊎◌, true, false, None, Option, Some, length, map, IfErr, IfOk};
+ghost use Rattle.std.specs.List.{range_with_len};
 ghost use Rattle.encodings.specs.declared.encoding.Encoding.{Encoding as EncodingValue};
-ghost use Rattle.encodings.specs.Lines.{fault_in, places_of};
-ghost use Rattle.tfmset_c.specs.Arrays.{IsFilled};
-ghost use Rattle.tfmset_c.specs.Encoded.{AreCodesTold, codes_at, encoded_as, encoding_told, first_without as first_without_in, text_codes};
-ghost use Rattle.tfmset_c.specs.Encoded.EncodedText.{codes};
+ghost use Rattle.encodings.specs.Texts.{codes_at, offsets_at, uncoded_at};
+ghost use Rattle.tfmset_c.specs.Arrays.{ArePut, IsFilled};
+ghost use Rattle.tfmset_c.specs.Encoded.{AreCodesTold, AreFilled, HaveRoom, IsCounted, IsFaultTold, TextCodes, codes_told, encoding_told, fault_told, uncoded_told};
 
-use crate::arrays::{has_room, put_bytes};
+use crate::arrays::{has_room, put_bytes, put_one};
 use crate::reading::{DONE, NO_ROOM, RANGE};
-use encodings::{Encoding, Place, Places, codes_of, utf8_fault};
+use encodings::{Encoding, Place, Places, codes_in_text, utf8_fault};
 use std::str;
 
 /// The text isn't UTF-8.
 const NOT_UTF8: u32 = 5;
-/// A character of the text has no codes in the encoding.
-const UNCODED: u32 = 6;
+
+/// A character that has no codes.
+#[repr(C)]
+#[derive(Clone, Copy, Debug, PartialEq, Eq)]
+pub struct TfmsetUncoded {
+    /// The byte offset in the text at which it begins.
+    pub offset: usize,
+    /// Its number in Unicode.
+    pub character: u32,
+}
 
 /// The result of a text in UTF-8.
 #[repr(C)]
@@ -23,11 +30,10 @@ const UNCODED: u32 = 6;
 pub struct TfmsetEncoded {
     /// Codes 0 and 3: the number of codes. Otherwise 0.
     pub count: usize,
-    /// Code 5: the byte offset in the text at which no character begins. Code 6: the byte offset of the first
-    /// character that has no codes. Otherwise 0.
+    /// Codes 0 and 3: the number of characters that have no codes. Otherwise 0.
+    pub uncoded: usize,
+    /// Code 5: the byte offset in the text at which no character begins. Otherwise 0.
     pub offset: usize,
-    /// Code 6: the number of this character in Unicode. Otherwise 0.
-    pub character: u32,
 }
 
 /// Returns the encoding of this name: `None` within `Some` is that of bytes, each of which is a code. Returns
@@ -43,144 +49,184 @@ pub fn encoding_of(name: &[u8]) -> Option<Option<Encoding>>
     }
 }
 
-/// Returns the codes of a character of a text, or `None` if it has none. The line feed is kept.
-fn codes_in_text(encoding: Encoding, character: char) -> Option<&'static [u8]>
-    ensures { MatchOption result (text_codes encoding character ≡ None)
-        (λ codes. text_codes encoding character ≡ Some codes.now) }
+/// Returns a character that has no codes as C gets it.
+fn uncoded_for_c(place: Place) -> TfmsetUncoded
+    ensures { result ≡ uncoded_told place }
 {
-    if character == '\n' {
-        return Some(b"\n");
+    TfmsetUncoded {
+        offset: place.offset,
+        character: u32::from(place.character),
     }
-    codes_of(encoding, character)
 }
 
-/// Returns whether a character of a text has no codes.
-fn is_without(encoding: Encoding, character: char) -> bool
-    ensures { result ≡ is_none (text_codes encoding character) }
+/// Writes the offsets of `count` bytes, of which the first one is `first`, starting at index `at`, while there is room.
+/// Returns the index after all of them.
+#[tactic(auto, using(crate::proofs::EncodedLemmas::ranging))]
+fn put_range(offsets: &mut [usize], at: usize, first: usize, count: usize) -> usize
+    requires { first + count ≤ 2 ^ 63 }
+    ensures { ArePut (range_with_len first count) at result offsets.old offsets.new }
 {
-    codes_in_text(encoding, character).is_none()
-}
-
-/// Returns the first of these characters that has no codes, or `None` if all have codes.
-fn first_without(encoding: Encoding, places: Places<'_>) -> Option<Place>
-    ensures { result ≡ first_without_in encoding places.entry }
-{
-    for place in places {
-        if is_without(encoding, place.character) {
-            return Some(place);
-        }
+    let mut next = at;
+    for index in 0..count {
+        next = put_one(offsets, next, first + index);
     }
-    None
+    next
 }
 
-/// Writes the codes of characters into the array while there is room. Characters without codes are left out.
-/// Returns the number of codes, or 2^64 - 1 if it is larger.
-fn fill_codes(encoding: Encoding, places: Places<'_>, codes: &mut [u8]) -> usize
-    ensures { IsFilled (codes_at encoding places.entry) result codes.old codes.new }
+/// Writes the offset of a character for each of its codes, starting at index `at`, while there is room. Returns the
+/// index after all of them.
+#[tactic(auto, using(crate::proofs::ArrayLemmas::put_both))]
+fn put_same(offsets: &mut [usize], at: usize, offset: usize, codes: &[u8]) -> usize
+    ensures { ArePut (map (λ _. offset) codes.now) at result offsets.old offsets.new }
 {
-    let mut at = 0;
-    for place in places {
-        if let Some(made) = codes_in_text(encoding, place.character) {
-            at = put_bytes(codes, at, made);
-        }
+    let mut next = at;
+    for _ in codes {
+        next = put_one(offsets, next, offset);
     }
-    at
+    next
 }
 
-/// Reports the number of codes that were written. Returns 0, or 3 if the array, which has `room` elements, is
-/// too short for them.
-#[tactic(auto, using(crate::proofs::ArrayLemmas::filled))]
-fn report_count(count: usize, room: usize, report: &mut TfmsetEncoded) -> u32
-    ensures { (told before after : List ℕ) → room ≡ length before → IsFilled told count before after
-        → AreCodesTold (codes told) result report.new before after }
+/// Writes the codes of characters, their offsets, and the characters that have no codes, while there is room. Returns
+/// the numbers of codes and of characters that have none, and the number of offsets, at most 2^64 - 1.
+#[tactic(auto, using(crate::proofs::EncodedLemmas::filling))]
+fn fill_codes(
+    encoding: Encoding,
+    places: Places<'_>,
+    codes: &mut [u8],
+    offsets: &mut [usize],
+    uncoded: &mut [TfmsetUncoded],
+) -> (TfmsetEncoded, usize)
+    ensures codes { IsFilled (codes_at encoding places.entry) result.0.count codes.old codes.new }
+    ensures offsets { IsFilled (offsets_at encoding places.entry) result.1 offsets.old offsets.new }
+    ensures uncoded { IsFilled (map uncoded_told (uncoded_at encoding places.entry)) result.0.uncoded
+        uncoded.old uncoded.new }
+    ensures fault { result.0.offset ≡ 0 }
 {
-    *report = TfmsetEncoded {
-        count,
+    let mut places = places;
+    let mut counts = TfmsetEncoded {
+        count: 0,
+        uncoded: 0,
         offset: 0,
-        character: 0,
     };
-    if has_room(count, room) { DONE } else { NO_ROOM }
-}
-
-/// Returns the characters of a text in UTF-8.
-#[tactic(auto, unfolding(encodings::specs::Lines::fault_in))]
-fn places_in(text: &[u8]) -> Places<'_>
-    requires { fault_in text.now ≡ None }
-    ensures { result ≡ places_of true text.now }
-{
-    match Places::of_line(true, text) {
-        Some(places) => places,
-        None => unreachable!(),
+    let mut placed = 0;
+    loop {
+        let (first, kept) = places.take_kept(encoding);
+        counts.count = put_bytes(codes, counts.count, kept);
+        placed = put_range(offsets, placed, first, kept.len());
+        let Some(place) = places.next() else {
+            return (counts, placed);
+        };
+        match codes_in_text(encoding, place.character) {
+            Some(made) => {
+                counts.count = put_bytes(codes, counts.count, made);
+                placed = put_same(offsets, placed, place.offset, made);
+            }
+            None => counts.uncoded = put_one(uncoded, counts.uncoded, uncoded_for_c(place)),
+        }
     }
 }
 
-/// Writes the codes of a text into the array, or reports why it has none. Without an encoding its bytes are
-/// the codes. Returns the code of the call.
+/// Writes what becomes of a text into the arrays, while there is room. Without an encoding its bytes are the codes.
+/// The error is the offset at which the text isn't UTF-8, and nothing is written.
 #[tactic(auto, using(crate::proofs::EncodedLemmas::texts))]
-fn encode_text(
+fn fill(
     encoding: Option<Encoding>,
     text: &[u8],
     codes: &mut [u8],
-    report: &mut TfmsetEncoded,
-) -> u32
-    ensures { AreCodesTold (encoded_as encoding text.now) result report.new codes.old codes.new }
+    offsets: &mut [usize],
+    uncoded: &mut [TfmsetUncoded],
+) -> Result<(TfmsetEncoded, usize), usize>
+    ensures sound { IfOk result (λ _. fault_told encoding text.now ≡ None) }
+    ensures ok { IfOk result (λ filled. AreFilled (codes_told encoding text.now) filled.0 filled.1 codes.old codes.new offsets.old offsets.new uncoded.old uncoded.new) }
+    ensures few { IfOk result (λ filled. filled.0.count + filled.0.uncoded ≤ length text.now) }
+    ensures fault { IfErr result (λ offset. fault_told encoding text.now ≡ Some offset) }
+    ensures kept { IfErr result (λ _. (codes.new ≡ codes.old) × (offsets.new ≡ offsets.old) × (uncoded.new ≡ uncoded.old)) }
 {
     let Some(encoding) = encoding else {
-        let count = put_bytes(codes, 0, text);
-        return report_count(count, codes.len(), report);
+        let counts = TfmsetEncoded {
+            count: put_bytes(codes, 0, text),
+            uncoded: 0,
+            offset: 0,
+        };
+        return Ok((counts, put_range(offsets, 0, 0, text.len())));
     };
-    if let Some(offset) = utf8_fault(text) {
-        *report = TfmsetEncoded {
-            count: 0,
-            offset,
-            character: 0,
-        };
-        return NOT_UTF8;
+    match Places::of_line(true, text) {
+        Some(places) => Ok(fill_codes(encoding, places, codes, offsets, uncoded)),
+        None => match utf8_fault(text) {
+            Some(offset) => Err(offset),
+            None => unreachable!(),
+        },
     }
-    if let Some(Place { offset, character }) = first_without(encoding, places_in(text)) {
-        *report = TfmsetEncoded {
-            count: 0,
-            offset,
-            character: u32::from(character),
-        };
-        return UNCODED;
-    }
-    let count = fill_codes(encoding, places_in(text), codes);
-    report_count(count, codes.len(), report)
 }
 
-/// States that bytes in memory are fewer than the largest count.
-fn bytes_are_countable(bytes: &[u8])
-    ensures { length bytes.now < 2 ^ 64 - 1 }
-{}
+/// Returns whether the arrays have room for all elements. An array of offsets whose length is 0 gets none.
+#[tactic(auto, using(crate::proofs::EncodedLemmas::rooms))]
+fn have_room(
+    counts: TfmsetEncoded,
+    placed: usize,
+    codes: &[u8],
+    offsets: &[usize],
+    uncoded: &[TfmsetUncoded],
+) -> bool
+    ensures fits { (told : TextCodes) → IsCounted told counts placed → result ≡ true
+        → HaveRoom told (length codes.now) (length offsets.now) (length uncoded.now) }
+    ensures lacks { (told : TextCodes) → IsCounted told counts placed → result ≡ false
+        → HaveRoom told (length codes.now) (length offsets.now) (length uncoded.now) → ⊥ }
+{
+    has_room(counts.count, codes.len())
+        && (offsets.is_empty() || has_room(placed, offsets.len()))
+        && has_room(counts.uncoded, uncoded.len())
+}
 
 /// Turns a text in UTF-8 into the codes of a font, and writes them into the front of `codes`. `encoding` is the
 /// name of the font's encoding: `bytes`, `ot1`, `t1`, `ly1` or `latin1`; with `bytes` the text is copied. Line
 /// feeds are kept, and a byte order mark at the front of the text is left out.
 ///
-/// Returns: 0 after success, where the other bytes of `codes` are unchanged; 3 if `codes` is too short, where its
-/// contents are unspecified; 4 if there is no encoding of this name, where nothing is changed; 5 if the text
-/// isn't UTF-8; 6 if each byte belongs to a character, but a character has no codes. After 5 and 6 `codes` is
-/// unchanged. An array as long as the text is always long enough. `report` has the number of codes after 0 and
-/// 3, and the offset of the fault after 5 and 6. No memory is allocated.
-#[tactic(auto, using(crate::proofs::EncodedLemmas::reported))]
+/// For each code `offsets` has the byte offset in the text of the character that it comes from, unless its length is
+/// 0. A character that has no codes is left out, and is in `uncoded`.
+///
+/// Returns: 0 after success, where the other elements of the arrays are unchanged; 3 if an array is too short, where
+/// `report` has the numbers of codes and of characters without codes, and the contents of the arrays are unspecified;
+/// 4 if there is no encoding of this name, where nothing is changed; 5 if the text isn't UTF-8, where the arrays are
+/// unchanged, and `report` has the offset. Arrays as long as the text are always long enough. No memory is allocated.
 #[unsafe(no_mangle)]
 pub extern "C" fn tfmset_encode(
     encoding: &[u8],
     text: &[u8],
     codes: &mut [u8],
+    offsets: &mut [usize],
+    uncoded: &mut [TfmsetUncoded],
     report: &mut TfmsetEncoded,
 ) -> u32
-    ensures answers { (result ≡ 0) ⊎ ((3 ≤ result) × (result ≤ 6)) }
+    ensures answers { (result ≡ 0) ⊎ ((3 ≤ result) × (result ≤ 5)) }
     ensures range { (result ≡ 4) ↔ (encoding_told encoding.now ≡ None) }
-    ensures told { (named : Option EncodingValue) → encoding_told encoding.now ≡ Some named
-        → AreCodesTold (encoded_as named text.now) result report.new codes.old codes.new }
-    ensures kept { result ≡ 4 → (report.new ≡ report.old) × (codes.new ≡ codes.old) }
-    ensures enough { length text.now ≤ length codes.old → result ≢ 3 }
+    ensures told { (named : Option EncodingValue) → encoding_told encoding.now ≡ Some named → AreCodesTold
+        (codes_told named text.now) result report.new codes.old codes.new offsets.old offsets.new uncoded.old uncoded.new }
+    ensures fault { (named : Option EncodingValue) → encoding_told encoding.now ≡ Some named
+        → IsFaultTold (fault_told named text.now) result report.new }
+    ensures few { (result ≡ 0) ⊎ (result ≡ 3) → report.new.count + report.new.uncoded ≤ length text.now }
+    ensures kept { (result ≡ 4) ⊎ (result ≡ 5) → (codes.new ≡ codes.old) × (offsets.new ≡ offsets.old) × (uncoded.new ≡ uncoded.old) }
+    ensures unknown { result ≡ 4 → report.new ≡ report.old }
 {
-    bytes_are_countable(text);
-    match encoding_of(encoding) {
-        None => RANGE,
-        Some(named) => encode_text(named, text, codes, report),
+    let Some(encoding) = encoding_of(encoding) else {
+        return RANGE;
+    };
+    match fill(encoding, text, codes, offsets, uncoded) {
+        Ok((counts, placed)) => {
+            *report = counts;
+            if have_room(counts, placed, codes, offsets, uncoded) {
+                DONE
+            } else {
+                NO_ROOM
+            }
+        }
+        Err(offset) => {
+            *report = TfmsetEncoded {
+                count: 0,
+                uncoded: 0,
+                offset,
+            };
+            NOT_UTF8
+        }
     }
 }
