@@ -15,7 +15,7 @@ use Rattle.encodings.specs.Tables.{ot1_characters, t1_characters, ly1_characters
 use Rattle.encodings.specs.Codes.{characters_of}
 use Rattle.encodings.specs.Characters.{character_of}
 use Rattle.font_texts.specs.AllListing.{hex_byte}
-use Rattle.font_texts.specs.PairsText.{action_name, action_value, json_symbol, line_end, pair_front, symbol_word, value_quote}
+use Rattle.font_texts.specs.PairsText.{action_name, action_value, json_action_value, json_symbol, line_end, pair_front, symbol_word}
 use Rattle.font_texts.specs.PairCharacters.{character_cell, character_name, character_word, characters_beside, json_character, json_member, json_value, pair_line_with, symbol_character, symbol_field, value_character, value_field, value_member}
 use Rattle.font_texts.specs.FaultWords.{count_fault_number, fault_number}
 use Rattle.font_texts.specs.Findings.{finding_line, json_escaped, json_finding, json_line}
@@ -77,13 +77,13 @@ empty_in_csv = refl
 -- a double quote, a backslash and a control character
 escaped_in_json : pair_line_with ScaledPoints (Some Latin1) Json (pair (Char 34) (Char 92) (Lig 31 false false 0))
     ≡ codes "{\"left\":34,\"right\":92,\"action\":\"LIG\",\"value\":31,\"left_character\":\"\\\"\",\"right_character\":\"\\\\\",\"value_character\":\"\\u001f\"}\n"
-unfolding pair_line_with pair_front line_end characters_beside json_symbol action_name action_value value_quote digits symbol_character value_member json_member json_value json_character hex_byte character_of characters_of
+unfolding pair_line_with pair_front line_end characters_beside json_symbol action_name action_value json_action_value digits symbol_character value_member json_member json_value json_character hex_byte character_of characters_of
 escaped_in_json = refl
 
 -- a boundary, and a kern
 null_in_json : pair_line_with ScaledPoints (Some Ot1) Json (pair (Char 65) Right (Kern (pos 1)))
     ≡ codes "{\"left\":65,\"right\":\"right\",\"action\":\"kern\",\"value\":1,\"left_character\":\"A\",\"right_character\":null}\n"
-unfolding pair_line_with pair_front line_end characters_beside json_symbol action_name action_value value_quote length_text digits symbol_character value_member json_member json_value json_character encode_utf8 character_of characters_of ot1_characters
+unfolding pair_line_with pair_front line_end characters_beside json_symbol action_name action_value json_action_value length_text digits symbol_character value_member json_member json_value json_character encode_utf8 character_of characters_of ot1_characters
 null_in_json = refl
 
 -- ---- without an encoding
@@ -96,7 +96,7 @@ of_bytes = refl
 
 string_in_json : pair_line_with Points None Json (pair (Char 86) (Char 65) (Kern (negsuc 72818)))
     ≡ codes "{\"left\":86,\"right\":65,\"action\":\"kern\",\"value\":\"-1.11113pt\"}\n"
-unfolding pair_line_with pair_front line_end characters_beside json_symbol action_name action_value value_quote length_text decimal_in points_power decimal_text digits
+unfolding pair_line_with pair_front line_end characters_beside json_symbol action_name action_value json_action_value length_text decimal_in points_power decimal_text digits
 string_in_json = refl
 
 -- ---- findings in JSON
