@@ -333,7 +333,7 @@ pub(crate) const ENCODING_ERROR: &str = "
 
   tip: a value with a slash or a period is the path of an encoding vector";
 
-pub(crate) const RECORD_HELP: &str = "Record format: 1, 2, json or box; 1 omits steps";
+pub(crate) const RECORD_HELP: &str = "Format: 1, 2, json or box; 1 omits steps";
 
 pub(crate) const BOX_UNIT_HELP: &str = "Unit of --record box: sp, pt, bp, mm, cm, in or pc";
 

@@ -120,11 +120,12 @@ fn append_kept(
     }
 }
 
-/// Sets lines and writes their records, in one format. A prepared writer of records with items has a table of texts,
-/// with which it sets each line that can be set with it. Any other line is set in the general way: [`set_stretch`] makes lists of
-/// items, and their texts are written one after the other. The results are the same in both ways. Memory that is
-/// used for each line is kept for the next one, so that most lines need no allocation. In contracts, the value of
-/// a writer is its font, its missing-character policy and its record format.
+/// Sets lines and writes their records, in one format. A prepared writer of records with items has a table of
+/// texts, with which it sets each line that can be set with it. Any other line is set in the general way:
+/// [`set_stretch`] makes lists of items, and their texts are written one after the other, or their box is measured.
+/// The results are the same in both ways. Memory that is used for each line is kept for the next one, so that most
+/// lines need no allocation. In contracts, the value of a writer is its font, its missing-character policy and its
+/// record format.
 ///
 /// [`set_stretch`]: set_line::set_stretch
 #[derive(Drop)]
@@ -171,8 +172,8 @@ impl LineWriter {
     }
 
     /// Prepares the writer for many lines: allocates a table of texts, 129 KB, unless it has one, or its records have
-    /// no items. The cells of the table are made when they are first needed. If the allocation fails, the lines are set in the general way,
-    /// until a later call of this method succeeds.
+    /// no items. The cells of the table are made when they are first needed. If the allocation fails, the lines are
+    /// set in the general way, until a later call of this method succeeds.
     pub fn prepare(&mut self, terms: &Terms)
         requires { Fits self.old terms.now }
         ensures { self.new ≡ self.old }

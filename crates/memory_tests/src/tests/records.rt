@@ -6,7 +6,7 @@ ghost use Rattle.line_records.specs.Cells.{Fits};
 use super::lines::settings;
 use super::{NO_ARGUMENTS, outcome, report};
 use encodings::Encoding;
-use line_records::RecordFormat::{Box, Items};
+use line_records::RecordFormat::Items;
 use line_records::{LineResult, LineWriter, RecordFormat, RecordOf, SourceLine};
 use set_line::{Answer, Policy, Terms, Version, record, set};
 use std::alloc::Global;
@@ -14,7 +14,6 @@ use std::process::Abort;
 use std::test::Fail;
 use test_support::fonts::{A, PLAIN, Sample};
 use test_support::terms::terms_of;
-use tex_sizes::LengthUnit;
 
 const EARLIER: &str = "1 end complete 0\n";
 
@@ -30,9 +29,6 @@ const BY_TABLE: &str = "2:1 set 962560 steps 3 c97=327680 k-40960 c99=491520 k20
 /// The record of `a€b`.
 const UNCODED: &str = "{\"source\":2,\"line\":1,\"width\":491520,\"steps\":2,\"items\":[\
 [\"c\",97,327680],[\"u\",8364],[\"c\",98,163840]]}\n";
-
-/// The record of the box of `a€b`.
-const BOXED: &str = "2:1 box 7.5pt 0.0pt 0.0pt 0\n";
 
 /// The record of `ad`, if missing characters are refused.
 const REFUSED: &str =
@@ -154,12 +150,6 @@ fn records_of_a_refused_line_are_appended(rt: HostRuntime) -> Result<(), Fail> {
 fn records_with_an_uncoded_character_are_appended(rt: HostRuntime) -> Result<(), Fail> {
     let in_t1 = (Some(Encoding::T1), Items(Version::Json));
     is_written(&rt, Policy::Skip, in_t1, ("a€b", UNCODED))
-}
-
-#[test]
-fn records_of_a_box_are_appended(rt: HostRuntime) -> Result<(), Fail> {
-    let boxes = (Some(Encoding::T1), Box(LengthUnit::Points));
-    is_written(&rt, Policy::Skip, boxes, ("a€b", BOXED))
 }
 
 /// Whether the line has its result, which is that of as many steps as pairs of bytes. Otherwise an allocation failed.
