@@ -19,6 +19,7 @@ GROUPS = ("counts list pairs check unread_fonts unread_files set stream before_a
           "vectors verbose").split()
 COMMANDS = ("counts", "list", "pairs", "check", "set", "each", "stream")
 HELP = os.path.join(ROOT, "checks", "help")
+TIP = '  tip: a font is given by the path of its file, such as "$(kpsewhich cmr10.tfm)"\n'
 
 
 def content(text):
@@ -331,7 +332,7 @@ class Numbers(Case):
                 (["set", "T", *texts], 4, "file {} not read"),
                 (["stream", "T", *texts], 4, "file {} not read"),
                 (each("T" * 64, texts), 4, "file {} not read"),
-                (each(names("T", "no"), "F" * 64), 4, "font {} not read"),
+                (each(names("T", "no"), "F" * 64), 4, "font {} not read\n" + TIP.rstrip()),
                 (each(names("T", "R"), "F" * 64), 3, "font {} refused: 8 truncated, 48 bytes needed")):
             wanted = (status, "", f"tfmset: {message.format(number)}\n")
             self.same((args[0], message), wanted, run(args, b"", self.room))
@@ -370,7 +371,8 @@ class Names(Case):
             self.same(args, (0, out, ""), run(args, b"", self.room))
             os.remove(path)
             out = printed + ": not read\n" if args[0] == "check" else ""
-            wanted = (4, out, f"tfmset: {what} not read\n")
+            tip = TIP * (what.startswith("font") and "/" not in name and name != "-")
+            wanted = (4, out, f"tfmset: {what} not read\n{tip}")
             self.same((args, "isn't there"), wanted, run(args, b"", self.room))
             hint = "tfmset: -: this is the name of a file; /dev/stdin is standard input\n" * (name == "-")
             causes = f"tfmset: {printed}: No such file or directory (os error 2)\n{hint}"

@@ -7,7 +7,7 @@ use font_texts::push_escaped_text;
 use std::alloc::Global;
 use std::io;
 use std::io::Write;
-use std::sync::atomic::{AtomicU64, Ordering};
+use std::sync::atomic::{AtomicBool, AtomicU64, Ordering};
 use std::sync::{Mutex, Wait};
 
 /// The notes of a request, which the threads that read files share. Without `--verbose` nothing is noted.
@@ -24,6 +24,8 @@ pub(crate) struct Notes {
     causes: Mutex<Vec<u8>>,
     /// The number of lines that end with a carriage return.
     returns: AtomicU64,
+    /// Whether a font wasn't found whose name is that of no directory, such as `cmr10`.
+    bare_unfound: AtomicBool,
 }
 
 impl Notes {
@@ -37,6 +39,7 @@ impl Notes {
             encoding: if verbose { encoding } else { None },
             causes: Mutex::new(Vec::new(alloc)),
             returns: AtomicU64::new(0),
+            bare_unfound: AtomicBool::new(false),
         }
     }
 
@@ -89,6 +92,19 @@ impl Notes {
         }
     }
 
+    /// Notes that the font of this name wasn't opened, with or without `--verbose`.
+    pub fn note_font(&self, name: &str, error: &io::Error) {
+        let is_bare = !matches!(name, "" | "-") && !name.contains('/');
+        if is_bare && error.kind() == io::ErrorKind::NotFound {
+            self.bare_unfound.store(true, Ordering::Relaxed);
+        }
+    }
+
+    /// Returns whether a font wasn't found whose name has no slash and isn't empty or `-`.
+    pub fn has_bare_unfound(&self) -> bool {
+        self.bare_unfound.load(Ordering::Relaxed)
+    }
+
     /// Notes that the coding scheme of the font of this name, which has these bytes, states another encoding than
     /// that of the request, if it does.
     pub fn note_coding<R: Wait>(&self, rt: &R, name: &[u8], font: &[u8]) {
@@ -128,6 +144,7 @@ impl Notes {
             encoding: _,
             causes,
             returns,
+            bare_unfound: _,
         } = self;
         (causes.into_inner(), returns.into_inner())
     }

@@ -22,6 +22,10 @@ use std::sync::Wait;
 use std::thread::Threads;
 use tfm_requests::{Done, Failure};
 
+/// The tip after the message for a font that wasn't found, if its name has no slash.
+const FONT_TIP: &[u8] =
+    b"  tip: a font is given by the path of its file, such as \"$(kpsewhich cmr10.tfm)\"\n";
+
 /// Runs the whole program: does what the arguments after its name request, and returns the exit status.
 /// `input` is read for the font `-`, except with `each`, and for the lines of `stream` if it names no file.
 /// All files, and all other fonts, are opened by their names.
@@ -50,12 +54,12 @@ where
     ensures cause { (result ≡ 2) ⊎ (result ≡ 3)
         → IsTurnedDown (map S.text words.now) (I.remaining input.old) result }
 {
-    let answered = answer(rt, words, input, out, err);
+    let (answered, tipped) = answer(rt, words, input, out, err);
     let flushed = out.flush();
     match (answered, flushed) {
         (Ok(done), Ok(())) => end(done, err),
-        (Ok(_), Err(_)) => fail(Failure::Tool(ToolFault::Write), err),
-        (Err(failure), _) => fail(failure, err),
+        (Ok(_), Err(_)) => fail(Failure::Tool(ToolFault::Write), false, err),
+        (Err(failure), _) => fail(failure, tipped, err),
     }
 }
 
@@ -67,21 +71,22 @@ pub fn words_refused<E: Write>(error: &io::Error, err: &mut E) -> u8
     ensures words { (error_kind error.now ≢ ErrorKind.OutOfMemory) → result ≡ 2 }
 {
     if error.kind() == ErrorKind::OutOfMemory {
-        return fail(Failure::Tool(ToolFault::OutOfMemory), err);
+        return fail(Failure::Tool(ToolFault::OutOfMemory), false, err);
     }
     let _ = err.write_all(b"error: invalid UTF-8 was detected in one or more arguments\n");
     2
 }
 
 /// Does what the arguments request, with the files of the file system, or writes help or the version. A warning,
-/// and what `--verbose` adds, are written to `err`, whose errors are ignored.
+/// and what `--verbose` adds, are written to `err`, whose errors are ignored. Also returns whether the tip about
+/// the names of fonts is wanted.
 fn answer<R, S, I, O, E>(
     rt: &R,
     words: &[S],
     input: &mut I,
     out: &mut O,
     err: &mut E,
-) -> Result<Done, Failure>
+) -> (Result<Done, Failure>, bool)
 where
     R: Files + AllocGlobal + Threads + Wait + Sync,
     R::File: Send,
@@ -91,10 +96,10 @@ where
     E: Write,
     ensures silent { ¬ (IsWarned (map S.text words.now))
         → ¬ (IsVerbose (map S.text words.now)) → err.new ≡ err.old }
-    ensures served { IfOk result (λ done. IsServed (map S.text words.now) (I.remaining input.old)
+    ensures served { IfOk result.0 (λ done. IsServed (map S.text words.now) (I.remaining input.old)
         (O.contents out.old) (O.contents out.new) (done_status done)) }
-    ensures untouched { IfErr result (λ failure. is_stop failure ≡ false → out.new ≡ out.old) }
-    ensures cause { IfErr result (λ failure. is_refusal failure ≡ true
+    ensures untouched { IfErr result.0 (λ failure. is_stop failure ≡ false → out.new ≡ out.old) }
+    ensures cause { IfErr result.0 (λ failure. is_refusal failure ≡ true
         → IsTurnedDownBy (map S.text words.now) (I.remaining input.old) failure) }
 {
     match requested(rt.alloc(), words) {
@@ -102,7 +107,7 @@ where
             warn(&requested.request, err);
             carry_out(rt, &requested, input, out, err)
         }
-        Err(error) => show(error, out),
+        Err(error) => (show(error, out), false),
     }
 }
 
@@ -140,11 +145,15 @@ fn end<E: Write>(done: Done, err: &mut E) -> u8
     status
 }
 
-/// Writes the text of a failure to `err`, and returns the exit status. If `err` fails, its error is ignored.
-fn fail<E: Write>(failure: Failure, err: &mut E) -> u8
+/// Writes the text of a failure to `err`, and returns the exit status. After that of a font that wasn't read comes
+/// the tip if it is wanted. If `err` fails, its error is ignored.
+fn fail<E: Write>(failure: Failure, tipped: bool, err: &mut E) -> u8
     ensures { result ≡ status_of failure }
 {
     let _ = say(&failure, err);
+    if tipped && matches!(failure, Failure::Font(_) | Failure::JobFont(_)) {
+        let _ = err.write_all(FONT_TIP);
+    }
     let _ = err.flush();
     failure.status()
 }

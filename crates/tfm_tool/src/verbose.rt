@@ -52,7 +52,7 @@ fn encoding_of(request: &Request<'_>) -> Option<Encoding> {
 }
 
 /// Returns the number of files that are opened before the files with lines: the file of the encoding vector
-/// if one is named, and the fonts of a request that may have an encoding.
+/// if one is named, and the fonts.
 fn files_before_lines(requested: &Requested<'_>) -> u64 {
     let vectors = match requested.vector {
         Some(_) => 1,
@@ -61,15 +61,13 @@ fn files_before_lines(requested: &Requested<'_>) -> u64 {
     fonts_of(&requested.request).saturating_add(vectors)
 }
 
-/// Returns the number of files that a request opens as fonts before its files with lines, 0 if none has an encoding.
+/// Returns the largest number of files that a request opens as fonts before its files with lines.
 fn fonts_of(request: &Request<'_>) -> u64 {
     match request {
         Request::Set(setting) | Request::Stream(setting) if setting.font == "-" => 0,
         Request::Set(_) | Request::Stream(_) => 1,
-        Request::Pairs(asked) if asked.font == "-" => 0,
-        Request::Pairs(_) => 1,
         Request::Each(jobs) => (jobs.words.len() / 3) as u64,
-        _ => 0,
+        _ => u64::MAX,
     }
 }
 
@@ -82,14 +80,15 @@ fn reads_lines(request: &Request<'_>) -> bool {
 }
 
 /// Carries out what arguments request as `perform` does, with the files of the file system. With `--verbose` it
-/// then prints on `err`, whose errors are ignored, the causes of errors and a summary.
+/// then prints on `err`, whose errors are ignored, the causes of errors and a summary. Also returns whether a font
+/// wasn't found whose name has no slash.
 pub(crate) fn carry_out<R, I, O, E>(
     rt: &R,
     requested: &Requested<'_>,
     input: &mut I,
     out: &mut O,
     err: &mut E,
-) -> Result<Done, Failure>
+) -> (Result<Done, Failure>, bool)
 where
     R: Files + AllocGlobal + Threads + Wait + Sync,
     R::File: Send,
@@ -97,10 +96,10 @@ where
     O: Write,
     E: Write,
     ensures silent { is_verbose_request requested.now.request ≡ false → err.new ≡ err.old }
-    ensures text { IfOk result (λ done. IsDone (λ _. None) (I.remaining input.old)
+    ensures text { IfOk result.0 (λ done. IsDone (λ _. None) (I.remaining input.old)
         (O.contents out.old) (O.contents out.new) requested.now (done_status done)) }
-    ensures untouched { IfErr result (λ failure. is_stop failure ≡ false → out.new ≡ out.old) }
-    ensures cause { IfErr result (IsCauseOf (λ _. None) (I.remaining input.old) requested.now) }
+    ensures untouched { IfErr result.0 (λ failure. is_stop failure ≡ false → out.new ≡ out.old) }
+    ensures cause { IfErr result.0 (IsCauseOf (λ _. None) (I.remaining input.old) requested.now) }
 {
     let verbose = is_verbose(&requested.request);
     let crlf = crlf_of(&requested.request);
@@ -121,6 +120,7 @@ where
     } = written;
     // For the proof: this use of `writer` shows what `out` holds.
     let _ = &*writer;
+    let has_bare_unfound = notes.has_bare_unfound();
     if verbose {
         let _ = say_causes(notes, error, err);
         if let (Some(_), Some(lines)) = (crlf, &lines) {
@@ -128,7 +128,7 @@ where
         }
         let _ = err.flush();
     }
-    done
+    (done, has_bare_unfound)
 }
 
 /// Carries out what arguments request as `perform` does, with the files of the file system, and notes errors and

@@ -76,6 +76,9 @@ impl<'r, 'n, R: Wait + Sync, F: Opens> Opens for WatchedFiles<'r, 'n, R, F> {
             Ok(file) => Ok(WatchedReader::new(self.rt, self.notes, file, name, purpose)),
             Err(error) => {
                 self.notes.note(self.rt, name.as_bytes(), &error);
+                if purpose == Purpose::Font {
+                    self.notes.note_font(name, &error);
+                }
                 if name == "-" {
                     self.notes.note_dash(self.rt);
                 }

@@ -102,7 +102,9 @@ static CALLS: [Row; 41] = rows! {
     "stream FONT", "ab\n\nc", INTERRUPTED => 0, RECORDS, "";
     "stream --crlf FONT", "ab\r\n\r\nc", INTERRUPTED => 0, RECORDS, "";
     // The causes have names, and an error of standard error changes nothing else.
-    "list no -v", "", &[FREE] => 4, "", "tfmset: no: No such file or directory (os error 2)\ntfmset: font not read\n";
+    "list no -v", "", &[FREE] => 4, "",
+        "tfmset: no: No such file or directory (os error 2)\ntfmset: font not read\n\
+         \x20 tip: a font is given by the path of its file, such as \"$(kpsewhich cmr10.tfm)\"\n";
     "check --verbose . - n\\o", "PLAIN", &[FREE] => 4, ".: not read\n-: accepted\nn\\x5co: not read\n",
         "tfmset: .: Is a directory (os error 21)\n\
          tfmset: n\\x5co: No such file or directory (os error 2)\n\

@@ -7,11 +7,11 @@ use Rattle.tfm_tool.proofs.program.answer.Goals as goal
 
 pub returns-in-Ok-clause-served : goal.returns-in-Ok-clause-served
 returns-in-Ok-clause-served g c =
-    ok_map c.carry_out.result _ _ (λ done is. inl (c.in-Ok.requested, c.in-Ok.ensures.asked, is)) c.carry_out.ensures.text
+    ok_map c.carry_out.result.0 _ _ (λ done is. inl (c.in-Ok.requested, c.in-Ok.ensures.asked, is)) c.carry_out.ensures.text
 
 pub returns-in-Ok-clause-cause : goal.returns-in-Ok-clause-cause
 returns-in-Ok-clause-cause g c =
-    err_map c.carry_out.result _ _ (λ failure cause before. inr (c.in-Ok.requested, c.in-Ok.ensures.asked, cause)) c.carry_out.ensures.cause
+    err_map c.carry_out.result.0 _ _ (λ failure cause before. inr (c.in-Ok.requested, c.in-Ok.ensures.asked, cause)) c.carry_out.ensures.cause
 
 pub returns-in-Ok-clause-silent : goal.returns-in-Ok-clause-silent
 returns-in-Ok-clause-silent g c = λ unwarned plain.

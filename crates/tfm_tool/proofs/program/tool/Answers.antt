@@ -17,11 +17,11 @@ pub returns-in-Err-default-clause-cause : goal.returns-in-Err-default-clause-cau
 returns-in-Err-default-clause-cause g c = λ which.
     let failure : Failure = c.in-Err-default.failure in
     let before : is_refusal failure ≡ true = refusal_of c.fail-in-Err-default.result failure c.fail-in-Err-default.ensures which in
-    (failure, err_at c.answer-answered.result failure _ c.in-Err-default.is-0 c.answer-answered.ensures.cause before, c.fail-in-Err-default.ensures)
+    (failure, err_at c.answer-answered.result.0 failure _ c.in-Err-default.is-0 c.answer-answered.ensures.cause before, c.fail-in-Err-default.ensures)
 
 pub returns-in-Ok-Ok-clause-served : goal.returns-in-Ok-Ok-clause-served
 returns-in-Ok-Ok-clause-served g c = λ below. (
   g.O.Write.contents c.answer-answered.new.out,
   c.flush-flushed.ensures.bytes,
-  rw c.end.ensures.status (ok_at c.answer-answered.result c.in-Ok-Ok.done _ c.in-Ok-Ok.is-0 c.answer-answered.ensures.served),
+  rw c.end.ensures.status (ok_at c.answer-answered.result.0 c.in-Ok-Ok.done _ c.in-Ok-Ok.is-0 c.answer-answered.ensures.served),
 )
