@@ -153,10 +153,11 @@ class Library(LibraryCase):
         self.program = self.built("checks/lib/stack.c", "cc", "-std=gnu99", "-pthread", link=link)
 
     # A call reads its font; one that sets lines first makes the table of pairs. A byte of a long text
-    # is set with a table of sums or of texts, and its record is copied; a third of the calls makes it in JSON.
+    # is set with a table of sums or of texts, and its record is copied; a third of the calls makes it in JSON. A byte
+    # that is encoded is compared with its code, and copied.
     @rows((function, function, *usual) for function, *usual in (
         ("characters", 2, 29500, 0), ("set", 2, 96400, 0), ("widths", 2, 96300, 30), ("records", 30, 118000, 101),
-        ("encode", 10, 3000, 8)))
+        ("encode", 10, 970, 7)))
     def test_instructions(self, function, calls, usual, usual_byte):
         """A call for a short text, and a byte more, take at most twice the usual number of instructions."""
         self.need("valgrind")

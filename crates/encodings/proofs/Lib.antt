@@ -4,6 +4,7 @@ pub mod DecodingLemmas
 pub mod EncodedLemmas
 pub mod LawLemmas
 pub mod LineLemmas
+pub mod NameLemmas
 pub mod PartLemmas
 pub mod PlaceLemmas
 pub mod TableLemmas

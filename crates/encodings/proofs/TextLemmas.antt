@@ -1,5 +1,5 @@
 -- The codes of a text, and characters at its front that are taken together.
-use Rattle.std.proofs.Common.{◌≡◌, ℕ, zero, suc, ◌+◌, ◌^◌, ◌<◌, ◌≤◌, Bool, true, false, List, [], ◌∷◌, ◌++◌, ◌||◌, cond, nat_eq, length, length-append, get_or, take, drop, map, flat_map, Option, Some, None, arith, refl, ap, sym, subst, ◌∙◌}
+use Rattle.std.proofs.Common.{◌≡◌, ℕ, zero, suc, ◌+◌, ◌^◌, ◌<◌, ◌≤◌, Bool, true, false, List, [], ◌∷◌, ◌++◌, ◌&&◌, ◌||◌, cond, nat_eq, length, length-append, get_or, take, drop, map, flat_map, Option, Some, None, arith, refl, ap, sym, subst, ◌∙◌}
 use Rattle.std.specs.List.{list_all}
 use Rattle.std.specs.Option.{is_none, option_map_or, unwrap_or}
 use Rattle.std.specs.Str.{chars, IsAscii, IsCharBoundary, IsUtf8}
@@ -34,16 +34,16 @@ pub ruleset fours = four_more
 kept_below : (singles : List ℕ) (byte : ℕ) → is_kept singles byte ≡ true → byte < 128
 kept_below singles byte kept = by (is_plain singles byte) refl kept
   where
-    by : (b : Bool) → is_plain singles byte ≡ b → b || nat_eq byte 10 ≡ true → byte < 128
+    by : (b : Bool) → is_plain singles byte ≡ b → b || (nat_eq (get_or singles byte 0) 256 && nat_eq byte 10) ≡ true → byte < 128
     by true is kept = plain_below singles byte is
-    by false is kept = omega (arith, eqb-true byte 10 kept)
+    by false is kept = omega (arith, eqb-true byte 10 (and_parts _ _ kept).1)
 
 -- such a byte is its own code
 kept_codes : (encoding : Encoding) (byte : ℕ) → is_kept (singles_in encoding) byte ≡ true → text_codes encoding byte ≡ Some (byte ∷ [])
 kept_codes encoding byte kept = by (nat_eq byte 10) refl
   where
-    plain : (b : Bool) → nat_eq byte 10 ≡ false → is_plain (singles_in encoding) byte ≡ b → b || nat_eq byte 10 ≡ true → codes_of encoding byte ≡ Some (byte ∷ [])
-    plain false other is kept = cc
+    plain : (b : Bool) → nat_eq byte 10 ≡ false → is_plain (singles_in encoding) byte ≡ b → b || (nat_eq (get_or (singles_in encoding) byte 0) 256 && nat_eq byte 10) ≡ true → codes_of encoding byte ≡ Some (byte ∷ [])
+    plain false other is kept = cc ((and_parts (nat_eq (get_or (singles_in encoding) byte 0) 256) (nat_eq byte 10) kept).1, other)
     plain true other is kept =
         let below = plain_below (singles_in encoding) byte is in
         single_is encoding byte byte (omega (arith, below))

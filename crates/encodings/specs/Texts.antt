@@ -1,6 +1,6 @@
 -- The codes of a text of several lines, with the offsets of the characters that they come from.
 -- This project's own; the codes of a character are defined in Codes.
-use Rattle.std.specs.Prelude.{◌≡◌, ◌≤◌, ℕ, ◌+◌, ◌^◌, Bool, cond, nat_eq, ◌||◌, List, [], ◌∷◌, ◌++◌, length, map, flat_map, Option, Some}
+use Rattle.std.specs.Prelude.{◌≡◌, ◌≤◌, ℕ, ◌+◌, ◌^◌, Bool, cond, nat_eq, ◌||◌, ◌&&◌, get_or, List, [], ◌∷◌, ◌++◌, length, map, flat_map, Option, Some}
 use Rattle.std.specs.List.{filter, range_with_len}
 use Rattle.std.specs.Option.{is_none, unwrap_or}
 use Rattle.encodings.specs.declared.encoding.Encoding.{Encoding}
@@ -37,6 +37,6 @@ pub record IsKeptFront (encoding : Encoding) (offset : ℕ) (bytes : List ℕ) (
   pub fewer : length left ≤ length places
   pub small : offset + length bytes ≤ 2 ^ 63
 
--- whether a byte is a line feed or plain, in a table of single codes
+-- whether a byte is plain, or a line feed without a single code, in a table of single codes
 abbrev pub is_kept : List ℕ → ℕ → Bool
-is_kept singles byte = is_plain singles byte || nat_eq byte 10
+is_kept singles byte = is_plain singles byte || (nat_eq (get_or singles byte 0) 256 && nat_eq byte 10)

@@ -4,7 +4,7 @@ ghost use Rattle.std.specs.List.{list_all};
 ghost use Rattle.encodings.specs.Texts.{is_kept as is_kept_in, text_codes};
 
 use crate::decoding::is_plain;
-use crate::tables::SingleCodes;
+use crate::tables::{SingleCodes, X};
 use crate::{Encoding, codes_of};
 
 /// Returns the codes of a character of a text, or `None` if it has none. The line feed is kept.
@@ -19,10 +19,11 @@ pub fn codes_in_text(encoding: Encoding, character: char) -> Option<&'static [u8
 }
 
 /// Returns whether a byte is a line feed, or an ASCII character whose only code, in this table, is the byte itself.
+/// For a line feed the table is read first: compilers then test for it only if the entry differs.
 fn is_kept(singles: &SingleCodes, byte: u8) -> bool
     ensures { result ≡ is_kept_in singles.now byte }
 {
-    is_plain(singles, byte) || byte == b'\n'
+    is_plain(singles, byte) || (singles[usize::from(byte)] == X && byte == b'\n')
 }
 
 /// Returns whether a text begins with four bytes that are kept.

@@ -3,6 +3,7 @@ pub mod BoxLemmas
 pub mod CellLemmas
 pub mod KeptLemmas
 pub mod LineLemmas
+pub mod OutcomeLemmas
 pub mod RefusalLemmas
 pub mod ResultLemmas
 pub mod RunLemmas

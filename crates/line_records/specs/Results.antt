@@ -6,6 +6,7 @@ use Rattle.std.specs.Prelude.{◌≡◌, ℕ, ◌+◌, Bool, true, false, nat_lt
 use Rattle.std.specs.List.{find}
 use Rattle.std.specs.Option.{is_none, option_map, option_map_or, option_or}
 use Rattle.tfm_tables.specs.Font.{FontValue}
+use Rattle.lig_kern.specs.declared.item.Item.{Item}
 use Rattle.lig_kern.specs.Result.{Setting}
 use Rattle.set_line.specs.declared.policy.Policy.{Policy}
 use Rattle.set_line.specs.declared.policy.Policy.TheVariants.{Refuse, Skip}
@@ -118,6 +119,13 @@ pub record HasSums (setting : Setting) (sums : Sums) : Type 0 where
 abbrev pub IsResult : Result Setting TextRefusal → LineResult → Type 0
 IsResult result (SetResult sums) = (setting : Setting) × (result ≡ Ok setting) × HasSums setting sums
 IsResult result (RefusedResult refusal) = result ≡ Err refusal
+
+-- a result without items is that of a line of bytes with this outcome
+abbrev pub IsOf : Outcome → LineResult → Type 0
+IsOf outcome (SetResult sums) = (items : List Item) × (outcome ≡ Set items sums.width sums.steps) × (sums.items ≡ length items)
+IsOf outcome (RefusedResult (Line refusal)) = outcome ≡ Refused refusal
+IsOf outcome (RefusedResult (NotUtf8 offset)) = ⊥
+IsOf outcome (RefusedResult (Uncoded offset character)) = ⊥
 
 -- ---- its record
 

@@ -1,2 +1,3 @@
 pub mod ChainSteps
+pub mod FileLemmas
 pub mod WordLemmas

@@ -1,52 +1,34 @@
 -- The codes of a text while they are written.
-use Rattle.std.proofs.Common.{◌≡◌, ℕ, zero, suc, ◌+◌, ◌<◌, ◌≤◌, Bool, true, false, List, [], ◌∷◌, ◌++◌, length, get_or, map, take, Some, None, arith, refl, ap, sym, ◌∙◌, subst}
+use Rattle.std.proofs.Common.{◌≡◌, ℕ, zero, suc, ◌+◌, ◌-◌, ◌*◌, ◌^◌, ◌<◌, ◌≤◌, Bool, true, false, List, [], ◌∷◌, ◌++◌, length, map, take, drop, min, Some, None, arith, refl, ap, sym, ◌∙◌, append_assoc, set, subst}
 use Rattle.std.specs.Prelude.{codes as bytes_of, Option, if◌then◌else◌}
 use Rattle.std.specs.List.{range_with_len}
 use Rattle.std.specs.Option.{option_map}
 use Rattle.std.specs.Str.Lossy.{utf8_valid_len}
-use Rattle.std.specs.Str.{bytes_eq, chars, is_utf8, IsUtf8}
+use Rattle.std.specs.Str.{chars, is_utf8, IsUtf8}
 use lib.Utf8.{encode}
-use Rattle.std.proofs.lemmas.Bool.{false_from_ne_true}
-use Rattle.std.proofs.lemmas.List.{length-map, map-append, take_more}
-use Rattle.std.proofs.lemmas.Slice.Eq.{bytes_eq-Decides}
+use Rattle.std.proofs.lemmas.Grind.{take-set_at}
+use Rattle.std.proofs.lemmas.List.{drop-set-lt, length-map}
+use Rattle.std.proofs.lemmas.List.FromFn.{length-map-range_with_len, map-range_with_len_more}
 use Rattle.std.proofs.lemmas.Str.{IsUtf8-from_is_utf8}
 use Rattle.encodings.specs.declared.encoding.Encoding.{Encoding}
-use Rattle.encodings.specs.declared.encoding.Encoding.TheVariants.{Ot1, T1, Ly1, Latin1}
 use Rattle.encodings.specs.declared.places.Place.{Place}
 use Rattle.encodings.specs.Lines.{fault_in, places_of}
-use Rattle.encodings.specs.Names.{capital_name_of, encoding_named, name_of}
+use Rattle.encodings.specs.Names.{encoding_named}
 use Rattle.encodings.specs.Texts.{codes_at, offsets_at, text_codes, uncoded_at}
+use Rattle.encodings.proofs.NameLemmas.{no_encoding, other, other_name}
 use Rattle.encodings.proofs.TextLemmas.{text_few}
 use Rattle.tfmset_c.specs.Arrays.{ArePut, HasRoom, IsFilled, IsOverlaid, IsPartly}
-use Rattle.tfmset_c.specs.Encoded.{AreCodesTold, AreFilled, HaveRoom, IsCounted, TextCodes, codes_told, encoding_told, fault_told, offsets_for, report_of, uncoded_told}
+use Rattle.tfmset_c.specs.Encoded.{AreCodesTold, AreFilled, HaveRoom, IsCounted, TextCodes, codes_told, encoding_told, fault_told, offsets_for, offsets_from, report_of, uncoded_told}
 use Rattle.tfmset_c.specs.declared.encode.TfmsetEncoded.{TfmsetEncoded}
 use Rattle.tfmset_c.specs.declared.encode.TfmsetUncoded.{TfmsetUncoded}
 use Rattle.tfmset_c.specs.Texts.{held}
-use Rattle.tfmset_c.proofs.ArrayLemmas.{all_counted, all_put, nothing_put, put_both, whole_put}
+use Rattle.tfmset_c.proofs.ArrayLemmas.{all_counted, all_put, nothing_put, put_many, put_past, whole_put}
 
 -- ---- names
 
-other : (name text : List ℕ) → (name ≡ text → ⊥) → bytes_eq name text ≡ false
-other name text differ = false_from_ne_true (bytes_eq name text) (λ same. differ ((bytes_eq-Decides name text).0 same))
-
--- a name is UTF-8
-other_name : (name text : List ℕ) → is_utf8 text ≡ true → ¬ (IsUtf8 name) → bytes_eq name text ≡ false
-other_name name text utf8 bad = other name text (λ is. bad (subst IsUtf8 (sym is) (IsUtf8-from_is_utf8 text utf8)))
-
 pub no_name : (name : List ℕ) → ¬ (IsUtf8 name) → encoding_told name ≡ None
 unfolding encoding_told is_utf8 chars encode
-no_name name bad =
-    rw (
-      other_name name (bytes_of "bytes") refl bad,
-      other_name name (name_of Ot1) refl bad,
-      other_name name (name_of T1) refl bad,
-      other_name name (name_of Ly1) refl bad,
-      other_name name (name_of Latin1) refl bad,
-      other_name name (capital_name_of Ot1) refl bad,
-      other_name name (capital_name_of T1) refl bad,
-      other_name name (capital_name_of Ly1) refl bad,
-      other_name name (capital_name_of Latin1) refl bad,
-    ) refl
+no_name name bad = rw (other_name name (bytes_of "bytes") refl bad, no_encoding name bad) refl
 
 -- a name other than `bytes`
 pub other_told : (name text : List ℕ) (o : Option Encoding) → text ≡ name → (text ≡ bytes_of "bytes" → ⊥) → o ≡ encoding_named text → encoding_told name ≡ option_map Some o
@@ -70,35 +52,72 @@ pub put_next : {T : Type 0} (told to_come put rest before now after : List T) (a
     → ArePut put at at' now after → IsPartly told rest at' before after
 put_next {T} told to_come put rest before now after at at' partly is made = made.further told rest before (subst (λ (l : List T). IsPartly told l at before now) is partly)
 
--- one more offset
-pub range_more : (first n : ℕ) → range_with_len first (n + 1) ≡ range_with_len first n ++ (first + n) ∷ []
-range_more first zero = ap (λ k. k ∷ []) (omega arith)
-range_more first (suc n) =
-    ap (range_with_len first) (let e : suc n + 1 ≡ suc (n + 1) = omega arith in e) ∙ ap (λ l. first ∷ l) (range_more (first + 1) n) ∙ ap (λ k. range_with_len first (suc n) ++ k ∷ []) (let e : first + 1 + n ≡ first + suc n = omega arith in e)
+-- offsets that follow one another, and equal ones
+bytes_from : (first before count : ℕ) → map (λ k. first + 1 * k) (range_with_len before count) ≡ range_with_len (first + before) count
+bytes_from first before zero = refl
+bytes_from first before (suc count) =
+    ap (λ l. (first + 1 * before) ∷ l) (bytes_from first (before + 1) count) ∙ ap (λ k. k ∷ range_with_len (first + (before + 1)) count) (let e : first + 1 * before ≡ first + before = omega arith in e)
+    ∙ ap (λ k. (first + before) ∷ range_with_len k count) (let e : first + (before + 1) ≡ first + before + 1 = omega arith in e)
 
-pub same_more : (offset n : ℕ) (codes : List ℕ) → n < length codes → map (λ _. offset) (take (n + 1) codes) ≡ map (λ _. offset) (take n codes) ++ offset ∷ []
-same_more offset n codes within = ap (map (λ _. offset)) (take_more codes n 0 within) ∙ map-append (λ _. offset) (take n codes) (get_or codes n 0 ∷ [])
+pub byte_offsets : (first count : ℕ) → range_with_len first count ≡ offsets_from first 1 count
+byte_offsets first count = ap (λ k. range_with_len k count) (omega arith) ∙ sym (bytes_from first 0 count)
 
-pub ruleset ranging = (put_both, range_more)
+same_from : (offset before : ℕ) (codes : List ℕ) → map (λ k. offset + 0 * k) (range_with_len before (length codes)) ≡ map (λ _. offset) codes
+same_from offset before [] = refl
+same_from offset before (code ∷ codes) =
+    ap (λ l. (offset + 0 * before) ∷ l) (same_from offset (before + 1) codes) ∙ ap (λ k. k ∷ map (λ _. offset) codes) (let e : offset + 0 * before ≡ offset = omega arith in e)
+
+-- one offset more is set
+pub offset_set : (first step at index next : ℕ) (before now after : List ℕ) → at + index < length now → after ≡ set now (at + index) (first + step * index)
+    → take (at + index) now ≡ take at before ++ offsets_from first step index → next ≡ index + 1 → take (at + next) after ≡ take at before ++ offsets_from first step next
+offset_set first step at index next before now after within is so_far more =
+    rw (more, is) (ap (λ n. take n (set now (at + index) (first + step * index))) (let e : at + (index + 1) ≡ at + index + 1 = omega arith in e)
+    ∙ take-set_at now (at + index) (at + index + 1) (first + step * index) refl within
+    ∙ ap (λ l. l ++ (first + step * index) ∷ []) so_far
+    ∙ append_assoc (take at before) (offsets_from first step index) ((first + step * index) ∷ [])
+    ∙ ap (λ l. take at before ++ l) (sym (map-range_with_len_more (λ k. first + step * k) 0 index index (let e : 0 + index ≡ index = omega arith in e))))
+
+pub offset_kept : (at index count new : ℕ) (now after : List ℕ) → index < count → after ≡ set now (at + index) new → drop (at + count) after ≡ drop (at + count) now
+offset_kept at index count new now after before is = ap (drop (at + count)) is ∙ drop-set-lt (at + count) now (at + index) new (omega (arith, before))
+
+-- offsets that were set one after the other are put
+pub offsets_done : (first step index count at next : ℕ) (now after : List ℕ) → next ≡ min (at + count) (2 ^ 64 - 1) → index ≡ count → length after ≡ length now
+    → take (at + index) after ≡ take at now ++ offsets_from first step index → drop (at + count) after ≡ drop (at + count) now → ArePut (offsets_from first step count) at next now after
+offsets_done first step index count at next now after is all same front back =
+    let long : length (offsets_from first step count) ≡ count = length-map-range_with_len (λ k. first + step * k) 0 count in
+    put_many (offsets_from first step count) now after at next (rw long is) same (λ _. rw long (rw all at front)) (λ _. rw long back)
+
+pub offsets_past : (first step count at next : ℕ) (now : List ℕ) → next ≡ min (at + count) (2 ^ 64 - 1) → length now < at + count → ArePut (offsets_from first step count) at next now now
+offsets_past first step count at next now is past =
+    let long : length (offsets_from first step count) ≡ count = length-map-range_with_len (λ k. first + step * k) 0 count in
+    put_past (offsets_from first step count) now now at next (rw long is) (rw long past) refl
+
+pub ruleset placing = (offsets_done, offsets_past)
 
 -- a character that has codes comes next
 pub coded_next : (encoding : Encoding) (place : Place) (places rest : List Place) (made : List ℕ) → places ≡ place ∷ rest → text_codes encoding place.character ≡ Some made
-    → (codes_at encoding places ≡ made ++ codes_at encoding rest) × (offsets_at encoding places ≡ map (λ _. place.offset) made ++ offsets_at encoding rest)
+    → (codes_at encoding places ≡ made ++ codes_at encoding rest) × (offsets_at encoding places ≡ offsets_from place.offset 0 (length made) ++ offsets_at encoding rest)
     × (uncoded_at encoding places ≡ uncoded_at encoding rest)
-coded_next encoding place places rest made are coded = rw (are, coded) (refl, refl, refl)
+coded_next encoding place places rest made are coded = rw (are, coded, same_from place.offset 0 made) (refl, refl, refl)
 
-pub ruleset filling = (put_next, nothing_put)
+-- offsets that follow one another come next
+pub kept_next : (told to_come rest before now after : List ℕ) (first count at at' : ℕ) → IsPartly told to_come at before now → to_come ≡ range_with_len first count ++ rest
+    → ArePut (offsets_from first 1 count) at at' now after → IsPartly told rest at' before after
+kept_next told to_come rest before now after first count at at' partly is made =
+    put_next told to_come (offsets_from first 1 count) rest before now after at at' partly (is ∙ ap (λ l. l ++ rest) (byte_offsets first count)) made
+
+pub ruleset filling = (put_next, kept_next, nothing_put)
 
 -- ---- the result of a text
 
 -- a text of bytes
 pub bytes_filled : (o : Option Encoding) (text codes codes' offsets offsets' : List ℕ) (uncoded : List TfmsetUncoded) (count placed : ℕ) → o ≡ None → ArePut text 0 count codes codes'
-    → ArePut (range_with_len 0 (length text)) 0 placed offsets offsets'
+    → ArePut (offsets_from 0 1 (length text)) 0 placed offsets offsets'
     → AreFilled (codes_told o text) (report_of count 0 0) placed codes codes' offsets offsets' uncoded uncoded
 unfolding codes_told
 bytes_filled o text codes codes' offsets offsets' uncoded count placed none put next = rw none (record {
   codes_in = whole_put text codes codes' count put;
-  offsets_in = whole_put (range_with_len 0 (length text)) offsets offsets' placed next;
+  offsets_in = whole_put (range_with_len 0 (length text)) offsets offsets' placed (rw (byte_offsets 0 (length text)) next);
   uncoded_in = nothing_put [] uncoded;
   sound = refl;
 })

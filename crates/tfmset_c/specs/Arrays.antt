@@ -16,12 +16,6 @@ HasRoom count room = (count ≤ room) × (count < 2 ^ 64 - 1)
 abbrev pub IsOverlaid : {T : Type 0} → List T → List T → List T → Type 0
 IsOverlaid told before after = after ≡ told ++ drop (length told) before
 
-pub record IsWritten {T : Type 0} (told : List T) (answer : ℕ) (before after : List T) : Type 0 where
-  pub answers : (answer ≡ 0) ⊎ (answer ≡ 3)
-  pub room : answer ≡ 0 → HasRoom (length told) (length before)
-  pub no_room : answer ≡ 3 → HasRoom (length told) (length before) → ⊥
-  pub written : answer ≡ 0 → IsOverlaid told before after
-
 -- the effect of a call that fills arrays: after 0 the elements have room and are in the arrays, and after 3 some have
 -- no room; after 0 and 3 the count is this one, and after any other code it is unchanged; after 1 and 4 the arrays
 -- are unchanged, too

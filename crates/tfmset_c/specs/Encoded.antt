@@ -1,6 +1,6 @@
 -- A text in UTF-8 as the codes of a font, as C gets them.
 -- This project's own; the codes of a character are defined in Codes of `encodings`, and those of a text in Texts.
-use Rattle.std.specs.Prelude.{◌≡◌, ℕ, ◌⊎◌, zero, suc, true, bytes_eq, codes as bytes_of, List, [], length, map, Option, Some, None, if◌then◌else◌}
+use Rattle.std.specs.Prelude.{◌≡◌, ℕ, ◌+◌, ◌*◌, ◌⊎◌, zero, suc, true, bytes_eq, codes as bytes_of, List, [], length, map, Option, Some, None, if◌then◌else◌}
 use Rattle.std.specs.List.{range_with_len}
 use Rattle.std.specs.Option.{option_map}
 use Rattle.encodings.specs.declared.encoding.Encoding.{Encoding}
@@ -69,6 +69,10 @@ IsFaultTold None answer report = (answer ≡ 0) ⊎ (answer ≡ 3)
 IsFaultTold (Some offset) answer report = (answer ≡ 5) × (report ≡ report_of 0 0 offset)
 
 -- ---- partly filled arrays: this project's own representation, which no definition above uses
+
+-- so many offsets that begin with this one and grow by a step
+abbrev pub offsets_from : ℕ → ℕ → ℕ → List ℕ
+offsets_from first step count = map (λ k. first + step * k) (range_with_len 0 count)
 
 -- these are the numbers of all elements
 pub record IsCounted (told : TextCodes) (report : TfmsetEncoded) (placed : ℕ) : Type 0 where

@@ -1,14 +1,11 @@
 -- The results of the lines of a text, as C gets them.
 -- This project's own; the results are defined in Options.
-use Rattle.std.specs.Prelude.{◌≡◌, ℕ, pos, ◌+◌, ◌-◌, ◌^◌, List, [], ◌∷◌, length, map, flat_map, min}
+use Rattle.std.specs.Prelude.{ℕ, pos, ◌+◌, ◌-◌, ◌^◌, List, [], ◌∷◌, length, map, flat_map, min}
 use Rattle.lig_kern.specs.declared.item.Item.{Item}
 use Rattle.lig_kern.specs.declared.item.Item.TheVariants.{Char, Kern, Space, Skipped}
 use Rattle.set_line.specs.declared.outcome.LineRefusal.TheVariants.{TooLong, Missing, Steps}
 use Rattle.set_line.specs.declared.outcome.Outcome.{Outcome}
 use Rattle.set_line.specs.declared.outcome.Outcome.TheVariants.{Set, Refused}
-use Rattle.set_line.specs.declared.records.text_refusal.TextRefusal.TheVariants.{Line, NotUtf8, Uncoded}
-use Rattle.line_records.specs.declared.result.LineResult.{LineResult}
-use Rattle.line_records.specs.declared.result.LineResult.TheVariants.{Set as SetResult, Refused as RefusedResult}
 use Rattle.tfmset_c.specs.declared.lines.TfmsetCounts.{TfmsetCounts}
 use Rattle.tfmset_c.specs.declared.lines.TfmsetItem.{TfmsetItem}
 use Rattle.tfmset_c.specs.declared.lines.TfmsetLine.{TfmsetLine}
@@ -41,13 +38,6 @@ line_told first (Set items width steps) =
 line_told first (Refused (Missing offset code)) = refused_with first 1 offset 0 code
 line_told first (Refused (TooLong bytes)) = refused_with first 2 bytes 0 0
 line_told first (Refused (Steps limit)) = refused_with first 3 0 limit 0
-
--- a result without items is that of a line of bytes with this outcome
-abbrev pub IsOf : Outcome → LineResult → Type 0
-IsOf outcome (SetResult sums) = (items : List Item) × (outcome ≡ Set items sums.width sums.steps) × (sums.items ≡ length items)
-IsOf outcome (RefusedResult (Line refusal)) = outcome ≡ Refused refusal
-IsOf outcome (RefusedResult (NotUtf8 offset)) = ⊥
-IsOf outcome (RefusedResult (Uncoded offset character)) = ⊥
 
 -- the results of lines; this many items precede the items of the first line
 unfoldable pub lines_told : ℕ → List Outcome → List TfmsetLine

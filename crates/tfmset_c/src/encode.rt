@@ -1,10 +1,9 @@
 //! `tfmset_encode`: turns a text in UTF-8 into the codes of a font.
-ghost use Rattle.std.specs.Prelude.{◌≡◌, ◌≤◌, ◌<◌, ◌+◌, ◌^◌, ◌↔◌, ◌⊎◌, true, false, None, Option, Some, length, map, IfErr, IfOk};
-ghost use Rattle.std.specs.List.{range_with_len};
+ghost use Rattle.std.specs.Prelude.{◌≡◌, ◌≤◌, ◌<◌, ◌+◌, ◌*◌, ◌^◌, ◌↔◌, ◌⊎◌, true, false, None, Option, Some, length, map, IfErr, IfOk};
 ghost use Rattle.encodings.specs.declared.encoding.Encoding.{Encoding as EncodingValue};
 ghost use Rattle.encodings.specs.Texts.{codes_at, offsets_at, uncoded_at};
 ghost use Rattle.tfmset_c.specs.Arrays.{ArePut, IsFilled};
-ghost use Rattle.tfmset_c.specs.Encoded.{AreCodesTold, AreFilled, HaveRoom, IsCounted, IsFaultTold, TextCodes, codes_told, encoding_told, fault_told, uncoded_told};
+ghost use Rattle.tfmset_c.specs.Encoded.{AreCodesTold, AreFilled, HaveRoom, IsCounted, IsFaultTold, TextCodes, codes_told, encoding_told, fault_told, offsets_from, uncoded_told};
 
 use crate::arrays::{has_room, put_bytes, put_one};
 use crate::reading::{DONE, NO_ROOM, RANGE};
@@ -59,31 +58,19 @@ fn uncoded_for_c(place: Place) -> TfmsetUncoded
     }
 }
 
-/// Writes the offsets of `count` bytes, of which the first one is `first`, starting at index `at`, while there is room.
-/// Returns the index after all of them.
-#[tactic(auto, using(crate::proofs::EncodedLemmas::ranging))]
-fn put_range(offsets: &mut [usize], at: usize, first: usize, count: usize) -> usize
-    requires { first + count ≤ 2 ^ 63 }
-    ensures { ArePut (range_with_len first count) at result offsets.old offsets.new }
+/// Writes `count` offsets that begin with `first` and grow by `step`, starting at index `at`, if the array has room for
+/// all of them. Returns the index after them, at most 2^64 - 1.
+#[tactic(auto, using(crate::proofs::EncodedLemmas::placing))]
+fn put_offsets(offsets: &mut [usize], at: usize, first: usize, step: usize, count: usize) -> usize
+    requires { first + step * count < 2 ^ 64 }
+    ensures { ArePut (offsets_from first step count) at result offsets.old offsets.new }
 {
-    let mut next = at;
-    for index in 0..count {
-        next = put_one(offsets, next, first + index);
+    if at <= offsets.len() && count <= offsets.len() - at {
+        for index in 0..count {
+            offsets[at + index] = first + step * index;
+        }
     }
-    next
-}
-
-/// Writes the offset of a character for each of its codes, starting at index `at`, while there is room. Returns the
-/// index after all of them.
-#[tactic(auto, using(crate::proofs::ArrayLemmas::put_both))]
-fn put_same(offsets: &mut [usize], at: usize, offset: usize, codes: &[u8]) -> usize
-    ensures { ArePut (map (λ _. offset) codes.now) at result offsets.old offsets.new }
-{
-    let mut next = at;
-    for _ in codes {
-        next = put_one(offsets, next, offset);
-    }
-    next
+    at.saturating_add(count)
 }
 
 /// Writes the codes of characters, their offsets, and the characters that have no codes, while there is room. Returns
@@ -112,14 +99,14 @@ fn fill_codes(
     loop {
         let (first, kept) = places.take_kept(encoding);
         counts.count = put_bytes(codes, counts.count, kept);
-        placed = put_range(offsets, placed, first, kept.len());
+        placed = put_offsets(offsets, placed, first, 1, kept.len());
         let Some(place) = places.next() else {
             return (counts, placed);
         };
         match codes_in_text(encoding, place.character) {
             Some(made) => {
                 counts.count = put_bytes(codes, counts.count, made);
-                placed = put_same(offsets, placed, place.offset, made);
+                placed = put_offsets(offsets, placed, place.offset, 0, made.len());
             }
             None => counts.uncoded = put_one(uncoded, counts.uncoded, uncoded_for_c(place)),
         }
@@ -148,7 +135,7 @@ fn fill(
             uncoded: 0,
             offset: 0,
         };
-        return Ok((counts, put_range(offsets, 0, 0, text.len())));
+        return Ok((counts, put_offsets(offsets, 0, 0, 1, text.len())));
     };
     match Places::of_line(true, text) {
         Some(places) => Ok(fill_codes(encoding, places, codes, offsets, uncoded)),

@@ -1,11 +1,11 @@
 //! The results of lines as C gets them.
 ghost use Rattle.std.specs.Prelude.{◌≡◌, Result};
 ghost use Rattle.lig_kern.specs.Result.{Setting};
-ghost use Rattle.line_records.specs.Results.{IsResult};
+ghost use Rattle.line_records.specs.Results.{IsOf, IsResult};
 ghost use Rattle.set_line.specs.declared.outcome.Outcome.{Outcome as OutcomeValue};
 ghost use Rattle.set_line.specs.declared.records.text_refusal.TextRefusal.{TextRefusal as TextRefusalValue};
 ghost use Rattle.tfmset_c.specs.Options.{steps_in, steps_of as steps_of_outcome};
-ghost use Rattle.tfmset_c.specs.Texts.{IsOf, item_told, line_told, refused_with};
+ghost use Rattle.tfmset_c.specs.Texts.{item_told, line_told, refused_with};
 
 use lig_kern::Item;
 use line_records::{LineResult, Sums};

@@ -1,5 +1,5 @@
 //! `tfmset_pairs`: all pairs of neighbours that have a kern or a ligature operation.
-ghost use Rattle.std.specs.Prelude.{◌≡◌, ◌≤◌, IfOk, map};
+ghost use Rattle.std.specs.Prelude.{◌≡◌, ◌≤◌, IfOk};
 ghost use Rattle.tfmset_c.specs.Arrays.{IsListed};
 ghost use Rattle.tfmset_c.specs.Pairs.{pair_told, pairs_told, symbol_number};
 ghost use Rattle.tfmset_c.specs.Reading.{IsAnswer, IsNoSize, font_at};
@@ -80,24 +80,17 @@ fn pair_for_c(pair: &Pair) -> TfmsetPair
     }
 }
 
-/// Returns pairs as C gets them. The error means that an allocation failed.
-fn pairs_for_c(alloc: Global, found: &[Pair]) -> Result<Vec<TfmsetPair>, AllocError>
-    ensures { IfOk result (λ list. list.items ≡ map pair_told found.now) }
-{
-    let mut list = Vec::with_capacity(alloc, found.len())?;
-    for pair in found {
-        list.push(pair_for_c(pair))?;
-    }
-    Ok(list)
-}
-
-/// Returns the pairs of a font. The error means that an allocation failed.
+/// Returns the pairs of a font as C gets them. The error means that an allocation failed.
 #[tactic(auto, unfolding(crate::specs::Pairs::pairs_told))]
 fn list_pairs(alloc: Global, font: &Font) -> Result<Vec<TfmsetPair>, AllocError>
     ensures { IfOk result (λ list. list.items ≡ pairs_told font.now) }
 {
     let found = font_texts::pairs(alloc, font)?;
-    pairs_for_c(alloc, found.as_slice())
+    let mut list = Vec::with_capacity(alloc, found.len())?;
+    for pair in &found {
+        list.push(pair_for_c(pair))?;
+    }
+    Ok(list)
 }
 
 /// Reports all pairs of neighbours for which the lig/kern program of a font has an action, in the array

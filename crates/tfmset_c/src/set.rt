@@ -1,11 +1,12 @@
 //! `tfmset_set` and `tfmset_widths`: set the lines of a text into arrays of the caller.
 ghost use Rattle.std.specs.Prelude.{◌≡◌, ◌≤◌, ◌⊎◌, length, map, IfOk};
 ghost use Rattle.line_records.specs.Cells.{Fits};
+ghost use Rattle.line_records.specs.Results.{IsOf};
 ghost use Rattle.set_line.specs.Returns.{lines_in};
 ghost use Rattle.tfmset_c.specs.Arrays.{AreLinesTold, ArePut, AreTold, IsFilled};
 ghost use Rattle.tfmset_c.specs.Options.{IsOutOfRange, outcome_within, outcomes_at, outcomes_within};
 ghost use Rattle.tfmset_c.specs.Reading.{IsAnswer};
-ghost use Rattle.tfmset_c.specs.Texts.{IsOf, held, item_told, items_in, items_told, lines_told};
+ghost use Rattle.tfmset_c.specs.Texts.{held, item_told, items_in, items_told, lines_told};
 
 use crate::arrays::{has_room, put_one};
 use crate::lines::{

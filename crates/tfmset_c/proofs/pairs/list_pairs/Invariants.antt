@@ -1,6 +1,6 @@
 use Rattle.std.proofs.Common.{◌≡◌, map, take}
 use Rattle.tfmset_c.specs.Pairs.{pair_told}
-use Rattle.tfmset_c.proofs.pairs.pairs_for_c.Given as goal
+use Rattle.tfmset_c.proofs.pairs.list_pairs.Given as goal
 
 abbrev pub invariant-loop-pair : goal.invariant-loop-pair
-invariant-loop-pair l = l.list.items ≡ map pair_told (take l.pair-index l.found)
+invariant-loop-pair l = l.list.items ≡ map pair_told (take l.pair-index l.pair-items)
