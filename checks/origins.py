@@ -37,7 +37,8 @@ UNCAUSED = {
     ("tfm_requests/font_list.rt", "check_named"): "reading the next name of the list lacked memory",
     ("tfm_requests/batches/delivery.rt", "done_of"): "the summary states that a read or an allocation failed"}
 MOST = 2048
-LARGE = {"CELLS = 65_792": "the table of texts of a font", "LEAST = 4_096": "more room for the text of a line",
+LARGE = {"CELLS = 65_792": "the table of texts of a font", "PAIRS = 65_792": "what is known of each pair of a font",
+         "LEAST = 4_096": "more room for the text of a line",
          "READ_SIZE = 4096": "the bytes of one read", "ROOM = 73_728": "64 KB of records, and the record after them"}
 DEFINED = r"\b(const|static|let) (?:mut )?(\w+)(?:: [^=;]*)? = ([^;{]*);"
 REQUEST = (r"\bresize\w*\(([^,]+),|;\s*([^;\[\]{}]+)\]|(?:\b[A-Z]\w*(?:::<[^()]*>)?::\w+(?:::<[^()]*>)?\([\w.]*alloc\b|"

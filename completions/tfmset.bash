@@ -11,7 +11,7 @@ _tfmset_options() {
         counts) options='-v --verbose -h --help' ;;
         list) options='--size --unit --all -v --verbose -h --help' ;;
         pairs) options='--size --unit --format --encoding -v --verbose -h --help' ;;
-        check) options='--quiet --summary --format --files-from --null -v --verbose -h --help' ;;
+        check) options='--strict --quiet --summary --format --files-from --null -v --verbose -h --help' ;;
         set) options='--size --limit --missing --crlf --encoding --workers --capacity --block --record --unit -v --verbose -h --help' ;;
         each) options='--size --missing --crlf --encoding --workers --capacity --block --record --unit -v --verbose -h --help' ;;
         stream) options='--size --limit --missing --crlf --encoding --workers --capacity --block --record --unit -v --verbose -h --help' ;;

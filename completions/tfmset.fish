@@ -77,6 +77,7 @@ complete -c tfmset -n '__tfmset_is set each stream' -l workers -x -a '(seq 1 16)
 complete -c tfmset -n '__tfmset_is set each stream' -l capacity -x -d 'Slots per queue between threads, 1 to 65536'
 complete -c tfmset -n '__tfmset_is set each stream' -l block -x -a '(seq 1 8)' -d 'Lines per message; leave it out with stream, use 8 with set and each'
 complete -c tfmset -n '__tfmset_is set each stream' -l record -x -a '1 2 json box' -d 'Record format'
+complete -c tfmset -n '__tfmset_is check' -l strict -d 'Also print what TeX and TFtoPL report about accepted fonts'
 complete -c tfmset -n '__tfmset_is check' -l quiet -d 'Leave out the lines of accepted fonts'
 complete -c tfmset -n '__tfmset_is check' -l summary -d 'Print a last line with the numbers of fonts'
 complete -c tfmset -n '__tfmset_is check' -l files-from -rF -d 'File with the names of further fonts'
@@ -87,7 +88,7 @@ complete -c tfmset -n '__tfmset_is help; and test (__tfmset_count) -eq 0' -a 'co
 
 # Prints the options that have no value.
 function __tfmset_flags
-    string split ' ' -- '--all --crlf --quiet --summary --null -v --verbose -h --help -V --version'
+    string split ' ' -- '--all --crlf --strict --quiet --summary --null -v --verbose -h --help -V --version'
 end
 # end generated
 

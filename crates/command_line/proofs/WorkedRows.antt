@@ -62,6 +62,10 @@ module _ (choices : AllChoices) where
   unfolding clap_on_literals
   check_quiet = refl
 
+  check_strict : read_in (codes "strict") (codes "check" ∷ codes "--strict" ∷ codes "f.tfm" ∷ []) ≡ Some (Some (codes "true"))
+  unfolding clap_on_literals
+  check_strict = refl
+
   check_summary : read_in (codes "summary") (codes "check" ∷ codes "f.tfm" ∷ codes "--summary" ∷ []) ≡ Some (Some (codes "true"))
   unfolding clap_on_literals
   check_summary = refl
@@ -217,10 +221,6 @@ module _ (choices : AllChoices) where
   no_option = refl
 
   -- ---- valid arguments
-
-  sized_font : fault_in (codes "list" ∷ codes "--size" ∷ codes "12pt" ∷ codes "-" ∷ []) ≡ []
-  unfolding clap_on_literals
-  sized_font = refl
 
   largest_size : wrong_size_in (codes "check" ∷ codes "--size" ∷ codes "134217727" ∷ codes "f.tfm" ∷ codes "-" ∷ []) ≡ Some false
   unfolding clap_on_literals

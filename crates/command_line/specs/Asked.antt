@@ -196,11 +196,12 @@ module _ (rows : List Row) where
       × IsPairsLayout asked.layout
       × IsVerbose asked.verbose
 
-  -- the size of the fonts of `check`, the format, and whether `--quiet`, `--summary` and `--verbose` are given
+  -- the size of the fonts of `check`, the format, and whether `--strict`, `--quiet`, `--summary` and `--verbose` are given
   abbrev pub IsCheckLayout : CheckLayout → Type 0
   IsCheckLayout layout =
       IsSize layout.size
       × (first_of (codes "format") rows ≡ Some (finding_format_word layout.format))
+      × IsFlag (one_of (codes "strict") rows) layout.strict
       × IsFlag (one_of (codes "quiet") rows) layout.quiet
       × IsFlag (one_of (codes "summary") rows) layout.summary
       × IsVerbose layout.verbose

@@ -158,12 +158,12 @@ pairs_shape choices =
     (size_rule ∷ unit_rule choices.units ∷ with_default (codes "text") (choice_rule (codes "format") choices.formats)
     ∷ encoding_rule ∷ verbose_rule ∷ needed (new_rule (codes "FONT")) ∷ [])
 
--- `check` takes `--size`, the flags `--quiet` and `--summary`, `--format` with this parser, `--files-from`, the flags
+-- `check` takes `--size`, the flags `--strict`, `--quiet` and `--summary`, `--format` with this parser, `--files-from`, the flags
 -- `--null` and `--verbose`, and any number of fonts
 abbrev pub check_shape : CheckChoices → Shape
 check_shape choices =
     subcommand_with (codes "check")
-    (size_rule ∷ flag_rule (codes "quiet") ∷ flag_rule (codes "summary")
+    (size_rule ∷ flag_rule (codes "strict") ∷ flag_rule (codes "quiet") ∷ flag_rule (codes "summary")
     ∷ with_default (codes "text") (choice_rule (codes "format") choices.formats) ∷ text_rule (codes "files-from")
     ∷ flag_rule (codes "null") ∷ verbose_rule ∷ words_rule (codes "FONT") ∷ [])
 

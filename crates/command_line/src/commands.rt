@@ -11,8 +11,8 @@ use crate::help::{
     EACH_AFTER_HELP, ENCODING_HELP, FILE_HELP, FILES_FROM_HELP, FINDING_FORMAT_HELP, FONT_HELP,
     FONTS_HELP, FORMAT_HELP, LIMIT_HELP, LIST_ABOUT, LIST_AFTER_HELP, MISSING_HELP, NULL_HELP,
     PAIRS_ABOUT, PAIRS_AFTER_HELP, QUIET_HELP, RECORD_HELP, SET_ABOUT, SET_AFTER_HELP, SIZE_HELP,
-    STREAM_ABOUT, STREAM_AFTER_HELP, STREAM_BLOCK_HELP, STREAM_FILE_HELP, SUMMARY_HELP, UNIT_HELP,
-    VERBOSE_HELP, WORDS_HELP, WORKERS_HELP,
+    STREAM_ABOUT, STREAM_AFTER_HELP, STREAM_BLOCK_HELP, STREAM_FILE_HELP, STRICT_HELP,
+    SUMMARY_HELP, UNIT_HELP, VERBOSE_HELP, WORDS_HELP, WORKERS_HELP,
 };
 use clap::{Arg, ArgAction, Command, value_parser};
 use std::alloc::{AllocError, Global};
@@ -109,6 +109,7 @@ fn check_command<'a>(alloc: Global) -> Result<Command<'a>, AllocError>
 {
     let command = subcommand(alloc, "check", CHECK_ABOUT, CHECK_AFTER_HELP);
     let command = with_argument(command, hidden_size_option(alloc))?;
+    let command = with_argument(command, flag_option(alloc, "strict", STRICT_HELP))?;
     let command = with_argument(command, flag_option(alloc, "quiet", QUIET_HELP))?;
     let command = with_argument(command, flag_option(alloc, "summary", SUMMARY_HELP))?;
     let command = with_argument(command, finding_format_option(alloc))?;

@@ -130,15 +130,17 @@ after the FONTs, however many they are. An empty line names no font, and - in
 FILE is the name of a file. If FILE is -, the names are read from standard
 input. With --null, names end with a zero byte, as `find -print0` prints them.
 
-TeX may refuse to load a font that is accepted here: two rules of TeX are not
-checked. A code with the tag `list` must lead to codes from bc to ec and not
-back to itself, and a code with the tag `ext` must have an extensible recipe
-whose pieces exist. `tftopl` reports fonts that break these rules, but checks
-no code without a character.
+TeX may refuse to load a font that is accepted here. With --strict, the line of
+such a font is `NAME: refused by TeX: ` and the first reason: a code with the
+tag `list` must lead to codes from bc to ec and not back to itself, and a code
+with the tag `ext` must have an extensible recipe whose pieces exist. The line
+of another accepted font may be `NAME: accepted, 2 warnings`, with a line for
+each below it, of what `tftopl` reports. The exit status is then 1.
 
 Exit status:
   0  Every FONT is accepted.
-  1  Every FONT was read, but at least one is refused.
+  1  Every FONT was read, but at least one is refused or, with --strict, has a
+     warning.
   2  The arguments are invalid, or more than one of FONTs and FILE is -. The
      output is empty.
   4  A FONT or FILE could not be opened, or could not be read to its end.
@@ -345,6 +347,8 @@ pub(crate) const UNIT_HELP: &str = "Unit: sp, pt, bp, mm, cm, in or pc";
 pub(crate) const FORMAT_HELP: &str = "Output format: text, csv or json";
 
 pub(crate) const ALL_HELP: &str = "Also print the counts, the extensible recipes and all words";
+
+pub(crate) const STRICT_HELP: &str = "Also print what TeX and TFtoPL report about accepted fonts";
 
 pub(crate) const QUIET_HELP: &str = "Leave out the lines of accepted fonts";
 

@@ -289,6 +289,7 @@ fn asked_check_layout(matches: &ArgMatches<'_>) -> Option<CheckLayout>
     Some(CheckLayout {
         size: asked_size(matches)?,
         format: asked_finding_format(matches)?,
+        strict: flag(matches, "strict"),
         quiet: flag(matches, "quiet"),
         summary: flag(matches, "summary"),
         verbose: asked_verbose(matches),

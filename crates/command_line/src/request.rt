@@ -121,6 +121,8 @@ pub struct CheckLayout {
     pub size: Option<Size>,
     /// The format of the output.
     pub format: FindingFormat,
+    /// Whether the warnings of accepted fonts are printed.
+    pub strict: bool,
     /// Whether the lines of accepted fonts are left out.
     pub quiet: bool,
     /// Whether a last line with the numbers of fonts is printed.

@@ -65,4 +65,5 @@ mod pairs;
 mod readers;
 mod samples;
 mod slow;
+mod strict;
 mod words;

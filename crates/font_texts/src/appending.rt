@@ -62,7 +62,7 @@ fn push_json_escaped(text: &mut Vec<u8>, byte: u8) -> Result<(), AllocError>
 
 /// Appends a text for a JSON string: escaped as `push_escaped_text` does, and then with a backslash before each
 /// backslash and double quote.
-pub(crate) fn push_json_text(text: &mut Vec<u8>, bytes: &[u8]) -> Result<(), AllocError>
+pub fn push_json_text(text: &mut Vec<u8>, bytes: &[u8]) -> Result<(), AllocError>
     ensures { OnOk result (text.new.items ≡ text.old.items ++ json_text bytes.now) }
 {
     for byte in bytes {

@@ -3,7 +3,7 @@
 #![tactic(auto)]
 
 pub use all_listing::list_all_text;
-pub use appending::push_escaped_text;
+pub use appending::{push_escaped_text, push_json_text};
 pub use checking::{check_font, finding_text};
 pub use counts::counts_text;
 pub use fault_words::Numbered;

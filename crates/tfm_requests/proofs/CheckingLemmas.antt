@@ -5,7 +5,7 @@ use Rattle.std.proofs.lemmas.Grind.{flat_map-append}
 use Rattle.std.proofs.lemmas.List.{append-nil, append_assoc, flat_map_more, get_or_default, map-append}
 use Rattle.std.proofs.lemmas.List.Elements.{filter-append}
 use Rattle.std.proofs.lemmas.List.Sums.{count_by_more_no, count_by_more_yes, sum_by-take-le}
-use Rattle.std.specs.Prelude.{codes, Result, Ok, Err, IfOk, IfSome, if◌then◌else◌, ◌&&◌, not}
+use Rattle.std.specs.Prelude.{codes, flat_map, Result, Ok, Err, IfOk, IfSome, if◌then◌else◌, ◌&&◌, not}
 use Rattle.command_line.specs.declared.request.CheckLayout.{CheckLayout}
 use Rattle.command_line.specs.declared.request.Checking.{Checking}
 use Rattle.std.specs.List.{All, AllZip}
@@ -14,11 +14,14 @@ use Rattle.std.specs.Io.BufRead.{DropsThrough, drop_through, first_piece}
 use Rattle.std.specs.Io.Buffered.{reader_buffer, reader_capacity, reader_inner, reader_remaining}
 use Rattle.std.specs.Io.KnownBytes.{Appends, IsAtEnd, Keeps, prepend_known}
 use Rattle.std.specs.declared.io.buffered.BufReader.{BufReader}
-use Rattle.font_texts.specs.declared.finding.Finding.{Finding}
 use Rattle.font_texts.specs.declared.finding.Finding.TheVariants.{Accepted, Refused, NotRead}
 use Rattle.font_texts.specs.declared.finding.FindingFormat.{FindingFormat}
-use Rattle.font_texts.specs.Findings.{finding_line, finding_of, finding_with, findings_text}
-use Rattle.tfm_requests.specs.Checking.{AddsRows, AreChecked, AreListed, AreNamed, IsFound, IsOpenedList, IsRowOf, IsRowOfFile, IsWritten, Row, check_status, dashes_in, is_accepted, is_input, names_in, rows_shown, rows_text, separator_of, summary_text, tally_of, without_empty}
+use Rattle.font_texts.specs.Findings.{finding_with}
+use Rattle.strict_checks.specs.Verdicts.{IsVerdictOf, VerdictValue}
+use Rattle.strict_checks.specs.Warnings.{endless_warnings}
+use Rattle.tfm_tables.specs.Acceptance.{font_fault_of}
+use Rattle.tfm_tables.specs.declared.fault.FontFault.{FontFault}
+use Rattle.tfm_requests.specs.Checking.{AddsRows, AreChecked, AreListed, AreNamed, IsFound, IsOpenedList, IsRowOf, IsRowOfFile, IsWritten, Row, check_status, dashes_in, is_input, is_plain, names_in, row_text, rows_shown, rows_text, separator_of, summary_text, tally_of, without_empty}
 use Rattle.tfm_requests.specs.Kept.{HaveSameFont}
 use Rattle.tfm_requests.specs.Known.{font_bytes_of}
 use Rattle.tfm_requests.specs.declared.font_list.FontList.{FontList}
@@ -37,47 +40,60 @@ appends_more (Some xs) None w'' a b first next = elim first [ ]
 appends_more (Some xs) (Some ys) None a b first next = elim next [ ]
 appends_more (Some xs) (Some ys) (Some zs) a b first next = next ∙ (ap (λ l. l ++ b) first ∙ append_assoc xs a b)
 
--- ---- the finding of a font
+-- ---- the verdict on a font
 
--- the finding for the bytes that are kept of a font is one for the whole file
-pub found_in : (known : Option (List ℕ)) (bytes : List ℕ) → IfSome known (λ all. HaveSameFont bytes all) → IfSome known (λ all. IsFound all (finding_of bytes))
-found_in None bytes same = tt
-found_in (Some all) bytes same = inl (ap finding_with same.fault)
+-- a font that is accepted has no error
+accepted_of : (fault : Option FontFault) → Accepted ≡ finding_with fault → fault ≡ None
+accepted_of None is = refl
+accepted_of (Some fault) is = cc
 
--- that a font wasn't read is one for any file
-pub unread_found : (known : Option (List ℕ)) → IfSome known (λ all. IsFound all NotRead)
-unread_found None = tt
-unread_found (Some all) = inr refl
+-- the verdict on the bytes that are kept of a font is one on the whole file
+same_verdict : (strict : Bool) (bytes all : List ℕ) (verdict : VerdictValue) → HaveSameFont bytes all → IsVerdictOf strict bytes verdict → IsVerdictOf strict all verdict
+same_verdict false bytes all verdict same is = (is.0 ∙ ap finding_with same.fault, is.1)
+same_verdict true bytes all (Accepted, warnings) same is =
+    let accepted = accepted_of (font_fault_of all) (is.0 ∙ ap finding_with same.fault) in
+    (is.0 ∙ ap finding_with same.fault, (is.1.0, is.1.1 ∙ ap (λ l. l ++ endless_warnings is.1.0) (same.warnings accepted)))
+same_verdict true bytes all (Refused fault, warnings) same is = (is.0 ∙ ap finding_with same.fault, is.1)
+same_verdict true bytes all (NotRead, warnings) same is = (is.0 ∙ ap finding_with same.fault, is.1)
+
+pub found_in : (strict : Bool) (known : Option (List ℕ)) (bytes : List ℕ) (verdict : VerdictValue) → IfSome known (λ all. HaveSameFont bytes all)
+    → IsVerdictOf strict bytes verdict → IfSome known (λ all. IsFound strict all verdict)
+found_in strict None bytes verdict same is = tt
+found_in strict (Some all) bytes verdict same is = inl (same_verdict strict bytes all verdict same is)
+
+-- that a font wasn't read is a verdict on any file
+pub unread_found : (strict : Bool) (known : Option (List ℕ)) → IfSome known (λ all. IsFound strict all (NotRead, []))
+unread_found strict None = tt
+unread_found strict (Some all) = inr refl
 
 -- ---- the rows of fonts
 
--- the line of a font, if it is shown
-abbrev pub line_shown : CheckLayout → Row → List ℕ
-line_shown layout row = cond (layout.quiet && is_accepted row.1) [] (finding_line layout.format row)
+-- the text of a font, if it is shown
+abbrev pub text_shown : CheckLayout → Row → List ℕ
+text_shown layout row = cond (layout.quiet && is_plain row.1) [] (row_text layout.format row)
 
-shown_alone : (format : FindingFormat) (name : List ℕ) (finding : Finding)
-    → cond (is_accepted finding) [] (finding_line format (name, finding)) ≡ findings_text format (rows_shown true ((name, finding) ∷ []))
-shown_alone format name Accepted = refl
-shown_alone format name (Refused fault) = sym (append-nil (finding_line format (name, Refused fault)))
-shown_alone format name NotRead = sym (append-nil (finding_line format (name, NotRead)))
+shown_by : (format : FindingFormat) (row : Row) (plain : Bool) → is_plain row.1 ≡ plain
+    → cond plain [] (row_text format row) ≡ flat_map (row_text format) (rows_shown true (row ∷ []))
+shown_by format row true is = rw is refl
+shown_by format row false is = rw is (sym (append-nil (row_text format row)))
 
--- one row more is one line more, if it is shown
-shown_more : (quiet : Bool) (format : FindingFormat) (rows : List Row) (name : List ℕ) (finding : Finding)
-    → findings_text format (rows_shown quiet rows) ++ cond (quiet && is_accepted finding) [] (finding_line format (name, finding))
-    ≡ findings_text format (rows_shown quiet (rows ++ (name, finding) ∷ []))
-shown_more false format rows name finding = flat_map_more (finding_line format) [] rows (name, finding)
-shown_more true format rows name finding =
-    ap (λ line. findings_text format (rows_shown true rows) ++ line) (shown_alone format name finding)
-    ∙ (sym (flat_map-append (finding_line format) (rows_shown true rows) (rows_shown true ((name, finding) ∷ [])))
-    ∙ ap (findings_text format) (sym (filter-append (λ row. not (is_accepted row.1)) rows ((name, finding) ∷ []))))
+-- one row more is one text more, if it is shown
+shown_more : (quiet : Bool) (format : FindingFormat) (rows : List Row) (row : Row)
+    → flat_map (row_text format) (rows_shown quiet rows) ++ cond (quiet && is_plain row.1) [] (row_text format row)
+    ≡ flat_map (row_text format) (rows_shown quiet (rows ++ row ∷ []))
+shown_more false format rows row = flat_map_more (row_text format) [] rows row
+shown_more true format rows row =
+    ap (λ text. flat_map (row_text format) (rows_shown true rows) ++ text) (shown_by format row (is_plain row.1) refl)
+    ∙ (sym (flat_map-append (row_text format) (rows_shown true rows) (rows_shown true (row ∷ [])))
+    ∙ ap (flat_map (row_text format)) (sym (filter-append (λ row. not (is_plain row.1)) rows (row ∷ []))))
 
--- the line of one font was written
-pub adds_row : (layout : CheckLayout) (name : List ℕ) (finding : Finding) (before after : Option (List ℕ)) (tally all : Tally)
-    → Appends before after (line_shown layout (name, finding)) → ((rows : List Row) (name : List ℕ) → tally ≡ tally_of rows → all ≡ tally_of (rows ++ (name, finding) ∷ []))
-    → AddsRows layout ((name, finding) ∷ []) before tally after all
-adds_row layout name finding before after tally all line more = λ start rows written. (
-  subst (Appends start after) (shown_more layout.quiet layout.format rows name finding)
-      (appends_more start before after (rows_text layout rows) (line_shown layout (name, finding)) written.0 line),
+-- the text of one font was written
+pub adds_row : (layout : CheckLayout) (name : List ℕ) (verdict : VerdictValue) (before after : Option (List ℕ)) (tally all : Tally)
+    → Appends before after (text_shown layout (name, verdict)) → ((rows : List Row) (name : List ℕ) → tally ≡ tally_of rows → all ≡ tally_of (rows ++ (name, verdict) ∷ []))
+    → AddsRows layout ((name, verdict) ∷ []) before tally after all
+adds_row layout name verdict before after tally all text more = λ start rows written. (
+  subst (Appends start after) (shown_more layout.quiet layout.format rows (name, verdict))
+      (appends_more start before after (rows_text layout rows) (text_shown layout (name, verdict)) written.0 text),
   more rows name written.1,
 )
 
@@ -90,7 +106,7 @@ pub adds_more : (layout : CheckLayout) (first next : List Row) (w w' w'' : Optio
 adds_more layout first next w w' w'' t t' t'' one other = λ start rows written.
     subst (λ r. IsWritten layout r start w'' t'') (append_assoc rows first next) (other start (rows ++ first) (one start rows written))
 
-none_shown : (quiet : Bool) (format : FindingFormat) → findings_text format (rows_shown quiet []) ≡ []
+none_shown : (quiet : Bool) (format : FindingFormat) → flat_map (row_text format) (rows_shown quiet []) ≡ []
 none_shown true format = refl
 none_shown false format = refl
 
@@ -101,18 +117,18 @@ none_written layout w tally is = (subst (Appends w w) (sym (none_shown layout.qu
 module _ (known : List ℕ → Option (List ℕ)) (input : Option (List ℕ)) (layout : CheckLayout) where
   -- these fonts of the arguments have possible findings, and their lines were written
   abbrev pub HaveRows : List (Bor (List ℕ)) → Option (List ℕ) → Option (List ℕ) → Tally → Type 0
-  HaveRows names before after tally = (rows : List Row) × AllZip (IsRowOf known input) names rows × IsWritten layout rows before after tally
+  HaveRows names before after tally = (rows : List Row) × AllZip (IsRowOf layout.strict known input) names rows × IsWritten layout rows before after tally
 
   -- one font more is one row more
-  pub one_written : (names : List (Bor (List ℕ))) (i : ℕ) (d : Bor (List ℕ)) (finding : Finding) (w w' w'' : Option (List ℕ)) (t t' : Tally)
+  pub one_written : (names : List (Bor (List ℕ))) (i : ℕ) (d : Bor (List ℕ)) (verdict : VerdictValue) (w w' w'' : Option (List ℕ)) (t t' : Tally)
       → i < length names → HaveRows (take i names) w w' t
-      → IfSome (font_bytes_of known input (get_or names i d).now) (λ all. IsFound all finding)
-      → AddsRows layout (((get_or names i d).now, finding) ∷ []) w' t w'' t'
+      → IfSome (font_bytes_of known input (get_or names i d).now) (λ all. IsFound layout.strict all verdict)
+      → AddsRows layout (((get_or names i d).now, verdict) ∷ []) w' t w'' t'
       → HaveRows (take (i + 1) names) w w'' t'
-  one_written names i d finding w w' w'' t t' within before found adds =
-      let row : Row = ((get_or names i d).now, finding) in (
+  one_written names i d verdict w w' w'' t t' within before found adds =
+      let row : Row = ((get_or names i d).now, verdict) in (
         before.0 ++ row ∷ [],
-        place_more (IsRowOf known input) names before.0 i (get_or names i d) row within (get_or_default names i d (get_or names i d) within) before.1 (refl, found),
+        place_more (IsRowOf layout.strict known input) names before.0 i (get_or names i d) row within (get_or_default names i d (get_or names i d) within) before.1 (refl, found),
         adds w before.0 before.2,
       )
 
@@ -167,60 +183,60 @@ module _ (separator : ℕ) where
   piece_of bytes old new item piece is =
       subst (λ item. IfOk item (λ x. IfSome old (λ all. (0 < length all) × (bytes x ≡ first_piece separator all)) × DropsThrough old new separator)) is
 
-  module _ (known : List ℕ → Option (List ℕ)) where
+  module _ (strict : Bool) (known : List ℕ → Option (List ℕ)) where
     -- the list was read to its end
-    pub all_named : (list rest : Option (List ℕ)) (rows : List Row) → All (IsRowOfFile known) rows → AreTaken list rest rows → IsAtEnd rest
-        → AreNamed known separator list true rows
+    pub all_named : (list rest : Option (List ℕ)) (rows : List Row) → All (IsRowOfFile strict known) rows → AreTaken list rest rows → IsAtEnd rest
+        → AreNamed strict known separator list true rows
     all_named None rest rows found taken end = (found, tt)
     all_named (Some all) None rows found taken end = elim taken [ ]
     all_named (Some all) (Some rest) rows found taken end =
         (found, ([], taken ∙ ap (λ r. map (λ row. row.0) rows ++ names_in separator r) end, λ _. refl))
 
     -- its first names were read
-    pub some_named : (list rest : Option (List ℕ)) (rows : List Row) → All (IsRowOfFile known) rows → AreTaken list rest rows
-        → AreNamed known separator list false rows
+    pub some_named : (list rest : Option (List ℕ)) (rows : List Row) → All (IsRowOfFile strict known) rows → AreTaken list rest rows
+        → AreNamed strict known separator list false rows
     some_named None rest rows found taken = (found, tt)
     some_named (Some all) None rows found taken = elim taken [ ]
     some_named (Some all) (Some rest) rows found taken = (found, (names_in separator rest, taken, λ is. absurd (true≢false (sym is))))
 
 -- ---- what was opened for a list
 
-of_file : (known : List ℕ → Option (List ℕ)) (file list : Option (List ℕ)) (separator : ℕ) (ended : Bool) (rows : List Row)
-    → IfSome file (λ all. list ≡ Some all) → AreNamed known separator list ended rows → AreNamed known separator file ended rows
-of_file known None list separator ended rows is named = (named.0, tt)
-of_file known (Some all) list separator ended rows is named = subst (λ l. AreNamed known separator l ended rows) is named
+of_file : (strict : Bool) (known : List ℕ → Option (List ℕ)) (file list : Option (List ℕ)) (separator : ℕ) (ended : Bool) (rows : List Row)
+    → IfSome file (λ all. list ≡ Some all) → AreNamed strict known separator list ended rows → AreNamed strict known separator file ended rows
+of_file strict known None list separator ended rows is named = (named.0, tt)
+of_file strict known (Some all) list separator ended rows is named = subst (λ l. AreNamed strict known separator l ended rows) is named
 
-module _ (known : List ℕ → Option (List ℕ)) (input : Option (List ℕ)) {T : Type 0} (remaining : T → Option (List ℕ)) where
+module _ (strict : Bool) (known : List ℕ → Option (List ℕ)) (input : Option (List ℕ)) {T : Type 0} (remaining : T → Option (List ℕ)) where
   pub none_listed : (name : Option (Bor (List ℕ))) (opened : FontList T) → opened ≡ NoList → IsOpenedList known remaining name opened
-      → (separator : ℕ) → AreListed known input name separator true []
+      → (separator : ℕ) → AreListed strict known input name separator true []
   none_listed None opened is none separator = (refl, refl)
   none_listed (Some file) opened is some separator = elim (subst (IsOpenedList known remaining (Some file)) is some) [ ]
 
   pub input_listed : (name : Option (Bor (List ℕ))) (opened : FontList T) → opened ≡ Input → IsOpenedList known remaining name opened
-      → (separator : ℕ) (ended : Bool) (rows : List Row) → AreNamed known separator input ended rows → AreListed known input name separator ended rows
+      → (separator : ℕ) (ended : Bool) (rows : List Row) → AreNamed strict known separator input ended rows → AreListed strict known input name separator ended rows
   input_listed None opened is none separator ended rows named = let bad = sym is ∙ none in cc
   input_listed (Some file) opened is dash separator ended rows named =
-      subst (λ d. AreNamed known separator (if d then input else known file.now) ended rows) (sym (subst (IsOpenedList known remaining (Some file)) is dash)) named
+      subst (λ d. AreNamed strict known separator (if d then input else known file.now) ended rows) (sym (subst (IsOpenedList known remaining (Some file)) is dash)) named
 
   pub file_listed : (name : Option (Bor (List ℕ))) (opened : FontList T) (reader : T) → opened ≡ File reader → IsOpenedList known remaining name opened
-      → (separator : ℕ) (ended : Bool) (rows : List Row) → AreNamed known separator (remaining reader) ended rows → AreListed known input name separator ended rows
+      → (separator : ℕ) (ended : Bool) (rows : List Row) → AreNamed strict known separator (remaining reader) ended rows → AreListed strict known input name separator ended rows
   file_listed None opened reader is none separator ended rows named = let bad = sym is ∙ none in cc
   file_listed (Some file) opened reader is from separator ended rows named =
       let has = subst (IsOpenedList known remaining (Some file)) is from in
-      subst (λ d. AreNamed known separator (if d then input else known file.now) ended rows) (sym has.0)
-      (of_file known (known file.now) (remaining reader) separator ended rows has.1 named)
+      subst (λ d. AreNamed strict known separator (if d then input else known file.now) ended rows) (sym has.0)
+      (of_file strict known (known file.now) (remaining reader) separator ended rows has.1 named)
 
-input_at_start : (known : List ℕ → Option (List ℕ)) (dash : Bool) (start now other : Option (List ℕ)) (separator : ℕ) (ended : Bool) (rows : List Row) → (dash ≡ true → now ≡ start)
-    → AreNamed known separator (if dash then now else other) ended rows → AreNamed known separator (if dash then start else other) ended rows
-input_at_start known true start now other separator ended rows same named = subst (λ list. AreNamed known separator list ended rows) (same refl) named
-input_at_start known false start now other separator ended rows same named = named
+input_at_start : (strict : Bool) (known : List ℕ → Option (List ℕ)) (dash : Bool) (start now other : Option (List ℕ)) (separator : ℕ) (ended : Bool) (rows : List Row) → (dash ≡ true → now ≡ start)
+    → AreNamed strict known separator (if dash then now else other) ended rows → AreNamed strict known separator (if dash then start else other) ended rows
+input_at_start strict known true start now other separator ended rows same named = subst (λ list. AreNamed strict known separator list ended rows) (same refl) named
+input_at_start strict known false start now other separator ended rows same named = named
 
 -- if the list is standard input, this wasn't read before
-pub listed_at_start : (known : List ℕ → Option (List ℕ)) (start now : Option (List ℕ)) (name : Option (Bor (List ℕ))) (separator : ℕ) (ended : Bool) (rows : List Row)
-    → (is_input name ≡ true → now ≡ start) → AreListed known now name separator ended rows → AreListed known start name separator ended rows
-listed_at_start known start now None separator ended rows same listed = listed
-listed_at_start known start now (Some file) separator ended rows same listed =
-    input_at_start known (bytes_eq file.now (codes "-")) start now (known file.now) separator ended rows same listed
+pub listed_at_start : (strict : Bool) (known : List ℕ → Option (List ℕ)) (start now : Option (List ℕ)) (name : Option (Bor (List ℕ))) (separator : ℕ) (ended : Bool) (rows : List Row)
+    → (is_input name ≡ true → now ≡ start) → AreListed strict known now name separator ended rows → AreListed strict known start name separator ended rows
+listed_at_start strict known start now None separator ended rows same listed = listed
+listed_at_start strict known start now (Some file) separator ended rows same listed =
+    input_at_start strict known (bytes_eq file.now (codes "-")) start now (known file.now) separator ended rows same listed
 
 -- ---- standard input, which at most one name asks for
 
@@ -275,7 +291,7 @@ module _ (known : List ℕ → Option (List ℕ)) (input : Option (List ℕ)) (a
   -- the lines of the fonts of the arguments, those of the list, and then the summary, are the output
   pub all_checked : (w w' w'' v v' : Option (List ℕ)) (tally all : Tally) (listed : List Row) (ended : Bool) (status : ℕ)
       → HaveRows known input asked.layout asked.fonts.items w w' tally
-      → AreListed known input asked.list (separator_of asked.null) ended listed → AddsRows asked.layout listed w' tally w'' all
+      → AreListed asked.layout.strict known input asked.list (separator_of asked.null) ended listed → AddsRows asked.layout listed w' tally w'' all
       → Appends w'' v (summary_text asked.layout all) → Keeps v v' → status ≡ check_status ended all
       → AreChecked known input asked w v' status
   all_checked w w' w'' v v' tally all listed ended status fonts named adds summary kept is =

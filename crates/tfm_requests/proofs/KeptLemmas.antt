@@ -1,6 +1,6 @@
 -- What follows the bytes that a font can have changes neither its fault, nor the font, nor the text of its counts.
 use Rattle.std.proofs.Common.{◌≡◌, ℕ, ◌+◌, ◌-◌, ◌*◌, ◌^◌, ◌<◌, ◌≤◌, Bool, true, false, List, [], ◌∷◌, ◌++◌, take, drop, length, get_or, min, zero, suc, Option, Some, None, inl, inr, arith, lit≤, refl, sym, ◌∙◌, ap, subst}
-use Rattle.std.proofs.lemmas.Bool.{cases_lt, le-ltb, leb-false}
+use Rattle.std.proofs.lemmas.Bool.{cases_lt, le-ltb, leb-false, lt-ltb}
 use Rattle.std.specs.Prelude.{IfSome, OnOk, Result, Ok, Err, is_ok}
 use Rattle.std.specs.Io.KnownBytes.{Consumes, IsAtEnd, Keeps}
 use Rattle.std.proofs.lemmas.List.{append-nil, append_assoc, get_or-take, get_or-drop, length-take-le, take_all, take_min, take-take, drop-take}
@@ -13,6 +13,7 @@ use Rattle.tfm_words.specs.Word.{word_at}
 use Rattle.tfm_tables.specs.declared.fault.FontFault.TheVariants.{Counts}
 use Rattle.tfm_tables.specs.Acceptance.{after_counts, font_fault_of, words_of}
 use Rattle.tfm_tables.specs.Font.{FontValue, IsFontOf}
+use Rattle.strict_checks.specs.Warnings.{warnings_of}
 use Rattle.tfm_requests.specs.Kept.{HaveSameFont, kept_of}
 
 -- ---- the first n bytes
@@ -54,7 +55,7 @@ design_size_of-take bytes n h =
 
 -- ---- the faults of counts, of which one alone looks at how many bytes there are from the head on
 
-module _ (most : ℕ) (reaches : 4 * (2 ^ 15 - 1) ≤ most) where
+module _ (most : ℕ) (reaches : 4 * (2 ^ 15 - 1) + 1 ≤ most) where
   long_enough : (c : Numbers) → is_too_large c.lf ≡ false → 4 * c.lf ≤ most
   long_enough c small = let below : c.lf < 2 ^ 15 = leb-false (2 ^ 15) c.lf small in omega arith
 
@@ -73,7 +74,7 @@ module _ (most : ℕ) (reaches : 4 * (2 ^ 15 - 1) ≤ most) where
   not_too_large n c long false small none = small
 
 -- a file that is longer than a font can be: its first bytes say what it says
-module _ (all : List ℕ) (most : ℕ) (reaches : 4 * (2 ^ 15 - 1) ≤ most) (long : most ≤ length all) where
+module _ (all : List ℕ) (most : ℕ) (reaches : 4 * (2 ^ 15 - 1) + 1 ≤ most) (long : most ≤ length all) where
   same_counts : counts_of (take most all) ≡ counts_of all
   same_counts = counts_of-take all most (omega arith)
 
@@ -103,18 +104,35 @@ module _ (all : List ℕ) (most : ℕ) (reaches : 4 * (2 ^ 15 - 1) ≤ most) (lo
       let accepted : font_fault_of all ≡ None = sym same_fault ∙ is.accepted in
       record { accepted = accepted; words = is.words ∙ same_words (counts_accepted (count_fault_of all) accepted); size = is.size }
 
+  -- both files are longer than the font, or the whole one is, and then the kept bytes are, too
+  same_warnings : font_fault_of all ≡ None → warnings_of (take most all) ≡ warnings_of all
+  unfolding warnings_of
+  same_warnings accepted =
+      let none = counts_accepted (count_fault_of all) accepted in
+      let small = not_too_large most reaches (length all) (counts_of all) long (is_too_large (counts_of all).lf) refl none in
+      let below : (counts_of all).lf < 2 ^ 15 = leb-false (2 ^ 15) (counts_of all).lf small in
+      let whole : length (take most all) ≡ most = length-take-le most all long in
+      let words : length (words_of all) ≡ 4 * (counts_of all).lf = length-take-le (4 * (counts_of all).lf) all (omega (arith, below, reaches, long)) in
+      rw (
+        same_words none,
+        whole,
+        lt-ltb (length (words_of all)) most (omega (arith, words, below, reaches)),
+        lt-ltb (length (words_of all)) (length all) (omega (arith, words, below, reaches, long)),
+      ) refl
+
   same_of_long : HaveSameFont (take most all) all
   same_of_long = record {
     fault = same_fault;
+    warnings = same_warnings;
     font = same_font;
     head = rw (same_count_fault, design_size_of-take all most (omega arith)) refl;
     counts = rw (same_counts, design_size_of-take all most (omega arith)) refl;
   }
 
 same_of_equal : (kept all : List ℕ) → kept ≡ all → HaveSameFont kept all
-same_of_equal kept all is = subst (λ k. HaveSameFont k all) (sym is) (record { fault = refl; font = λ size font is'. is'; head = refl; counts = refl })
+same_of_equal kept all is = subst (λ k. HaveSameFont k all) (sym is) (record { fault = refl; warnings = λ _. refl; font = λ size font is'. is'; head = refl; counts = refl })
 
-same_of_first : (all : List ℕ) (most : ℕ) → 4 * (2 ^ 15 - 1) ≤ most → HaveSameFont (take most all) all
+same_of_first : (all : List ℕ) (most : ℕ) → 4 * (2 ^ 15 - 1) + 1 ≤ most → HaveSameFont (take most all) all
 same_of_first all most reaches = elim (cases_lt (length all) most) [
   | inr long ↦ same_of_long all most reaches long
   | inl short ↦ same_of_equal (take most all) all (take_all most all (omega arith))
@@ -122,7 +140,7 @@ same_of_first all most reaches = elim (cases_lt (length all) most) [
 
 -- the kept bytes of a file have the font of the whole file
 pub kept_have_same_font : (all : List ℕ) → HaveSameFont (kept_of all) all
-kept_have_same_font all = same_of_first all 131068 (lit≤ tt)
+kept_have_same_font all = same_of_first all 131069 (lit≤ tt)
 
 -- ---- some bytes more
 
@@ -140,8 +158,8 @@ take_more_of most read old next is =
     rw take_min (subst (λ o. o ++ take (most - length o) next ≡ take most (read ++ next)) (sym is) (sym (take-append most read next)))
 
 -- the next bytes are kept if there is room for them
-pub kept_more : (read old next : List ℕ) → old ≡ kept_of read → old ++ take (min (131068 - length old) (length next)) next ≡ kept_of (read ++ next)
-kept_more read old next is = take_more_of 131068 read old next is
+pub kept_more : (read old next : List ℕ) → old ≡ kept_of read → old ++ take (min (131069 - length old) (length next)) next ≡ kept_of (read ++ next)
+kept_more read old next is = take_more_of 131069 read old next is
 
 -- ---- a reader's bytes, some after the others
 

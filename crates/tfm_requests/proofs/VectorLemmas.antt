@@ -17,13 +17,13 @@ use Rattle.tfm_requests.specs.declared.failures.errors.ReadFault.TheVariants.{No
 
 -- ---- the first bytes of a text that is too long
 
-module _ (all : List ℕ) (long : 131068 ≤ length all) where
-  long_kept : length (kept_of all) ≡ 131068
-  long_kept = length-take-le 131068 all long
+module _ (all : List ℕ) (long : 131069 ≤ length all) where
+  long_kept : length (kept_of all) ≡ 131069
+  long_kept = length-take-le 131069 all long
 
   same_line : line_after (kept_of all) most_bytes ≡ line_after all most_bytes
   unfolding line_after
-  same_line = ap (λ text. line_ends text + 1) (take-take most_bytes 131068 all (lit≤ tt))
+  same_line = ap (λ text. line_ends text + 1) (take-take most_bytes 131069 all (lit≤ tt))
 
   -- both are too long, and have the same line
   fault_of_kept : fault_line (kept_of all) ≡ Some (line_after all most_bytes)
@@ -37,10 +37,10 @@ module _ (all : List ℕ) (long : 131068 ≤ length all) where
 -- ---- any text
 
 -- the kept bytes are the whole text, or both are too long
-kept_or_long : (all : List ℕ) → (kept_of all ≡ all) ⊎ (131068 ≤ length all)
-kept_or_long all = elim (cases_lt (length all) 131068) [
+kept_or_long : (all : List ℕ) → (kept_of all ≡ all) ⊎ (131069 ≤ length all)
+kept_or_long all = elim (cases_lt (length all) 131069) [
   | inr long ↦ inr long
-  | inl short ↦ inl (take_all 131068 all (omega arith))
+  | inl short ↦ inl (take_all 131069 all (omega arith))
 ]
 
 same_fault_line : (all : List ℕ) → fault_line (kept_of all) ≡ fault_line all

@@ -92,6 +92,6 @@ named_bytes : names_in (separator_of true) (97 ∷ 10 ∷ 98 ∷ 0 ∷ 255 ∷ 0
 named_bytes = refl
 
 -- the summary in JSON of a font that is accepted and one that isn't read
-counted_in_json : summary_line Json (tally_of ((codes "a", Accepted) ∷ (codes "b", NotRead) ∷ [])) ≡ codes "{\"fonts\":2,\"accepted\":1,\"refused\":0,\"unread\":1}\n"
+counted_in_json : summary_line Json (tally_of ((codes "a", (Accepted, [])) ∷ (codes "b", (NotRead, [])) ∷ [])) ≡ codes "{\"fonts\":2,\"accepted\":1,\"refused\":0,\"unread\":1}\n"
 unfolding digits
 counted_in_json = refl

@@ -3,7 +3,7 @@ ghost use Rattle.std.specs.Prelude.{◌≡◌, ◌≤◌, ◌⊎◌, ◌∷◌, 
 ghost use Rattle.std.specs.Io.KnownBytes.{Appends};
 ghost use Rattle.std.specs.List.{AllZip};
 ghost use Rattle.tfm_requests.specs.Causes.{IsCheckCause, IsErrorOfCheck};
-ghost use Rattle.tfm_requests.specs.Checking.{AddsRows, AreChecked, IsFound, IsRowOf, IsWritten, Row, dashes_in, is_accepted as is_accepted_finding, is_input as is_input_name, summary_text};
+ghost use Rattle.tfm_requests.specs.Checking.{AddsRows, AreChecked, IsFound, IsRowOf, IsWritten, Row, dashes_in, is_input as is_input_name, is_plain as is_plain_verdict, summary_text};
 ghost use Rattle.tfm_requests.specs.Kept.{HaveSameFont};
 ghost use Rattle.tfm_requests.specs.Status.{done_status, is_stop};
 
@@ -14,16 +14,16 @@ use crate::failures::failure::Failure;
 use crate::files::opening::Opens;
 use crate::files::reading::font_bytes;
 use crate::font_list::{check_list, is_input, open_list};
-use crate::tally::{Tally, is_accepted, summary_line};
+use crate::tally::{Tally, is_plain, summary_line};
 use command_line::{CheckLayout, Checking};
-use font_texts::{Finding, check_font, finding_text};
+use font_texts::Finding;
 use run_texts::{ToolFault, write_text};
 use std::alloc::{AllocError, Global};
 use std::io::{Read, Write};
-use tfm_words::Size;
+use strict_checks::{Verdict, verdict_text};
 
 /// Does what `check` requests: reads each font in order, first those in the arguments and then those in the list, and
-/// writes the line of its finding, and then the line of `--summary` if it is requested. At most one name in the
+/// writes what is found, and then the line of `--summary` if it is requested. At most one name in the
 /// arguments may be `-`.
 pub(crate) fn check<F, I, O>(
     alloc: Global,
@@ -100,7 +100,7 @@ where
     O: Write,
     requires { dashes_in names.now ≤ 1 }
     ensures text { IfOk result (λ tally. (rows : List Row)
-        × AllZip (IsRowOf (F.known fonts.now.files.now) (I.remaining input.old)) names.now rows
+        × AllZip (IsRowOf fonts.now.layout.strict (F.known fonts.now.files.now) (I.remaining input.old)) names.now rows
         × IsWritten fonts.now.layout rows (O.contents out.old) (O.contents out.new) tally) }
     ensures unread { dashes_in names.now ≡ 0 → input.new ≡ input.old }
     ensures fault { IfErr result (λ fault. (fault ≡ ToolFault.OutOfMemory) ⊎ (fault ≡ ToolFault.Write)) }
@@ -108,61 +108,61 @@ where
     let mut tally = Tally::new();
     for name in names {
         let bytes = font_bytes(fonts.alloc, fonts.files, name, input);
-        let finding = finding_of(fonts.alloc, bytes, fonts.layout.size)?;
-        tally = write_row(fonts, (name.as_bytes(), finding), tally, out)?;
+        let verdict = verdict_of(fonts.alloc, bytes, fonts.layout)?;
+        tally = write_row(fonts, (name.as_bytes(), &verdict), tally, out)?;
     }
     Ok(tally)
 }
 
-/// Returns the finding for a font of which these bytes were kept. Fails if an allocation fails or failed.
-pub(crate) fn finding_of(
+/// Returns the verdict on a font of which these bytes were kept. Fails if an allocation fails or failed.
+pub(crate) fn verdict_of(
     alloc: Global,
     bytes: Result<Vec<u8>, ReadFault>,
-    size: Option<Size>,
-) -> Result<Finding, AllocError>
+    layout: CheckLayout,
+) -> Result<Verdict, AllocError>
     ensures { (known : Option (List ℕ)) → IfOk bytes (λ bytes. IfSome known (λ all. HaveSameFont bytes.items all))
-        → IfOk result (λ finding. IfSome known (λ all. IsFound all finding)) }
+        → IfOk result (λ verdict. IfSome known (λ all. IsFound layout.strict all verdict)) }
 {
     match bytes {
-        Ok(bytes) => check_font(alloc, bytes.as_slice(), size),
-        Err(ReadFault::NotRead) => Ok(Finding::NotRead),
+        Ok(bytes) => Verdict::check(alloc, bytes.as_slice(), layout.size, layout.strict),
+        Err(ReadFault::NotRead) => Ok(Verdict::of(alloc, Finding::NotRead)),
         Err(ReadFault::OutOfMemory) => Err(AllocError),
     }
 }
 
-/// Writes the line of a font with this name and this finding, unless it is accepted and `--quiet` is given. Returns
-/// the numbers of all fonts, of which `tally` has those before.
+/// Writes the text of a font with this name and this verdict, unless it is accepted without warnings and `--quiet` is
+/// given. Returns the numbers of all fonts, of which `tally` has those before.
 pub(crate) fn write_row<F, O: Write>(
     fonts: &Fonts<'_, F>,
-    row: (&[u8], Finding),
+    row: (&[u8], &Verdict),
     tally: Tally,
     out: &mut O,
 ) -> Result<Tally, ToolFault>
-    ensures text { IfOk result (λ all. AddsRows fonts.now.layout ((row.entry.0.now, row.entry.1) ∷ [])
+    ensures text { IfOk result (λ all. AddsRows fonts.now.layout ((row.entry.0.now, row.entry.1.now) ∷ [])
         (O.contents out.old) tally (O.contents out.new) all) }
     ensures fault { IfErr result (λ fault. (fault ≡ ToolFault.OutOfMemory) ⊎ (fault ≡ ToolFault.Write)) }
 {
-    let (name, finding) = row;
-    let line = finding_text(fonts.alloc, fonts.layout.format, name, finding)?;
-    write_line(line.as_slice(), finding, fonts.layout.quiet, out)?;
-    Ok(tally.with(finding))
+    let (name, verdict) = row;
+    let text = verdict_text(fonts.alloc, fonts.layout.format, name, verdict)?;
+    write_shown(text.as_slice(), verdict, fonts.layout.quiet, out)?;
+    Ok(tally.with(verdict))
 }
 
-/// Writes the line of a font with this finding, unless it is accepted and `quiet` is set.
-fn write_line<O: Write>(
-    line: &[u8],
-    finding: Finding,
+/// Writes the text of a font with this verdict, unless it is accepted without warnings and `quiet` is set.
+fn write_shown<O: Write>(
+    text: &[u8],
+    verdict: &Verdict,
     quiet: bool,
     out: &mut O,
 ) -> Result<(), ToolFault>
     ensures text { OnOk result (Appends (O.contents out.old) (O.contents out.new)
-        (cond (quiet && is_accepted_finding finding) [] line.now)) }
+        (cond (quiet && is_plain_verdict verdict.now) [] text.now)) }
     ensures fault { IfErr result (λ fault. fault ≡ ToolFault.Write) }
 {
-    if quiet && is_accepted(finding) {
+    if quiet && is_plain(verdict) {
         return Ok(());
     }
-    write_text(line, out)
+    write_text(text, out)
 }
 
 /// Writes the line of `--summary` for these numbers, if it is requested.

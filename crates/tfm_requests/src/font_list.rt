@@ -5,7 +5,7 @@ ghost use Rattle.std.specs.List.{All};
 ghost use Rattle.tfm_requests.specs.Checking.{AddsRows, AreListed, AreNamed, IsOpenedList, IsRowOfFile, Row, is_input as is_input_name, separator_of, without_empty};
 ghost use Rattle.tfm_requests.specs.Kept.{kept_of};
 
-use crate::checking::{Fonts, finding_of, write_row};
+use crate::checking::{Fonts, verdict_of, write_row};
 use crate::failures::errors::{FileError, ReadFault};
 use crate::files::opening::Opens;
 use crate::files::reading::{font_file, opened};
@@ -79,7 +79,7 @@ where
     ensures text { (name : Option (Bor (List ℕ)))
         → IsOpenedList (F.known fonts.now.files.now) F.File.remaining name list.0
         → IfOk result (λ ended. (rows : List Row)
-        × AreListed (F.known fonts.now.files.now) (I.remaining input.old) name (separator_of list.1) ended.1 rows
+        × AreListed fonts.now.layout.strict (F.known fonts.now.files.now) (I.remaining input.old) name (separator_of list.1) ended.1 rows
         × AddsRows fonts.now.layout rows (O.contents out.old) tally (O.contents out.new) ended.0) }
     ensures fault { IfErr result (λ fault. (fault ≡ ToolFault.OutOfMemory) ⊎ (fault ≡ ToolFault.Write)) }
 {
@@ -106,7 +106,7 @@ where
     L: Read + Drop,
     O: Write,
     ensures text { IfOk result (λ ended. (rows : List Row)
-        × AreNamed (F.known fonts.now.files.now) separator (L.remaining list) ended.1 rows
+        × AreNamed fonts.now.layout.strict (F.known fonts.now.files.now) separator (L.remaining list) ended.1 rows
         × AddsRows fonts.now.layout rows (O.contents out.old) tally (O.contents out.new) ended.0) }
     ensures fault { IfErr result (λ fault. (fault ≡ ToolFault.OutOfMemory) ⊎ (fault ≡ ToolFault.Write)) }
 {
@@ -139,7 +139,7 @@ where
     O: Write,
     ensures text { IfOk result (λ all. (rows : List Row)
         × (map (λ row. row.0) rows ≡ without_empty (name.now ∷ []))
-        × All (IsRowOfFile (F.known fonts.now.files.now)) rows
+        × All (IsRowOfFile fonts.now.layout.strict (F.known fonts.now.files.now)) rows
         × AddsRows fonts.now.layout rows (O.contents out.old) tally (O.contents out.new) all) }
     ensures fault { IfErr result (λ fault. (fault ≡ ToolFault.OutOfMemory) ⊎ (fault ≡ ToolFault.Write)) }
 {
@@ -147,8 +147,8 @@ where
         return Ok(tally);
     }
     let bytes = named_bytes(fonts.alloc, fonts.files, name);
-    let finding = finding_of(fonts.alloc, bytes, fonts.layout.size)?;
-    write_row(fonts, (name, finding), tally, out)
+    let verdict = verdict_of(fonts.alloc, bytes, fonts.layout)?;
+    write_row(fonts, (name, &verdict), tally, out)
 }
 
 /// Reads the file of this name as `font_file` does. A file whose name isn't UTF-8 isn't read, since a path of the

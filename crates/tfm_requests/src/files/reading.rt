@@ -12,15 +12,16 @@ use std::io::{ErrorKind, Read};
 /// The largest number of reads for a font.
 const MAX_READS: u32 = 1_048_576;
 
-/// The largest number of bytes that are kept of a font: `4 * lf`, with `lf` below 2^15. Bytes after these
-/// are read only to find the end of the file.
-const MOST_KEPT: usize = 131_068;
+/// The largest number of bytes that are kept of a font: one more than the largest `4 * lf`, with `lf` below 2^15,
+/// since `check --strict` reports that a file is longer. Bytes after these are read only to find the end of the
+/// file.
+const MOST_KEPT: usize = 131_069;
 
 /// The number of bytes that each read requests.
 const READ_SIZE: usize = 4096;
 
 /// Reads the font of this name to its end: the file of this name, or `input` if the name is `-`. Returns its
-/// bytes, up to the number that a font can have. Fails if the file isn't opened, a read fails, 1,048,576 reads
+/// first bytes, which decide what its font is. Fails if the file isn't opened, a read fails, 1,048,576 reads
 /// don't reach its end, or an allocation fails. A read that is interrupted is made again, and counts.
 pub(crate) fn font_bytes<F, I>(
     alloc: Global,

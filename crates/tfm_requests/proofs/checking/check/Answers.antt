@@ -18,7 +18,7 @@ returns-clause-text g c =
     let unread : dashes_in asked.fonts.items ≡ 0 → c.check_fonts.new.input ≡ c.args.input.now =
     subst (λ names. dashes_in names ≡ 0 → c.check_fonts.new.input ≡ c.args.input.now) c.as_slice.ensures.value c.check_fonts.ensures.unread in
     let listed = c.in_ok-tally-2.ensures.text asked.list c.in_ok-list.ensures in
-    let named = listed_at_start known start (g.I.Read.remaining c.check_fonts.new.input) asked.list (separator_of asked.null) ended listed.0
+    let named = listed_at_start asked.layout.strict known start (g.I.Read.remaining c.check_fonts.new.input) asked.list (separator_of asked.null) ended listed.0
     (λ is. ap g.I.Read.remaining (unread (c.in_ok-only_one_input.ensures.apart is))) listed.1 in
     all_checked known start asked before now (contents c.check_list.new.out) (contents c.write_summary.new.out) (contents c.flush.new.out)
     tally c.in_ok-tally-2.tally listed.0 ended (done_status c.done.result) fonts named listed.2 c.in_ok-write_summary.ensures.text c.flush.ensures.kept c.done.ensures

@@ -11,7 +11,7 @@ returns-then-is_empty-clause-text g c =
     let none : length c.args.name.now ≡ 0 = search rules in (
       [],
       no_name c.args.name.now none,
-      All-nil (IsRowOfFile (g.F.Opens.known c.args.fonts.now.files.now)),
+      All-nil (IsRowOfFile c.args.fonts.now.layout.strict (g.F.Opens.known c.args.fonts.now.files.now)),
       adds_none c.args.fonts.now.layout (g.O.Write.contents c.args.out.now) c.args.tally,
     )
 
@@ -19,8 +19,9 @@ pub returns-clause-text : goal.returns-clause-text
 returns-clause-text g c =
     let known = g.F.Opens.known c.args.fonts.now.files.now in
     let name = c.args.name.now in
-    let row : Row = (name, c.in_ok-finding.finding) in
+    let strict = c.args.fonts.now.layout.strict in
+    let row : Row = (name, c.in_ok-verdict.verdict) in
     let some : ¬ (length name ≡ 0) = search rules in
     let same = IfOk-weaker c.named_bytes-bytes.result _ _ (λ bytes kept. same_of_kept (known name) bytes.items kept) c.named_bytes-bytes.ensures in
-    let found = c.in_ok-finding.ensures (known name) same in
-    IfOk-weaker c.write_row.result _ _ (λ all adds. (row ∷ [], one_name name some, All-cons (IsRowOfFile known) row [] found (All-nil (IsRowOfFile known)), adds)) c.write_row.ensures.text
+    let found = c.in_ok-verdict.ensures (known name) same in
+    IfOk-weaker c.write_row.result _ _ (λ all adds. (row ∷ [], one_name name some, All-cons (IsRowOfFile strict known) row [] found (All-nil (IsRowOfFile strict known)), adds)) c.write_row.ensures.text

@@ -16,7 +16,7 @@ loop-name-init g c =
     ∙ (c.split-name-items.ensures.bytes ∙ reader_unread g.L.Read.remaining c.in-Ok.list c.args.list c.in-Ok.ensures.inner c.in-Ok.ensures.empty c.in-Ok.ensures.capacity) in (
       ap split_byte same ∙ c.split-name-items.ensures.byte,
       [],
-      All-nil (IsRowOfFile (g.F.Opens.known c.args.fonts.now.files.now)),
+      All-nil (IsRowOfFile c.args.fonts.now.layout.strict (g.F.Opens.known c.args.fonts.now.files.now)),
       subst (λ rest. AreTaken c.args.separator list rest []) (sym whole) (none_taken c.args.separator list),
       adds_none c.args.fonts.now.layout (g.O.Write.contents c.args.out.now) c.args.tally,
     )
@@ -38,7 +38,7 @@ loop-name-preserved g c =
     let rest = subst (DropsThrough old new) now.0 piece.1 in (
       steps.1 ∙ now.0,
       now.1 ++ added.0,
-      All-append (IsRowOfFile known) now.1 added.0 now.2 added.2,
+      All-append (IsRowOfFile c.args.fonts.now.layout.strict known) now.1 added.0 now.2 added.2,
       more_taken separator (g.L.Read.remaining c.args.list) old new now.1 added.0 name.items now.3 first rest named,
       adds_more c.args.fonts.now.layout now.1 added.0 (g.O.Write.contents c.args.out.now) (g.O.Write.contents c.loop-name.out) (g.O.Write.contents c.check_name.new.out)
           c.args.tally c.loop-name.tally c.in_ok-tally-in-Ok-name.tally now.4 added.3,
@@ -47,4 +47,4 @@ loop-name-preserved g c =
 pub returns-in-Err-2-clause-text : goal.returns-in-Err-2-clause-text
 returns-in-Err-2-clause-text g c =
     let now = c.loop-name.invariant in
-    (now.1, some_named c.args.separator (g.F.Opens.known c.args.fonts.now.files.now) (g.L.Read.remaining c.args.list) _ now.1 now.2 now.3, now.4)
+    (now.1, some_named c.args.separator c.args.fonts.now.layout.strict (g.F.Opens.known c.args.fonts.now.files.now) (g.L.Read.remaining c.args.list) _ now.1 now.2 now.3, now.4)

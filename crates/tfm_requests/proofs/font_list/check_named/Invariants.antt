@@ -11,6 +11,6 @@ abbrev pub invariant-loop-name : goal.invariant-loop-name
 invariant-loop-name g l =
     (split_byte l.name-iterator ≡ l.fn.separator)
     × (rows : List Row)
-    × All (IsRowOfFile (g.F.Opens.known l.fonts.files.now)) rows
+    × All (IsRowOfFile l.fonts.layout.strict (g.F.Opens.known l.fonts.files.now)) rows
     × AreTaken l.fn.separator (g.L.Read.remaining l.fn.list) (split_known_bytes (reader_remaining g.L.Read.remaining) l.name-iterator) rows
     × AddsRows l.fonts.layout rows (g.O.Write.contents l.fn.out) l.fn.tally (g.O.Write.contents l.out) l.tally
