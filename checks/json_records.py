@@ -1,7 +1,7 @@
 """What `--record json` prints, compared with `--record 2`, line by line and field by field.
 
 Python's json must be able to read each line of JSON, in which no name occurs twice. Written again without
-spaces it must be the same line. Its names must be in the order of docs/TEXTS.md, and its values must be those
+spaces it must be the same line. Its names must be in the order of docs/OUTPUT.md, and its values must be those
 of the line in record format 2. It must also conform to docs/records.schema.json; the validator here has the
 keywords that the schemas use. If Python's jsonschema is installed, it has to agree about the lines of the tables.
 The lines of `check --format json` are compared with those of text, and with docs/check.schema.json.
@@ -208,7 +208,7 @@ class Lines(Case):
     """Single lines"""
 
     def test_examples_of_the_page(self):
-        lines = re.findall(r'^\{"source".*', "\n".join(blocks("docs/TEXTS.md", r"\w*")), re.M)
+        lines = re.findall(r'^\{"source".*', "\n".join(blocks("docs/OUTPUT.md", r"\w*")), re.M)
         for line in lines:
             self.same(line, True, is_valid(dict(pairs_of_json(line)), SCHEMA))
         self.none([], len(lines), 5)
@@ -232,11 +232,11 @@ class Lines(Case):
         self.none(loose, count, 40)
 
     def test_nothing_is_refused_that_can_be_printed(self):
-        """Lines with each end and reason of TEXTS, and with the least and largest numbers, conform to the schema."""
-        ends = re.findall(r"^\| `([a-z-]+)` \| .* \| [0-9]", read("docs/TEXTS.md"), re.M)
+        """Lines with each end and reason of OUTPUT, and with the least and largest numbers, conform to the schema."""
+        ends = re.findall(r"^\| `([a-z-]+)` \| .* \| [0-9]", read("docs/OUTPUT.md"), re.M)
         lines = CASES["accepted"] + [f'{{"source":1,"end":"{word}","lines":0}}' for word in ends]
         self.none([line for line in lines if not is_valid(json.loads(line), SCHEMA)], len(ends), 5)
-        reasons = set(re.findall(r'^ +(?:reason   =|\|) "([a-z-]+) " [A-Z]', read("docs/TEXTS.md"), re.M))
+        reasons = set(re.findall(r'^ +(?:reason   =|\|) "([a-z-]+) " [A-Z]', read("docs/OUTPUT.md"), re.M))
         self.same("reasons", reasons, {json.loads(line)["refused"] for line in lines if "refused" in line})
 
     def test_with_jsonschema(self):

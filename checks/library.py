@@ -477,7 +477,7 @@ class Installing(LibraryCase):
         self.need("pkg-config", "c++")
         self.link_repository()
         env = environment(PREFIX=prefix)
-        (variables,) = [command for command, _ in commands(read("docs/CALLING.md")) if "PKG_CONFIG_PATH=" in command]
+        (variables,) = [command for command, _ in commands(read("docs/LIBRARY.md")) if "PKG_CONFIG_PATH=" in command]
         command = variables + f"""eval c++ -o threads -pthread "{ROOT}/examples/library/threads.cpp" \\
             $(pkg-config --cflags --libs tfmset) && ./threads '{DEMO}' '{DEMO}' | wc -l"""
         self.same("C++", (0, "1\n", ""), bash(command, self.room, env=env))

@@ -1,4 +1,4 @@
-"""The examples of the library in C, C++, Python and Rust, the page docs/CALLING.md, and the calls of README.md.
+"""The examples of the library in C, C++, Python and Rust, the page docs/LIBRARY.md, and the calls of README.md.
 
 The expected output of each example is computed from the records and listings of the program. The commands of
 the page are run, its functions in C, also with sanitizers, and its sessions in Python. Its first examples have
@@ -17,7 +17,7 @@ from library import between, listing
 from library_lines import sanitizers
 
 WEIGHT = 2
-PAGE, TEXT = "docs/CALLING.md", os.path.join(EXAMPLES, "demo.txt")
+PAGE, TEXT = "docs/LIBRARY.md", os.path.join(EXAMPLES, "demo.txt")
 BUILDS = (("without sanitizers", ""), ("address,undefined", "address,undefined"))
 
 
@@ -134,7 +134,7 @@ class Examples(LibraryCase):
 
 
 class Page(LibraryCase):
-    """docs/CALLING.md"""
+    """docs/LIBRARY.md"""
 
     @rows((command.strip().split("\n")[0], command, wanted) for command, wanted in commands(read(PAGE))
           if not command.startswith("scripts/library"))

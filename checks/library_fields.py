@@ -1,4 +1,4 @@
-"""The header, the Python module, the exported functions and docs/CALLING.md, compared with each other.
+"""The header, the Python module, the exported functions and docs/LIBRARY.md, compared with each other.
 
 The fields of the header must be where the Python module has them, and the attributes of the module must have
 the values that lib/tfm.py reads from the font, or those of docs/ERRORS.md and of the program's records. The
@@ -443,10 +443,10 @@ class Codes(LinesCase):
         return found
 
     def test_codes_and_what_is_written(self):
-        """Each function returns the codes of its contract, and writes what the table of CALLING says."""
+        """Each function returns the codes of its contract, and writes what the table of LIBRARY says."""
         contracts, header = self.contracts(), " ".join(read("include/tfmset.h").split())
         self.same("functions", set(FORMS), set(contracts))
-        table = re.search(r"^\| Code \| (`tfmset_check`.*?)\n\|[-|]*\n(.*?)\n\n", read("docs/CALLING.md"), re.M | re.S)
+        table = re.search(r"^\| Code \| (`tfmset_check`.*?)\n\|[-|]*\n(.*?)\n\n", read("docs/LIBRARY.md"), re.M | re.S)
         columns = [re.findall(r"`(?:tfmset)?_(\w+)`", cell) for cell in table[1].split("|")[:5]]
         lines = [line.strip("| ").split(" | ") for line in table[2].split("\n")]
         for name in FORMS:

@@ -196,12 +196,12 @@ class Links(Case):
         self.none([error for wrong, _ in found for error in wrong], sum(count for _, count in found), 51)
 
     def test_wrong_links_are_found(self):
-        text = ("[a](#b-c) [d](docs/TEXTS.md#none) [e](docs/NONE.md) [f](#b-c-1)\n\n"
+        text = ("[a](#b-c) [d](docs/OUTPUT.md#none) [e](docs/NONE.md) [f](#b-c-1)\n\n"
                 "# `B` *c*\n\n```sh\n# B c\n```\n")
         found = [error.split()[-1] for error in link_errors_of("README.md", text)[0]]
-        self.same("found", ["docs/TEXTS.md#none", "docs/NONE.md", "#b-c-1"], found)
-        found = named_pages("docs/TEXTS.md", "TEX.md, SCALE, ../README.md and `NONE.md`")
-        self.same("found", ["docs/TEXTS.md: SCALE", "docs/TEXTS.md: NONE.md"], found)
+        self.same("found", ["docs/OUTPUT.md#none", "docs/NONE.md", "#b-c-1"], found)
+        found = named_pages("docs/OUTPUT.md", "TEX.md, SCALE, ../README.md and `NONE.md`")
+        self.same("found", ["docs/OUTPUT.md: SCALE", "docs/OUTPUT.md: NONE.md"], found)
 
     def test_names_of_pages(self):
         """No file names a page that doesn't exist."""

@@ -315,7 +315,7 @@ struct tfmset_form {
  * `encoding` is empty or "bytes" if the bytes of the text are codes. For a text in UTF-8 it is the name of
  * the font's encoding, as for tfmset_encode. Lengths and offsets in the records then count bytes of the line
  * in UTF-8, and a byte order mark at the front of the text is left out. A line that isn't UTF-8 is refused,
- * and a character without codes refuses the line or is an item, by the policy. docs/TEXTS.md in the sources
+ * and a character without codes refuses the line or is an item, by the policy. docs/OUTPUT.md in the sources
  * describes records. */
 uint32_t tfmset_records(const uint8_t *font, size_t font_length, const struct tfmset_options *options,
                         const uint8_t *encoding, size_t encoding_length, const uint8_t *text,

@@ -1,6 +1,6 @@
 """Slow programs that do what tfmset does, written from the pages of docs/ alone, and random fonts and texts.
 
-font_error follows docs/ERRORS.md, counts_text, list_text and pair_rows docs/TEXTS.md, and set_line
+font_error follows docs/ERRORS.md, counts_text, list_text and pair_rows docs/OUTPUT.md, and set_line
 docs/LIGATURES.md.
 """
 import struct

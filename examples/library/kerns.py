@@ -5,7 +5,7 @@ usage: kerns.py FONT
 
 Each row begins with a left character, and lists the right characters before which the font has a kern. A
 character is printed as itself, or by its code if it isn't a visible ASCII character; `|` is a boundary. The
-script needs the module tfmset (docs/CALLING.md).
+script needs the module tfmset (docs/LIBRARY.md).
 """
 import itertools
 import sys
