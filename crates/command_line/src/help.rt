@@ -348,7 +348,7 @@ pub(crate) const FORMAT_HELP: &str = "Output format: text, csv or json";
 
 pub(crate) const ALL_HELP: &str = "Also print the counts, the extensible recipes and all words";
 
-pub(crate) const STRICT_HELP: &str = "Also print what TeX and TFtoPL report about accepted fonts";
+pub(crate) const STRICT_HELP: &str = "Also print what TeX and TFtoPL report";
 
 pub(crate) const QUIET_HELP: &str = "Leave out the lines of accepted fonts";
 
