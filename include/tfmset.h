@@ -9,23 +9,25 @@
  *         printf("%ld\n", (long)characters['a'].width);
  *
  * Font: `font` points to the contents of a TFM file; for tfmset_spans and tfmset_span_items it may also point
- * to a table that tfmset_prepare wrote. The bytes may be arbitrary: for bytes that aren't an accepted font
- * all functions except tfmset_fault_text return TFMSET_FONT_REFUSED. Each call with a TFM file reads it
- * again. The library keeps nothing between two calls: there is no handle, and nothing has to be freed.
+ * to a table that tfmset_prepare wrote. The bytes may be arbitrary. If they are neither an accepted TFM file
+ * nor a table, all functions except tfmset_fault_text return TFMSET_FONT_REFUSED, or TFMSET_OUT_OF_RANGE if
+ * another argument is out of its range. Each call with a TFM file reads it again. The library keeps nothing
+ * between two calls: there is no handle, and nothing has to be freed.
  *
  * Size: `size` is from 1 to 134,217,727 scaled points, or 0 for the design size of the font. tfmset_size
  * reads it from a text with a unit. All dimensions are in scaled points, of which 65,536 are one point.
  *
  * Lists: each array is followed by its length. A length above the number of elements in memory, such as
- * SIZE_MAX, is undefined behaviour. A function with a last argument `count` reports a list: after TFMSET_DONE
- * `*count` elements at the front of the array, after TFMSET_NO_ROOM only `*count`, the length that is needed.
- * Nothing else is changed, except by tfmset_records.
+ * SIZE_MAX, is undefined behaviour. A function whose last argument is `count` reports a list. After
+ * TFMSET_DONE the list is at the front of the array, and `*count` is its length. After TFMSET_NO_ROOM
+ * `*count` is the length that is needed. Everything else is unchanged; only tfmset_records leaves unspecified
+ * contents in its array after TFMSET_NO_ROOM and TFMSET_OUT_OF_MEMORY.
  *
  * Pointers: a pointer to an array or a text may be null if its length is 0; no other pointer may be null.
  * Each pointer must be aligned for its type. Memory that a function writes to must not overlap any other
  * memory that is passed to it. Memory that is only read may overlap, and several calls may share it.
  *
- * Memory: functions free all that they allocate, with malloc and realloc, before they return. tfmset_version,
+ * Memory: functions free all that they allocate (with malloc and realloc) before they return. tfmset_version,
  * tfmset_size and tfmset_encode allocate nothing. Calls don't check the stack; in tests 64 KB were enough.
  *
  * Threads: any thread may call any function at any time. Don't call the library from a signal handler, or in
@@ -87,11 +89,11 @@ struct tfmset_uncoded {
     uint32_t character;
 };
 
-/* The result of tfmset_encode. */
+/* The result of tfmset_encode, which is unchanged after TFMSET_OUT_OF_RANGE. */
 struct tfmset_encoded {
     /* TFMSET_DONE, TFMSET_NO_ROOM: the numbers of codes and of characters without codes. Otherwise 0. */
     size_t count, uncoded;
-    /* TFMSET_NOT_UTF8: the offset of the byte in the text at which no character begins. Otherwise 0. */
+    /* TFMSET_NOT_UTF8: the offset in the text of the first byte that isn't in a character. Otherwise 0. */
     size_t offset;
 };
 
@@ -99,9 +101,10 @@ struct tfmset_encoded {
  * spans. `encoding` is the name of the font's encoding, which needs no zero byte at its end: "ot1" (that of
  * cmr10), "t1" (ecrm1000), "ly1", "latin1", or the same in capitals, or "bytes", with which the text may be
  * any bytes, and is copied. The codes of a character are those by which LaTeX sets it. Most characters have
- * one code, some have two or three, and the soft hyphen has none: its neighbours are neighbours in the array.
- * A character that LaTeX takes from another font, or puts together from an accent and a letter, has no codes,
- * and is left out. Line feeds are kept. A byte order mark at the front of the text is left out.
+ * one code, some have two or three, and the soft hyphen has none: the codes before and after it are adjacent.
+ * A character without codes is one that isn't in the encoding, or that LaTeX takes from another font or puts
+ * together from an accent and a letter. It is left out. Line feeds are kept. A byte order mark at the front
+ * of the text is left out.
  *
  * `codes` gets the codes, `offsets` for each code the offset in the text of the character that it comes from,
  * unless offsets_length is 0, and `uncoded` the characters without codes, in the order of the text. An array
@@ -130,7 +133,7 @@ struct tfmset_fault {
      *     8    the file has fewer bytes than its first count requires; `place`: the number that is needed
      *     9    the design size is negative, or is below one point
      *     10   an index of a character is beyond the end of its table; `place`: the code; `named`: the table
-     *     11   the address of a character's instructions is beyond the last one; `place`: the code
+     *     11   the address of a character's instructions is beyond the last instruction; `place`: the code
      *     12   entry 0 of a table isn't zero; `named`: the table
      *     13   a table entry is too large; `place`: its index, from 0 (in table 9 from 1); `named`: the table
      *     14   an instruction refers to something that doesn't exist; `place`: its address, from 0; `named`:
@@ -187,7 +190,7 @@ uint32_t tfmset_characters(const uint8_t *font, size_t font_length, uint32_t siz
 uint32_t tfmset_parameters(const uint8_t *font, size_t font_length, uint32_t size, int32_t *parameters,
                            size_t parameters_length, size_t *count);
 
-/* In a pair: as `left` the left boundary, and as `right` the right boundary. */
+/* The value of `left` in a pair for the left boundary, and of `right` for the right boundary. */
 #define TFMSET_BOUNDARY 256u
 /* Two neighbours, and what the font's lig/kern program does between them. */
 struct tfmset_pair {
@@ -231,7 +234,7 @@ struct tfmset_options {
      * TFMSET_TOO_MANY_STEPS, and takes no time. A line that takes more steps than `limit` counts as `limit`
      * steps. 0: 2^64 - 1. */
     uint64_t call_limit;
-    /* `size` is that of the font, `limit` the largest number of steps of a line; 0: TFMSET_DEFAULT_LIMIT. */
+    /* `size` is that of the font. `limit` is the largest number of steps of a line, 0 for the default. */
     uint32_t size, limit;
     /* `policy` is TFMSET_REFUSE or TFMSET_SKIP. `crlf` is 1 if one carriage return (13) before a line feed
      * belongs to the line ending, and 0 if it is a byte of the line. */
@@ -333,7 +336,7 @@ uint32_t tfmset_refusal_text(const struct tfmset_line *line, uint8_t *text, size
 uint32_t tfmset_prepare(const uint8_t *font, size_t font_length, uint32_t size, uint8_t *table,
                         size_t table_length, size_t *count);
 
-/* The left boundary of the font precedes the codes of a span; the right boundary follows them. */
+/* The edges of a span: the left boundary of the font precedes its codes; the right boundary follows. */
 #define TFMSET_LEFT_EDGE 1u
 #define TFMSET_RIGHT_EDGE 2u
 /* The value of `hyphen` for a span without a hyphen. */
@@ -346,16 +349,17 @@ struct tfmset_span {
     uint32_t edges, hyphen;
 };
 
-/* Sets spans of a text. `font` is a TFM file, or a table that tfmset_prepare of this version wrote, which
- * gives the results of its font at its size. A table that was changed is either refused, or gives arbitrary
- * results; it is never unsafe to use. Each span has one element of `lines`, in order, as a line has in
- * tfmset_widths. TFMSET_OUTSIDE, which precedes other reasons, means that the span ends after the end of the
- * text. A span with a missing character is always refused; `place` is the character's offset in the text, or
- * for the hyphen the end of the span. `limit` and `call_limit` apply to spans as to lines.
+/* Sets spans of a text. `font` is a TFM file, or a table that tfmset_prepare of this version wrote. A table
+ * gives the results of its font, at the size at which tfmset_prepare read it. A table that was changed is
+ * either refused, or gives arbitrary results; it is never unsafe to use. Each span has one element of
+ * `lines`, in order, as a line has in tfmset_widths. TFMSET_OUTSIDE, which precedes other reasons, means that
+ * the span ends after the end of the text. A span with a missing character is always refused; `place` is the
+ * character's offset in the text, or for the hyphen the end of the span. `limit` and `call_limit` apply to
+ * spans as to lines.
  *
  * Returns TFMSET_OUT_OF_RANGE also if `policy` or `crlf` isn't 0, if `edges` or `hyphen` of a span is out of
- * range, or if `size` is neither 0 nor the size of the table. The counts are the numbers of spans and of
- * their items. After TFMSET_NO_ROOM the contents of `lines` are unspecified. */
+ * range, or if `size` is neither 0 nor the size at which the font of a table was read. The counts are the
+ * numbers of spans and of their items. After TFMSET_NO_ROOM the contents of `lines` are unspecified. */
 uint32_t tfmset_spans(const uint8_t *font, size_t font_length, const struct tfmset_options *options,
                       const uint8_t *text, size_t text_length, const struct tfmset_span *spans,
                       size_t spans_length, struct tfmset_line *lines, size_t lines_length,

@@ -38,9 +38,10 @@ this module (the first two numbers of `__version__` have to be the same): the la
 differ.
 
 The library has no state. Any thread may call any function at any time, and calls of several threads run
-concurrently. Each call that sets lines reads the font again, which takes up to 30 microseconds for cmr10. One
-call for many lines is therefore much faster than a call for each line. A long text is passed to the library
-in blocks of lines, and Ctrl-C takes effect between two blocks.
+concurrently. Each call that sets lines reads the font again, which takes about 25 microseconds for cmr10. One
+call for many lines is therefore much faster than a call for each line. `Font.set`, `Font.widths` and
+`Font.records` without `call_limit` pass a long text to the library in blocks of lines, and Ctrl-C takes
+effect between two blocks.
 """
 from __future__ import annotations
 
@@ -187,8 +188,8 @@ def encode(text: str, encoding: str, missing: str = "refuse") -> bytes:
     """Returns the codes that the characters of a text have in a font, as LaTeX sets them.
 
     `encoding` is one of ENCODINGS, or the same in capitals. Most characters have one code, some have two or
-    three, and the soft hyphen has none: its neighbours are neighbours in the result. Line feeds are kept, and a
-    byte order mark (U+FEFF) at the front of the text is left out.
+    three, and the soft hyphen has none: the codes before and after it are adjacent. Line feeds are kept, and
+    a byte order mark (U+FEFF) at the front of the text is left out.
 
     Some characters have no codes: those that aren't in the encoding, and those that LaTeX takes from another
     font or puts together from an accent and a letter. With `missing="refuse"` the first of them raises
@@ -302,7 +303,8 @@ class Refusal(NamedTuple):
       character. In a str, `place` is the index in the line of the character that has this code.
     - 'too-long': the line has `place` bytes, which are more than 65,535; `code` is 0. In a str, `place` is
       the number of its codes.
-    - 'steps': the line takes more steps than the limit; `place` and `code` are 0
+    - 'steps': the line takes more steps than the limit, or no steps were left for it; `place` and `code`
+      are 0
     - 'outside': the span ends after the end of the text; `place` and `code` are 0
 
     For a span, `place` of 'missing' is an offset in the text, or for the hyphen the end of the span.
@@ -396,9 +398,9 @@ def _items(count: int) -> Type[ctypes.Array[Item]]:
 class Line(NamedTuple):
     """A line that is set.
 
-    `width` is its width in sp, and `steps` the number of steps that its ligatures and kerns took. `packed` has
-    the items as they are in memory, three 32-bit numbers for each: `struct.iter_unpack("IIi", line.packed)` or
-    `numpy.frombuffer(line.packed, "u4,u4,i4")` reads them.
+    `width` is its width in sp, and `steps` is the number of steps that it took: kerns, ligature operations,
+    and moves to the next element. `packed` has the items as they are in memory, three 32-bit numbers for
+    each: `struct.iter_unpack("IIi", line.packed)` or `numpy.frombuffer(line.packed, "u4,u4,i4")` reads them.
     """
 
     width: int
@@ -762,16 +764,18 @@ class Font:
         kind SKIPPED.
 
         `text` is bytes, which are codes of the font; or a str, with `encoding`, the encoding of the font: one
-        of ENCODINGS. Its codes are then those that `encode` returns, so that the neighbours of a soft hyphen are
-        neighbours, unlike in `records`. A character without codes raises EncodingError; with `missing="skip"` it
-        is left out, has no item, and its neighbours are neighbours. In a refusal of a line of a str, `place`
-        counts characters.
+        of ENCODINGS. The codes of a str are those that `encode` returns. The codes before and after a soft
+        hyphen are therefore adjacent, and can have a kern or a ligature, unlike in `records`. A character
+        without codes raises EncodingError. With `missing="skip"` it is left out and has no item, and the
+        codes before and after it are adjacent. If a line of a str has a missing character, `place` in its
+        refusal is the index of the character in the line.
 
-        With `crlf=True` one carriage return before a line feed belongs to the line ending; in the `place` of an
-        EncodingError both then count as one character. Once the lines have taken `call_limit` steps together,
-        each further line is refused with the reason 'steps' and takes no time; `call_limit` is from 1 to
-        2^64 - 1, or None for no limit. It bounds the time of a call with a font from a stranger. The call is
-        then made in one block, which Ctrl-C doesn't interrupt.
+        With `crlf=True` one carriage return before a line feed belongs to the line ending. In the `place` of
+        an EncodingError, the carriage return and the line feed then count as one character. Once the lines
+        have taken `call_limit` steps together, each further line is refused with the reason 'steps' and takes
+        no time; `call_limit` is from 1 to 2^64 - 1, or None for no limit. Set a `call_limit` to bound the
+        time for a font from an untrusted source. A text with a `call_limit` is set in one block, which Ctrl-C
+        doesn't interrupt.
 
         Raises ValueError if `limit`, `missing`, `encoding` or `call_limit` has any other value; EncodingError;
         and TypeError if `limit` or `call_limit` isn't an int, or if `text` isn't bytes, a bytearray or a
