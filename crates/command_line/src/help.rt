@@ -18,14 +18,15 @@ Examples, in the directory examples of the sources:
                             set each file with its own font and step limit
 
 `tfmset COMMAND --help` describes the options of a command and what it prints.
-Sizes and widths are printed in scaled points (sp): 65536 sp = 1pt; `list` and
-`pairs` print them in another unit with --unit. Errors are reported by one
-short line; with --verbose (-v), each command also prints their causes, with
-the names of files.
+Sizes and widths are printed in scaled points (sp): 65536 sp = 1pt. With
+--unit, `list`, `pairs` and --record box print them in another unit. Errors
+are reported by one short line; with --verbose (-v), each command also prints
+their causes, with the names of files.
 
 Exit status:
   0  Success. Help and version output also end with 0.
-  1  Success, but a line (or, with `check`, a font) was refused.
+  1  Success, but a line was refused or, with `check`, a font was refused or
+     has a warning.
   2  The arguments are invalid. The output is empty.
   3  A font (except with `check`) or an encoding vector is refused. The output
      is empty.
