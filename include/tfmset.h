@@ -34,8 +34,8 @@
  * the child process after a fork of a process that has several threads.
  *
  * Time: a step is one kern, one ligature operation, or one move to the next element. The lig/kern program of
- * a font may never end: a line may take `limit` steps, and a call `call_limit` plus `limit`. Choose small
- * limits for fonts from untrusted sources.
+ * a font may never end. A line therefore takes at most `limit` steps, and a call at most `call_limit` plus
+ * `limit`. Choose small limits for fonts from untrusted sources.
  *
  * Text: the bytes of a line are codes of the font, and 32 is a space. tfmset_records also takes a text in
  * UTF-8, and tfmset_encode turns such a text into codes.
@@ -106,9 +106,9 @@ struct tfmset_encoded {
  * together from an accent and a letter. It is left out. Line feeds are kept. A byte order mark at the front
  * of the text is left out.
  *
- * `codes` gets the codes, `offsets` for each code the offset in the text of the character that it comes from,
- * unless offsets_length is 0, and `uncoded` the characters without codes, in the order of the text. An array
- * is always long enough if it is as long as the text. Returns
+ * The codes are written to `codes`, and the characters without codes to `uncoded`, in the order of the text.
+ * offsets[i] is the offset in the text of the character that codes[i] comes from; if offsets_length is 0, no
+ * offsets are written. An array is always long enough if it is as long as the text. Returns
  *
  * TFMSET_DONE: the arrays have their elements at the front, and their other elements are unchanged.
  * TFMSET_NO_ROOM: an array is too short. `encoded` has the lengths that are needed: `count` of `codes` and of
@@ -180,7 +180,8 @@ struct tfmset_character {
     uint8_t top, middle, bottom, repeated;
 };
 
-/* Reports the 256 characters of a font, by code. Code 32 may be one, though byte 32 of a line is a space. */
+/* Reports the character with each of the 256 codes, in order. A font may have a character with code 32,
+ * although byte 32 of a line is a space. */
 uint32_t tfmset_characters(const uint8_t *font, size_t font_length, uint32_t size,
                            struct tfmset_character *characters, size_t characters_length, size_t *count);
 
@@ -294,8 +295,8 @@ uint32_t tfmset_set(const uint8_t *font, size_t font_length, const struct tfmset
                     struct tfmset_item *items, size_t items_length, struct tfmset_counts *counts);
 
 /* Sets the lines of a text as tfmset_set does, without returning the items. The fields `first` and `count`
- * of each line and both counts are those of tfmset_set, but only `lines` has to be long enough: the number
- * of line feeds in the text plus 1 is always enough. */
+ * of each line, and `*counts`, are those of tfmset_set, but only `lines` has to be long enough: the number of
+ * line feeds in the text plus 1 is always enough. */
 uint32_t tfmset_widths(const uint8_t *font, size_t font_length, const struct tfmset_options *options,
                        const uint8_t *text, size_t text_length, struct tfmset_line *lines,
                        size_t lines_length, struct tfmset_counts *counts);
@@ -351,11 +352,12 @@ struct tfmset_span {
 
 /* Sets spans of a text. `font` is a TFM file, or a table that tfmset_prepare of this version wrote. A table
  * gives the results of its font, at the size at which tfmset_prepare read it. A table that was changed is
- * either refused, or gives arbitrary results; it is never unsafe to use. Each span has one element of
- * `lines`, in order, as a line has in tfmset_widths. TFMSET_OUTSIDE, which precedes other reasons, means that
- * the span ends after the end of the text. A span with a missing character is always refused; `place` is the
- * character's offset in the text, or for the hyphen the end of the span. `limit` and `call_limit` apply to
- * spans as to lines.
+ * either refused, or gives arbitrary results; it is never unsafe to use. lines[i] is the result of spans[i],
+ * with the fields of a line in tfmset_widths. A span with a missing character is always refused; `place` is
+ * the character's offset in the text or, if the hyphen is missing, the offset of the end of the span. `limit`
+ * and `call_limit` apply to spans as to lines. If no steps were left for a span, it is refused with
+ * TFMSET_TOO_MANY_STEPS. Otherwise, a span that ends after the end of the text is refused with
+ * TFMSET_OUTSIDE, even if there are other reasons.
  *
  * Returns TFMSET_OUT_OF_RANGE also if `policy` or `crlf` isn't 0, if `edges` or `hyphen` of a span is out of
  * range, or if `size` is neither 0 nor the size at which the font of a table was read. The counts are the
@@ -368,8 +370,8 @@ uint32_t tfmset_spans(const uint8_t *font, size_t font_length, const struct tfms
 /* An item of a span, and the bytes of the text that it comes from: `length` bytes from the offset `offset`.
  * `kind` is TFMSET_CHARACTER or TFMSET_KERN. A character of the text comes from its own byte, and a ligature
  * from the bytes of the characters that it replaces. The length is 0 for a kern, for the hyphen, and for a
- * ligature that replaces no character of the text. The items of a span follow one another: each of its bytes
- * belongs to exactly one item. */
+ * ligature that replaces no character of the text. The bytes of an item begin where those of the previous
+ * item end: each byte of a span belongs to exactly one item. */
 struct tfmset_placed {
     size_t offset, length;
     uint32_t kind, code;

@@ -73,7 +73,7 @@ CHARACTER, KERN, SPACE, SKIPPED = range(4)
 """The kinds of items: a character, a kern, a space, and a missing character that was skipped."""
 
 BOUNDARY = 256
-"""In `Font.pair` and `Font.pairs`: the left boundary on the left, the right boundary on the right."""
+"""In `Font.pair` and `Font.pairs`: as left neighbour the left boundary, as right neighbour the right one."""
 
 ENCODINGS = ("ot1", "t1", "ly1", "latin1")
 """The names of the encodings: OT1 is that of cmr10, T1 that of ecrm1000, and Latin 1 is ISO 8859-1."""
@@ -158,15 +158,15 @@ def _named(encoding: str) -> bytes:
 
 
 def _skips(missing: str) -> bool:
-    """Returns whether missing characters are skipped. Raises ValueError for another name than these two."""
+    """Returns whether missing characters are skipped. Raises ValueError unless the name is refuse or skip."""
     if missing not in ("refuse", "skip"):
         raise ValueError(f"missing is {missing!r}, but must be 'refuse' or 'skip'")
     return missing == "skip"
 
 
 def _encoded(text: str, encoding: str, skips: bool, with_offsets: bool = False) -> Tuple[bytes, Any]:
-    """Returns the codes of a text, and with `with_offsets` the offset in UTF-8 of the character of each of them.
-    Raises EncodingError for a character without codes, unless `skips`."""
+    """Returns the codes of a text and, with `with_offsets`, an array with the offset in UTF-8 of the
+    character of each code. Raises EncodingError for a character without codes, unless `skips`."""
     name, content = _named(encoding), _utf8(text, encoding)
     length, encoded, room, code = len(content), _Encoded(), 16, _NO_ROOM
     # A character has at most as many codes as bytes, and therefore these two arrays are always long enough.
@@ -307,7 +307,8 @@ class Refusal(NamedTuple):
       are 0
     - 'outside': the span ends after the end of the text; `place` and `code` are 0
 
-    For a span, `place` of 'missing' is an offset in the text, or for the hyphen the end of the span.
+    For a span, `place` of 'missing' is the offset of the byte in the text or, if the hyphen is missing, the
+    offset of the end of the span.
     """
 
     reason: str
@@ -778,8 +779,8 @@ class Font:
         doesn't interrupt.
 
         Raises ValueError if `limit`, `missing`, `encoding` or `call_limit` has any other value; EncodingError;
-        and TypeError if `limit` or `call_limit` isn't an int, or if `text` isn't bytes, a bytearray or a
-        memoryview, or with `encoding` a str.
+        and TypeError if `limit` or `call_limit` isn't an int, or if `text` has another type: with
+        `encoding` it has to be a str, and without it bytes, a bytearray or a memoryview.
 
         >>> lines = Font.from_file("examples/demo.tfm").set(b"fox Q", missing="skip")
         >>> [(item.kind, item.code) for item in lines[0].items]
