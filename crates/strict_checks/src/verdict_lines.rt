@@ -72,7 +72,11 @@ fn push_warnings(
 fn noun_of(count: usize) -> &'static str
     ensures { result.now ≡ warnings_noun count }
 {
-    if count == 1 { " warning\n" } else { " warnings\n" }
+    if count == 1 {
+        " warning\n"
+    } else {
+        " warnings\n"
+    }
 }
 
 /// Appends a line for each warning.
