@@ -1,67 +1,152 @@
--- The box of items, one after the other.
-use Rattle.std.proofs.Common.{◌≡◌, ℕ, ◌+◌, ◌<◌, ℤ, pos, ◌≤ℤ◌, ◌+ℤ◌, List, [], ◌∷◌, ◌++◌, arith, length, map, take, get_or, ap, sym, refl, ◌∙◌}
-use Rattle.std.specs.Prelude.{flat_map, sum_by}
+-- The box of a line: its characters, one after the other, and the number of its spaces.
+use Rattle.std.proofs.Common.{◌≡◌, ℕ, zero, suc, ◌+◌, ◌<◌, Bool, true, false, ℤ, pos, List, [], ◌∷◌, ◌++◌, Option, Some, None, arith, append_assoc, length, map, take, get_or, ap, sym, refl, ◌∙◌}
+use Rattle.std.specs.Prelude.{IfSome, OnOk, Result, Ok, Err, codes, cond, decimal, is_ok, is_some, ◌&&◌, if◌then◌else◌}
 use Rattle.std.specs.Int.{int_max}
-use Rattle.std.specs.List.{fold}
+use Rattle.std.specs.List.{count_by}
+use Rattle.std.specs.Option.{option_and_then, option_map}
 use Rattle.std.proofs.Math.IntN.{+ℤ_idr}
-use Rattle.std.proofs.lemmas.Int.{clamps, fold-int_max_bounds, ints}
 use Rattle.std.proofs.lemmas.List.{map-append, take_more}
 use Rattle.std.proofs.lemmas.List.Sums.{fold-append, sum_by-append}
+use Rattle.tex_sizes.specs.Lengths.{length_text}
 use Rattle.tex_sizes.specs.declared.length_unit.LengthUnit.{LengthUnit}
+use Rattle.tfm_tables.specs.Character.{exists}
 use Rattle.tfm_tables.specs.Font.{FontValue}
+use Rattle.tfm_tables.specs.Measure.{parameter_of}
+use Rattle.tfm_tables.specs.Program.{program_of, right_code_of}
+use Rattle.lig_kern.specs.declared.symbol.Symbol.{Symbol}
+use Rattle.lig_kern.specs.declared.symbol.Symbol.TheVariants.{Left, Char, Right}
+use Rattle.lig_kern.specs.declared.action.Action.{Action}
+use Rattle.lig_kern.specs.declared.action.Action.TheVariants.{Kern, Lig}
 use Rattle.lig_kern.specs.declared.item.Item.{Item}
-use Rattle.lig_kern.specs.declared.item.Item.TheVariants.{Skipped}
+use Rattle.lig_kern.specs.declared.item.Item.TheVariants.{Skipped, Space}
+use Rattle.lig_kern.specs.Matching.{action_between}
+use Rattle.lig_kern.specs.Rewriting.{Element, items_of, of_kern, of_symbol}
+use Rattle.lig_kern.specs.Result.{Setting}
+use Rattle.set_line.specs.declared.policy.Policy.{Policy}
+use Rattle.set_line.specs.declared.policy.Policy.TheVariants.{Refuse, Skip}
+use Rattle.set_line.specs.Pieces.{is_space}
 use Rattle.set_line.specs.Width.{total_width}
-use Rattle.line_records.specs.Boxes.{BoxValue, box_of, depth_in, height_in, item_text, largest, spaces_in}
-use Rattle.line_records.specs.declared.record_format.RecordFormat.TheVariants.{Box}
+use Rattle.line_records.specs.Additions.{Addition, after, alone, boundary_by, byte_added, cut_added, ending_of, set_from, skip_by, step_by, with_cut}
+use Rattle.line_records.specs.Boxes.{BoxValue, box_record, box_text, heights_text, is_glue, largest}
 use Rattle.line_records.proofs.AddingLemmas.{total_width-append}
 
--- ---- the largest
+pub next_largest : (f : ℕ → ℤ) (codes : List ℕ) (i d : ℕ) (so_far : ℤ) → i < length codes → so_far ≡ largest (map f (take i codes))
+    → int_max so_far (f (get_or codes i d)) ≡ largest (map f (take (i + 1) codes))
+next_largest f codes i d so_far within is =
+    ap (λ a. int_max a (f (get_or codes i d))) is
+    ∙ sym (ap (λ xs. largest (map f xs)) (take_more codes i d within) ∙ ap largest (map-append f (take i codes) (get_or codes i d ∷ []))
+    ∙ fold-append int_max (pos 0) (map f (take i codes)) (f (get_or codes i d) ∷ []))
 
-largest-append : (f : Item → ℤ) (xs ys : List Item) → largest (map f (xs ++ ys)) ≡ fold int_max (largest (map f xs)) (map f ys)
-largest-append f xs ys = ap largest (map-append f xs ys) ∙ fold-append int_max (pos 0) (map f xs) (map f ys)
+-- ---- texts
 
-pub next_largest : (f : Item → ℤ) (items : List Item) (i : ℕ) (d : Item) (so_far : ℤ) → i < length items → so_far ≡ largest (map f (take i items))
-    → int_max so_far (f (get_or items i d)) ≡ largest (map f (take (i + 1) items))
-next_largest f items i d so_far within is =
-    ap (λ a. int_max a (f (get_or items i d))) is
-    ∙ sym (ap (λ xs. largest (map f xs)) (take_more items i d within) ∙ largest-append f (take i items) (get_or items i d ∷ []))
+pub box_pushed : (unit : LengthUnit) (box : BoxValue) (before a b after : List ℕ) → a ≡ before ++ codes " " ++ length_text unit box.width
+    → b ≡ a ++ heights_text unit box.height box.depth → after ≡ b ++ codes " " ++ decimal box.spaces → after ≡ before ++ box_text unit box
+unfolding box_text
+box_pushed unit box before a b after width heights spaces =
+    spaces ∙ ap (λ xs. xs ++ codes " " ++ decimal box.spaces) (heights ∙ ap (λ xs. xs ++ heights_text unit box.height box.depth) width) ∙ simp append_assoc
 
-pub next_spaces : (items : List Item) (i : ℕ) (d : Item) (so_far : ℕ) → i < length items → so_far ≡ sum_by spaces_in (take i items)
-    → so_far + spaces_in (get_or items i d) ≡ sum_by spaces_in (take (i + 1) items)
-next_spaces items i d so_far within is =
-    let more : sum_by spaces_in (take (i + 1) items) ≡ sum_by spaces_in (take i items) + (0 + spaces_in (get_or items i d)) =
-    ap (sum_by spaces_in) (take_more items i d within) ∙ sum_by-append spaces_in (take i items) (get_or items i d ∷ []) in
-    omega (arith, more, is)
+pub record_pushed : {T E : Type 0} (r : Result T E) (source place : ℕ) (text before a b c d after : List ℕ) → a ≡ before ++ [] ++ decimal source
+    → b ≡ a ++ codes ":" ++ decimal place → c ≡ b ++ codes " box" → d ≡ c ++ text → after ≡ (if is_ok r then d ++ codes "\n" else d)
+    → OnOk r (after ≡ before ++ box_record source place text)
+record_pushed (Ok t) source place text before a b c d after one two three four is =
+    is ∙ ap (λ xs. xs ++ codes "\n") (four ∙ ap (λ xs. xs ++ text) (three ∙ ap (λ xs. xs ++ codes " box") (two ∙ ap (λ xs. xs ++ codes ":" ++ decimal place) one)))
+    ∙ simp append_assoc
+record_pushed (Err e) source place text before a b c d after one two three four is = tt
 
--- an amount that isn't negative is the larger one of itself and 0
-larger : (a : ℤ) → pos 0 ≤ℤ a → a ≡ int_max a (pos 0)
-larger a low = omega (arith, ints, clamps, low)
+-- ---- more items
 
--- ---- the box
-
--- the items of a box have no texts
-pub no_texts : (unit : LengthUnit) (items : List Item) → flat_map (item_text (Box unit)) items ≡ []
-no_texts unit [] = refl
-no_texts unit (item ∷ items) = no_texts unit items
-
--- a box with more items
-abbrev pub box_after : BoxValue → FontValue → List Item → BoxValue
-box_after box font more = record {
-  width = box.width +ℤ total_width more;
-  height = fold int_max box.height (map (height_in font) more);
-  depth = fold int_max box.depth (map (depth_in font) more);
-  spaces = box.spaces + sum_by spaces_in more;
-}
-
-pub box_of-append : (font : FontValue) (xs ys : List Item) → box_of font (xs ++ ys) ≡ box_after (box_of font xs) font ys
-box_of-append font xs ys =
-    rw (total_width-append xs ys) (rw (largest-append (height_in font) xs ys) (rw (largest-append (depth_in font) xs ys) (rw (sum_by-append spaces_in xs ys) refl)))
+pub spaces-append : (xs ys : List Item) → count_by is_glue (xs ++ ys) ≡ count_by is_glue xs + count_by is_glue ys
+spaces-append xs ys = sum_by-append (λ item. cond (is_glue item) 1 0) xs ys
 
 -- a character without codes adds nothing
-pub box_of-gap : (font : FontValue) (xs : List Item) (number : ℕ) → box_of font (xs ++ Skipped number ∷ []) ≡ box_of font xs
-box_of-gap font xs number =
-    let low : (amounts : List ℤ) → pos 0 ≤ℤ largest amounts = λ amounts. (fold-int_max_bounds (pos 0) amounts (largest amounts) refl).0 in
-    let count : sum_by spaces_in xs + 0 ≡ sum_by spaces_in xs = omega arith in
-    box_of-append font xs (Skipped number ∷ [])
-    ∙ rw (+ℤ_idr (total_width xs)) (rw (sym (larger (largest (map (height_in font) xs)) (low (map (height_in font) xs)))) (rw (sym (larger (largest (map (depth_in font) xs)) (low (map (depth_in font) xs)))) (rw count refl)))
+pub gap_width : (items : List Item) (number : ℕ) → total_width (items ++ Skipped number ∷ []) ≡ total_width items
+gap_width items number = total_width-append items (Skipped number ∷ []) ∙ +ℤ_idr (total_width items)
+
+pub gap_spaces : (items : List Item) (number : ℕ) → count_by is_glue (items ++ Skipped number ∷ []) ≡ count_by is_glue items
+gap_spaces items number = spaces-append items (Skipped number ∷ []) ∙ omega arith
+
+-- ---- the spaces of a line that is set byte by byte
+
+-- an addition with this number of spaces
+abbrev HasSpaces : ℕ → Addition → Type 0
+HasSpaces n added = count_by is_glue added.items ≡ n
+
+no_spaces : (font : FontValue) (elements : List Element) → count_by is_glue (items_of font elements) ≡ 0
+unfolding items_of
+no_spaces font [] = refl
+no_spaces font (of_symbol Left ∷ elements) = no_spaces font elements
+no_spaces font (of_symbol (Char code) ∷ elements) = no_spaces font elements
+no_spaces font (of_symbol Right ∷ elements) = no_spaces font elements
+no_spaces font (of_kern amount ∷ elements) = no_spaces font elements
+
+step_spaces : (font : FontValue) (action : Option Action) (current next : Symbol) → IfSome (step_by font action current next) (HasSpaces 0)
+step_spaces font None current next = no_spaces font (of_symbol current ∷ [])
+step_spaces font (Some (Kern amount)) current next = no_spaces font (of_symbol current ∷ of_kern amount ∷ [])
+step_spaces font (Some (Lig code false false zero)) current next = refl
+step_spaces font (Some (Lig code true keep_right pass)) current next = tt
+step_spaces font (Some (Lig code false true pass)) current next = tt
+step_spaces font (Some (Lig code false false (suc pass))) current next = tt
+
+boundary_spaces : (font : FontValue) (action : Option Action) (current : Symbol) → IfSome (boundary_by font action current) (HasSpaces 0)
+boundary_spaces font None current = no_spaces font (of_symbol current ∷ [])
+boundary_spaces font (Some (Kern amount)) current = no_spaces font (of_symbol current ∷ of_kern amount ∷ [])
+boundary_spaces font (Some (Lig code keep_left keep_right pass)) current = tt
+
+ending_spaces : (font : FontValue) (right : Bool) (current : Symbol) → IfSome (ending_of font right current) (HasSpaces 0)
+unfolding ending_of
+ending_spaces font right Left = refl
+ending_spaces font right Right = tt
+ending_spaces font right (Char code) = by (right && is_some (right_code_of (program_of font.words)))
+  where
+    by : (b : Bool)
+        → IfSome (if b then boundary_by font (action_between font (Char code) Right) (Char code) else Some (record { steps = 0; items = items_of font (of_symbol (Char code) ∷ []); current = Char code })) (HasSpaces 0)
+    by true = boundary_spaces font (action_between font (Char code) Right) (Char code)
+    by false = no_spaces font (of_symbol (Char code) ∷ [])
+
+cut_spaces : (font : FontValue) (right : Bool) (cut : Item) (current : Symbol) → IfSome (cut_added font right cut current) (HasSpaces (count_by is_glue (cut ∷ [])))
+unfolding cut_added
+cut_spaces font right cut current = by (ending_of font right current) (ending_spaces font right current)
+  where
+    by : (o : Option Addition) → IfSome o (HasSpaces 0) → IfSome (option_map (with_cut cut) o) (HasSpaces (count_by is_glue (cut ∷ [])))
+    by None none = tt
+    by (Some ending) none = omega (arith, spaces-append ending.items (cut ∷ []), none)
+
+byte_spaces : (font : FontValue) (policy : Policy) (current : Symbol) (byte : ℕ) → IfSome (byte_added font policy current byte) (HasSpaces (count_by is_space (byte ∷ [])))
+unfolding byte_added
+byte_spaces font policy current byte = by policy (is_space byte) (exists font.words byte)
+  where
+    by : (policy : Policy) (space there : Bool)
+        → IfSome (if space then cut_added font true (Space (parameter_of font.words font.size 2)) current
+        else (if there then step_by font (action_between font current (Char byte)) current (Char byte) else skip_by policy (cut_added font false (Skipped byte) current)))
+        (HasSpaces (0 + cond space 1 0))
+    by policy true there = cut_spaces font true (Space (parameter_of font.words font.size 2)) current
+    by policy false true = step_spaces font (action_between font current (Char byte)) current (Char byte)
+    by Skip false false = cut_spaces font false (Skipped byte) current
+    by Refuse false false = tt
+
+spaces_from : (font : FontValue) (policy : Policy) (current : Symbol) (line : List ℕ)
+    → IfSome (set_from font policy current line) (λ set. count_by is_glue set.items ≡ count_by is_space line)
+unfolding set_from
+spaces_from font policy current [] = by (ending_of font true current) (ending_spaces font true current)
+  where
+    by : (o : Option Addition) → IfSome o (HasSpaces 0) → IfSome (option_map alone o) (λ set. count_by is_glue set.items ≡ 0)
+    by None none = tt
+    by (Some ending) none = none
+spaces_from font policy current (byte ∷ bytes) = by (byte_added font policy current byte) (byte_spaces font policy current byte) (λ symbol. spaces_from font policy symbol bytes)
+  where
+    more : (added : Addition) (o : Option Setting) → HasSpaces (count_by is_space (byte ∷ [])) added → IfSome o (λ set. count_by is_glue set.items ≡ count_by is_space bytes)
+        → IfSome (option_map (after added) o) (λ set. count_by is_glue set.items ≡ count_by is_space (byte ∷ bytes))
+    more added None here later = tt
+    more added (Some set) here later =
+        spaces-append added.items set.items ∙ ap (λ n. n + count_by is_glue set.items) here ∙ ap (λ n. count_by is_space (byte ∷ []) + n) later
+        ∙ sym (sum_by-append (λ code. cond (is_space code) 1 0) (byte ∷ []) bytes)
+
+    by : (o : Option Addition) → IfSome o (HasSpaces (count_by is_space (byte ∷ []))) → ((symbol : Symbol) → IfSome (set_from font policy symbol bytes) (λ set. count_by is_glue set.items ≡ count_by is_space bytes))
+        → IfSome (option_and_then (λ added. option_map (after added) (set_from font policy added.current bytes)) o) (λ set. count_by is_glue set.items ≡ count_by is_space (byte ∷ bytes))
+    by None here later = tt
+    by (Some added) here later = more added (set_from font policy added.current bytes) here (later added.current)
+
+-- Law: a line that is set byte by byte has as many spaces as bytes 32
+pub line_spaces : (font : FontValue) (policy : Policy) (current : Symbol) (line : List ℕ) (set : Setting) → set_from font policy current line ≡ Some set
+    → count_by is_glue set.items ≡ count_by is_space line
+line_spaces font policy current line set is = rw is at (spaces_from font policy current line)

@@ -1,9 +1,9 @@
 -- A line that is set part by part.
-use Rattle.std.proofs.Common.{◌≡◌, ℕ, ◌+◌, ◌≤◌, ◌<◌, ◌||◌, Bool, true, false, List, [], ◌∷◌, ◌++◌, length, drop, take, get_or, flat_map, Option, Some, None, arith, refl, ap, sym, subst, ◌∙◌, append-nil, append_assoc, length-append}
+use Rattle.std.proofs.Common.{◌≡◌, ℕ, ◌+◌, ◌≤◌, ◌<◌, ◌+ℤ◌, ◌||◌, Bool, true, false, List, [], ◌∷◌, ◌++◌, length, drop, take, get_or, flat_map, Option, Some, None, arith, refl, ap, sym, subst, ◌∙◌, append-nil, append_assoc, length-append}
 use Rattle.std.specs.Prelude.{IfSome, cond, is_some, nat_eq, nat_le, not, ◌&&◌, if◌then◌else◌}
 use Rattle.std.specs.Bool.{then_some}
 use mir.Val.{bool_byte}
-use Rattle.std.specs.List.{list_any}
+use Rattle.std.specs.List.{count_by, list_any}
 use Rattle.std.specs.Option.{is_none, option_and_then, option_map, option_map_or}
 use Rattle.std.proofs.Math.Seq.{drop-append_seam, take-length}
 use Rattle.std.proofs.lemmas.Grind.{flat_map-append}
@@ -22,13 +22,13 @@ use Rattle.set_line.specs.Width.{total_width}
 use Rattle.set_line.proofs.OnwardLemmas.{onward-append, part_stops, part_then}
 use Rattle.encodings.specs.Lines.{break_number}
 use Rattle.encodings.specs.Parts.{PartValue, joined, part_numbers, uncoded_after, unless_break}
-use Rattle.line_records.specs.Boxes.{box_of, box_text, item_text, line_texts}
+use Rattle.line_records.specs.Boxes.{is_glue, item_text}
 use Rattle.line_records.specs.declared.record_format.RecordFormat.{RecordFormat}
-use Rattle.line_records.specs.declared.record_format.RecordFormat.TheVariants.{Items, Box}
-use Rattle.line_records.specs.Kept.{AreListed, HasKept, IsKept, IsReached, box_part, gaps_in, refused_before, refused_in, refuses, set_after}
+use Rattle.line_records.specs.Kept.{AreListed, HasKept, IsKept, IsReached, gaps_in, refused_before, refused_in, refuses, set_after, spaces_for}
 use Rattle.line_records.specs.Results.{only_part, line_portions, portions_before}
 use Rattle.line_records.specs.declared.keeping.Kept.{Kept}
-use Rattle.line_records.proofs.BoxLemmas.{box_after, box_of-append, box_of-gap, no_texts}
+use Rattle.line_records.proofs.AddingLemmas.{total_width-append}
+use Rattle.line_records.proofs.BoxLemmas.{gap_spaces, gap_width, spaces-append}
 use Rattle.line_records.proofs.RunLemmas.{mapped}
 
 -- ---- portions after other items
@@ -123,7 +123,7 @@ codes_set terms so_far codes kept =
 
 -- codes with a refused one have no setting
 pub refused_kept : (format : RecordFormat) (terms : TermsValue) (so_far : Setting) (codes texts : List ℕ) → has_refused terms.policy terms.font codes ≡ true
-    → IsKept format terms.font (set_after terms so_far (only_part codes)) texts None
+    → IsKept format (set_after terms so_far (only_part codes)) texts None
 unfolding set_after
 refused_kept format terms so_far codes texts is =
     ap (λ (b : Bool). if b then None else onward terms.font terms.limit so_far (line_portions terms.font (only_part codes))) (codes_refused terms.policy terms.font codes ∙ is)
@@ -151,7 +151,8 @@ module _ (terms : TermsValue) (format : RecordFormat) (used gaps : ℕ) (all ite
       → AreListed format (all ++ more) (items ++ more) gaps written
   listed_more more written appended = record {
     texts = appended ∙ ap (λ xs. xs ++ flat_map (item_text format) more) listed.texts ∙ sym (flat_map-append (item_text format) all more);
-    box = λ font. box_of-append font items more ∙ ap (λ box. box_after box font more) (listed.box font) ∙ sym (box_of-append font all more);
+    width = total_width-append items more ∙ ap (λ w. w +ℤ total_width more) listed.width ∙ sym (total_width-append all more);
+    spaces = spaces-append items more ∙ ap (λ n. n + count_by is_glue more) listed.spaces ∙ sym (spaces-append all more);
     count = omega (arith, listed.count, length-append items more, length-append all more);
   }
 
@@ -196,7 +197,8 @@ module _ (terms : TermsValue) (format : RecordFormat) (used gaps : ℕ) (all ite
         texts =
             appended ∙ ap (λ xs. xs ++ item_text format gap) front.texts
             ∙ ap (λ xs. flat_map (item_text format) (all ++ more) ++ xs) (sym (append-nil (item_text format gap))) ∙ sym (flat_map-append (item_text format) (all ++ more) (gap ∷ []));
-        box = λ font. ap (box_of font) set.1 ∙ front.box font ∙ sym (box_of-gap font (all ++ more) (256 + character));
+        width = ap total_width set.1 ∙ front.width ∙ sym (gap_width (all ++ more) (256 + character));
+        spaces = ap (count_by is_glue) set.1 ∙ front.spaces ∙ sym (gap_spaces (all ++ more) (256 + character));
         count = omega (arith, front.count, ap length set.1, length-append (all ++ more) (gap ∷ []));
       } in (
         (all ++ more) ++ gap ∷ [],
@@ -293,26 +295,20 @@ none_is false None is = cc
 
 -- codes that the table stopped at, if the byte there is refused
 pub maybe_refused : (format : RecordFormat) (terms : TermsValue) (so_far : Setting) (codes texts : List ℕ) (refuses : Bool) (kept : Option (Option Kept)) → kept ≡ then_some refuses None
-    → (refuses ≡ true → has_refused terms.policy terms.font codes ≡ true) → IfSome kept (IsKept format terms.font (set_after terms so_far (only_part codes)) texts)
+    → (refuses ≡ true → has_refused terms.policy terms.font codes ≡ true) → IfSome kept (IsKept format (set_after terms so_far (only_part codes)) texts)
 maybe_refused format terms so_far codes texts true kept is refused = rw is (refused_kept format terms so_far codes texts (refused refl))
 maybe_refused format terms so_far codes texts false kept is refused = rw is tt
 
 -- a line whose parts are all set
-pub all_set : (terms : TermsValue) (format : RecordFormat) (all items : List Item) (gaps steps : ℕ) (texts written : List ℕ) (kept : Kept) → AreListed format all items gaps texts
-    → kept.sums.width ≡ total_width items → kept.sums.steps ≡ steps → kept.sums.items ≡ length items + gaps → written ≡ texts ++ box_part format terms.font items → kept.length ≡ length written
-    → HasKept format terms.font (setting steps all) written kept
-all_set terms format all items gaps steps texts written kept listed width count many appended long = record {
-  sums = record { width = width ∙ ap (λ box. box.width) (listed.box terms.font); steps = count; items = many ∙ listed.count };
+pub all_set : (format : RecordFormat) (all items : List Item) (gaps steps : ℕ) (texts : List ℕ) (kept : Kept) → AreListed format all items gaps texts
+    → kept.sums.width ≡ total_width items → kept.sums.steps ≡ steps → kept.sums.items ≡ length items + gaps → kept.spaces ≡ spaces_for format (count_by is_glue items)
+    → kept.length ≡ length texts → HasKept format (setting steps all) texts kept
+all_set format all items gaps steps texts kept listed width count many spaces long = record {
+  sums = record { width = width ∙ listed.width; steps = count; items = many ∙ listed.count };
+  spaces = spaces ∙ ap (spaces_for format) listed.spaces;
   within = omega (arith, long);
-  text =
-      ap (λ n. take n written) long ∙ take-length written ∙ appended ∙ ap (λ xs. xs ++ box_part format terms.font items) listed.texts
-      ∙ by format (listed.box terms.font);
+  text = ap (λ n. take n texts) long ∙ take-length texts ∙ listed.texts;
 }
-  where
-    by : (format : RecordFormat) → box_of terms.font items ≡ box_of terms.font all
-        → flat_map (item_text format) all ++ box_part format terms.font items ≡ line_texts format terms.font all
-    by (Items version) box = append-nil (flat_map (item_text (Items version)) all)
-    by (Box unit) box = ap (λ xs. xs ++ box_part (Box unit) terms.font items) (no_texts unit all) ∙ ap (box_text unit) box
 
 pub gaps_counted : (uncoded : Option ℕ) → bool_byte (is_some uncoded) ≡ option_map_or (λ character. 1) uncoded 0
 gaps_counted None = refl

@@ -6,6 +6,7 @@ use Rattle.std.specs.Option.{is_none, option_map, option_map_or, option_or}
 use Rattle.std.proofs.lemmas.Bool.{and_parts, eqb-true, le-ltb}
 use Rattle.std.proofs.lemmas.Option.{none-some}
 use Rattle.std.proofs.lemmas.List.Folds.{list_any-append}
+use Rattle.tex_sizes.specs.declared.length_unit.LengthUnit.{LengthUnit}
 use Rattle.tfm_tables.specs.Font.{FontValue}
 use Rattle.lig_kern.specs.Result.{Setting}
 use Rattle.set_line.specs.declared.policy.Policy.{Policy}
@@ -31,12 +32,13 @@ use Rattle.encodings.specs.Lines.{Element, break_number, elements_at, encoded, f
 use Rattle.encodings.specs.Parts.{PartValue, parts_of, uncoded_after, unless_break, with_code}
 use Rattle.encodings.proofs.LawLemmas.{codes_are_bytes, soft_coded}
 use Rattle.encodings.proofs.PartLemmas.{last_part, parts_joined}
-use Rattle.line_records.specs.Boxes.{box_record, version_of}
+use Rattle.line_records.specs.Boxes.{box_of, box_record, box_text, depth_of, height_of, largest, version_of}
 use Rattle.line_records.specs.declared.record_format.RecordFormat.{RecordFormat}
 use Rattle.line_records.specs.declared.record_format.RecordFormat.TheVariants.{Items, Box}
-use Rattle.line_records.specs.Kept.{IsKept, IsKeptResult, IsTried, refused_in, refuses, set_after, set_record}
+use Rattle.line_records.specs.Kept.{IsKept, IsKeptResult, IsTried, as_box, refused_in, refuses, set_after}
 use Rattle.line_records.specs.Results.{only_part, is_refusal, is_refused as is_result_refused, line_portions, line_result, missing_at, missing_code_in, parts_in, refusal_in, result_record, result_text, set_within, uncoded_in, utf8_refusal}
 use Rattle.line_records.specs.declared.keeping.Kept.{Kept}
+use Rattle.line_records.specs.declared.measuring.Extent.{Extent}
 use Rattle.line_records.proofs.KeptLemmas.{alone_portions, codes_refused, or_false}
 use Rattle.line_records.proofs.RefusalLemmas.{element, long, missing_here, not_utf8, refusal_left}
 
@@ -236,7 +238,7 @@ not_none a is = cc
 
 module _ (terms : TermsValue) (first : Bool) (line : List ℕ) (format : RecordFormat) (texts : List ℕ) where
   -- a line of bytes
-  pub tried_bytes : (kept : Option Kept) → length line ≤ 65535 → IsKept format terms.font (set_after terms (setting 0 []) (only_part line)) texts kept
+  pub tried_bytes : (kept : Option Kept) → length line ≤ 65535 → IsKept format (set_after terms (setting 0 []) (only_part line)) texts kept
       → IsTried terms None first line format texts kept
   unfolding refusal_in
   tried_bytes (Some kept) short is =
@@ -251,7 +253,7 @@ module _ (terms : TermsValue) (first : Bool) (line : List ℕ) (format : RecordF
 
   -- a line in UTF-8
   pub tried_text : (encoding : Encoding) (parts : List PartValue) (kept : Option Kept) → length line ≤ 65535 → fault_in line ≡ None
-      → parts ≡ parts_of (encoded encoding first line) → IsKept format terms.font (set_after terms (setting 0 []) parts) texts kept → IsTried terms (Some encoding) first line format texts kept
+      → parts ≡ parts_of (encoded encoding first line) → IsKept format (set_after terms (setting 0 []) parts) texts kept → IsTried terms (Some encoding) first line format texts kept
   unfolding refusal_in
   tried_text encoding parts (Some kept) short decoded are is =
       let made : set_after terms (setting 0 []) (parts_of (encoded encoding first line)) ≡ Some is.0 = ap (set_after terms (setting 0 [])) (sym are) ∙ is.1 in
@@ -297,7 +299,7 @@ code_part numbers none = ap only_part (all_codes numbers none) ∙ sym (last_par
 -- a line without gaps
 pub tried_codes : (terms : TermsValue) (first : Bool) (line : List ℕ) (format : RecordFormat) (texts : List ℕ) (encoding : Encoding) (numbers codes : List ℕ) (kept : Option Kept)
     → length line ≤ 65535 → fault_in line ≡ None → numbers ≡ encoded encoding first line → has_gaps numbers ≡ false → codes ≡ filter is_code numbers
-    → IsKept format terms.font (set_after terms (setting 0 []) (only_part codes)) texts kept → IsTried terms (Some encoding) first line format texts kept
+    → IsKept format (set_after terms (setting 0 []) (only_part codes)) texts kept → IsTried terms (Some encoding) first line format texts kept
 tried_codes terms first line format texts encoding numbers codes kept short decoded are none these is =
     tried_text terms first line format texts encoding (only_part codes) kept short decoded (ap only_part these ∙ code_part numbers none ∙ ap parts_of are) is
 
@@ -307,20 +309,27 @@ pub ruleset results = (found_result)
 
 -- ---- the record
 
--- the record of a line that is set, from the text that was kept
-pub recorded : (format : RecordFormat) (font : FontValue) (source place : ℕ) (result : Result Setting TextRefusal) (texts before after : List ℕ) (kept : Kept)
-    → IsKeptResult format font result texts (Ok kept) → after ≡ before ++ set_record format source place kept.sums (take kept.length texts)
-    → after ≡ before ++ result_record format font source place result
-recorded (Items version) font source place result texts before after kept is appended =
+-- the record of a line that is set, from what was kept
+pub recorded : (version : Version) (font : FontValue) (source place : ℕ) (result : Result Setting TextRefusal) (texts before after : List ℕ) (kept : Kept)
+    → IsKeptResult (Items version) result texts (Ok kept) → after ≡ before ++ text_record source place (set kept.sums.width kept.sums.steps (take kept.length texts)) version
+    → after ≡ before ++ result_record (Items version) font source place result
+recorded version font source place result texts before after kept is appended =
     appended ∙ ap (λ r. before ++ text_record source place r version) (text ∙ ap (result_text version) (sym is.1))
   where
     text : set kept.sums.width kept.sums.steps (take kept.length texts) ≡ result_text version (Ok is.0)
     text = rw is.2.sums.width (rw is.2.sums.steps (rw is.2.text refl))
-recorded (Box unit) font source place result texts before after kept is appended =
-    appended ∙ ap (λ text. before ++ box_record source place text) is.2.text ∙ ap (λ r. before ++ result_record (Box unit) font source place r) (sym is.1)
+
+pub box_recorded : (unit : LengthUnit) (font : FontValue) (source place : ℕ) (result : Result Setting TextRefusal) (texts before after : List ℕ) (kept : Kept) (extent : Extent)
+    → IsKeptResult (Box unit) result texts (Ok kept) → extent.height ≡ largest (map (height_of font) (take kept.length texts)) → extent.depth ≡ largest (map (depth_of font) (take kept.length texts))
+    → after ≡ before ++ box_record source place (box_text unit (as_box kept extent)) → after ≡ before ++ result_record (Box unit) font source place result
+box_recorded unit font source place result texts before after kept extent is height depth appended =
+    appended ∙ ap (λ box. before ++ box_record source place (box_text unit box)) same ∙ ap (λ r. before ++ result_record (Box unit) font source place r) (sym is.1)
+  where
+    same : as_box kept extent ≡ box_of font is.0.items
+    same = rw (is.2.sums.width, height, depth, is.2.spaces, is.2.text) refl
 
 pub set_not_refused : (format : RecordFormat) (font : FontValue) (result : Result Setting TextRefusal) (texts : List ℕ) (kept : Kept)
-    → IsKeptResult format font result texts (Ok kept) → false ≡ is_result_refused result
+    → IsKeptResult format result texts (Ok kept) → false ≡ is_result_refused result
 set_not_refused format font result texts kept is = ap is_result_refused (sym is.1)
 
 pub refused_recorded : (format : RecordFormat) (font : FontValue) (source place : ℕ) (result : Result Setting TextRefusal) (refusal : TextRefusal) → result ≡ Err refusal
@@ -328,7 +337,7 @@ pub refused_recorded : (format : RecordFormat) (font : FontValue) (source place 
 refused_recorded (Items version) font source place result refusal is = ap (result_record (Items version) font source place) (sym is)
 refused_recorded (Box unit) font source place result refusal is = ap (result_record (Box unit) font source place) (sym is)
 
-pub ruleset records = (recorded, set_not_refused, refused_recorded)
+pub ruleset records = (recorded, box_recorded, set_not_refused, refused_recorded)
 
 -- ---- laws
 

@@ -21,7 +21,7 @@ their_box : (font : FontValue) → without_characters font ≡ record { width = 
 their_box font = refl
 
 a_text : box_text ScaledPoints (record { width = negsuc 4; height = pos 70; depth = pos 0; spaces = 2 }) ≡ codes " -5 70 0 2"
-unfolding heights_text length_text digits
+unfolding box_text heights_text length_text digits
 a_text = refl
 
 a_record : box_record 3 12 (codes " 5 4 3 0") ≡ codes "3:12 box 5 4 3 0\n"

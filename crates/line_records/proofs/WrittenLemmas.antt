@@ -2,6 +2,7 @@
 use Rattle.std.proofs.Common.{◌≡◌, ℕ, suc, ◌+◌, ◌^◌, ◌<◌, ◌≤◌, pos, ◌+ℤ◌, ◌≤ℤ◌, true, false, List, [], ◌∷◌, ◌++◌, length, take, drop, drop-cons, get_or, flat_map, Option, Some, None, arith, refl, ap, sym, subst, ◌∙◌, append_assoc, length-append}
 use Rattle.std.specs.Prelude.{◌==◌, IfSome}
 use Rattle.std.proofs.Math.Seq.{take-append_seam}
+use Rattle.std.specs.List.{count_by}
 use Rattle.std.specs.Option.{option_and_then, option_map}
 use Rattle.std.proofs.lemmas.Grind.{flat_map-append}
 use Rattle.std.proofs.lemmas.Int.{ints}
@@ -11,20 +12,19 @@ use Rattle.lig_kern.specs.declared.symbol.Symbol.TheVariants.{Left}
 use Rattle.lig_kern.specs.Result.{Setting}
 use Rattle.set_line.specs.Onward.{setting}
 use Rattle.set_line.specs.declared.policy.Policy.{Policy}
+use Rattle.set_line.specs.Pieces.{is_space}
 use Rattle.set_line.specs.Terms.{TermsValue}
 use Rattle.set_line.specs.Width.{total_width}
 use Rattle.line_records.specs.Additions.{Addition, added_of, after, alone, byte_added, ending_of, set_from}
-use Rattle.line_records.specs.Boxes.{item_text, line_texts}
-use Rattle.line_records.specs.declared.record_format.RecordFormat.{RecordFormat}
-use Rattle.line_records.specs.declared.record_format.RecordFormat.TheVariants.{Items}
-use Rattle.set_line.specs.declared.version.Version.{Version}
+use Rattle.line_records.specs.Boxes.{item_text}
 use Rattle.line_records.specs.Cells.{Fits, Style, symbol_of}
 use Rattle.line_records.specs.Written.{IsSmall, IsStep, IsWhole, IsWritten, joined}
-use Rattle.line_records.specs.Kept.{IsKept, IsThatOf, set_after}
+use Rattle.line_records.specs.Kept.{IsKept, IsThatOf, set_after, spaces_for}
 use Rattle.line_records.specs.Results.{only_part}
 use Rattle.line_records.specs.declared.keeping.Kept.{Kept}
 use Rattle.line_records.specs.declared.written.Written.{Written}
 use Rattle.line_records.proofs.AddingLemmas.{total_width-append}
+use Rattle.line_records.proofs.BoxLemmas.{line_spaces}
 use Rattle.line_records.proofs.LineLemmas.{line_set}
 
 -- the next column is that of a byte
@@ -152,24 +152,18 @@ step_back style before next size old middle new behind (Some after) long kept st
     rw (whole_slice size new behind long) (step_through style before next old middle new after step kept)
 
 -- a line that is written and within the limit
-pub set_as : (style : Style) (version : Version) (terms : TermsValue) (line room : List ℕ) (whole : Written) (kept : Kept) → style.format ≡ Items version → IsWhole style line room whole → Fits style terms
-    → whole.steps ≤ terms.limit → whole.length ≤ length room → IsThatOf whole kept
-    → IsKept style.format terms.font (set_after terms (setting 0 []) (only_part line)) room (Some kept)
-set_as style version terms line room whole kept items is fits within inside same = (
+pub set_as : (style : Style) (terms : TermsValue) (line room : List ℕ) (whole : Written) (spaces : ℕ) (kept : Kept) → IsWhole style line room whole → Fits style terms
+    → whole.steps ≤ terms.limit → whole.length ≤ length room → spaces ≡ spaces_for style.format (count_by is_space line) → IsThatOf whole spaces kept
+    → IsKept style.format (set_after terms (setting 0 []) (only_part line)) room (Some kept)
+set_as style terms line room whole spaces kept is fits within inside counted same = (
   is.set,
-  set,
+  line_set terms line is.set
+      (ap (λ f. set_from f terms.policy Left line) (sym fits.0) ∙ ap (λ p. set_from style.font p Left line) (sym fits.1) ∙ is.is)
+      (omega (arith, is.steps)),
   record {
     sums = record { width = same.width ∙ is.width; steps = same.steps ∙ is.steps; items = same.items ∙ is.count };
+    spaces = same.spaces ∙ counted ∙ ap (spaces_for style.format) (sym (line_spaces style.font style.policy Left line is.set is.is));
     within = omega (arith, same.length);
-    text = ap (λ n. take n room) same.length ∙ is.text ∙ texts style.format items;
+    text = ap (λ n. take n room) same.length ∙ is.text;
   },
 )
-  where
-    texts : (format : RecordFormat) → format ≡ Items version → flat_map (item_text format) is.set.items ≡ line_texts format terms.font is.set.items
-    texts format items = rw items refl
-
-    set : set_after terms (setting 0 []) (only_part line) ≡ Some is.set
-    set =
-        line_set terms line is.set
-        (ap (λ f. set_from f terms.policy Left line) (sym fits.0) ∙ ap (λ p. set_from style.font p Left line) (sym fits.1) ∙ is.is)
-        (omega (arith, is.steps))

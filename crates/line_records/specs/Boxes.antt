@@ -1,9 +1,9 @@
 -- The box of a line that is set, and the texts of records in each format.
 -- Public source: tex.web, sections 649, 653 and 654, for the dimensions of a box whose glue is set at its natural
 -- width. The form of the record is this project's own.
-use Rattle.std.specs.Prelude.{ℕ, ℤ, pos, List, [], ◌++◌, codes, decimal, flat_map, map, sum_by}
+use Rattle.std.specs.Prelude.{ℕ, ℤ, pos, Bool, true, false, List, [], ◌∷◌, ◌++◌, codes, decimal, flat_map, map}
 use Rattle.std.specs.Int.{int_max}
-use Rattle.std.specs.List.{fold}
+use Rattle.std.specs.List.{count_by, fold}
 use Rattle.std.specs.Option.{option_map_or}
 use Rattle.tfm_tables.specs.Character.{metrics_of}
 use Rattle.tfm_tables.specs.Font.{FontValue}
@@ -20,26 +20,27 @@ use Rattle.line_records.specs.declared.record_format.RecordFormat.TheVariants.{I
 
 -- ---- the box
 
--- the height of an item: that of a character, in sp; no other item has one
-abbrev pub height_in : FontValue → Item → ℤ
-height_in font (Char code width) = option_map_or (λ metrics. metrics.height) (metrics_of font.words font.size code) (pos 0)
-height_in font (Kern amount) = pos 0
-height_in font (Space amount) = pos 0
-height_in font (Skipped code) = pos 0
+-- the code of an item if the item is a character
+abbrev pub code_in : Item → List ℕ
+code_in (Char code width) = code ∷ []
+code_in (Kern amount) = []
+code_in (Space amount) = []
+code_in (Skipped code) = []
 
--- the depth of an item: that of a character, in sp; no other item has one
-abbrev pub depth_in : FontValue → Item → ℤ
-depth_in font (Char code width) = option_map_or (λ metrics. metrics.depth) (metrics_of font.words font.size code) (pos 0)
-depth_in font (Kern amount) = pos 0
-depth_in font (Space amount) = pos 0
-depth_in font (Skipped code) = pos 0
+-- whether an item is a space
+abbrev pub is_glue : Item → Bool
+is_glue (Char code width) = false
+is_glue (Kern amount) = false
+is_glue (Space amount) = true
+is_glue (Skipped code) = false
 
--- the number of spaces in an item: 1 or 0
-abbrev pub spaces_in : Item → ℕ
-spaces_in (Char code width) = 0
-spaces_in (Kern amount) = 0
-spaces_in (Space amount) = 1
-spaces_in (Skipped code) = 0
+-- the height of a character, in sp; 0 for a code without a character
+abbrev pub height_of : FontValue → ℕ → ℤ
+height_of font code = option_map_or (λ metrics. metrics.height) (metrics_of font.words font.size code) (pos 0)
+
+-- the depth of a character, in sp; 0 for a code without a character
+abbrev pub depth_of : FontValue → ℕ → ℤ
+depth_of font code = option_map_or (λ metrics. metrics.depth) (metrics_of font.words font.size code) (pos 0)
 
 -- the largest of 0 and these amounts
 abbrev pub largest : List ℤ → ℤ
@@ -53,13 +54,13 @@ pub record BoxValue : Type 0 where
   pub spaces : ℕ
 
 -- the box of items: a box is as high and as deep as its highest and its deepest character reach, but neither its
--- height nor its depth is negative
+-- height nor its depth is negative; no other item has a height or a depth
 abbrev pub box_of : FontValue → List Item → BoxValue
 box_of font items = record {
   width = total_width items;
-  height = largest (map (height_in font) items);
-  depth = largest (map (depth_in font) items);
-  spaces = sum_by spaces_in items;
+  height = largest (map (height_of font) (flat_map code_in items));
+  depth = largest (map (depth_of font) (flat_map code_in items));
+  spaces = count_by is_glue items;
 }
 
 -- ---- texts
@@ -69,24 +70,19 @@ abbrev pub version_of : RecordFormat → Version
 version_of (Items version) = version
 version_of (Box unit) = One
 
--- the text of an item; the record of a box has none
+-- the text that is kept of an item: its text in the record, or for a box its code
 abbrev pub item_text : RecordFormat → Item → List ℕ
 item_text (Items version) = text_in version
-item_text (Box unit) = λ item. []
+item_text (Box unit) = code_in
 
 -- a height and a depth in a unit
 unfoldable pub heights_text : LengthUnit → ℤ → ℤ → List ℕ
 heights_text unit height depth = codes " " ++ length_text unit height ++ codes " " ++ length_text unit depth
 
 -- the text of a box: its width, height and depth in a unit, and the number of its spaces
-abbrev pub box_text : LengthUnit → BoxValue → List ℕ
+unfoldable pub box_text : LengthUnit → BoxValue → List ℕ
 box_text unit box =
     codes " " ++ length_text unit box.width ++ heights_text unit box.height box.depth ++ codes " " ++ decimal box.spaces
-
--- what the record of a line that is set has: the texts of its items, or that of their box
-abbrev pub line_texts : RecordFormat → FontValue → List Item → List ℕ
-line_texts (Items version) font items = flat_map (text_in version) items
-line_texts (Box unit) font items = box_text unit (box_of font items)
 
 -- the record of a box with this text
 abbrev pub box_record : ℕ → ℕ → List ℕ → List ℕ

@@ -1,8 +1,8 @@
 -- A line while it is set part by part, and the texts of its items.
 -- This project's own representation; Results defines the result.
-use Rattle.std.specs.List.{list_any}
+use Rattle.std.specs.List.{count_by, list_any}
 use Rattle.std.specs.Option.{is_none, option_map_or}
-use Rattle.std.specs.Prelude.{◌≡◌, ℕ, ◌+◌, ◌≤◌, Bool, true, false, not, ◌&&◌, ◌||◌, List, [], flat_map, length, take, Option, Some, None, Result, Ok, Err, if◌then◌else◌}
+use Rattle.std.specs.Prelude.{◌≡◌, ℕ, ◌+◌, ◌≤◌, Bool, true, false, not, ◌&&◌, ◌||◌, List, flat_map, length, take, Option, Some, None, Result, Ok, Err, if◌then◌else◌}
 use Rattle.lig_kern.specs.declared.item.Item.{Item}
 use Rattle.lig_kern.specs.Result.{Setting}
 use Rattle.tfm_tables.specs.Font.{FontValue}
@@ -13,16 +13,15 @@ use Rattle.set_line.specs.declared.records.text_refusal.TextRefusal.{TextRefusal
 use Rattle.set_line.specs.declared.records.text_refusal.TextRefusal.TheVariants.{Line}
 use Rattle.set_line.specs.Answer.{has_refused}
 use Rattle.set_line.specs.Onward.{onward, setting}
-use Rattle.set_line.specs.Record.{text_record}
-use Rattle.set_line.specs.Record.TextResult.{set}
 use Rattle.set_line.specs.Terms.{TermsValue}
+use Rattle.set_line.specs.Width.{total_width}
 use Rattle.encodings.specs.declared.encoding.Encoding.{Encoding}
 use Rattle.encodings.specs.Parts.{PartValue, uncoded_after}
-use Rattle.line_records.specs.Boxes.{box_of, box_record, box_text, item_text, line_texts}
+use Rattle.line_records.specs.Boxes.{BoxValue, is_glue, item_text}
 use Rattle.line_records.specs.declared.keeping.Kept.{Kept}
+use Rattle.line_records.specs.declared.measuring.Extent.{Extent}
 use Rattle.line_records.specs.declared.record_format.RecordFormat.{RecordFormat}
 use Rattle.line_records.specs.declared.record_format.RecordFormat.TheVariants.{Items, Box}
-use Rattle.line_records.specs.declared.result.Sums.{Sums}
 use Rattle.line_records.specs.declared.written.Written.{Written}
 use Rattle.line_records.specs.Results.{HasSums, line_portions, line_result, refusal_in}
 
@@ -44,10 +43,12 @@ unfoldable pub set_after : TermsValue → Setting → List PartValue → Option 
 set_after terms so_far parts =
     if list_any (refused_in terms.policy terms.font) parts then None else onward terms.font terms.limit so_far (line_portions terms.font parts)
 
--- lists have the texts of these items, their box and, with the number of characters without codes, their number
+-- lists have the texts of these items, their width, their spaces and, with the number of characters without codes,
+-- their number
 pub record AreListed (format : RecordFormat) (all items : List Item) (gaps : ℕ) (written : List ℕ) : Type 0 where
   pub texts : written ≡ flat_map (item_text format) all
-  pub box : (font : FontValue) → box_of font items ≡ box_of font all
+  pub width : total_width items ≡ total_width all
+  pub spaces : count_by is_glue items ≡ count_by is_glue all
   pub count : length items + gaps ≡ length all
 
 -- the return value of a function that sets numbers: the number of steps, with the lists of the items; or `None`, if
@@ -61,42 +62,43 @@ IsReached format reached items gaps texts None = reached ≡ None
 abbrev pub gaps_in : PartValue → ℕ
 gaps_in part = option_map_or (λ character. 1) (uncoded_after part) 0
 
--- the text of the box of items, if a record has it
-abbrev pub box_part : RecordFormat → FontValue → List Item → List ℕ
-box_part (Items version) font items = []
-box_part (Box unit) font items = box_text unit (box_of font items)
+-- this number of spaces if a record has it, and otherwise 0
+abbrev pub spaces_for : RecordFormat → ℕ → ℕ
+spaces_for (Items version) spaces = 0
+spaces_for (Box unit) spaces = spaces
 
--- the text of the record of a line that is set is at the front of a list
-pub record HasKept (format : RecordFormat) (font : FontValue) (set : Setting) (texts : List ℕ) (kept : Kept) : Type 0 where
+-- the texts of the items of a line that is set are at the front of a list
+pub record HasKept (format : RecordFormat) (set : Setting) (texts : List ℕ) (kept : Kept) : Type 0 where
   pub sums : HasSums set kept.sums
+  pub spaces : kept.spaces ≡ spaces_for format (count_by is_glue set.items)
   pub within : kept.length ≤ length texts
-  pub text : take kept.length texts ≡ line_texts format font set.items
+  pub text : take kept.length texts ≡ flat_map (item_text format) set.items
 
--- what was written with the table of texts, as a line that is kept
-pub record IsThatOf (whole : Written) (kept : Kept) : Type 0 where
+-- what was written with the table of texts, as a line that is kept, with this number of spaces
+pub record IsThatOf (whole : Written) (number : ℕ) (kept : Kept) : Type 0 where
   pub width : kept.sums.width ≡ whole.width
   pub steps : kept.sums.steps ≡ whole.steps
   pub items : kept.sums.items ≡ whole.count
+  pub spaces : kept.spaces ≡ number
   pub length : kept.length ≡ whole.length
 
--- the record of a line with these sums, and with the text of its box or the texts of its items
-abbrev pub set_record : RecordFormat → ℕ → ℕ → Sums → List ℕ → List ℕ
-set_record (Items version) source place sums texts = text_record source place (set sums.width sums.steps texts) version
-set_record (Box unit) source place sums texts = box_record source place texts
+-- the box of a line that is kept, with this height and this depth
+abbrev pub as_box : Kept → Extent → BoxValue
+as_box kept extent = record { width = kept.sums.width; height = extent.height; depth = extent.depth; spaces = kept.spaces }
 
 -- the return value of a function that sets a whole line
-abbrev pub IsKept : RecordFormat → FontValue → Option Setting → List ℕ → Option Kept → Type 0
-IsKept format font reached texts (Some kept) = (set : Setting) × (reached ≡ Some set) × HasKept format font set texts kept
-IsKept format font reached texts None = reached ≡ None
+abbrev pub IsKept : RecordFormat → Option Setting → List ℕ → Option Kept → Type 0
+IsKept format reached texts (Some kept) = (set : Setting) × (reached ≡ Some set) × HasKept format set texts kept
+IsKept format reached texts None = reached ≡ None
 
 -- the same for a line that may be refused
-abbrev pub IsKeptResult : RecordFormat → FontValue → Result Setting TextRefusal → List ℕ → Result Kept TextRefusal → Type 0
-IsKeptResult format font result texts (Ok kept) = (set : Setting) × (result ≡ Ok set) × HasKept format font set texts kept
-IsKeptResult format font result texts (Err refusal) = result ≡ Err refusal
+abbrev pub IsKeptResult : RecordFormat → Result Setting TextRefusal → List ℕ → Result Kept TextRefusal → Type 0
+IsKeptResult format result texts (Ok kept) = (set : Setting) × (result ≡ Ok set) × HasKept format set texts kept
+IsKeptResult format result texts (Err refusal) = result ≡ Err refusal
 
 -- the return value of a function that sets a line that may be refused: `None` if it is refused, or if it takes more
 -- steps than the limit
 abbrev pub IsTried : TermsValue → Option Encoding → Bool → List ℕ → RecordFormat → List ℕ → Option Kept → Type 0
-IsTried terms encoding first line format texts (Some kept) = IsKeptResult format terms.font (line_result terms encoding first line) texts (Ok kept)
+IsTried terms encoding first line format texts (Some kept) = IsKeptResult format (line_result terms encoding first line) texts (Ok kept)
 IsTried terms encoding first line format texts None =
     refusal_in terms encoding first line ≡ None → line_result terms encoding first line ≡ Err (Line (Steps terms.limit))

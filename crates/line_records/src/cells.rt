@@ -4,13 +4,13 @@ ghost use Rattle.tfm_words.specs.Appending.{StaysInFront};
 ghost use Rattle.line_records.specs.Additions.{one_step};
 ghost use Rattle.line_records.specs.Cells.{AreSame, IsCell, style_of, symbol_of};
 ghost use Rattle.line_records.specs.declared.pair.Pair.{Pair as PairValue};
-ghost use Rattle.line_records.specs.declared.record_format.RecordFormat.TheVariants.{Items};
 
+use crate::RecordFormat;
 use crate::adding::{Added, END, added_at, symbol_in};
 use crate::making::make_pair;
 use crate::pair::Pair;
 use lig_kern::Symbol;
-use set_line::{Terms, Version};
+use set_line::Terms;
 use tfm_tables::Font;
 
 /// The largest number of pairs. They take at most 1 MiB. A cell with a number of at least `UNKNOWN` isn't an
@@ -106,7 +106,7 @@ fn push_pair(pairs: &mut Vec<Pair>, pair: Pair) -> usize
 #[tactic(auto, using(crate::proofs::CellLemmas::made))]
 pub(crate) fn make_cell(
     terms: &Terms,
-    version: Version,
+    format: RecordFormat,
     row: u8,
     next: usize,
     pairs: &mut Vec<Pair>,
@@ -115,8 +115,7 @@ pub(crate) fn make_cell(
     requires few { vec_len pairs.old ≤ 65024 }
     ensures front { StaysInFront pairs.old.items pairs.new.items }
     ensures few { vec_len pairs.new ≤ 65024 }
-    ensures cell { IsCell (style_of terms.now (Items version))
-        pairs.new.items row next result }
+    ensures cell { IsCell (style_of terms.now format) pairs.new.items row next result }
     ensures range { result < 65536 }
 {
     let font = terms.font();
@@ -124,7 +123,7 @@ pub(crate) fn make_cell(
         return GENERAL;
     };
     if is_in_own_row(font, &added, next) {
-        return match make_pair(&added, version) {
+        return match make_pair(&added, format) {
             Some(pair) => push_pair(pairs, pair),
             None => GENERAL,
         };

@@ -1,20 +1,18 @@
 //! Sets a line, and keeps the texts of its items.
 ghost use Rattle.std.specs.Prelude.{◌≡◌, ◌≤◌, ◌^◌, ◌<◌, ◌+◌, ◌++◌, ℕ, List, [], ◌∷◌, flat_map, IfOk, IfSome, OnOk, true, length};
+ghost use Rattle.std.specs.List.{count_by};
 ghost use Rattle.encodings.specs.Parts.{joined};
 ghost use Rattle.encodings.specs.Visited.{value_of};
 ghost use Rattle.lig_kern.specs.declared.item.Item.{Item as ItemValue};
 ghost use Rattle.lig_kern.specs.declared.item.Item.TheVariants.{Skipped};
-ghost use Rattle.set_line.specs.declared.version.Version.{Version as Form};
 ghost use Rattle.set_line.specs.Answer.{has_refused};
 ghost use Rattle.set_line.specs.Onward.{AreFew, setting};
-ghost use Rattle.line_records.specs.Boxes.{item_text};
+ghost use Rattle.set_line.specs.Pieces.{is_space};
+ghost use Rattle.line_records.specs.Boxes.{code_in, is_glue, item_text};
 ghost use Rattle.line_records.specs.Cells.{Fits, style_of};
-ghost use Rattle.set_line.specs.Width.{total_width as total_width_of};
-ghost use Rattle.line_records.specs.Kept.{AreListed, IsKept, IsReached, IsThatOf, box_part, gaps_in, set_after};
+ghost use Rattle.line_records.specs.Kept.{AreListed, IsKept, IsReached, IsThatOf, gaps_in, set_after, spaces_for};
 ghost use Rattle.line_records.specs.Results.{only_part};
-ghost use Rattle.line_records.specs.declared.record_format.RecordFormat.TheVariants.{Items as ItemFormat};
 
-use crate::measuring::{measure, push_box};
 use crate::table::PairTable;
 use crate::writing::write_line;
 use crate::written::Written;
@@ -23,13 +21,15 @@ use encodings::{Part, Parts};
 use lig_kern::Item;
 use set_line::{Policy, Terms, append_items, append_uncoded, set_stretch, total_width};
 use std::alloc::AllocError;
-use tfm_tables::Font;
 
-/// A line that is set: its sums, and the number of bytes of the texts of its items, or of the text of its box, which
-/// are at the front of the list of texts.
+/// A line that is set. The texts of its items are at the front of the list of texts; for a box they are the codes of
+/// the characters.
 #[derive(Clone, Copy, Debug)]
 pub(crate) struct Kept {
     pub sums: Sums,
+    /// The number of spaces, or 0 if the record doesn't have it.
+    pub spaces: usize,
+    /// The number of bytes of the texts.
     pub length: usize,
 }
 
@@ -38,17 +38,29 @@ pub(crate) struct Kept {
 pub(crate) struct Lists {
     /// The items of a line that isn't set with the table of texts, without characters that have no codes.
     pub items: Vec<Item>,
-    /// The texts of the items of a line, or the text of its box.
+    /// The texts of the items of a line, or the codes of its characters.
     pub texts: Vec<u8>,
 }
 
-/// Appends the texts of items if the record has them.
+/// Appends the codes of the characters among items.
+fn append_codes(codes: &mut Vec<u8>, items: &[Item]) -> Result<(), AllocError>
+    ensures { OnOk result (codes.new.items ≡ codes.old.items ++ flat_map code_in items.now) }
+{
+    for item in items {
+        if let Item::Char { code, .. } = item {
+            codes.push(*code)?;
+        }
+    }
+    Ok(())
+}
+
+/// Appends the texts of items.
 fn append_texts(texts: &mut Vec<u8>, items: &[Item], format: RecordFormat) -> Result<(), AllocError>
     ensures { OnOk result (texts.new.items ≡ texts.old.items ++ flat_map (item_text format) items.now) }
 {
     match format {
         RecordFormat::Items(version) => append_items(texts, items, version),
-        RecordFormat::Box(_) => Ok(()),
+        RecordFormat::Box(_) => append_codes(texts, items),
     }
 }
 
@@ -100,21 +112,16 @@ fn set_part(
     }
 }
 
-/// Appends the text of the box of items, which have this width, if the record has it.
-fn append_box_text(
-    texts: &mut Vec<u8>,
-    font: &Font,
-    format: RecordFormat,
-    width: i64,
-    items: &[Item],
-) -> Result<(), AllocError>
-    requires few { length items.now ≤ 2 ^ 31 }
-    requires width { width ≡ total_width_of items.now }
-    ensures { OnOk result (texts.new.items ≡ texts.old.items ++ box_part format font.now items.now) }
+/// Returns the number of spaces among items if the record has it, and otherwise 0.
+fn count_spaces(format: RecordFormat, items: &[Item]) -> usize
+    ensures { result ≡ spaces_for format (count_by is_glue items.now) }
 {
     match format {
-        RecordFormat::Items(_) => Ok(()),
-        RecordFormat::Box(unit) => push_box(texts, unit, width, measure(font, items)),
+        RecordFormat::Items(_) => 0,
+        RecordFormat::Box(_) => items
+            .iter()
+            .filter(|item| matches!(item, Item::Space(_)))
+            .count(),
     }
 }
 
@@ -127,7 +134,7 @@ pub(crate) fn set_parts(
     lists: &mut Lists,
 ) -> Result<Option<Kept>, AllocError>
     requires { length (joined parts) ≤ 65535 }
-    ensures { IfOk result (IsKept format terms.now.font
+    ensures { IfOk result (IsKept format
         (set_after terms.now (setting 0 []) parts.entry) lists.new.texts.items) }
 {
     lists.items.clear();
@@ -146,15 +153,9 @@ pub(crate) fn set_parts(
         steps,
         items: lists.items.len() + gaps,
     };
-    append_box_text(
-        &mut lists.texts,
-        terms.font(),
-        format,
-        sums.width,
-        &lists.items,
-    )?;
     Ok(Some(Kept {
         sums,
+        spaces: count_spaces(format, &lists.items),
         length: lists.texts.len(),
     }))
 }
@@ -172,10 +173,20 @@ fn refuses(terms: &Terms, codes: &[u8], at: usize) -> bool
     }
 }
 
-/// Returns what was written as a line that is kept.
-fn as_kept(whole: Written) -> Kept
+/// Returns the number of spaces among the codes of a line if the record has it, and otherwise 0.
+fn count_codes(format: RecordFormat, codes: &[u8]) -> usize
+    ensures { result ≡ spaces_for format (count_by is_space codes.now) }
+{
+    match format {
+        RecordFormat::Items(_) => 0,
+        RecordFormat::Box(_) => codes.iter().filter(|code| **code == b' ').count(),
+    }
+}
+
+/// Returns what was written, with this number of spaces, as a line that is kept.
+fn as_kept(whole: Written, spaces: usize) -> Kept
     requires { whole.steps < 2 ^ 32 }
-    ensures { IsThatOf whole result }
+    ensures { IsThatOf whole spaces result }
 {
     Kept {
         sums: Sums {
@@ -183,6 +194,7 @@ fn as_kept(whole: Written) -> Kept
             steps: whole.steps as u32,
             items: whole.count,
         },
+        spaces,
         length: whole.length,
     }
 }
@@ -199,11 +211,12 @@ fn set_plainly(
     requires fits { Fits table.old terms.now }
     requires short { length codes.now ≤ 65535 }
     ensures table { table.new ≡ table.old }
-    ensures kept { (version : Form) → table.old.format ≡ ItemFormat version → IfSome result (IsKept table.old.format
-        terms.now.font (set_after terms.now (setting 0 []) (only_part codes.now)) texts.new.items) }
+    ensures kept { IfSome result (IsKept table.old.format
+        (set_after terms.now (setting 0 []) (only_part codes.now)) texts.new.items) }
 {
+    let spaces = count_codes(table.format, codes);
     match write_line(table, terms, codes, texts) {
-        Ok(whole) if whole.steps <= terms.limit().get() as usize => Some(Some(as_kept(whole))),
+        Ok(line) if line.steps <= terms.limit().get() as usize => Some(Some(as_kept(line, spaces))),
         Ok(_) => None,
         Err(at) => refuses(terms, codes, at).then_some(None),
     }
@@ -221,10 +234,10 @@ pub(crate) fn set_codes(
     requires table { IfSome table.old (λ table. table ≡ style_of terms.now format) }
     requires short { length codes.now ≤ 65535 }
     ensures table { table.new ≡ table.old }
-    ensures kept { IfOk result (IsKept format terms.now.font
+    ensures kept { IfOk result (IsKept format
         (set_after terms.now (setting 0 []) (only_part codes.now)) lists.new.texts.items) }
 {
-    if let (Some(table), RecordFormat::Items(_)) = (table, format) {
+    if let Some(table) = table {
         if let Some(kept) = set_plainly(table, terms, codes, &mut lists.texts) {
             return Ok(kept);
         }

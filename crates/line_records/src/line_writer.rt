@@ -1,13 +1,13 @@
 ghost use Rattle.std.specs.Prelude.{◌≡◌, ◌++◌, None, IfOk, IfSome, OnErr, OnOk};
 ghost use Rattle.line_records.specs.Cells.{Fits, style_of};
-ghost use Rattle.line_records.specs.Kept.{IsKeptResult, IsTried, set_record};
+ghost use Rattle.line_records.specs.Kept.{IsKeptResult, IsTried};
 ghost use Rattle.line_records.specs.Results.{IsResult, line_record, line_result, refusal_in};
 
 use crate::keeping::{Kept, Lists, set_codes, set_parts};
-use crate::measuring::append_box;
+use crate::measuring::{append_box, measure};
 use crate::refusing::find_refusal;
 use crate::table::PairTable;
-use crate::{LineResult, RecordFormat, RecordOf, SourceLine, Sums};
+use crate::{LineResult, RecordFormat, RecordOf, SourceLine};
 use encodings::{EncodeFault, EncodedLine, encode_line};
 use set_line::{
     LineRefusal, MOST_BYTES, OutOfMemory, Policy, RecordNumber, SetText, Terms, TextRefusal,
@@ -77,7 +77,7 @@ fn keep(
 ) -> Result<Result<Kept, TextRefusal>, OutOfMemory>
     requires { IfSome rooms.old.table (λ table. table ≡ style_of of.now.terms.now format) }
     ensures table { rooms.new.table ≡ rooms.old.table }
-    ensures kept { IfOk result (IsKeptResult format of.now.terms.now.font
+    ensures kept { IfOk result (IsKeptResult format
         (line_result of.now.terms.now of.now.encoding line.entry.first line.entry.bytes.now)
         rooms.new.lists.texts.items) }
     ensures memory { OnErr result
@@ -94,38 +94,12 @@ fn keep(
     Ok(Err(TextRefusal::Line(LineRefusal::Steps(of.terms.limit().get()))))
 }
 
-/// Appends the record of a line that is set, with these sums and the text of its box or the texts of its items. If
-/// an allocation fails, the contents of `out` are as before.
-fn append_kept(
-    out: &mut Vec<u8>,
-    number: RecordNumber,
-    format: RecordFormat,
-    sums: Sums,
-    texts: &[u8],
-) -> Result<(), OutOfMemory>
-    ensures appended { OnOk result (out.new.items ≡ out.old.items
-        ++ set_record format number.source number.line sums texts.now) }
-    ensures unchanged { OnErr result (out.new.items ≡ out.old.items) }
-{
-    match format {
-        RecordFormat::Items(version) => {
-            let set = SetText {
-                width: sums.width,
-                steps: sums.steps,
-                texts,
-            };
-            append_set(out, number, set, version)
-        }
-        RecordFormat::Box(_) => append_box(out, number, texts),
-    }
-}
-
-/// Sets lines and writes their records, in one format. A prepared writer of records with items has a table of
-/// texts, with which it sets each line that can be set with it. Any other line is set in the general way:
-/// [`set_stretch`] makes lists of items, and their texts are written one after the other, or their box is measured.
-/// The results are the same in both ways. Memory that is used for each line is kept for the next one, so that most
-/// lines need no allocation. In contracts, the value of a writer is its font, its missing-character policy and its
-/// record format.
+/// Sets lines and writes their records, in one format. A prepared writer has a table of texts, with which it sets each
+/// line that can be set with it. Any other line is set in the general way: [`set_stretch`] makes lists of items, and
+/// their texts are written one after the other. The results are the same in both ways. For a box, the text of a
+/// character is its code, and the box is measured over these codes. Memory that is used for each line is kept for the
+/// next one, so that most lines need no allocation. In contracts, the value of a writer is its font, its
+/// missing-character policy and its record format.
 ///
 /// [`set_stretch`]: set_line::set_stretch
 #[derive(Drop)]
@@ -171,16 +145,16 @@ impl LineWriter {
         }
     }
 
-    /// Prepares the writer for many lines: allocates a table of texts, 129 KB, unless it has one, or its records have
-    /// no items. The cells of the table are made when they are first needed. If the allocation fails, the lines are
-    /// set in the general way, until a later call of this method succeeds.
+    /// Prepares the writer for many lines: allocates a table of texts, 129 KB, unless it has one. The cells of the
+    /// table are made when they are first needed. If the allocation fails, the lines are set in the general way, until
+    /// a later call of this method succeeds.
     pub fn prepare(&mut self, terms: &Terms)
         requires { Fits self.old terms.now }
         ensures { self.new ≡ self.old }
     {
-        if let (None, RecordFormat::Items(version)) = (&self.rooms.table, self.format) {
+        if self.rooms.table.is_none() {
             let alloc = *self.rooms.lists.items.allocator();
-            self.rooms.table = PairTable::new(alloc, terms, version).ok();
+            self.rooms.table = PairTable::new(alloc, terms, self.format).ok();
         }
     }
 
@@ -234,7 +208,19 @@ impl LineWriter {
             }
         };
         let texts = &self.rooms.lists.texts[..kept.length];
-        append_kept(out, number, self.format, kept.sums, texts)?;
+        match self.format {
+            RecordFormat::Items(version) => {
+                let set = SetText {
+                    width: kept.sums.width,
+                    steps: kept.sums.steps,
+                    texts,
+                };
+                append_set(out, number, set, version)?;
+            }
+            RecordFormat::Box(unit) => {
+                append_box(out, number, unit, kept, measure(of.terms.font(), texts))?;
+            }
+        }
         Ok(LineResult::Set(kept.sums))
     }
 }

@@ -1,53 +1,57 @@
 //! Makes the texts of pairs.
 ghost use Rattle.std.specs.Prelude.{◌≡◌, ◌≤◌, ◌+◌, ◌^◌, ◌++◌, pos, ◌+ℤ◌, ◌≤ℤ◌, drop, flat_map, length, take, IfSome};
 ghost use Rattle.std.specs.Option.{option_to_list};
-ghost use Rattle.set_line.specs.Record.{text_in};
 ghost use Rattle.set_line.specs.Width.{total_width};
+ghost use Rattle.line_records.specs.Boxes.{item_text};
 ghost use Rattle.line_records.specs.Cells.{IsTextOf};
-ghost use Rattle.line_records.specs.declared.record_format.RecordFormat.TheVariants.{Items};
 
+use crate::RecordFormat;
 use crate::adding::{Added, Passed};
 use crate::pair::{BYTES, Pair};
 use lig_kern::Item;
-use set_line::{Version, write_item_text};
+use set_line::write_item_text;
 
 /// The largest number of bytes in the texts of three items.
 const ROOM: usize = 66;
 
 /// Writes the text of an item, if there is one, so that it ends at the index `end`, and returns its start.
-fn write_some(text: &mut [u8], end: usize, item: Option<Item>, version: Version) -> usize
+fn write_some(text: &mut [u8], end: usize, item: Option<Item>, format: RecordFormat) -> usize
     requires { (22 ≤ end) × (end ≤ length text.old) }
     ensures place { (result ≤ end) × (end ≤ result + 22) }
     ensures written { drop result text.new
-        ≡ flat_map (text_in version) (option_to_list item) ++ drop end text.old }
+        ≡ flat_map (item_text format) (option_to_list item) ++ drop end text.old }
 {
-    match item {
-        Some(item) => write_item_text(text, end, &item, version),
-        None => end,
+    match (item, format) {
+        (Some(item), RecordFormat::Items(version)) => write_item_text(text, end, &item, version),
+        (Some(Item::Char { code, .. }), RecordFormat::Box(_)) => {
+            text[end - 1] = code;
+            end - 1
+        }
+        (Some(_), RecordFormat::Box(_)) | (None, _) => end,
     }
 }
 
 /// Writes the texts of the items that a step past a symbol adds, so that they end at the index `end`, and
 /// returns their start.
 #[tactic(auto, using(crate::proofs::AddingLemmas::texts))]
-fn write_passed(text: &mut [u8], end: usize, passed: &Passed, version: Version) -> usize
+fn write_passed(text: &mut [u8], end: usize, passed: &Passed, format: RecordFormat) -> usize
     requires { (44 ≤ end) × (end ≤ length text.old) }
     ensures place { (result ≤ end) × (end ≤ result + 44) }
-    ensures written { drop result text.new ≡ flat_map (text_in version) passed.now.items ++ drop end text.old }
+    ensures written { drop result text.new ≡ flat_map (item_text format) passed.now.items ++ drop end text.old }
 {
-    let kern_at = write_some(text, end, passed.kern, version);
-    write_some(text, kern_at, passed.character, version)
+    let kern_at = write_some(text, end, passed.kern, format);
+    write_some(text, kern_at, passed.character, format)
 }
 
 /// Writes the texts of the items that a byte adds, so that they end at the index 66, and returns their start.
 #[tactic(auto, using(crate::proofs::AddingLemmas::texts))]
-fn write_added(text: &mut [u8], added: &Added, version: Version) -> usize
+fn write_added(text: &mut [u8], added: &Added, format: RecordFormat) -> usize
     requires { 66 ≤ length text.old }
     ensures place { result ≤ 66 }
-    ensures written { drop result text.new ≡ flat_map (text_in version) added.now.items ++ drop 66 text.old }
+    ensures written { drop result text.new ≡ flat_map (item_text format) added.now.items ++ drop 66 text.old }
 {
-    let cut_at = write_some(text, ROOM, added.cut, version);
-    write_passed(text, cut_at, &added.passed, version)
+    let cut_at = write_some(text, ROOM, added.cut, format);
+    write_passed(text, cut_at, &added.passed, format)
 }
 
 /// Returns the amount that an item adds to the width, in sp.
@@ -108,11 +112,11 @@ fn count_of(added: &Added) -> usize
 
 /// Returns the pair of what a byte adds, or `None` if its text is too long.
 #[tactic(auto, using(crate::proofs::AddingLemmas::texts))]
-pub(crate) fn make_pair(added: &Added, version: Version) -> Option<Pair>
-    ensures { IfSome result (IsTextOf (Items version) added.now) }
+pub(crate) fn make_pair(added: &Added, format: RecordFormat) -> Option<Pair>
+    ensures { IfSome result (IsTextOf format added.now) }
 {
     let mut room = [0; ROOM];
-    let start = write_added(&mut room, added, version);
+    let start = write_added(&mut room, added, format);
     let text = &room[start..];
     let bytes = padded(text)?;
     let steps = added.passed.steps;

@@ -1,11 +1,11 @@
 //! The table of texts of a font. A cell is made when it is first needed.
 ghost use Rattle.std.specs.Prelude.{◌≡◌, ◌<◌, IfOk};
 ghost use Rattle.line_records.specs.Cells.{Fits, style_of};
-ghost use Rattle.line_records.specs.declared.record_format.RecordFormat.TheVariants.{Items};
 
+use crate::RecordFormat;
 use crate::cells::{UNKNOWN, make_cell};
 use crate::pair::Pair;
-use set_line::{Policy, Terms, Version};
+use set_line::{Policy, Terms};
 use std::alloc::{AllocError, Global};
 use std::marker::Model;
 use std::snapshot::Snapshot;
@@ -22,28 +22,27 @@ pub(crate) struct PairTable {
     /// The pairs whose indices are in cells.
     pub pairs: Vec<Pair>,
     policy: Policy,
-    version: Version,
+    pub format: RecordFormat,
     /// For the proof: the font.
     font: Snapshot<Font>,
 }
 
 impl Model for PairTable {
     ghost use Rattle.line_records.specs.Cells.{AreCells, Style};
-    ghost use Rattle.line_records.specs.declared.record_format.RecordFormat.TheVariants.{Items};
 
     ghost Value = { Style };
 
-    ghost view = { λ t. record { font = t.font.value; policy = t.policy; format = Items t.version } };
+    ghost view = { λ t. record { font = t.font.value; policy = t.policy; format = t.format } };
 
     ghost invariant = { λ t.
-        AreCells (record { font = t.font.value; policy = t.policy; format = Items t.version }) t.pairs.items t.cells.items };
+        AreCells (record { font = t.font.value; policy = t.policy; format = t.format }) t.pairs.items t.cells.items };
 }
 
 impl PairTable {
     /// Returns the table of a font, in which no cell is made yet. Fails if an allocation fails.
     #[tactic(auto, using(crate::proofs::CellLemmas::tables))]
-    pub fn new(alloc: Global, terms: &Terms, version: Version) -> Result<Self, AllocError>
-        ensures { IfOk result (λ table. table ≡ style_of terms.now (Items version)) }
+    pub fn new(alloc: Global, terms: &Terms, format: RecordFormat) -> Result<Self, AllocError>
+        ensures { IfOk result (λ table. table ≡ style_of terms.now format) }
     {
         let mut cells = Vec::new(alloc);
         cells.resize(CELLS, UNKNOWN as u16)?;
@@ -51,7 +50,7 @@ impl PairTable {
             cells,
             pairs: Vec::new(alloc),
             policy: terms.policy(),
-            version,
+            format,
             font: Snapshot::of(terms.font()),
         })
     }
@@ -68,7 +67,7 @@ impl PairTable {
         if usize::from(self.cells[at]) != UNKNOWN {
             return;
         }
-        let cell = make_cell(terms, self.version, row as u8, next, &mut self.pairs);
+        let cell = make_cell(terms, self.format, row as u8, next, &mut self.pairs);
         self.cells[at] = cell as u16;
     }
 }

@@ -6,7 +6,7 @@ ghost use Rattle.line_records.specs.Cells.{Fits};
 use super::lines::settings;
 use super::{NO_ARGUMENTS, outcome, report};
 use encodings::Encoding;
-use line_records::RecordFormat::Items;
+use line_records::RecordFormat::{Box, Items};
 use line_records::{LineResult, LineWriter, RecordFormat, RecordOf, SourceLine};
 use set_line::{Answer, Policy, Terms, Version, record, set};
 use std::alloc::Global;
@@ -14,6 +14,7 @@ use std::process::Abort;
 use std::test::Fail;
 use test_support::fonts::{A, PLAIN, Sample};
 use test_support::terms::terms_of;
+use tex_sizes::LengthUnit;
 
 const EARLIER: &str = "1 end complete 0\n";
 
@@ -25,6 +26,9 @@ const JSON: &str = "{\"source\":2,\"line\":1,\"width\":962560,\"steps\":4,\"item
 
 /// The record of `acb`, which is set by the table of texts.
 const BY_TABLE: &str = "2:1 set 962560 steps 3 c97=327680 k-40960 c99=491520 k20480 c98=163840\n";
+
+/// The record of the box of `acb`.
+const BOXED: &str = "2:1 box 962560 327680 163840 0\n";
 
 /// The record of `a€b`.
 const UNCODED: &str = "{\"source\":2,\"line\":1,\"width\":491520,\"steps\":2,\"items\":[\
@@ -134,6 +138,12 @@ fn records_are_appended_by_the_table_of_texts(rt: HostRuntime) -> Result<(), Fai
         (None, Items(Version::Two)),
         ("acb", BY_TABLE),
     )
+}
+
+#[test]
+fn records_with_a_box_are_appended(rt: HostRuntime) -> Result<(), Fail> {
+    let boxed = (None, Box(LengthUnit::ScaledPoints));
+    is_written(&rt, Policy::Skip, boxed, ("acb", BOXED))
 }
 
 #[test]

@@ -1,11 +1,13 @@
-use Rattle.std.proofs.Common.{rules, ◌≡◌, ◌++◌, arith, ap, refl, ◌∙◌, w64}
+use Rattle.std.proofs.Common.{rules, ◌≡◌, arith, ap, refl, ◌∙◌, w64}
 use mir.Val.{bool_byte}
 use Rattle.std.proofs.lemmas.Int.{to_z-of_z}
+use Rattle.std.specs.List.{count_by}
 use Rattle.std.specs.Option.{option_map_or}
 use Rattle.encodings.specs.Visited.{value_of}
 use Rattle.set_line.specs.Onward.{setting}
 use Rattle.set_line.specs.Width.{total_width}
-use Rattle.line_records.specs.Kept.{box_part, gaps_in, set_after}
+use Rattle.line_records.specs.Boxes.{is_glue}
+use Rattle.line_records.specs.Kept.{gaps_in, set_after, spaces_for}
 use Rattle.line_records.proofs.KeptLemmas.{all_set, gaps_counted, joined_length, nothing_after, part_goes_on, part_stops_line}
 use Rattle.line_records.proofs.keeping.set_parts.Goals as goal
 
@@ -48,7 +50,8 @@ returns c =
       setting c.loop-part.steps so_far.0,
       so_far.1 ∙ ap (set_after terms (setting c.loop-part.steps so_far.0)) (c.in-None.ensures).steps.0
           ∙ nothing_after terms (setting c.loop-part.steps so_far.0),
-      all_set terms c.args.format so_far.0 c.loop-part.lists.items.items c.loop-part.gaps c.loop-part.steps c.loop-part.lists.texts.items c.append_box_text.new.texts.items _ so_far.2
+      all_set c.args.format so_far.0 c.loop-part.lists.items.items c.loop-part.gaps c.loop-part.steps c.loop-part.lists.texts.items _ so_far.2
           (to_z-of_z w64 c.total_width.result (search rules) ∙ c.total_width.ensures ∙ ap total_width c.deref.ensures.value) refl
-          (omega (arith, c.len.ensures, c.loop-part.lists.items.ok.0)) (c.in_ok-append_box_text.ensures ∙ ap (λ texts. c.loop-part.lists.texts.items ++ texts) (ap (λ font. box_part c.args.format font c.deref-2.result.now) c.font.ensures ∙ ap (box_part c.args.format terms.font) c.deref-2.ensures.value)) (omega (arith, c.len-2.ensures, c.append_box_text.new.texts.ok.0)),
+          (omega (arith, c.len.ensures, c.loop-part.lists.items.ok.0)) (c.count_spaces.ensures ∙ ap (λ items. spaces_for c.args.format (count_by is_glue items)) c.deref-2.ensures.value)
+          (omega (arith, c.len-2.ensures, c.loop-part.lists.texts.ok.0)),
     )
