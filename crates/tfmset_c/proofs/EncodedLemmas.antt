@@ -17,12 +17,11 @@ use Rattle.encodings.specs.Names.{encoding_named}
 use Rattle.encodings.specs.Texts.{codes_at, offsets_at, text_codes, uncoded_at}
 use Rattle.encodings.proofs.NameLemmas.{no_encoding, other, other_name}
 use Rattle.encodings.proofs.TextLemmas.{text_few}
-use Rattle.tfmset_c.specs.Arrays.{ArePut, HasRoom, IsFilled, IsOverlaid, IsPartly}
+use Rattle.caller_arrays.specs.Arrays.{ArePut, HasRoom, IsFilled, IsOverlaid, IsPartly, held}
 use Rattle.tfmset_c.specs.Encoded.{AreCodesTold, AreFilled, HaveRoom, IsCounted, TextCodes, codes_told, encoding_told, fault_told, offsets_for, offsets_from, report_of, uncoded_told}
 use Rattle.tfmset_c.specs.declared.encode.TfmsetEncoded.{TfmsetEncoded}
 use Rattle.tfmset_c.specs.declared.encode.TfmsetUncoded.{TfmsetUncoded}
-use Rattle.tfmset_c.specs.Texts.{held}
-use Rattle.tfmset_c.proofs.ArrayLemmas.{all_counted, all_put, nothing_put, put_many, put_past, whole_put}
+use Rattle.caller_arrays.proofs.ArrayLemmas.{all_counted, all_put, nothing_put, put_many, put_past, whole_put}
 
 -- ---- names
 

@@ -1,5 +1,5 @@
 pub mod ReadingLemmas
-pub mod ArrayLemmas
+pub mod FillingLemmas
 pub mod TextLemmas
 pub mod EncodedLemmas
 pub mod FontLemmas

@@ -1,6 +1,5 @@
 -- Spans that are set one after the other.
-use Rattle.std.proofs.Common.{◌≡◌, add-one, Bool, true, false, if◌then◌else◌, ℕ, ◌+◌, ◌-◌, ◌<◌, drop, drop-cons, get_or, List, [], ◌∷◌, ◌++◌, length, map, arith, ap, refl, sym, ◌∙◌}
-use Rattle.std.proofs.lemmas.List.Sums.{sum_by-cons}
+use Rattle.std.proofs.Common.{◌≡◌, add-one, Bool, ℕ, ◌+◌, ◌-◌, ◌<◌, drop, drop-cons, get_or, List, [], ◌∷◌, ◌++◌, length, map, ap, refl, sym, ◌∙◌}
 use Rattle.std.specs.Option.{option_map_or}
 use Rattle.tfm_tables.specs.Font.{FontValue}
 use Rattle.spans.specs.declared.outcome.SpanOutcome.{SpanOutcome}
@@ -9,14 +8,14 @@ use Rattle.spans.specs.declared.outcome.SpanRefusal.{SpanRefusal}
 use Rattle.spans.specs.declared.outcome.SpanRefusal.TheVariants.{Outside, TooLong, Missing, Steps}
 use Rattle.spans.specs.declared.placed_item.PlacedItem.{PlacedItem}
 use Rattle.spans.specs.PlaceLaws.{AreItemsOf}
-use Rattle.tfmset_c.specs.Arrays.{ArePut, IsFilled}
-use Rattle.tfmset_c.specs.Spans.{AreFilled, AreUnderWay, SpanTerms, items_in, items_told, job_terms, placed_told, span_items, span_of, span_told, span_within, spans_told, wanted}
-use Rattle.tfmset_c.specs.Texts.{held}
+use Rattle.caller_arrays.specs.Arrays.{ArePut, held}
+use Rattle.tfmset_c.specs.Filling.{AreUnderWay, wanted}
+use Rattle.tfmset_c.specs.Spans.{SpanTerms, items_told, job_terms, placed_told, span_items, span_of, span_told, span_within, spans_told}
 use Rattle.tfmset_c.specs.declared.lines.TfmsetCounts.{TfmsetCounts}
 use Rattle.tfmset_c.specs.declared.lines.TfmsetLine.{TfmsetLine}
 use Rattle.tfmset_c.specs.declared.span.TfmsetPlaced.{TfmsetPlaced}
 use Rattle.tfmset_c.specs.declared.span.TfmsetSpan.{TfmsetSpan}
-use Rattle.tfmset_c.proofs.ArrayLemmas.{all_counted, nothing_put}
+use Rattle.tfmset_c.proofs.FillingLemmas.{none_wanted, one_more}
 
 -- the result of the first span, and those of the others
 spans_first : (terms : SpanTerms) (left left' items : ℕ) (rest more : List TfmsetSpan) (span : TfmsetSpan) (line : TfmsetLine) → rest ≡ span ∷ more
@@ -29,7 +28,7 @@ spans_first terms left left' items rest more span line first is fewer =
     ∙ ap (λ n. line ∷ spans_told terms n (items + line.count) more) (sym fewer)
 
 -- without spans there are no results
-no_spans : (terms : SpanTerms) (left items : ℕ) (rest : List TfmsetSpan) → rest ≡ [] → spans_told terms left items rest ≡ []
+pub no_spans : (terms : SpanTerms) (left items : ℕ) (rest : List TfmsetSpan) → rest ≡ [] → spans_told terms left items rest ≡ []
 unfolding spans_told
 no_spans terms left items rest none = ap (spans_told terms left items) none
 
@@ -39,80 +38,24 @@ items_first : (terms : SpanTerms) (rest more : List TfmsetSpan) (span : TfmsetSp
 unfolding items_told
 items_first terms rest more span line lines others first cut = rw (first, cut) refl
 
-no_items : (terms : SpanTerms) (rest : List TfmsetSpan) (lines : List TfmsetLine) → rest ≡ [] → items_told terms rest lines ≡ []
+pub no_items : (terms : SpanTerms) (rest : List TfmsetSpan) (lines : List TfmsetLine) → rest ≡ [] → items_told terms rest lines ≡ []
 unfolding items_told
 no_items terms rest lines none = rw none refl
 
--- items are wanted before other items, too
-wanted_both : (w : Bool) (xs ys : List TfmsetPlaced) → wanted w (xs ++ ys) ≡ wanted w xs ++ wanted w ys
-wanted_both true xs ys = refl
-wanted_both false xs ys = refl
-
-none_wanted : (w : Bool) → wanted w [] ≡ []
-none_wanted true = refl
-none_wanted false = refl
-
--- at first all are to come
-pub at_first : (terms : SpanTerms) (w : Bool) (left : ℕ) (spans : List TfmsetSpan) (lines : List TfmsetLine) (items : List TfmsetPlaced)
-    → AreUnderWay terms w (spans_told terms left 0 spans) (items_told terms spans (spans_told terms left 0 spans)) left spans
-    (record { lines = 0; items = 0 }) 0 lines lines items items
-at_first terms w left spans lines items = record {
-  items_so_far = 0;
-  held_items = refl;
-  counted = omega arith;
-  line = nothing_put (spans_told terms left 0 spans) lines;
-  item = nothing_put (wanted w (items_told terms spans (spans_told terms left 0 spans))) items;
-}
-
 -- one span more
-pub span_more : (terms : SpanTerms) {w : Bool} {all : List TfmsetLine} {placed : List TfmsetPlaced} {left left' : ℕ} {rest more : List TfmsetSpan} (span : TfmsetSpan)
+pub span_more : (terms : SpanTerms) {w : Bool} {all : List TfmsetLine} {placed : List TfmsetPlaced} (left left' : ℕ) {rest more : List TfmsetSpan} (span : TfmsetSpan)
     {line : TfmsetLine} {counts next : TfmsetCounts} {at at' : ℕ} {lines_before lines lines' : List TfmsetLine} {items_before items items' : List TfmsetPlaced}
     (made : List PlacedItem) → rest ≡ span ∷ more → line ≡ span_within terms left counts.items span → left' ≡ left - line.steps
     → map placed_told made ≡ wanted w (span_items terms span line) → ArePut (line ∷ []) counts.lines next.lines lines lines'
     → next.items ≡ held (counts.items + line.count) → ArePut (map placed_told made) at at' items items'
-    → AreUnderWay terms w all placed left rest counts at lines_before lines items_before items
-    → AreUnderWay terms w all placed left' more next at' lines_before lines' items_before items'
-span_more terms {w} {all} {placed} {left} {left'} {rest} {more} span {line} {counts} {next} {at} {at'} {lines_before} {lines} {lines'} {items_before} {items} {items'}
+    → AreUnderWay w all placed (λ n. spans_told terms left n rest) (items_told terms rest) counts at lines_before lines items_before items
+    → AreUnderWay w all placed (λ n. spans_told terms left' n more) (items_told terms more) next at' lines_before lines' items_before items'
+span_more terms {w} {all} {placed} left left' {rest} {more} span {line} {counts} {next} {at} {at'} {lines_before} {lines} {lines'} {items_before} {items} {items'}
     made first is fewer are put_line counted put_items way =
-    let here : line ≡ span_within terms left (held way.items_so_far) span = is ∙ ap (λ n. span_within terms left n span) way.held_items in
-    let told = spans_first terms left left' way.items_so_far rest more span line first here fewer in
-    let others : List TfmsetLine = spans_told terms left' (way.items_so_far + line.count) more in
-    let count : items_in (spans_told terms left way.items_so_far rest) ≡ line.count + items_in others =
-    ap items_in told ∙ sum_by-cons (λ (l : TfmsetLine). l.count) line others in
-    let cut : wanted w (items_told terms rest (spans_told terms left way.items_so_far rest)) ≡ map placed_told made ++ wanted w (items_told terms more others) =
-    ap (wanted w) (items_first terms rest more span line (spans_told terms left way.items_so_far rest) others first told)
-    ∙ wanted_both w (span_items terms span line) (items_told terms more others)
-    ∙ ap (λ ys. ys ++ wanted w (items_told terms more others)) (sym are) in
-    record {
-      items_so_far = way.items_so_far + line.count;
-      held_items = omega (arith, counted, way.held_items);
-      counted = omega (arith, way.counted, count);
-      line = put_line.further all others lines_before (rw told at way.line);
-      item = put_items.further (wanted w placed) (wanted w (items_told terms more others)) items_before (rw cut at way.item);
-    }
-
--- at last all are there; if the items are wanted, the index after them is their number
-pub all_there : {terms : SpanTerms} {w : Bool} {all : List TfmsetLine} {placed : List TfmsetPlaced} {left : ℕ} {rest : List TfmsetSpan}
-    {counts told : TfmsetCounts} {at : ℕ} {lines_before lines : List TfmsetLine} {items_before items : List TfmsetPlaced}
-    → rest ≡ [] → AreUnderWay terms w all placed left rest counts at lines_before lines items_before items
-    → told.lines ≡ counts.lines → told.items ≡ (if w then at else counts.items)
-    → AreFilled w all placed told at lines_before lines items_before items
-all_there {terms} {w} {all} {placed} {left} {rest} {counts} {told} {at} {lines_before} {lines} {items_before} {items} none way same number =
-    let nothing = no_spans terms left way.items_so_far rest none in
-    let line : IsFilled all counts.lines lines_before lines = rw nothing at way.line in
-    let empty : wanted w (items_told terms rest (spans_told terms left way.items_so_far rest)) ≡ [] =
-    ap (wanted w) (no_items terms rest (spans_told terms left way.items_so_far rest) none) ∙ none_wanted w in
-    let item : IsFilled (wanted w placed) at items_before items = rw empty at way.item in
-    record {
-      counted = rw (← same ∙ all_counted line, ← number ∙ count w item (omega (arith, way.held_items, way.counted, ap items_in nothing))) refl;
-      line = rw (sym same) at line;
-      item = item;
-    }
-  where
-    count : (v : Bool) → IsFilled (wanted v placed) at items_before items → counts.items ≡ held (items_in all)
-        → (if v then at else counts.items) ≡ held (if v then length placed else items_in all)
-    count true filled _ = all_counted filled
-    count false _ is = is
+    one_more (λ n. spans_told terms left n rest) (λ n. spans_told terms left' n more) (items_told terms rest) (items_told terms more) (span_items terms span line) (map placed_told made)
+    (λ n so_far. spans_first terms left left' n rest more span line first (is ∙ ap (λ k. span_within terms left k span) so_far) fewer)
+    (λ others. items_first terms rest more span line (line ∷ others) others first refl)
+    are put_line counted put_items way
 
 -- ---- one span
 
@@ -146,4 +89,4 @@ items_are font text limit first span (Refused refusal) before after line none sa
 -- a span for which no steps are left has none
 pub none_left : (terms : SpanTerms) (w : Bool) (first : ℕ) (span : TfmsetSpan) (after : List PlacedItem) (line : TfmsetLine) → after ≡ []
     → line ≡ span_told 0 first span (Refused Steps) → map placed_told after ≡ wanted w (span_items terms span line)
-none_left terms w first span after line none is = ap (map placed_told) none ∙ sym (ap (wanted w) (none_of terms 0 first span Steps line is) ∙ none_wanted w)
+none_left terms w first span after line none is = ap (map placed_told) none ∙ sym (ap (wanted w) (none_of terms 0 first span Steps line is) ∙ none_wanted TfmsetPlaced w)

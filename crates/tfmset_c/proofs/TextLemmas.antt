@@ -2,12 +2,16 @@
 use Rattle.std.proofs.Common.{◌≡◌, ◌≢◌, ℕ, ◌+◌, ◌-◌, ◌==◌, Bool, true, false, List, [], ◌∷◌, ◌++◌, length, map, flat_map, Option, Some, None, arith, refl, ap, sym, ◌∙◌, length-append, ◌⊎◌, inl, inr}
 use Rattle.std.proofs.lemmas.Bool.Decides.{nat_tests}
 use Rattle.std.proofs.lemmas.List.{length-map, map-append}
+use Rattle.std.proofs.lemmas.List.Sums.{sum_by-cons}
+use Rattle.caller_arrays.specs.Arrays.{ArePut, IsPartly, held}
 use Rattle.encodings.specs.declared.encoding.Encoding.{Encoding}
+use Rattle.lig_kern.specs.declared.item.Item.{Item}
 use Rattle.set_line.specs.declared.outcome.LineRefusal.{LineRefusal}
 use Rattle.set_line.specs.declared.outcome.LineRefusal.TheVariants.{Missing, Steps, TooLong}
 use Rattle.set_line.specs.declared.outcome.Outcome.{Outcome}
 use Rattle.set_line.specs.declared.outcome.Outcome.TheVariants.{Set, Refused}
 use Rattle.set_line.specs.declared.records.text_refusal.TextRefusal.TheVariants.{Line}
+use Rattle.set_line.specs.Answer.{items_or, outcome_of}
 use Rattle.set_line.specs.Returns.{lines_in}
 use Rattle.set_line.specs.Terms.{TermsValue}
 use Rattle.line_records.specs.declared.result.LineResult.{LineResult}
@@ -15,18 +19,18 @@ use Rattle.line_records.specs.declared.result.LineResult.TheVariants.{Refused as
 use Rattle.line_records.specs.Results.{IsOf, IsResult, line_result}
 use Rattle.line_records.proofs.OutcomeLemmas.{bytes_result}
 use Rattle.tfm_tables.specs.Acceptance.{font_fault_of}
-use Rattle.tfmset_c.specs.Arrays.{ArePut, AreRecordsTold, IsFilled, IsPartly, IsUnderWay}
+use Rattle.tfmset_c.specs.Filling.{AreUnderWay, count_in, wanted}
 use Rattle.tfmset_c.specs.Options.{IsReadAs, IsSetWith, call_limit_of, lines_at, outcome_within, outcomes_at, outcomes_within, result_within, steps_in, steps_of, terms_at}
 use Rattle.tfmset_c.specs.Reading.{IsAnswer}
-use Rattle.tfmset_c.specs.Records.{record_within, records_told}
-use Rattle.tfmset_c.specs.Texts.{held, item_told, items_in, items_told, line_told, lines_told}
+use Rattle.tfmset_c.specs.Records.{AreRecordsTold, record_within, records_told}
+use Rattle.tfmset_c.specs.Texts.{item_told, items_in, items_told, line_told, lines_told}
 use Rattle.tfmset_c.specs.declared.lines.TfmsetCounts.{TfmsetCounts}
 use Rattle.tfmset_c.specs.declared.lines.TfmsetItem.{TfmsetItem}
 use Rattle.tfmset_c.specs.declared.lines.TfmsetLine.{TfmsetLine}
 use Rattle.tfmset_c.specs.declared.options.Settings.{Settings}
 use Rattle.tfmset_c.specs.declared.options.TfmsetOptions.{TfmsetOptions}
 use Rattle.tfmset_c.specs.declared.records.Form.{Form}
-use Rattle.tfmset_c.proofs.ArrayLemmas.{nothing_put}
+use Rattle.tfmset_c.proofs.FillingLemmas.{none_wanted, one_more}
 
 -- the result of the first line, and those of the others
 pub outcomes_first : (terms : TermsValue) (left left' : ℕ) (lines more : List (List ℕ)) (line : List ℕ) (outcome : Outcome) → lines ≡ line ∷ more
@@ -42,52 +46,11 @@ no_outcomes terms left lines none = ap (outcomes_within terms left) none
 
 -- ---- lines and items
 
--- at first all lines are to come
-pub at_first : (all : List Outcome) (lines : List TfmsetLine) → IsUnderWay all all (record { lines = 0; items = 0 }) lines lines
-at_first all lines = record { items = 0; held_items = refl; counted = omega arith; line = nothing_put (lines_told 0 all) lines }
-
 -- the items of the first line, and of the others
 items_first : (to_come more : List Outcome) (outcome : Outcome) → to_come ≡ outcome ∷ more
     → items_told to_come ≡ map item_told (items_in outcome) ++ items_told more
 unfolding items_told
 items_first to_come more outcome first = ap items_told first ∙ map-append item_told (items_in outcome) (flat_map items_in more)
-
-count_first : (to_come more : List Outcome) (outcome : Outcome) → to_come ≡ outcome ∷ more
-    → length (items_told to_come) ≡ length (items_in outcome) + length (items_told more)
-count_first to_come more outcome first =
-    ap length (items_first to_come more outcome first) ∙ length-append (map item_told (items_in outcome)) (items_told more)
-    ∙ ap (λ n. n + length (items_told more)) (length-map (items_in outcome) item_told)
-
--- one line more
-pub line_more : {all to_come more : List Outcome} {outcome : Outcome} {at next : TfmsetCounts} {before lines lines' : List TfmsetLine}
-    → to_come ≡ outcome ∷ more → ArePut (line_told at.items outcome ∷ []) at.lines next.lines lines lines'
-    → next.items ≡ held (at.items + length (items_in outcome)) → IsUnderWay all to_come at before lines → IsUnderWay all more next before lines'
-unfolding lines_told
-line_more {all} {to_come} {more} {outcome} {at} {next} {before} {lines} {lines'} first put counted under =
-    let items : ℕ = under.items + length (items_in outcome) in
-    let told : lines_told under.items to_come ≡ line_told at.items outcome ∷ lines_told items more =
-    ap (lines_told under.items) first ∙ ap (λ n. line_told n outcome ∷ lines_told items more) (sym under.held_items) in
-    record {
-      items = items;
-      held_items = omega (arith, counted, under.held_items);
-      counted = omega (arith, under.counted, count_first to_come more outcome first);
-      line =
-          put.further (lines_told 0 all) (lines_told items more) before (rw told at under.line);
-    }
-
--- its items more
-pub items_more : (all : List Outcome) {to_come more : List Outcome} {outcome : Outcome} {at next : ℕ} {before items items' : List TfmsetItem}
-    → to_come ≡ outcome ∷ more → ArePut (map item_told (items_in outcome)) at next items items'
-    → IsPartly (items_told all) (items_told to_come) at before items → IsPartly (items_told all) (items_told more) next before items'
-items_more all {to_come} {more} {outcome} {before = before} first put partly =
-    put.further (items_told all) (items_told more) before (rw (items_first to_come more outcome first) at partly)
-
--- the index after them
-pub items_counted : (all : List Outcome) {to_come more : List Outcome} {outcome : Outcome} {at next : ℕ} {before items items' : List TfmsetItem}
-    → to_come ≡ outcome ∷ more → IsPartly (items_told all) (items_told to_come) at before items
-    → IsPartly (items_told all) (items_told more) next before items' → next ≡ held (at + length (items_in outcome))
-items_counted all {to_come} {more} {outcome} first partly then =
-    omega (arith, partly.at_place, partly.counted, then.at_place, then.counted, count_first to_come more outcome first)
 
 -- the number of items in a line
 pub count_told : (first : ℕ) (outcome : Outcome) (told : TfmsetLine) → told ≡ line_told first outcome → told.count ≡ length (items_in outcome)
@@ -100,20 +63,50 @@ count_told first (Refused refusal) told is = ap (λ (line : TfmsetLine). line.co
     by (Missing offset code) = refl
     by (Steps limit) = refl
 
--- without lines there is nothing to tell
-pub no_lines : (before : ℕ) (outcomes : List Outcome) → outcomes ≡ [] → lines_told before outcomes ≡ []
+-- one line more
+pub line_more : (terms : TermsValue) {w : Bool} {all : List TfmsetLine} {placed : List TfmsetItem} (left left' : ℕ) {lines more : List (List ℕ)} (line : List ℕ)
+    {told : TfmsetLine} (made : List Item) {counts next : TfmsetCounts} {at at' : ℕ} {lines_before now now' : List TfmsetLine} {items_before items items' : List TfmsetItem}
+    → lines ≡ line ∷ more → left' ≡ left - steps_of (outcome_within terms left line) → told ≡ line_told counts.items (outcome_within terms left line)
+    → made ≡ wanted w (items_in (outcome_within terms left line)) → ArePut (told ∷ []) counts.lines next.lines now now'
+    → next.items ≡ held (counts.items + told.count) → ArePut (map item_told made) at at' items items'
+    → AreUnderWay w all placed (λ n. lines_told n (outcomes_within terms left lines)) (λ _. items_told (outcomes_within terms left lines)) counts at lines_before now items_before items
+    → AreUnderWay w all placed (λ n. lines_told n (outcomes_within terms left' more)) (λ _. items_told (outcomes_within terms left' more)) next at' lines_before now' items_before items'
 unfolding lines_told
-no_lines before outcomes none = ap (lines_told before) none
+line_more terms {w} {all} {placed} left left' {lines} {more} line {told} made {counts} cut fewer is are put_line counted put_items way =
+    let outcome : Outcome = outcome_within terms left line in
+    let first : outcomes_within terms left lines ≡ outcome ∷ outcomes_within terms left' more = outcomes_first terms left left' lines more line outcome cut refl fewer in
+    one_more (λ n. lines_told n (outcomes_within terms left lines)) (λ n. lines_told n (outcomes_within terms left' more)) (λ _. items_told (outcomes_within terms left lines)) (λ _. items_told (outcomes_within terms left' more))
+    (map item_told (items_in outcome)) (map item_told made)
+    (λ n so_far. ap (lines_told n) first ∙ ap (λ k. line_told k outcome ∷ lines_told (n + length (items_in outcome)) (outcomes_within terms left' more)) (sym so_far)
+    ∙ ap (λ (l : TfmsetLine). l ∷ lines_told (n + length (items_in outcome)) (outcomes_within terms left' more)) (sym is)
+    ∙ ap (λ k. told ∷ lines_told (n + k) (outcomes_within terms left' more)) (sym (count_told counts.items outcome told is)))
+    (λ _. items_first _ (outcomes_within terms left' more) outcome first)
+    (ap (map item_told) are ∙ map_wanted w (items_in outcome)) put_line counted put_items way
+  where
+    map_wanted : (v : Bool) (items : List Item) → map item_told (wanted v items) ≡ wanted v (map item_told items)
+    map_wanted true items = refl
+    map_wanted false items = refl
 
-pub no_items : (outcomes : List Outcome) → outcomes ≡ [] → items_told outcomes ≡ []
+-- without lines there is nothing to tell
+pub no_lines : (terms : TermsValue) (left n : ℕ) (lines : List (List ℕ)) → lines ≡ [] → lines_told n (outcomes_within terms left lines) ≡ []
+unfolding lines_told
+no_lines terms left n lines none = ap (lines_told n) (no_outcomes terms left lines none)
+
+pub no_items : (terms : TermsValue) (left : ℕ) (lines : List (List ℕ)) → lines ≡ [] → items_told (outcomes_within terms left lines) ≡ []
 unfolding items_told
-no_items outcomes none = ap items_told none
+no_items terms left lines none = ap items_told (no_outcomes terms left lines none)
 
--- at last all lines are there, and all items are counted
-pub all_there : {all to_come : List Outcome} {counts : TfmsetCounts} {before lines : List TfmsetLine} → to_come ≡ [] → IsUnderWay all to_come counts before lines
-    → IsFilled (lines_told 0 all) counts.lines before lines × (counts.items ≡ held (length (items_told all)))
-all_there {to_come = to_come} none under =
-    (rw (no_lines under.items to_come none) at under.line, omega (arith, under.held_items, under.counted, ap length (no_items to_come none)))
+-- Law: without the items, the same number of them is reported.
+counted_alike : (n : ℕ) (outcomes : List Outcome) → count_in (lines_told n outcomes) ≡ length (items_told outcomes)
+unfolding lines_told items_told
+counted_alike n [] = refl
+counted_alike n (outcome ∷ outcomes) =
+    let rest : List TfmsetLine = lines_told (n + length (items_in outcome)) outcomes in
+    sum_by-cons (λ (l : TfmsetLine). l.count) (line_told (held n) outcome) rest
+    ∙ ap (λ k. k + count_in rest) (count_told (held n) outcome (line_told (held n) outcome) refl)
+    ∙ ap (λ k. length (items_in outcome) + k) (counted_alike (n + length (items_in outcome)) outcomes)
+    ∙ sym (ap length (items_first (outcome ∷ outcomes) outcomes outcome refl) ∙ length-append (map item_told (items_in outcome)) (items_told outcomes)
+    ∙ ap (λ k. k + length (items_told outcomes)) (length-map (items_in outcome) item_told))
 
 -- ---- a line of bytes that is set without its items
 
@@ -130,7 +123,24 @@ some_left terms encoding first left line set some bytes is =
     let other : (left == 0) ≡ false = grind (arith, nat_tests) in
     rw other (bytes_result terms first line set (rw bytes at is))
 
-pub ruleset bytes_within = (none_left, some_left)
+-- the items that are kept of a line, if they are wanted
+pub none_kept : (terms : TermsValue) (w : Bool) (left : ℕ) (line : List ℕ) (items : List Item) → left ≡ 0 → items ≡ []
+    → items ≡ wanted w (items_in (outcome_within terms left line))
+unfolding outcome_within items_in
+none_kept terms w left line items none empty = empty ∙ sym (rw none (none_wanted Item w))
+
+pub all_kept : (terms : TermsValue) (w : Bool) (left : ℕ) (line : List ℕ) (outcome : Outcome) (before items : List Item) → left ≢ 0 → outcome ≡ outcome_of terms line
+    → w ≡ true → before ≡ [] → items ≡ items_or before outcome → items ≡ wanted w (items_in (outcome_within terms left line))
+unfolding outcome_within items_or items_in
+all_kept terms w left line outcome before items some is kept empty back =
+    let other : (left == 0) ≡ false = grind (arith, nat_tests) in
+    rw (kept, other, ← is) (back ∙ ap (λ l. items_or l outcome) empty ∙ same outcome)
+  where
+    same : (o : Outcome) → items_or [] o ≡ items_in o
+    same (Set items width steps) = refl
+    same (Refused refusal) = refl
+
+pub ruleset bytes_within = (none_left, some_left, none_kept, all_kept)
 
 -- ---- records
 
@@ -179,6 +189,7 @@ records_called bytes text options settings terms named form asked answer count_b
 pub answered : (OutOfRange : Type 0) (font : List ℕ) (answer : ℕ) → (OutOfRange → ⊥) → font_fault_of font ≡ None
     → (answer ≡ 0) ⊎ ((answer ≡ 2) ⊎ (answer ≡ 3)) → IsAnswer OutOfRange font answer
 answered OutOfRange font answer within accepted one = record {
+  code = grind (arith, one);
   range = (λ four. absurd (grind (arith, one, four)), λ out. absurd (within out));
   refused = λ refused. absurd (grind (arith, one, refused));
   accepted = λ _. accepted;

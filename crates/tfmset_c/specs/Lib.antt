@@ -6,7 +6,7 @@ pub mod Characters
 pub mod Pairs
 pub mod Options
 pub mod Texts
-pub mod Arrays
+pub mod Filling
 pub mod Encoded
 pub mod Records
 pub mod Prepared

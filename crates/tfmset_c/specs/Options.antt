@@ -17,6 +17,7 @@ use Rattle.set_line.specs.Terms.{TermsValue}
 use Rattle.tfm_tables.specs.Acceptance.{font_fault_of}
 use Rattle.tfmset_c.specs.Reading.{IsNoSize, font_at}
 use Rattle.tfmset_c.specs.declared.options.Settings.{Settings}
+use Rattle.tfmset_c.specs.declared.options.Text.{Text}
 use Rattle.tfmset_c.specs.declared.options.TfmsetOptions.{TfmsetOptions}
 
 -- an option is out of range
@@ -87,6 +88,10 @@ unfoldable pub outcomes_within : TermsValue → ℕ → List (List ℕ) → List
 outcomes_within terms left [] = []
 outcomes_within terms left (line ∷ lines) =
     outcome_within terms left line ∷ outcomes_within terms (left - steps_of (outcome_within terms left line)) lines
+
+-- the results of the lines of a text
+abbrev pub outcomes_of : Text → List Outcome
+outcomes_of text = outcomes_within text.terms.now text.call_limit (lines_in text.crlf text.bytes.now)
 
 -- the lines of a text with these options
 abbrev pub lines_at : TfmsetOptions → List ℕ → List (List ℕ)

@@ -1,6 +1,6 @@
 -- The font that a call reads, at the size that C passes.
 -- This project's own; which fonts are accepted is defined in Acceptance of `tfm_tables`.
-use Rattle.std.specs.Prelude.{◌≡◌, ℕ, ◌<◌, ◌==◌, ◌⊎◌, ◌↔◌, List, Option, Some, None, IsSome, Result, Ok, Err, if◌then◌else◌}
+use Rattle.std.specs.Prelude.{◌≡◌, ℕ, ◌<◌, ◌≤◌, ◌==◌, ◌⊎◌, ◌↔◌, List, Option, Some, None, IsSome, Result, Ok, Err, if◌then◌else◌}
 use Rattle.tfm_words.specs.declared.design.DesignFault.{DesignFault}
 use Rattle.tfm_words.specs.DesignSize.{design_size_of}
 use Rattle.tfm_tables.specs.Acceptance.{font_fault_of, words_of}
@@ -45,8 +45,9 @@ denial_number Memory = 2
 denial_number (Refused _) = 1
 
 -- the code that a call returns, by its font: 4 exactly if an argument is out of range, 1 only if the font is refused,
--- and 0, 2 and 3 only if it is accepted
+-- and 0, 2 and 3, the only others, only if it is accepted
 pub record IsAnswer (OutOfRange : Type 0) (font : List ℕ) (answer : ℕ) : Type 0 where
+  pub code : answer ≤ 4
   pub range : (answer ≡ 4) ↔ OutOfRange
   pub refused : answer ≡ 1 → IsSome (font_fault_of font)
   pub accepted : (answer ≡ 0) ⊎ ((answer ≡ 2) ⊎ (answer ≡ 3)) → font_fault_of font ≡ None

@@ -1,8 +1,9 @@
 -- The records of the lines of a text, as C gets them.
 -- This project's own; the text of a record is defined in Record of `set_line`, and what it says in Results of
 -- `line_records`.
-use Rattle.std.specs.Prelude.{ℕ, Bool, false, Option, Some, None, ◌+◌, ◌-◌, ◌==◌, ◌&&◌, nat_lt, List, [], ◌∷◌, ◌++◌, length, if◌then◌else◌}
+use Rattle.std.specs.Prelude.{◌≡◌, ℕ, Bool, false, Option, Some, None, ◌+◌, ◌-◌, ◌==◌, ◌&&◌, nat_lt, List, [], ◌∷◌, ◌++◌, length, if◌then◌else◌}
 use Rattle.std.specs.Option.{option_and_then}
+use Rattle.caller_arrays.specs.Arrays.{HasEffect, HasRoom, IsOverlaid, held}
 use Rattle.set_line.specs.declared.version.Version.{Version}
 use Rattle.set_line.specs.declared.version.Version.TheVariants.{One, Two, Json}
 use Rattle.set_line.specs.Record.{text_record}
@@ -39,3 +40,9 @@ records_told terms form place first left [] = []
 records_told terms form place first left (line ∷ lines) =
     record_within terms form place first left line
     ++ records_told terms form (place + 1) false (left - steps_in (result_within terms form.encoding first left line)) lines
+
+-- the effect of a call that writes records: the array has them, and the count is their number of bytes
+abbrev pub AreRecordsTold : List ℕ → ℕ → ℕ → ℕ → List ℕ → List ℕ → Type 0
+AreRecordsTold told answer count_before count before records =
+    HasEffect (HasRoom (length told) (length before)) (IsOverlaid told before records)
+    (records ≡ before) (held (length told)) answer count_before count

@@ -1,7 +1,7 @@
 -- Spans of a text, and their results and items as C gets them.
 -- This project's own; the outcome of a span is defined in Spans of `spans`, and its items in Places of `spans`.
 use Rattle.std.specs.Prelude.{◌≡◌, ◌≢◌, ◌⊎◌, ℕ, ◌+◌, ◌-◌, ◌==◌, ◌&&◌, ◌||◌, nat_le, nat_lt, Bool, false, List, [], ◌∷◌, ◌++◌, length, map, Some, None, if◌then◌else◌}
-use Rattle.std.specs.List.{list_all, sum_by}
+use Rattle.std.specs.List.{list_all}
 use Rattle.std.specs.Option.{option_map_or}
 use Rattle.tfm_tables.specs.Font.{FontValue}
 use Rattle.spans.specs.declared.outcome.SpanOutcome.{SpanOutcome}
@@ -11,10 +11,9 @@ use Rattle.spans.specs.declared.placed_item.PlacedItem.{PlacedItem}
 use Rattle.spans.specs.declared.span.Span.{Span}
 use Rattle.spans.specs.Places.{places_of}
 use Rattle.spans.specs.Spans.{outcome_of}
-use Rattle.tfmset_c.specs.Arrays.{HasEffect, HasRoom, IsFilled, IsOverlaid, IsPartly}
+use Rattle.caller_arrays.specs.Arrays.{held}
 use Rattle.tfmset_c.specs.Options.{IsOutOfRange, call_limit_of, limit_of}
-use Rattle.tfmset_c.specs.Texts.{held, item_told, refused_with}
-use Rattle.tfmset_c.specs.declared.lines.TfmsetCounts.{TfmsetCounts}
+use Rattle.tfmset_c.specs.Texts.{item_told, refused_with}
 use Rattle.tfmset_c.specs.declared.lines.TfmsetLine.{TfmsetLine}
 use Rattle.tfmset_c.specs.declared.options.TfmsetOptions.{TfmsetOptions}
 use Rattle.tfmset_c.specs.declared.span.TfmsetPlaced.{TfmsetPlaced}
@@ -71,10 +70,6 @@ spans_told terms left before (span ∷ spans) =
     span_within terms left (held before) span
     ∷ spans_told terms (left - (span_within terms left (held before) span).steps) (before + (span_within terms left (held before) span).count) spans
 
--- the number of items of these results together
-abbrev pub items_in : List TfmsetLine → ℕ
-items_in lines = sum_by (λ line. line.count) lines
-
 -- ---- the items
 
 -- an item, with the bytes that it comes from
@@ -98,7 +93,7 @@ items_told terms [] lines = []
 items_told terms (span ∷ spans) [] = []
 items_told terms (span ∷ spans) (line ∷ lines) = span_items terms span line ++ items_told terms spans lines
 
--- ---- the effects of calls
+-- ---- a call
 
 -- what is the same for all spans of a call with this font
 abbrev pub job_terms : FontValue → List ℕ → ℕ → SpanTerms
@@ -115,40 +110,3 @@ spans_at font options text spans = spans_told (terms_for font options text) (cal
 -- and their items
 abbrev pub items_at : FontValue → TfmsetOptions → List ℕ → List TfmsetSpan → List TfmsetPlaced
 items_at font options text spans = items_told (terms_for font options text) spans (spans_at font options text spans)
-
--- the items, if they are wanted
-abbrev pub wanted : Bool → List TfmsetPlaced → List TfmsetPlaced
-wanted with_items items = if with_items then items else []
-
--- the numbers of results and of their items
-abbrev pub counts_told : Bool → List TfmsetLine → List TfmsetPlaced → TfmsetCounts
-counts_told with_items told placed =
-    record { lines = held (length told); items = held (if with_items then length placed else items_in told) }
-
--- the effect of a call that sets spans: the arrays have the results, and the items if they are wanted, and the counts are
--- the numbers of results and of their items
-abbrev pub AreSpansTold : Bool → List TfmsetLine → List TfmsetPlaced → ℕ → TfmsetCounts → TfmsetCounts → List TfmsetLine → List TfmsetLine
-    → List TfmsetPlaced → List TfmsetPlaced → Type 0
-AreSpansTold with_items told placed answer counts_before counts lines_before lines items_before items =
-    HasEffect (HasRoom (length told) (length lines_before) × HasRoom (length (wanted with_items placed)) (length items_before))
-    (IsOverlaid told lines_before lines × IsOverlaid (wanted with_items placed) items_before items)
-    ((lines ≡ lines_before) × (items ≡ items_before)) (counts_told with_items told placed) answer counts_before counts
-
--- ---- partly filled arrays: this project's own representation, which no definition above uses
-
--- the arrays have the first results, which are counted, and their items, and those of the other spans are still to be
--- written
-pub record AreUnderWay (terms : SpanTerms) (with_items : Bool) (all : List TfmsetLine) (placed : List TfmsetPlaced) (left : ℕ) (rest : List TfmsetSpan)
-    (counts : TfmsetCounts) (at : ℕ) (lines_before lines : List TfmsetLine) (items_before items : List TfmsetPlaced) : Type 0 where
-  pub items_so_far : ℕ
-  pub held_items : counts.items ≡ held items_so_far
-  pub counted : items_so_far + items_in (spans_told terms left items_so_far rest) ≡ items_in all
-  pub line : IsPartly all (spans_told terms left items_so_far rest) counts.lines lines_before lines
-  pub item : IsPartly (wanted with_items placed) (wanted with_items (items_told terms rest (spans_told terms left items_so_far rest))) at items_before items
-
--- all of them are written, if they have room
-pub record AreFilled (with_items : Bool) (told : List TfmsetLine) (placed : List TfmsetPlaced) (counts : TfmsetCounts) (at : ℕ)
-    (lines_before lines : List TfmsetLine) (items_before items : List TfmsetPlaced) : Type 0 where
-  pub counted : counts ≡ counts_told with_items told placed
-  pub line : IsFilled told counts.lines lines_before lines
-  pub item : IsFilled (wanted with_items placed) at items_before items

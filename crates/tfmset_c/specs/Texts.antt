@@ -1,18 +1,14 @@
 -- The results of the lines of a text, as C gets them.
 -- This project's own; the results are defined in Options.
-use Rattle.std.specs.Prelude.{ℕ, pos, ◌+◌, ◌-◌, ◌^◌, List, [], ◌∷◌, length, map, flat_map, min}
+use Rattle.std.specs.Prelude.{ℕ, pos, ◌+◌, List, [], ◌∷◌, length, map, flat_map}
+use Rattle.caller_arrays.specs.Arrays.{held}
 use Rattle.lig_kern.specs.declared.item.Item.{Item}
 use Rattle.lig_kern.specs.declared.item.Item.TheVariants.{Char, Kern, Space, Skipped}
 use Rattle.set_line.specs.declared.outcome.LineRefusal.TheVariants.{TooLong, Missing, Steps}
 use Rattle.set_line.specs.declared.outcome.Outcome.{Outcome}
 use Rattle.set_line.specs.declared.outcome.Outcome.TheVariants.{Set, Refused}
-use Rattle.tfmset_c.specs.declared.lines.TfmsetCounts.{TfmsetCounts}
 use Rattle.tfmset_c.specs.declared.lines.TfmsetItem.{TfmsetItem}
 use Rattle.tfmset_c.specs.declared.lines.TfmsetLine.{TfmsetLine}
-
--- a number as C gets it; 2^64 - 1 also means any larger number
-abbrev pub held : ℕ → ℕ
-held n = min n (2 ^ 64 - 1)
 
 -- an item: its kind, its code, or 0 if it has none, and its width
 unfoldable pub item_told : Item → TfmsetItem
@@ -47,7 +43,3 @@ lines_told before (outcome ∷ outcomes) = line_told (held before) outcome ∷ l
 -- the items of all lines, in order
 unfoldable pub items_told : List Outcome → List TfmsetItem
 items_told outcomes = map item_told (flat_map items_in outcomes)
-
--- the numbers of lines and items
-abbrev pub counts_told : List Outcome → TfmsetCounts
-counts_told outcomes = record { lines = held (length (lines_told 0 outcomes)); items = held (length (items_told outcomes)) }

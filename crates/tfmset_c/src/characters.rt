@@ -4,12 +4,12 @@ ghost use Rattle.tfm_words.specs.Counts.{AreCountsOf};
 ghost use Rattle.tfm_tables.specs.Acceptance.{font_fault_of};
 ghost use Rattle.tfm_tables.specs.Table.{entries_of, table_of};
 ghost use Rattle.tfm_words.specs.declared.table.Table.TheVariants.{Exten};
-ghost use Rattle.tfmset_c.specs.Arrays.{IsListed};
+ghost use Rattle.caller_arrays.specs.Arrays.{IsListed};
 ghost use Rattle.tfmset_c.specs.Characters.{character_at, characters_told, recipe_of, tag_number, tag_rest};
 ghost use Rattle.tfmset_c.specs.Reading.{IsAnswer, IsDenial, IsNoSize, font_at};
 
-use crate::arrays::report;
 use crate::reading::{Denial, MOST_SIZE, RANGE, read_metrics};
+use caller_arrays::report;
 use std::alloc::{AllocError, Global};
 use tfm_tables::{FontFault, FontMetrics, Tag};
 use tfm_words::{Counts, Table, word_at};
@@ -177,7 +177,6 @@ pub extern "C" fn tfmset_characters(
     characters: &mut [TfmsetCharacter],
     count: &mut usize,
 ) -> u32
-    ensures answers { result ≤ 4 }
     ensures font { IsAnswer (IsNoSize size) font.now result }
     ensures told { IsListed (characters_told (font_at font.now size)) result count.old count.new
         characters.old characters.new }

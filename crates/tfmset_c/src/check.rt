@@ -2,7 +2,7 @@
 ghost use Rattle.std.specs.Prelude.{◌≡◌, ◌≢◌, ◌≤◌, ◌⊎◌, IfOk, Some, None};
 ghost use Rattle.std.specs.Option.{option_map};
 ghost use Rattle.tfm_tables.specs.Acceptance.{font_fault_of};
-ghost use Rattle.tfmset_c.specs.Arrays.{IsListed};
+ghost use Rattle.caller_arrays.specs.Arrays.{IsListed};
 ghost use Rattle.tfmset_c.specs.Faults.{
   count_fault_told,
   count_number,
@@ -12,8 +12,8 @@ ghost use Rattle.tfmset_c.specs.Faults.{
   table_number,
 };
 
-use crate::arrays::report;
-use crate::reading::{DONE, Denial, MEMORY, read_metrics};
+use crate::reading::{Denial, MEMORY, read_metrics};
+use caller_arrays::{DONE, report};
 use font_texts::Numbered;
 use std::alloc::{AllocError, Global};
 use tfm_tables::{FontFault, Part};

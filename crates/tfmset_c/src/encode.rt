@@ -2,11 +2,11 @@
 ghost use Rattle.std.specs.Prelude.{◌≡◌, ◌≤◌, ◌<◌, ◌+◌, ◌*◌, ◌^◌, ◌↔◌, ◌⊎◌, true, false, None, Option, Some, length, map, IfErr, IfOk};
 ghost use Rattle.encodings.specs.declared.encoding.Encoding.{Encoding as EncodingValue};
 ghost use Rattle.encodings.specs.Texts.{codes_at, offsets_at, uncoded_at};
-ghost use Rattle.tfmset_c.specs.Arrays.{ArePut, IsFilled};
+ghost use Rattle.caller_arrays.specs.Arrays.{ArePut, IsFilled};
 ghost use Rattle.tfmset_c.specs.Encoded.{AreCodesTold, AreFilled, HaveRoom, IsCounted, IsFaultTold, TextCodes, codes_told, encoding_told, fault_told, offsets_from, uncoded_told};
 
-use crate::arrays::{has_room, put_bytes, put_one};
-use crate::reading::{DONE, NO_ROOM, RANGE};
+use crate::reading::RANGE;
+use caller_arrays::{DONE, NO_ROOM, has_room, put_list};
 use encodings::{Encoding, Place, Places, codes_in_text, utf8_fault};
 use std::str;
 
@@ -98,17 +98,17 @@ fn fill_codes(
     let mut placed = 0;
     loop {
         let (first, kept) = places.take_kept(encoding);
-        counts.count = put_bytes(codes, counts.count, kept);
+        counts.count = put_list(codes, counts.count, kept);
         placed = put_offsets(offsets, placed, first, 1, kept.len());
         let Some(place) = places.next() else {
             return (counts, placed);
         };
         match codes_in_text(encoding, place.character) {
             Some(made) => {
-                counts.count = put_bytes(codes, counts.count, made);
+                counts.count = put_list(codes, counts.count, made);
                 placed = put_offsets(offsets, placed, place.offset, 0, made.len());
             }
-            None => counts.uncoded = put_one(uncoded, counts.uncoded, uncoded_for_c(place)),
+            None => counts.uncoded = put_list(uncoded, counts.uncoded, &[uncoded_for_c(place)]),
         }
     }
 }
@@ -131,7 +131,7 @@ fn fill(
 {
     let Some(encoding) = encoding else {
         let counts = TfmsetEncoded {
-            count: put_bytes(codes, 0, text),
+            count: put_list(codes, 0, text),
             uncoded: 0,
             offset: 0,
         };

@@ -1,13 +1,13 @@
 //! `tfmset_font`, `tfmset_parameters` and `tfmset_header_text`: what a font states about itself.
-ghost use Rattle.std.specs.Prelude.{◌≡◌, ◌≢◌, ◌≤◌, ◌<◌, IfOk};
+ghost use Rattle.std.specs.Prelude.{◌≡◌, ◌≢◌, ◌<◌, IfOk};
 ghost use Rattle.tfm_tables.specs.Acceptance.{words_of};
 ghost use Rattle.tfm_tables.specs.Decoded.{parameters_of as all_parameters};
-ghost use Rattle.tfmset_c.specs.Arrays.{IsListed};
+ghost use Rattle.caller_arrays.specs.Arrays.{IsListed};
 ghost use Rattle.tfmset_c.specs.Fonts.{font_told, header_text_of, right_or_none};
 ghost use Rattle.tfmset_c.specs.Reading.{IsAnswer, IsNoSize, font_at};
 
-use crate::arrays::report;
-use crate::reading::{DONE, MEMORY, MOST_SIZE, RANGE, read_metrics};
+use crate::reading::{MEMORY, MOST_SIZE, RANGE, read_metrics};
+use caller_arrays::{DONE, report};
 use std::alloc::{AllocError, Global};
 use tfm_tables::{FontMetrics, LeftSide};
 
@@ -66,7 +66,7 @@ fn font_for_c(font: &FontMetrics) -> TfmsetAbout
 /// After every code except 0 `about` is unchanged.
 #[unsafe(no_mangle)]
 pub extern "C" fn tfmset_font(alloc: Global, font: &[u8], size: u32, about: &mut TfmsetAbout) -> u32
-    ensures answers { (result ≤ 4) × (result ≢ 3) }
+    ensures answers { result ≢ 3 }
     ensures font { IsAnswer (IsNoSize size) font.now result }
     ensures done { result ≡ 0 → about.new ≡ font_told (font_at font.now size) }
     ensures kept { result ≢ 0 → about.new ≡ about.old }
@@ -107,7 +107,6 @@ pub extern "C" fn tfmset_parameters(
     parameters: &mut [i32],
     count: &mut usize,
 ) -> u32
-    ensures answers { result ≤ 4 }
     ensures font { IsAnswer (IsNoSize size) font.now result }
     ensures told { IsListed (all_parameters (font_at font.now size).words (font_at font.now size).size) result
         count.old count.new parameters.old parameters.new }
@@ -137,7 +136,6 @@ pub extern "C" fn tfmset_header_text(
     text: &mut [u8],
     count: &mut usize,
 ) -> u32
-    ensures answers { result ≤ 4 }
     ensures font { IsAnswer (1 < which) font.now result }
     ensures told { IsListed (header_text_of (words_of font.now) which) result count.old count.new text.old text.new }
 {

@@ -5,7 +5,8 @@ ghost use Rattle.tfm_tables.specs.Acceptance.{font_fault_of};
 ghost use Rattle.tfmset_c.specs.Prepared.{IsTableTold};
 ghost use Rattle.tfmset_c.specs.Reading.{IsAnswer, IsDenial, IsNoSize, font_at};
 
-use crate::reading::{DONE, Denial, MOST_SIZE, NO_ROOM, RANGE, read_metrics};
+use crate::reading::{Denial, MOST_SIZE, RANGE, read_metrics};
+use caller_arrays::{DONE, NO_ROOM};
 use prepared_font::prepare;
 use std::alloc::{AllocError, Global};
 use tfm_tables::FontMetrics;
@@ -76,7 +77,6 @@ pub extern "C" fn tfmset_prepare(
     table: &mut [u8],
     count: &mut usize,
 ) -> u32
-    ensures answers { result ≤ 4 }
     ensures font { IsAnswer (IsNoSize size) font.now result }
     ensures told { IsTableTold (font_at font.now size) result count.old count.new table.old table.new }
     ensures kept { result ≢ 0 → table.new ≡ table.old }

@@ -1,4 +1,4 @@
-//! Reads the font of a call, and defines the codes that the functions return.
+//! Reads the font of a call, and defines the codes for other failures than a lack of room.
 ghost use Rattle.std.specs.Prelude.{◌≡◌, ◌≤◌, IfOk, IfErr};
 ghost use Rattle.tfmset_c.specs.Reading.{IsDenial, IsOpened, denial_number};
 
@@ -6,14 +6,10 @@ use std::alloc::Global;
 use tfm_tables::{Font, FontFault, FontMetrics};
 use tfm_words::Size;
 
-/// The call succeeded.
-pub const DONE: u32 = 0;
 /// The font is refused.
 pub const REFUSED: u32 = 1;
 /// An allocation failed.
 pub const MEMORY: u32 = 2;
-/// An array of the caller is too short.
-pub const NO_ROOM: u32 = 3;
 /// An argument is out of range.
 pub const RANGE: u32 = 4;
 

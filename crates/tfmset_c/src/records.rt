@@ -4,17 +4,17 @@ ghost use Rattle.line_records.specs.Cells.{style_of};
 ghost use Rattle.line_records.specs.Results.{IsResult};
 ghost use Rattle.line_records.specs.declared.record_format.RecordFormat.TheVariants.{Items};
 ghost use Rattle.set_line.specs.Returns.{lines_in};
-ghost use Rattle.tfmset_c.specs.Arrays.{AreRecordsTold, IsFilled};
+ghost use Rattle.caller_arrays.specs.Arrays.{IsFilled};
 ghost use Rattle.tfmset_c.specs.Options.{IsOutOfRange, call_limit_of, lines_at, result_within, terms_at};
 ghost use Rattle.tfmset_c.specs.Reading.{IsAnswer};
 ghost use Rattle.tfmset_c.specs.declared.records.Form.{Form as FormValue};
-ghost use Rattle.tfmset_c.specs.Records.{form_told, record_within, records_told, version_of};
+ghost use Rattle.tfmset_c.specs.Records.{AreRecordsTold, form_told, record_within, records_told, version_of};
 
-use crate::arrays::{has_room, put_bytes};
 use crate::encode::encoding_of;
 use crate::lines::steps_of;
 use crate::options::{Text, TfmsetOptions, terms_of};
-use crate::reading::{DONE, MEMORY, NO_ROOM, RANGE};
+use crate::reading::{MEMORY, RANGE};
+use caller_arrays::{DONE, NO_ROOM, has_room, put_list};
 use encodings::Encoding;
 use line_records::{LineResult, LineWriter, RecordFormat, RecordOf, SourceLine};
 use set_line::{
@@ -173,7 +173,7 @@ fn fill_records(
             NextLine { line, left },
             &mut made,
         )?;
-        at = put_bytes(records, at, &made);
+        at = put_list(records, at, &made);
         left = left.saturating_sub(u64::from(steps_of(result)));
         number += 1;
         is_first = false;
@@ -184,7 +184,7 @@ fn fill_records(
 
 /// Writes the records of a text into the array. Returns: 0 after success; 2 if an allocation fails, with
 /// `count` unchanged; 3 if the array is too short.
-#[tactic(auto, using(crate::proofs::ArrayLemmas::filled))]
+#[tactic(auto, using(caller_arrays::proofs::ArrayLemmas::filled))]
 fn write_records(
     alloc: Global,
     text: Text,
@@ -229,7 +229,6 @@ pub extern "C" fn tfmset_records(
     records: &mut [u8],
     count: &mut usize,
 ) -> u32
-    ensures answers { result ≤ 4 }
     ensures font { IsAnswer (IsOutOfRange options.now ⊎ ((form_told encoding.now form.now ≡ None)
         ⊎ (2 ^ 64 ≤ form.now.first + length text.now))) font.now result }
     ensures told { (read : FormValue) → form_told encoding.now form.now ≡ Some read

@@ -1,17 +1,19 @@
 //! `tfmset_spans` and `tfmset_span_items`: set spans of a text into arrays of the caller.
 ghost use Rattle.std.specs.Prelude.{◌≡◌, ◌≢◌, ◌≤◌, ◌⊎◌, [], true, false, IfErr, IfOk, map};
+ghost use Rattle.caller_arrays.specs.Arrays.{ArePut};
 ghost use Rattle.prepared_font.specs.Layout.{IsPreparedFrom};
 ghost use Rattle.tfm_tables.specs.Font.{FontValue};
-ghost use Rattle.tfmset_c.specs.Arrays.{ArePut};
+ghost use Rattle.tfmset_c.specs.Filling.{AreFilled, AreTold, wanted};
 ghost use Rattle.tfmset_c.specs.Prepared.{IsAnswerFor, IsGiven, IsNoFont, IsOpenFor};
-ghost use Rattle.tfmset_c.specs.Spans.{AreFilled, AreSpansTold, IsNoCall, items_at, items_told, job_terms, placed_told, span_items, span_within, spans_at, spans_told, wanted};
+ghost use Rattle.tfmset_c.specs.Spans.{IsNoCall, items_at, items_told, job_terms, placed_told, span_items, span_within, spans_at, spans_told};
 
-use crate::arrays::{has_room, put_one};
+use crate::filling::tell;
 use crate::lines::{TfmsetCounts, TfmsetLine};
 use crate::options::TfmsetOptions;
 use crate::preparing::table_of;
-use crate::reading::{DONE, MEMORY, NO_ROOM, RANGE};
+use crate::reading::RANGE;
 use crate::span::{TfmsetPlaced, TfmsetSpan, placed_for_c, settings_for, span_for, span_for_c};
+use caller_arrays::put_list;
 use prepared_font::PreparedFont;
 use set_line::{Limit, OutOfMemory};
 use spans::{PlacedItem, SpanOutcome, SpanRefusal, SpanSetter, place_span};
@@ -20,18 +22,12 @@ use std::alloc::Global;
 /// The spans of a call, and how they are set.
 #[derive(Clone, Copy)]
 pub struct SpanJob<'a> {
-    /// The table of the font.
-    pub font: &'a PreparedFont<'a>,
-    /// The bytes of the text.
-    pub text: &'a [u8],
-    /// The spans.
-    pub spans: &'a [TfmsetSpan],
-    /// The largest number of steps of a span.
-    pub limit: Limit,
-    /// The steps of all spans together after which no further span is set.
-    pub call_limit: u64,
-    /// Whether the items of the spans are wanted.
-    pub with_items: bool,
+    font: &'a PreparedFont<'a>,
+    text: &'a [u8],
+    spans: &'a [TfmsetSpan],
+    limit: Limit,
+    call_limit: u64,
+    with_items: bool,
 }
 
 /// The arguments of a call.
@@ -111,13 +107,13 @@ fn set_within(
 }
 
 /// Writes items, starting at index `first`, while there is room, and returns the index after all of them.
-#[tactic(auto, using(crate::proofs::ArrayLemmas::put_both))]
+#[tactic(auto, using(caller_arrays::proofs::ArrayLemmas::put_both))]
 fn put_all(items: &mut [TfmsetPlaced], first: usize, made: &[PlacedItem]) -> usize
     ensures { ArePut (map placed_told made.now) first result items.old items.new }
 {
     let mut at = first;
     for item in made {
-        at = put_one(items, at, placed_for_c(*item));
+        at = put_list(items, at, &[placed_for_c(*item)]);
     }
     at
 }
@@ -148,44 +144,13 @@ fn fill_spans(
     for span in job.spans {
         let line = set_within(&mut kept, job, left, counts.items, span)?;
         counts = TfmsetCounts {
-            lines: put_one(lines, counts.lines, line),
+            lines: put_list(lines, counts.lines, &[line]),
             items: counts.items.saturating_add(line.count),
         };
         placed = put_all(items, placed, &kept.items);
         left = left.saturating_sub(u64::from(line.steps));
     }
-    if job.with_items {
-        counts.items = placed;
-    }
     Ok((counts, placed))
-}
-
-/// Sets spans into the arrays. Returns: 0 after success; 2 if an allocation fails, with `counts` unchanged; 3 if an
-/// array is too short.
-#[tactic(auto, using(crate::proofs::ArrayLemmas::filled))]
-fn set_spans(
-    alloc: Global,
-    job: &SpanJob<'_>,
-    lines: &mut [TfmsetLine],
-    items: &mut [TfmsetPlaced],
-    counts: &mut TfmsetCounts,
-) -> u32
-    ensures answers { (result ≡ 0) ⊎ ((result ≡ 2) ⊎ (result ≡ 3)) }
-    ensures kept { result ≡ 2 → counts.new ≡ counts.old }
-    ensures told { (font : FontValue) → IsPreparedFrom font job.now.font.now → AreSpansTold job.now.with_items
-        (spans_told (job_terms font job.now.text.now job.now.limit) job.now.call_limit 0 job.now.spans.now)
-        (items_told (job_terms font job.now.text.now job.now.limit) job.now.spans.now
-        (spans_told (job_terms font job.now.text.now job.now.limit) job.now.call_limit 0 job.now.spans.now))
-        result counts.old counts.new lines.old lines.new items.old items.new }
-{
-    let Ok((told, placed)) = fill_spans(alloc, job, lines, items) else {
-        return MEMORY;
-    };
-    *counts = told;
-    if has_room(told.lines, lines.len()) && has_room(placed, items.len()) {
-        return DONE;
-    }
-    NO_ROOM
 }
 
 /// Opens the font of a call, and sets its spans.
@@ -198,7 +163,7 @@ fn run(
 ) -> u32
     ensures answers { result ≤ 4 }
     ensures font { IsAnswerFor (IsNoCall call.entry.options.now call.entry.spans.now) call.entry.options.now.size call.entry.font.now result }
-    ensures told { (value : FontValue) → IsGiven call.entry.font.now call.entry.options.now.size value → AreSpansTold call.entry.with_items
+    ensures told { (value : FontValue) → IsGiven call.entry.font.now call.entry.options.now.size value → AreTold call.entry.with_items
         (spans_at value call.entry.options.now call.entry.text.now call.entry.spans.now)
         (items_at value call.entry.options.now call.entry.text.now call.entry.spans.now)
         result counts.old counts.new lines.old lines.new items.old items.new }
@@ -219,7 +184,8 @@ fn run(
                 call_limit: settings.call_limit,
                 with_items: call.with_items,
             };
-            set_spans(alloc, &job, lines, items, counts)
+            let filled = fill_spans(alloc, &job, lines, items);
+            tell(filled, call.with_items, lines, items, counts)
         }
         Err(code) => code,
     }
@@ -242,7 +208,7 @@ pub extern "C" fn tfmset_spans(
 ) -> u32
     ensures answers { result ≤ 4 }
     ensures font { IsAnswerFor (IsNoCall options.now spans.now) options.now.size font.now result }
-    ensures told { (value : FontValue) → IsGiven font.now options.now.size value → AreSpansTold false
+    ensures told { (value : FontValue) → IsGiven font.now options.now.size value → AreTold false
         (spans_at value options.now text.now spans.now) (items_at value options.now text.now spans.now)
         result counts.old counts.new lines.old lines.new [] [] }
     ensures counts { result ≢ 0 → result ≢ 3 → counts.new ≡ counts.old }
@@ -273,7 +239,7 @@ pub extern "C" fn tfmset_span_items(
 ) -> u32
     ensures answers { result ≤ 4 }
     ensures font { IsAnswerFor (IsNoCall options.now spans.now) options.now.size font.now result }
-    ensures told { (value : FontValue) → IsGiven font.now options.now.size value → AreSpansTold true
+    ensures told { (value : FontValue) → IsGiven font.now options.now.size value → AreTold true
         (spans_at value options.now text.now spans.now) (items_at value options.now text.now spans.now)
         result counts.old counts.new lines.old lines.new items.old items.new }
     ensures counts { result ≢ 0 → result ≢ 3 → counts.new ≡ counts.old }

@@ -3,7 +3,7 @@ use Rattle.tfmset_c.proofs.EncodedLemmas.{bytes_filled, few_filled, no_fault, te
 use Rattle.tfmset_c.proofs.encode.fill.Goals as goal
 
 pub returns-in_default-clause-ok : goal.returns-in_default-clause-ok
-returns-in_default-clause-ok c = bytes_filled c.args.encoding c.args.text.now _ _ _ _ _ _ _ (search rules) c.put_bytes.ensures c.put_offsets.ensures
+returns-in_default-clause-ok c = bytes_filled c.args.encoding c.args.text.now _ _ _ _ _ _ _ (search rules) c.put_list.ensures c.put_offsets.ensures
 
 pub returns-in_default-clause-few : goal.returns-in_default-clause-few
 returns-in_default-clause-few c = few_filled c.args.encoding c.args.text.now _ _ _ _ _ _ _ _ (returns-in_default-clause-ok c) (search (rules, no_fault))

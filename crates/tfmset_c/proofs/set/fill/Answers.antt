@@ -1,23 +1,24 @@
-use Rattle.std.proofs.Common.{arith, ◌≡◌, ◌-◌}
-use Rattle.tfmset_c.specs.Options.{steps_of}
-use Rattle.tfmset_c.proofs.TextLemmas.{all_there, items_counted, items_more, line_more, no_items, no_outcomes, outcomes_first}
+use Rattle.std.proofs.Common.{arith, refl, ◌∙◌, ◌≡◌, ◌-◌}
+use Rattle.tfmset_c.specs.Options.{outcome_within, outcomes_of, steps_of}
+use Rattle.tfmset_c.specs.Texts.{items_told, lines_told}
+use Rattle.tfmset_c.proofs.FillingLemmas.{all_there, at_first}
+use Rattle.tfmset_c.proofs.TextLemmas.{line_more, no_items, no_lines}
 use Rattle.tfmset_c.proofs.set.fill.Goals as goal
 
-pub loop-line-preserved : goal.loop-line-preserved
-loop-line-preserved c =
-    let now = c.loop-line in
-    let of = c.result_of-result.ensures in
-    let fewer : c.saturating_sub-left.result ≡ now.left - steps_of c.in_ok-outcome.outcome = omega (arith, c.saturating_sub-left.ensures, c.from.ensures, c.steps_of.ensures.bytes _ of) in
-    let first = outcomes_first c.args.text.terms.now now.left c.saturating_sub-left.result _ _ _ c.in_ok-outcome.outcome c.in-Some.ensures.cut c.in_ok-outcome.ensures fewer in
-    let told = c.line_for_c.ensures _ of in
-    let item = items_more _ first c.put_items_in.ensures now.invariant.item in
+pub loop-bytes-init : goal.loop-bytes-init
+loop-bytes-init c = record { same = (refl, refl); under_way = at_first _ (λ n. lines_told n (outcomes_of c.args.text)) (λ _. items_told (outcomes_of c.args.text)) _ _ }
+
+pub loop-bytes-preserved : goal.loop-bytes-preserved
+loop-bytes-preserved c =
+    let now = c.loop-bytes in
+    let of = c.in_ok-result.ensures.result in
+    let fewer : c.saturating_sub-left.result ≡ now.left - steps_of (outcome_within c.args.text.terms.now now.left c.in-Some.bytes.now) = omega (arith, c.saturating_sub-left.ensures, c.from.ensures, c.steps_of.ensures.bytes _ of) in
     record {
-      line = line_more first (rw told at c.put_one.ensures) (items_counted _ first now.invariant.item item) now.invariant.line;
-      item = item;
+      same = (c.in_ok-result.ensures.kept.1 ∙ now.invariant.same.0, c.in_ok-result.ensures.kept.0 ∙ now.invariant.same.1);
+      under_way = line_more c.args.text.terms.now now.left c.saturating_sub-left.result c.in-Some.bytes.now _ c.in-Some.ensures.cut fewer (c.line_for_c-line.ensures _ of)
+          (rw now.invariant.same.0 at c.in_ok-result.ensures.items) c.put_list.ensures (omega (arith, c.saturating_add.ensures)) (rw c.deref.ensures.value at c.put_items-placed.ensures)
+          now.invariant.under_way;
     }
 
-pub returns-clause-lines : goal.returns-clause-lines
-returns-clause-lines c = (all_there (no_outcomes c.args.text.terms.now c.loop-line.left _ c.in_default.ensures.cut) c.loop-line.invariant.line).0
-
-pub returns-clause-items : goal.returns-clause-items
-returns-clause-items c = rw (no_items _ (no_outcomes c.args.text.terms.now c.loop-line.left _ c.in_default.ensures.cut)) at c.loop-line.invariant.item
+pub returns : goal.returns
+returns c = all_there (λ n. no_lines c.args.text.terms.now _ n _ c.in_default.ensures.cut) (no_items c.args.text.terms.now _ _ c.in_default.ensures.cut) c.loop-bytes.invariant.under_way

@@ -1,9 +1,7 @@
-use Rattle.tfmset_c.proofs.TextLemmas.{answered, outcomes_are}
+use Rattle.std.proofs.Common.{refl}
 use Rattle.tfmset_c.proofs.set.tfmset_widths.Goals as goal
 
-pub returns-in-Ok-clause-font : goal.returns-in-Ok-clause-font
-returns-in-Ok-clause-font c = answered _ _ _ c.in-Some.ensures.1 c.in-Ok.ensures.ok.accepted c.set_widths.ensures.answers
-
-pub returns-in-Ok-clause-told : goal.returns-in-Ok-clause-told
-returns-in-Ok-clause-told c =
-    rw (outcomes_are c.args.font.now c.args.text.now c.args.options.now _ _ c.in-Some.ensures.0 c.in-Ok.ensures.ok) at c.set_widths.ensures.told
+pub returns-clause-told : goal.returns-clause-told
+returns-clause-told c =
+    let set = c.run.ensures.told in
+    record { written = λ done. ((set.written done).0, refl); untouched = λ answer. ((set.untouched answer).0, refl); counted = set.counted; room = set.room; no_room = set.no_room; kept = set.kept }

@@ -1,11 +1,9 @@
 -- An array is filled from its front.
-use Rattle.std.proofs.Common.{◌≡◌, ℕ, ◌+◌, ◌-◌, ◌^◌, ◌<◌, ◌≤◌, List, [], ◌∷◌, ◌++◌, length, take, drop, min, arith, refl, ap, sym, ◌∙◌, append_assoc, append-nil, length-append, set, subst}
+use Rattle.std.proofs.Common.{◌≡◌, ℕ, ◌+◌, ◌-◌, ◌^◌, ◌<◌, ◌≤◌, List, [], ◌++◌, length, take, drop, min, arith, refl, ap, sym, ◌∙◌, append_assoc, append-nil, length-append, subst}
 use Rattle.std.proofs.lemmas.Slice.{drop-put_mid, take-put_mid}
 use borrow.Rule.Slice.PartMut.{put_mid}
-use Rattle.std.proofs.lemmas.Grind.{take-set_at}
-use Rattle.std.proofs.lemmas.List.{drop-drop, drop-set-lt, length-set, take-append-drop}
-use Rattle.tfmset_c.specs.Arrays.{ArePut, HasRoom, IsFilled, IsPartly}
-use Rattle.tfmset_c.specs.Texts.{held}
+use Rattle.std.proofs.lemmas.List.{drop-drop, take-append-drop}
+use Rattle.caller_arrays.specs.Arrays.{ArePut, HasRoom, IsFilled, IsPartly, held}
 
 -- things that were put at a place, if there was room, are put
 pub put_many : {T : Type 0} (xs now after : List T) (at at' : ℕ) → at' ≡ min (at + length xs) (2 ^ 64 - 1)
@@ -47,21 +45,13 @@ put_part xs now after made at at' k next is same many fits long =
     (λ _. ap (take (at + length xs)) is ∙ take-put_mid at k now made _ (omega arith) (omega arith) ∙ ap (λ ys. take at now ++ ys) same)
     (λ _. ap (drop (at + length xs)) is ∙ drop-put_mid at k now made _ (omega arith) (omega arith) (omega arith))
 
--- a thing that was set at its place is put
-pub put_set : {T : Type 0} (x : T) (now after : List T) (at at' : ℕ) → at' ≡ min (at + 1) (2 ^ 64 - 1) → at < length now
-    → after ≡ set now at x → ArePut (x ∷ []) at at' now after
-put_set x now after at at' next within is =
-    put_many (x ∷ []) now after at at' next (ap length is ∙ length-set now at x)
-    (λ _. ap (λ ys. take (at + 1) ys) is ∙ take-set_at now at (at + 1) x refl within)
-    (λ _. ap (λ ys. drop (at + 1) ys) is ∙ drop-set-lt (at + 1) now at x (omega arith))
-
 -- without a place nothing is to be seen
 pub put_past : {T : Type 0} (xs now after : List T) (at at' : ℕ) → at' ≡ min (at + length xs) (2 ^ 64 - 1) → length now < at + length xs
     → after ≡ now → ArePut xs at at' now after
 put_past xs now after at at' next past is =
     put_many xs now after at at' next (ap length is) (λ fits. absurd (omega (arith, fits, past))) (λ fits. absurd (omega (arith, fits, past)))
 
-pub ruleset puts = (put_set, put_part, put_past)
+pub ruleset puts = (put_part, put_past)
 
 -- some things are put, and then others
 pub put_both : {T : Type 0} (xs ys all first second third : List T) (at at' at'' : ℕ) → ArePut xs at at' first second → ArePut ys at' at'' second third

@@ -1,11 +1,10 @@
 -- Arrays of the caller, which are filled from the front.
 -- This project's own.
-use Rattle.std.specs.Prelude.{◌≡◌, ◌≢◌, ◌⊎◌, ℕ, ◌+◌, ◌-◌, ◌^◌, ◌<◌, ◌≤◌, List, [], ◌++◌, length, take, drop}
-use Rattle.set_line.specs.declared.outcome.Outcome.{Outcome}
-use Rattle.tfmset_c.specs.Texts.{counts_told, held, items_told, lines_told}
-use Rattle.tfmset_c.specs.declared.lines.TfmsetCounts.{TfmsetCounts}
-use Rattle.tfmset_c.specs.declared.lines.TfmsetItem.{TfmsetItem}
-use Rattle.tfmset_c.specs.declared.lines.TfmsetLine.{TfmsetLine}
+use Rattle.std.specs.Prelude.{◌≡◌, ◌≢◌, ◌⊎◌, ℕ, ◌+◌, ◌-◌, ◌^◌, ◌<◌, ◌≤◌, List, [], ◌++◌, length, min, take, drop}
+
+-- a number as the caller gets it; 2^64 - 1 also means any larger number
+abbrev pub held : ℕ → ℕ
+held n = min n (2 ^ 64 - 1)
 
 -- this many elements fit into an array of this length; the count 2^64 - 1 never fits, because it may mean a
 -- larger number
@@ -26,25 +25,6 @@ pub record HasEffect {C : Type 0} (HaveRoom AreIn AreKept : Type 0) (told : C) (
   pub written : answer ≡ 0 → AreIn
   pub kept : answer ≢ 0 → answer ≢ 3 → count ≡ before
   pub untouched : (answer ≡ 1) ⊎ (answer ≡ 4) → AreKept
-
--- the effect of a call that sets a text: the arrays have all lines and items, and the counts are their numbers
-abbrev pub AreTold : List Outcome → ℕ → TfmsetCounts → TfmsetCounts → List TfmsetLine → List TfmsetLine → List TfmsetItem → List TfmsetItem → Type 0
-AreTold outcomes answer counts_before counts lines_before lines items_before items =
-    HasEffect (HasRoom (length (lines_told 0 outcomes)) (length lines_before) × HasRoom (length (items_told outcomes)) (length items_before))
-    (IsOverlaid (lines_told 0 outcomes) lines_before lines × IsOverlaid (items_told outcomes) items_before items)
-    ((lines ≡ lines_before) × (items ≡ items_before)) (counts_told outcomes) answer counts_before counts
-
--- the same for the lines alone
-abbrev pub AreLinesTold : List Outcome → ℕ → TfmsetCounts → TfmsetCounts → List TfmsetLine → List TfmsetLine → Type 0
-AreLinesTold outcomes answer counts_before counts before lines =
-    HasEffect (HasRoom (length (lines_told 0 outcomes)) (length before)) (IsOverlaid (lines_told 0 outcomes) before lines)
-    (lines ≡ before) (counts_told outcomes) answer counts_before counts
-
--- the same for records; the count is their number of bytes
-abbrev pub AreRecordsTold : List ℕ → ℕ → ℕ → ℕ → List ℕ → List ℕ → Type 0
-AreRecordsTold told answer count_before count before records =
-    HasEffect (HasRoom (length told) (length before)) (IsOverlaid told before records)
-    (records ≡ before) (held (length told)) answer count_before count
 
 -- the effect of a call that reports a list: after 0 the list is at the front of the array, and after any other code the
 -- array is unchanged; after 0 and 3 the count is the length of the list, and after any other code it is unchanged
@@ -74,10 +54,3 @@ IsFilled told count before after = IsPartly told [] count before after
 -- these elements were written into an array, in order
 pub record ArePut {T : Type 0} (put : List T) (at at' : ℕ) (now now' : List T) : Type 0 where
   pub further : (told to_come before : List T) → IsPartly told (put ++ to_come) at before now → IsPartly told to_come at' before now'
-
--- an array contains the first lines, their items are counted, and the other lines are still to be written
-pub record IsUnderWay (all to_come : List Outcome) (counts : TfmsetCounts) (before lines : List TfmsetLine) : Type 0 where
-  pub items : ℕ
-  pub held_items : counts.items ≡ held items
-  pub counted : items + length (items_told to_come) ≡ length (items_told all)
-  pub line : IsPartly (lines_told 0 all) (lines_told items to_come) counts.lines before lines
