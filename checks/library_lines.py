@@ -318,7 +318,7 @@ class Module(LinesCase):
 
     def test_arguments_out_of_range(self):
         """A number out of its range, or a refused font, leaves the arrays and the last argument unchanged."""
-        data, most = sample("demo"), (1 << 64) - 1
+        data, most, vector = sample("demo"), (1 << 64) - 1, b"/V[" + b"/a" * 256 + b"]def"
         for name in ("set", "widths", "records"):
             for settings in CASES["out_of_range"]["settings"]:
                 self.call((RANGE, True), name, data, settings)
@@ -328,9 +328,10 @@ class Module(LinesCase):
             self.call((RANGE, True), "records", data, (0, 9, 0, 0), Form(most, first, version))
         for first in (0, most - 5):
             self.call((DONE, False), "records", data, (0, 9, 0, 0), Form(most, first, 1))
-        for encoding in (b"Ot1", b"t1\0", b"utf-8", b"\xff"):
+        for encoding in (b"Ot1", b"t1\0", b"utf-8", b"\xff", vector[:-3], b"/g" + vector):
             self.call((RANGE, True), "records", data, (0, 9, 0, 0), encoding=encoding)
-        self.call((DONE, False), "records", data, (0, 9, 0, 0), encoding=b"")
+        for encoding in (b"", vector):
+            self.call((DONE, False), "records", data, (0, 9, 0, 0), encoding=encoding)
 
     def call(self, wanted, name, data, settings, form=Form(1, 1, 1), encoding=b"latin1"):
         """Compares the return code of a call, and whether its arrays and its last argument are unchanged."""

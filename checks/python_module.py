@@ -138,12 +138,13 @@ for call in (lambda: tfmset.Font(data, 0), lambda: tfmset.Font(data, 1 << 27), l
              lambda: tfmset.Font("x.tfm"), lambda: font.metrics(256), lambda: font.metrics(-1), lambda: font.pair(257, 1),
              lambda: font.pair(1, 257), lambda: font.set(b"", 0), lambda: font.set(b"", 16777217),
              lambda: font.set("x"), lambda: font.set(b"", missing="drop"), lambda: font.set(b"x", encoding="t1"),
-             lambda: font.set("x", encoding="Ot1"), lambda: font.set("x", encoding=1),
+             lambda: font.set("x", encoding="Ot1"), lambda: font.set("x", encoding=1), lambda: font.set("x", encoding=b"t1"),
              lambda: font.records(b"", version=4), lambda: font.records(b"", source=-1),
              lambda: font.records(b"abc", first_line=1 << 64), lambda: font.set(b"x")[1],
              lambda: font.spans("ox", []), lambda: font.spans(b"ox", [(0, -1)]), lambda: font.spans(b"", [], 0),
              lambda: font.span_items(b"ox", [(0, 1, True, True, 256)]), lambda: font.set(b"", call_limit=0),
              lambda: tfmset.encode("5 €", "t1"), lambda: tfmset.encode("a\\ud800", "ot1"), lambda: tfmset.encode("naïve", "ot1"), lambda: tfmset.encode("\\U0001f600", "t1"),
+             lambda: tfmset.encode("ab", b"/V[" + b"/a" * 256 + b"]def"),
              lambda: tfmset.Font(data[:9])):
     try:
         print("accepted", call())
@@ -162,8 +163,9 @@ ValueError: limit is 16777217, but must be from 1 to 16,777,216
 TypeError: text must be bytes: a str needs the encoding of the font, as encoding='t1'
 ValueError: missing is 'drop', but must be 'refuse' or 'skip'
 TypeError: text must be a str, since an encoding is given
-ValueError: encoding is 'Ot1', but must be one of 'ot1', 't1', 'ly1', 'latin1'
-TypeError: encoding must be a str
+ValueError: encoding is 'Ot1', but must be one of 'ot1', 't1', 'ly1', 'latin1', or the bytes of an encoding vector (a file .enc)
+TypeError: encoding must be a str, or the bytes of an encoding vector
+ValueError: encoding is bytes, but not those of an encoding vector (a file .enc); a name is a str: one of 'ot1', 't1', 'ly1', 'latin1'
 ValueError: version is 4, but must be from 1 to 3
 ValueError: source is -1, but must be from 0 to 18,446,744,073,709,551,615
 ValueError: first_line is 18446744073709551616, but must be from 0 to 18,446,744,073,709,551,612
@@ -177,6 +179,7 @@ EncodingError: no code in t1 for U+20AC at index 2
 EncodingError: no code in ot1 for U+D800 at index 1
 EncodingError: no code in ot1 for U+00EF at index 2
 EncodingError: no code in t1 for U+1F600 at index 0
+EncodingError: no code in vector for U+0062 at index 1
 FontRefused: 1 truncated, 24 bytes needed
 """),
     ("Items stay after their lines are gone", """

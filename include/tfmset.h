@@ -64,8 +64,8 @@ extern "C" {
 #define TFMSET_OUT_OF_MEMORY 2u
 /* An array is too short. The last argument contains the lengths that are needed. */
 #define TFMSET_NO_ROOM 3u
-/* A number is out of its range, a text isn't a size, or a name isn't that of an encoding. Nothing has
- * changed. */
+/* A number is out of its range, a text isn't a size, or `encoding` is neither a name nor an encoding vector.
+ * Nothing has changed. */
 #define TFMSET_OUT_OF_RANGE 4u
 /* tfmset_encode: the text isn't UTF-8. */
 #define TFMSET_NOT_UTF8 5u
@@ -100,8 +100,9 @@ struct tfmset_encoded {
 /* Turns a text in UTF-8 into the codes of a font, which are the text for the functions that set lines and
  * spans. `encoding` is the name of the font's encoding, which needs no zero byte at its end: "ot1" (that of
  * cmr10), "t1" (ecrm1000), "ly1", "latin1", or the same in capitals, or "bytes", with which the text may be
- * any bytes, and is copied. The codes of a character are those by which LaTeX sets it. Most characters have
- * one code, some have two or three, and the soft hyphen has none: the codes before and after it are adjacent.
+ * any bytes, and is copied. Or it is an encoding vector of dvips, the contents of a file .enc, which each call
+ * reads again. The codes of a character are those by which LaTeX sets it. Most characters have one code, some
+ * have two or three, and the soft hyphen has none: the codes before and after it are adjacent.
  * A character without codes is one that isn't in the encoding, or that LaTeX takes from another font or puts
  * together from an accent and a letter. It is left out. Line feeds are kept. A byte order mark at the front
  * of the text is left out.
@@ -113,7 +114,7 @@ struct tfmset_encoded {
  * TFMSET_DONE: the arrays have their elements at the front, and their other elements are unchanged.
  * TFMSET_NO_ROOM: an array is too short. `encoded` has the lengths that are needed: `count` of `codes` and of
  *     `offsets`, and `uncoded` of `uncoded`. The contents of the arrays are unspecified.
- * TFMSET_OUT_OF_RANGE: no encoding has this name. Nothing has changed.
+ * TFMSET_OUT_OF_RANGE: `encoding` is neither a name nor a vector. Nothing has changed.
  * TFMSET_NOT_UTF8: the text isn't UTF-8. The arrays are unchanged. */
 uint32_t tfmset_encode(const uint8_t *encoding, size_t encoding_length, const uint8_t *text,
                        size_t text_length, uint8_t *codes, size_t codes_length, size_t *offsets,
@@ -316,11 +317,11 @@ struct tfmset_form {
  * `records` are unspecified. TFMSET_OUT_OF_RANGE is also returned if the sum of `form->first` and
  * `text_length` is 2^64 or more.
  *
- * `encoding` is empty or "bytes" if the bytes of the text are codes. For a text in UTF-8 it is the name of
- * the font's encoding, as for tfmset_encode. Lengths and offsets in the records then count bytes of the line
- * in UTF-8, and a byte order mark at the front of the text is left out. A line that isn't UTF-8 is refused,
- * and a character without codes refuses the line or is an item, by the policy. docs/OUTPUT.md in the sources
- * describes records. */
+ * `encoding` is empty or "bytes" if the bytes of the text are codes. For a text in UTF-8 it is the name or
+ * the vector of the font's encoding, as for tfmset_encode. Lengths and offsets in the records then count bytes
+ * of the line in UTF-8, and a byte order mark at the front of the text is left out. A line that isn't UTF-8 is
+ * refused, and a character without codes refuses the line or is an item, by the policy. docs/OUTPUT.md in the
+ * sources describes records. */
 uint32_t tfmset_records(const uint8_t *font, size_t font_length, const struct tfmset_options *options,
                         const uint8_t *encoding, size_t encoding_length, const uint8_t *text,
                         size_t text_length, const struct tfmset_form *form, uint8_t *records,

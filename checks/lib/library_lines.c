@@ -235,10 +235,22 @@ static struct output records_with(uint32_t version, size_t length)
     return records_as(NULL, version, length);
 }
 
-/* With the encoding `bytes`, and of printable ASCII with Latin 1, the records are those without an encoding. */
+/* An encoding vector in which each code has the character with its number. */
+static char vector[4096];
+
+static void make_vector(void)
+{
+    int code, at = sprintf(vector, "/Numbers [");
+    for (code = 0; code < 256; code++)
+        at += sprintf(vector + at, "/uni%04X", code);
+    sprintf(vector + at, "] def");
+}
+
+/* With the encoding `bytes`, and of printable ASCII with Latin 1 and with the vector, the records are those without an
+ * encoding. */
 static struct output encoded_records_with(uint32_t version, size_t length)
 {
-    const char *encoding = "latin1";
+    const char *encoding = version == 1 ? "latin1" : vector;
     size_t i;
     for (i = 0; i < text.length; i++)
         if (text.bytes[i] != '\n' && (text.bytes[i] < 32 || text.bytes[i] > 126))
@@ -638,14 +650,18 @@ static void check_memory(const struct expected *expected)
         parameters_reports_failure, pairs_reports_failure, header_text_reports_failure, fault_text_reports_failure,
         refusal_text_reports_failure, spans_reports_failure, span_items_reports_failure, prepared_spans_reports_failure,
         prepare_reports_failure};
-    const uint8_t *name = (const uint8_t *)"t1", *accented = (const uint8_t *)"\303\244a";
+    const uint8_t *accented = (const uint8_t *)"\303\244a";
+    const char *const encodings[] = {"t1", vector};
     struct tfmset_encoded encoded;
     uint32_t points = 0;
     uint8_t codes[3];
     size_t call;
+    granted = 0;
     must(CALLED(size, ((const uint8_t *)"12pt", 4, &points)) == TFMSET_DONE && points == 786432, "a size is read");
-    must(CALLED(encode, (name, 2, accented, 3, codes, 3, NULL, 0, NULL, 0, &encoded)) == TFMSET_DONE && encoded.count == 2
-         && codes[0] == 228 && codes[1] == 'a', "a text is encoded");
+    for (call = 0; call < 2; call++)
+        must(CALLED(encode, ((const uint8_t *)encodings[call], strlen(encodings[call]), accented, 3, codes, 3, NULL, 0,
+                             NULL, 0, &encoded)) == TFMSET_DONE
+             && encoded.count == 2 && codes[0] == 228 && codes[1] == 'a', "a text is encoded without memory");
     for (call = 0; call < sizeof calls / sizeof *calls; call++) {
         for (all_fail = 0; all_fail < 2; all_fail++) {
             long turn, reported;
@@ -705,6 +721,7 @@ int main(int count, char **arguments)
     options.limit = (uint32_t)strtoul(arguments[3], NULL, 10);
     options.policy = (uint32_t)strtoul(arguments[4], NULL, 10);
     text = file_of(arguments[5]);
+    make_vector();
 
     whole = whole_set();
     spans = whole_spans();

@@ -20,7 +20,8 @@ enum { ROOM = 1 << 20, LINES = 1 << 16, PATTERN = 0xA5, STACK = 1 << 20 };
 #define NAME (const uint8_t *)encodings[at.encoding], strlen(encodings[at.encoding])
 
 static uint8_t font[131068], text[ROOM], bytes[32 * ROOM];
-static const char *const encodings[] = {"t1", "bytes", "ot1", "ly1", "latin1"};
+static char vector[4096] = "/Numbers [";
+static const char *const encodings[] = {"t1", "bytes", "ot1", "ly1", "latin1", vector};
 static size_t font_length, text_length;
 static const char *only;
 static struct tfmset_line lines[LINES];
@@ -80,7 +81,7 @@ static const struct tfmset_options *span_options_at(uint32_t size)
 #define CALL(name, arguments) CALLS(name, 1, 1, arguments)
 CALL(version, (tfmset_version() == TFMSET_VERSION ? TFMSET_DONE : TFMSET_OUT_OF_RANGE))
 CALL(size, tfmset_size((const uint8_t *)"10.95pt", 7, &out.size))
-CALLS(encode, 5, 1, tfmset_encode(NAME, text, text_length, bytes, sizeof bytes, NULL, 0, uncoded, LINES, &out.encoded))
+CALLS(encode, 6, 1, tfmset_encode(NAME, text, text_length, bytes, sizeof bytes, NULL, 0, uncoded, LINES, &out.encoded))
 CALL(check, tfmset_check(FONT, &out.fault))
 CALL(fault_text, tfmset_fault_text(FONT, bytes, sizeof bytes, &out.length))
 CALL(font, tfmset_font(FONT, at.size, &out.about))
@@ -90,7 +91,7 @@ CALL(pairs, tfmset_pairs(FONT, at.size, pairs, 66049, &out.length))
 CALL(header_text, tfmset_header_text(FONT, TFMSET_FAMILY, bytes, sizeof bytes, &out.length))
 CALL(set, tfmset_set(SETTINGS, text, text_length, lines, LINES, items, 2 * ROOM, &out.counts))
 CALL(widths, tfmset_widths(SETTINGS, text, text_length, lines, LINES, &out.counts))
-CALLS(records, 5, 3, tfmset_records(SETTINGS, NAME, text, text_length, &forms[at.version - 1], bytes, sizeof bytes,
+CALLS(records, 6, 3, tfmset_records(SETTINGS, NAME, text, text_length, &forms[at.version - 1], bytes, sizeof bytes,
                                     &out.length))
 CALL(prepare, tfmset_prepare(FONT, at.size, bytes, sizeof bytes, &out.length))
 CALL(spans, tfmset_spans(SPANS, lines, LINES, &out.counts))
@@ -131,8 +132,13 @@ static void measure(const char *name, void *(*call)(void *))
 
 int main(int count, char **arguments)
 {
+    int code, at = (int)strlen(vector);
     if (count < 3)
         return 2;
+    /* An encoding vector in which each code has the character with its number. */
+    for (code = 0; code < 256; code++)
+        at += sprintf(vector + at, "/uni%04X", code);
+    strcpy(vector + at, "] def");
     font_length = length_of(arguments[1], font, sizeof font);
     text_length = length_of(arguments[2], text, sizeof text);
     only = count > 3 ? arguments[3] : NULL;

@@ -18,7 +18,8 @@ scaled points (sp); 65,536 sp are one TeX point, and 72.27 TeX points are one in
     >>> font.widths(b"office\\nbox")
     [1468004, 1025637]
 
-`encode` turns a str into the codes of a font. `ENCODINGS` are the names of the encodings.
+`encode` turns a str into the codes of a font. `ENCODINGS` are the names of the encodings. For a font with
+another encoding, `encoding` is the bytes of an encoding vector: the contents of a file `.enc` of dvips.
 
 `Font.spans` and `Font.span_items` set parts of a text, such as words, without a call for each.
 
@@ -80,6 +81,7 @@ ENCODINGS = ("ot1", "t1", "ly1", "latin1")
 
 Size = Union[None, int, str]
 Text = Union[bytes, bytearray, memoryview]
+Encoding = Union[str, Text]
 
 _LARGEST_SIZE, _LARGEST_LIMIT = 134_217_727, 16_777_216
 _PARAMETERS = ("slant", "space", "stretch", "shrink", "x_height", "quad", "extra_space")
@@ -116,8 +118,8 @@ class Item(ctypes.Structure):
 class EncodingError(ValueError):
     """Raised for a character that has no codes in an encoding.
 
-    `encoding` is the name of the encoding, `place` the index of the character in the text, and `character`
-    the character.
+    `encoding` is the name of the encoding, which is 'vector' for an encoding vector, `place` the index of the
+    character in the text, and `character` the character.
 
     >>> encode("5 €", "t1")
     Traceback (most recent call last):
@@ -139,22 +141,45 @@ def _string(text: object) -> str:
     return text
 
 
-def _utf8(text: object, encoding: str) -> bytes:
+class _Stated(NamedTuple):
+    """The name of an encoding, which is 'vector' for a vector, and the name or the vector for the library."""
+
+    name: str
+    content: bytes
+
+
+def _utf8(text: object, encoding: _Stated) -> bytes:
     """Returns a text in UTF-8. Raises TypeError if it isn't a str, and EncodingError for a lone surrogate."""
     text = _string(text)
     try:
         return str.encode(text, "utf-8")
     except UnicodeEncodeError as error:
-        raise EncodingError(encoding, error.start, text[error.start]) from None
+        raise EncodingError(encoding.name, error.start, text[error.start]) from None
 
 
-def _named(encoding: str) -> bytes:
-    """Returns the name of an encoding as the library expects it."""
+@functools.lru_cache(maxsize=8)
+def _is_vector(content: bytes) -> bool:
+    """Returns whether these bytes are an encoding vector. Its 256 names have two characters each, or more; the
+    library takes short bytes such as b't1' for the name of an encoding."""
+    return len(content) > 512 and _library.tfmset_encode(
+        content, len(content), b"", 0, None, 0, None, 0, None, 0, ctypes.byref(_Encoded())) == _DONE
+
+
+def _stated(encoding: Encoding) -> _Stated:
+    """Returns an encoding as the library expects it."""
+    names = ", ".join(map(repr, ENCODINGS))
+    if isinstance(encoding, (bytes, bytearray, memoryview)):
+        content = _bytes("encoding", encoding)
+        if not _is_vector(content):
+            raise ValueError("encoding is bytes, but not those of an encoding vector (a file .enc); a name is a "
+                             f"str: one of {names}")
+        return _Stated("vector", content)
     if not isinstance(encoding, str):
-        raise TypeError("encoding must be a str")
+        raise TypeError("encoding must be a str, or the bytes of an encoding vector")
     if encoding not in ENCODINGS and encoding not in map(str.upper, ENCODINGS):
-        raise ValueError(f"encoding is {encoding!r}, but must be one of {', '.join(map(repr, ENCODINGS))}")
-    return str.encode(encoding, "ascii", "replace")
+        raise ValueError(f"encoding is {encoding!r}, but must be one of {names}, or the bytes of an encoding "
+                         "vector (a file .enc)")
+    return _Stated(encoding, str.encode(encoding, "ascii", "replace"))
 
 
 def _skips(missing: str) -> bool:
@@ -164,10 +189,10 @@ def _skips(missing: str) -> bool:
     return missing == "skip"
 
 
-def _encoded(text: str, encoding: str, skips: bool, with_offsets: bool = False) -> Tuple[bytes, Any]:
+def _encoded(text: str, encoding: _Stated, skips: bool, with_offsets: bool = False) -> Tuple[bytes, Any]:
     """Returns the codes of a text and, with `with_offsets`, an array with the offset in UTF-8 of the
     character of each code. Raises EncodingError for a character without codes, unless `skips`."""
-    name, content = _named(encoding), _utf8(text, encoding)
+    name, content = encoding.content, _utf8(text, encoding)
     length, encoded, room, code = len(content), _Encoded(), 16, _NO_ROOM
     # A character has at most as many codes as bytes, and therefore these two arrays are always long enough.
     codes, offsets = ctypes.create_string_buffer(max(length, 1)), (_size_t * (length * with_offsets))()
@@ -180,28 +205,29 @@ def _encoded(text: str, encoding: str, skips: bool, with_offsets: bool = False) 
         raise ValueError("an argument is out of range")
     if room and not skips:
         place = len(content[:uncoded[0].offset].decode("utf-8"))
-        raise EncodingError(encoding, place, chr(uncoded[0].character))
+        raise EncodingError(encoding.name, place, chr(uncoded[0].character))
     return _front(codes, encoded.count), offsets
 
 
-def encode(text: str, encoding: str, missing: str = "refuse") -> bytes:
+def encode(text: str, encoding: Encoding, missing: str = "refuse") -> bytes:
     """Returns the codes that the characters of a text have in a font, as LaTeX sets them.
 
-    `encoding` is one of ENCODINGS, or the same in capitals. Most characters have one code, some have two or
-    three, and the soft hyphen has none: the codes before and after it are adjacent. Line feeds are kept, and
-    a byte order mark (U+FEFF) at the front of the text is left out.
+    `encoding` is one of ENCODINGS, or the same in capitals, or the bytes of an encoding vector. Most
+    characters have one code, some have two or three, and the soft hyphen has none: the codes before and after
+    it are adjacent. Line feeds are kept, and a byte order mark (U+FEFF) at the front of the text is left out.
 
     Some characters have no codes: those that aren't in the encoding, and those that LaTeX takes from another
     font or puts together from an accent and a letter. With `missing="refuse"` the first of them raises
     EncodingError, and with `missing="skip"` they are left out. Raises ValueError for any other name of an
-    encoding or value of `missing`, and TypeError if an argument isn't a str.
+    encoding or value of `missing`, and for bytes that aren't an encoding vector; and TypeError if an argument
+    has another type.
 
     >>> encode("Straße – “naïve”", "t1")
     b'Stra\\xffe \\x15 \\x10na\\xefve\\x11'
     >>> encode("¿“Qué?”", "latin1", missing="skip")
     b'\\xbfQu\\xe9?'
     """
-    return _encoded(text, encoding, _skips(missing))[0]
+    return _encoded(text, _stated(encoding), _skips(missing))[0]
 
 
 class FontRefused(ValueError):
@@ -339,7 +365,7 @@ _REASONS = tuple(map(_reason, range(5)))
 class _Source:
     """A text of the caller, from which indices of characters are computed."""
 
-    def __init__(self, text: str, encoding: str) -> None:
+    def __init__(self, text: str, encoding: _Stated) -> None:
         self._text, self._encoding = text, encoding
 
     @functools.cached_property
@@ -717,7 +743,7 @@ class Font:
         steps = 0 if call_limit is None else _number("call_limit", call_limit, 1, 2**64 - 1)
         return _Options(steps, self._font[2], limit, policy, int(crlf))
 
-    def _lines(self, text: Union[Text, str], options: _Options, encoding: Optional[str],
+    def _lines(self, text: Union[Text, str], options: _Options, encoding: Optional[Encoding],
                with_items: bool) -> Lines:
         """Returns the results of the lines of a text, with or without their items."""
         arguments, source = (*self._font[:2], ctypes.byref(options)), None
@@ -726,7 +752,8 @@ class Font:
         else:
             # A carriage return has no codes in most encodings.
             text = str.replace(_string(text), "\r\n", "\n") if options.crlf else _string(text)
-            content, source = _encoded(text, encoding, bool(options.policy))[0], _Source(text, encoding)
+            stated = _stated(encoding)
+            content, source = _encoded(text, stated, bool(options.policy))[0], _Source(text, stated)
         function = _library.tfmset_set if with_items else _library.tfmset_widths
         # The text has at most this many lines. The number of items is an estimate.
         room = len(content) + len(content) // 8 + 16 if with_items else 0
@@ -752,11 +779,11 @@ class Font:
             call_limit: Optional[int] = None) -> Lines: ...
 
     @overload
-    def set(self, text: str, limit: int = 1_048_576, missing: str = "refuse", *, encoding: str,
+    def set(self, text: str, limit: int = 1_048_576, missing: str = "refuse", *, encoding: Encoding,
             crlf: bool = False, call_limit: Optional[int] = None) -> Lines: ...
 
     def set(self, text: Union[Text, str], limit: int = 1_048_576, missing: str = "refuse", *,
-            encoding: Optional[str] = None, crlf: bool = False, call_limit: Optional[int] = None) -> Lines:
+            encoding: Optional[Encoding] = None, crlf: bool = False, call_limit: Optional[int] = None) -> Lines:
         """Sets the lines of a text and returns their results, with the items of each line.
 
         A line that takes more than `limit` steps is refused; `limit` is from 1 to 16,777,216. A missing
@@ -765,11 +792,11 @@ class Font:
         kind SKIPPED.
 
         `text` is bytes, which are codes of the font; or a str, with `encoding`, the encoding of the font: one
-        of ENCODINGS. The codes of a str are those that `encode` returns. The codes before and after a soft
-        hyphen are therefore adjacent, and can have a kern or a ligature, unlike in `records`. A character
-        without codes raises EncodingError. With `missing="skip"` it is left out and has no item, and the
-        codes before and after it are adjacent. If a line of a str has a missing character, `place` in its
-        refusal is the index of the character in the line.
+        of ENCODINGS, or the bytes of an encoding vector. The codes of a str are those that `encode` returns.
+        The codes before and after a soft hyphen are therefore adjacent, and can have a kern or a ligature,
+        unlike in `records`. A character without codes raises EncodingError. With `missing="skip"` it is left
+        out and has no item, and the codes before and after it are adjacent. If a line of a str has a missing
+        character, `place` in its refusal is the index of the character in the line.
 
         With `crlf=True` one carriage return before a line feed belongs to the line ending. In the `place` of
         an EncodingError, the carriage return and the line feed then count as one character. Once the lines
@@ -795,11 +822,11 @@ class Font:
                call_limit: Optional[int] = None) -> List[Union[int, Refusal]]: ...
 
     @overload
-    def widths(self, text: str, limit: int = 1_048_576, missing: str = "refuse", *, encoding: str,
+    def widths(self, text: str, limit: int = 1_048_576, missing: str = "refuse", *, encoding: Encoding,
                crlf: bool = False, call_limit: Optional[int] = None) -> List[Union[int, Refusal]]: ...
 
     def widths(self, text: Union[Text, str], limit: int = 1_048_576, missing: str = "refuse", *,
-               encoding: Optional[str] = None, crlf: bool = False,
+               encoding: Optional[Encoding] = None, crlf: bool = False,
                call_limit: Optional[int] = None) -> List[Union[int, Refusal]]:
         """Sets the lines of a text and returns the width of each line in sp, or a Refusal.
 
@@ -821,11 +848,11 @@ class Font:
 
     @overload
     def records(self, text: str, limit: int = 1_048_576, missing: str = "refuse", *, version: int = 1,
-                source: int = 1, first_line: int = 1, encoding: str, crlf: bool = False,
+                source: int = 1, first_line: int = 1, encoding: Encoding, crlf: bool = False,
                 call_limit: Optional[int] = None) -> bytes: ...
 
     def records(self, text: Union[Text, str], limit: int = 1_048_576, missing: str = "refuse", *,
-                version: int = 1, source: int = 1, first_line: int = 1, encoding: Optional[str] = None,
+                version: int = 1, source: int = 1, first_line: int = 1, encoding: Optional[Encoding] = None,
                 crlf: bool = False, call_limit: Optional[int] = None) -> bytes:
         """Sets the lines of a text and returns their records, as the program prints them.
 
@@ -847,8 +874,8 @@ class Font:
         b'1:1 set 874904 c111=334233 k-16384 c120=347340 s209715 u20AC\\n'
         """
         options, count, parts = self._options(limit, missing, crlf, call_limit), _size_t(), []
-        content = _bytes("text", text) if encoding is None else _utf8(text, encoding)
-        name = b"" if encoding is None else _named(encoding)
+        stated = _Stated("", b"") if encoding is None else _stated(encoding)
+        content, name = _bytes("text", text) if encoding is None else _utf8(text, stated), stated.content
         version, source = _number("version", version, 1, 3), _number("source", source, 0, 2**64 - 1)
         form = _Form(source, _number("first_line", first_line, 0, 2**64 - 1 - len(content)), version)
         # For an estimate. A record in JSON is longer.

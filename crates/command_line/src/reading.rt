@@ -404,7 +404,7 @@ fn asked_policy(matches: &ArgMatches<'_>) -> Option<Policy>
 }
 
 /// Returns the encoding that `--encoding` states: none if the lines are bytes, or if it names a file.
-fn asked_encoding(matches: &ArgMatches<'_>) -> Option<Option<Encoding>>
+fn asked_encoding(matches: &ArgMatches<'_>) -> Option<Option<Encoding<'static>>>
     ensures { Finds (IsEncoding (rows_of (found_of matches.now))) result }
 {
     match value_of(matches, "encoding") {
@@ -414,7 +414,7 @@ fn asked_encoding(matches: &ArgMatches<'_>) -> Option<Option<Encoding>>
 }
 
 /// Returns the encoding that a value of `--encoding` states: none for `bytes`, and if it names a file.
-fn encoding_of(value: &str) -> Option<Option<Encoding>>
+fn encoding_of(value: &str) -> Option<Option<Encoding<'static>>>
     ensures { result ≡ encoding_stated value.now }
 {
     if value == "bytes" {

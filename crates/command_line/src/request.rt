@@ -55,7 +55,7 @@ pub struct Layout {
     pub crlf: bool,
     /// The encoding of the font, if the lines are text in UTF-8; `None` if they are bytes, which are codes of the
     /// font.
-    pub encoding: Option<Encoding>,
+    pub encoding: Option<Encoding<'static>>,
     /// The capacity and the block of each lane, and the largest number of workers.
     pub plan: Plan,
     /// Whether a block has the whole lines of one read, and not the plan's number of lines: `stream` without

@@ -56,7 +56,7 @@ static LATIN1_CHARACTERS: [u32; 256] = [
 /// Returns the characters of an encoding, by code; those of a vector aren't in a table.
 #[tactic(auto, unfolding(crate::specs::CharacterTables::characters_in))]
 fn characters(encoding: Encoding) -> &'static [u32]
-    ensures { result.now ≡ characters_in encoding }
+    ensures { result.now ≡ characters_in encoding.entry }
 {
     match encoding {
         Encoding::Ot1 => &OT1_CHARACTERS,
@@ -71,7 +71,7 @@ fn characters(encoding: Encoding) -> &'static [u32]
 #[tactic(auto, using(crate::proofs::CharacterLemmas::found))]
 fn character_in_table(encoding: Encoding, code: u8) -> Option<char>
     requires { is_table encoding ≡ true }
-    ensures { result ≡ character_of encoding code }
+    ensures { result ≡ character_of encoding.entry code }
 {
     let character = *characters(encoding).get(usize::from(code))?;
     char::from_u32(character)
@@ -81,7 +81,7 @@ fn character_in_table(encoding: Encoding, code: u8) -> Option<char>
 /// a character for several codes: it is the own character of the code that sets it.
 #[tactic(auto, using(crate::proofs::CharacterLemmas::of_vector))]
 pub fn character_at(encoding: Encoding, code: u8) -> Option<char>
-    ensures { result ≡ character_of encoding code }
+    ensures { result ≡ character_of encoding.entry code }
 {
     match encoding {
         Encoding::Ot1 | Encoding::T1 | Encoding::Ly1 | Encoding::Latin1 => {

@@ -32,7 +32,7 @@ fn plain_len(singles: &SingleCodes, text: &[u8]) -> usize
 /// `None` if an allocation fails.
 #[tactic(auto, using(crate::proofs::DecodingLemmas::plain))]
 fn push_plain<'a>(encoding: Encoding, text: &'a [u8], line: &mut EncodedLine) -> Option<&'a [u8]>
-    ensures { IfSome result (λ rest. IsRead encoding text.now rest.now line.old line.new) }
+    ensures { IfSome result (λ rest. IsRead encoding.entry text.now rest.now line.old line.new) }
 {
     let (plain, rest) = text.split_at(plain_len(single_codes(encoding), text));
     line.push_codes(plain).ok()?;
@@ -81,7 +81,7 @@ fn single_front(singles: &SingleCodes, text: &[u8]) -> Option<(u8, usize)>
 /// them, or `None` if an allocation fails.
 #[tactic(auto, using(crate::proofs::DecodingLemmas::singles))]
 fn push_singles<'a>(encoding: Encoding, text: &'a [u8], line: &mut EncodedLine) -> Option<&'a [u8]>
-    ensures { IfSome result (λ rest. IsRead encoding text.now rest.now line.old line.new) }
+    ensures { IfSome result (λ rest. IsRead encoding.entry text.now rest.now line.old line.new) }
 {
     let singles = single_codes(encoding);
     let mut rest = text;
@@ -109,7 +109,7 @@ fn push_numbers(
     character: char,
     line: &mut EncodedLine,
 ) -> Result<(), AllocError>
-    ensures { OnOk result (line.new ≡ line.old ++ numbers_of encoding character) }
+    ensures { OnOk result (line.new ≡ line.old ++ numbers_of encoding.entry character) }
 {
     match codes_of(encoding, character) {
         Some(codes) if is_apart(character) => push_apart(codes, line),
@@ -127,7 +127,7 @@ fn push_character<'a>(
     line: &mut EncodedLine,
 ) -> Option<&'a [u8]>
     ensures shorter { IfSome result (λ rest. length rest.now < length text.now) }
-    ensures read { IfSome result (λ rest. IsRead encoding text.now rest.now line.old line.new) }
+    ensures read { IfSome result (λ rest. IsRead encoding.entry text.now rest.now line.old line.new) }
 {
     let (character, rest) = split_character(text)?;
     push_numbers(encoding, character, line).ok()?;
@@ -139,7 +139,7 @@ fn push_character<'a>(
 #[tactic(auto, using(crate::proofs::DecodingLemmas::reading))]
 fn push_front<'a>(encoding: Encoding, text: &'a [u8], line: &mut EncodedLine) -> Option<&'a [u8]>
     ensures shorter { IfSome result (λ rest. 0 < length text.now → length rest.now < length text.now) }
-    ensures read { IfSome result (λ rest. IsRead encoding text.now rest.now line.old line.new) }
+    ensures read { IfSome result (λ rest. IsRead encoding.entry text.now rest.now line.old line.new) }
 {
     let text = push_plain(encoding, text, line)?;
     let text = push_singles(encoding, text, line)?;
@@ -152,7 +152,7 @@ fn push_front<'a>(encoding: Encoding, text: &'a [u8], line: &mut EncodedLine) ->
 /// Appends the numbers of a text. Returns `None` if it isn't UTF-8 or an allocation fails.
 #[tactic(auto, using(crate::proofs::DecodingLemmas::texts))]
 pub(crate) fn push_text(encoding: Encoding, text: &[u8], line: &mut EncodedLine) -> Option<()>
-    ensures { OnSome result (IsRead encoding text.now [] line.old line.new) }
+    ensures { OnSome result (IsRead encoding.entry text.now [] line.old line.new) }
 {
     let mut rest = text;
     while !rest.is_empty() {

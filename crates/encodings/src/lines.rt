@@ -40,7 +40,7 @@ pub fn encode_line(
     bytes: &[u8],
     line: &mut EncodedLine,
 ) -> Result<(), EncodeFault>
-    ensures ok { OnOk result (line.new ≡ encoded encoding first bytes.now) }
+    ensures ok { OnOk result (line.new ≡ encoded encoding.entry first bytes.now) }
     ensures few { OnOk result (length line.new ≤ length bytes.now) }
     ensures decoded { OnOk result (fault_in bytes.now ≡ None) }
     ensures fault { IfErr result (IsFaultOf bytes.now) }

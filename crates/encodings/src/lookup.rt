@@ -63,8 +63,8 @@ fn index_of(character: char) -> usize
 
 /// Returns the code of a character that has a single code in the table.
 fn single_code(encoding: Encoding, character: char) -> Option<u8>
-    ensures { MatchOption result (256 ≤ get_or (singles_in encoding) (index_of character) 256)
-        (λ code. get_or (singles_in encoding) (index_of character) 256 ≡ code) }
+    ensures { MatchOption result (256 ≤ get_or (singles_in encoding.entry) (index_of character) 256)
+        (λ code. get_or (singles_in encoding.entry) (index_of character) 256 ≡ code) }
 {
     let single = *single_codes(encoding).get(index_of(character))?;
     u8::try_from(single).ok()
@@ -74,8 +74,8 @@ fn single_code(encoding: Encoding, character: char) -> Option<u8>
 #[tactic(auto, using(crate::proofs::TableLemmas::found))]
 fn other_codes_of(encoding: Encoding, character: char) -> Option<&'static [u8]>
     requires { 256 ≤ get_or (singles_in encoding) (index_of character) 256 }
-    ensures { MatchOption result (codes_of_character encoding character ≡ None)
-        (λ codes. codes_of_character encoding character ≡ Some codes.now) }
+    ensures { MatchOption result (codes_of_character encoding.entry character ≡ None)
+        (λ codes. codes_of_character encoding.entry character ≡ Some codes.now) }
 {
     match encoding {
         Encoding::Ot1 | Encoding::T1 | Encoding::Ly1 | Encoding::Latin1 => {
@@ -89,8 +89,8 @@ fn other_codes_of(encoding: Encoding, character: char) -> Option<&'static [u8]>
 /// codes; in an encoded line it is a break.
 #[tactic(auto, using(crate::proofs::TableLemmas::found))]
 pub fn codes_of(encoding: Encoding, character: char) -> Option<&'static [u8]>
-    ensures { MatchOption result (codes_of_character encoding character ≡ None)
-        (λ codes. codes_of_character encoding character ≡ Some codes.now) }
+    ensures { MatchOption result (codes_of_character encoding.entry character ≡ None)
+        (λ codes. codes_of_character encoding.entry character ≡ Some codes.now) }
 {
     match single_code(encoding, character) {
         Some(code) => Some(only(code)),

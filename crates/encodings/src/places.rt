@@ -85,7 +85,7 @@ impl<'a> Places<'a> {
     /// This is faster than taking one after the other. Returns the offset of the first one, and their bytes.
     #[tactic(auto, using(crate::proofs::TextLemmas::front))]
     pub fn take_kept(&mut self, encoding: Encoding) -> (usize, &'a [u8])
-        ensures { IsKeptFront encoding result.0 result.1.now self.old self.new }
+        ensures { IsKeptFront encoding.entry result.0 result.1.now self.old self.new }
     {
         let offset = self.offset;
         let len = kept_len(single_codes(encoding), self.rest.as_bytes());
@@ -116,14 +116,14 @@ impl<'a> Iterator for Places<'a> {
 
 /// Returns whether a character has no codes in an encoding.
 fn is_uncoded(encoding: Encoding, character: char) -> bool
-    ensures { result ≡ is_none (codes_in encoding character) }
+    ensures { result ≡ is_none (codes_in encoding.entry character) }
 {
     codes_of(encoding, character).is_none()
 }
 
 /// Returns the first of these characters that has no codes in an encoding, or `None` if all have codes.
 pub fn first_uncoded(encoding: Encoding, places: Places<'_>) -> Option<Place>
-    ensures { result ≡ first_uncoded_in encoding places.entry }
+    ensures { result ≡ first_uncoded_in encoding.entry places.entry }
 {
     for place in places {
         if is_uncoded(encoding, place.character) {

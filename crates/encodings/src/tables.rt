@@ -36,8 +36,8 @@ pub(crate) fn is_apart(character: char) -> bool
 
 /// Returns the table of single codes.
 #[tactic(auto, unfolding(crate::specs::Lookup::singles_in))]
-pub(crate) fn single_codes(encoding: Encoding) -> &'static SingleCodes
-    ensures { result.now ≡ singles_in encoding }
+pub(crate) fn single_codes<'a>(encoding: Encoding<'a>) -> &'a SingleCodes
+    ensures { result.now ≡ singles_in encoding.entry }
 {
     match encoding {
         Encoding::Ot1 => &OT1_SINGLE,
@@ -51,7 +51,7 @@ pub(crate) fn single_codes(encoding: Encoding) -> &'static SingleCodes
 /// Returns the codes of all other characters that have any; those of a vector aren't in a table.
 #[tactic(auto, unfolding(crate::specs::Lookup::others_in))]
 pub(crate) fn other_codes(encoding: Encoding) -> &'static [OtherCodes]
-    ensures { result.now ≡ others_in encoding }
+    ensures { result.now ≡ others_in encoding.entry }
 {
     match encoding {
         Encoding::Ot1 => &OT1_OTHERS,

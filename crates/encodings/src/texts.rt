@@ -9,8 +9,8 @@ use crate::{Encoding, codes_of};
 
 /// Returns the codes of a character of a text, or `None` if it has none. The line feed is kept.
 pub fn codes_in_text(encoding: Encoding, character: char) -> Option<&'static [u8]>
-    ensures { MatchOption result (text_codes encoding character ≡ None)
-        (λ codes. text_codes encoding character ≡ Some codes.now) }
+    ensures { MatchOption result (text_codes encoding.entry character ≡ None)
+        (λ codes. text_codes encoding.entry character ≡ Some codes.now) }
 {
     if character == '\n' {
         return Some(b"\n");

@@ -31,7 +31,7 @@ pub(crate) fn push_characters(
 
 #[tactic(auto, using(crate::proofs::ListingLemmas::joined))]
 fn push_fields(text: &mut Vec<u8>, pair: &Pair, encoding: Encoding) -> Result<(), AllocError>
-    ensures { OnOk result (text.new.items ≡ text.old.items ++ text_fields encoding pair.now) }
+    ensures { OnOk result (text.new.items ≡ text.old.items ++ text_fields encoding.entry pair.now) }
 {
     text.extend_from_slice(b" ")?;
     push_symbol(text, encoding, pair.left)?;
@@ -42,7 +42,7 @@ fn push_fields(text: &mut Vec<u8>, pair: &Pair, encoding: Encoding) -> Result<()
 
 #[tactic(auto, using(crate::proofs::ListingLemmas::joined))]
 fn push_cells(text: &mut Vec<u8>, pair: &Pair, encoding: Encoding) -> Result<(), AllocError>
-    ensures { OnOk result (text.new.items ≡ text.old.items ++ csv_fields encoding pair.now) }
+    ensures { OnOk result (text.new.items ≡ text.old.items ++ csv_fields encoding.entry pair.now) }
 {
     push_cell(text, symbol_character(encoding, pair.left))?;
     push_cell(text, symbol_character(encoding, pair.right))?;
@@ -51,7 +51,7 @@ fn push_cells(text: &mut Vec<u8>, pair: &Pair, encoding: Encoding) -> Result<(),
 
 #[tactic(auto, using(crate::proofs::ListingLemmas::joined))]
 fn push_members(text: &mut Vec<u8>, pair: &Pair, encoding: Encoding) -> Result<(), AllocError>
-    ensures { OnOk result (text.new.items ≡ text.old.items ++ json_members encoding pair.now) }
+    ensures { OnOk result (text.new.items ≡ text.old.items ++ json_members encoding.entry pair.now) }
 {
     push_json_member(text, b"left", symbol_character(encoding, pair.left))?;
     push_json_member(text, b"right", symbol_character(encoding, pair.right))?;
@@ -61,7 +61,7 @@ fn push_members(text: &mut Vec<u8>, pair: &Pair, encoding: Encoding) -> Result<(
 /// Returns the character of a symbol, or `None` for a boundary.
 #[tactic(auto, unfolding(crate::specs::PairCharacters::symbol_character))]
 fn symbol_character(encoding: Encoding, symbol: Symbol) -> Option<char>
-    ensures { result ≡ character_of_symbol encoding symbol }
+    ensures { result ≡ character_of_symbol encoding.entry symbol }
 {
     match symbol {
         Symbol::Char(code) => character_at(encoding, code),
@@ -72,7 +72,7 @@ fn symbol_character(encoding: Encoding, symbol: Symbol) -> Option<char>
 /// Returns the character that an action inserts, or `None` for a kern.
 #[tactic(auto, unfolding(crate::specs::PairCharacters::value_character))]
 fn value_character(encoding: Encoding, action: Action) -> Option<char>
-    ensures { result ≡ character_of_value encoding action }
+    ensures { result ≡ character_of_value encoding.entry action }
 {
     match action {
         Action::Kern(_) => None,
@@ -82,7 +82,7 @@ fn value_character(encoding: Encoding, action: Action) -> Option<char>
 
 #[tactic(auto, unfolding(crate::specs::PairCharacters::symbol_field))]
 fn push_symbol(text: &mut Vec<u8>, encoding: Encoding, symbol: Symbol) -> Result<(), AllocError>
-    ensures { OnOk result (text.new.items ≡ text.old.items ++ symbol_field encoding symbol) }
+    ensures { OnOk result (text.new.items ≡ text.old.items ++ symbol_field encoding.entry symbol) }
 {
     match symbol {
         Symbol::Left => text.extend_from_slice(b"left"),
@@ -93,7 +93,7 @@ fn push_symbol(text: &mut Vec<u8>, encoding: Encoding, symbol: Symbol) -> Result
 
 #[tactic(auto, unfolding(crate::specs::PairCharacters::value_field))]
 fn push_value(text: &mut Vec<u8>, encoding: Encoding, action: Action) -> Result<(), AllocError>
-    ensures { OnOk result (text.new.items ≡ text.old.items ++ value_field encoding action) }
+    ensures { OnOk result (text.new.items ≡ text.old.items ++ value_field encoding.entry action) }
 {
     match action {
         Action::Kern(_) => Ok(()),
@@ -106,7 +106,7 @@ fn push_value(text: &mut Vec<u8>, encoding: Encoding, action: Action) -> Result<
 
 /// Appends the character of a code, or `none`.
 fn push_code(text: &mut Vec<u8>, encoding: Encoding, code: u8) -> Result<(), AllocError>
-    ensures { OnOk result (text.new.items ≡ text.old.items ++ code_word encoding code) }
+    ensures { OnOk result (text.new.items ≡ text.old.items ++ code_word encoding.entry code) }
 {
     match character_at(encoding, code) {
         Some(character) => push_word(text, character),
@@ -121,7 +121,7 @@ fn push_value_member(
     encoding: Encoding,
     action: Action,
 ) -> Result<(), AllocError>
-    ensures { OnOk result (text.new.items ≡ text.old.items ++ value_member encoding action) }
+    ensures { OnOk result (text.new.items ≡ text.old.items ++ value_member encoding.entry action) }
 {
     match action {
         Action::Kern(_) => Ok(()),

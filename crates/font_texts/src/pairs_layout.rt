@@ -9,7 +9,7 @@ pub struct PairsLayout {
     pub format: PairsFormat,
     /// The encoding of the font: the characters that it gives the codes are printed after the codes. With `None`
     /// only codes are printed.
-    pub encoding: Option<Encoding>,
+    pub encoding: Option<Encoding<'static>>,
     /// The unit of kerns. In JSON a kern in a unit other than `sp` is a string.
     pub unit: LengthUnit,
 }

@@ -26,7 +26,7 @@ use std::sync::Arc;
 pub struct RecordMaker {
     terms: Arc<Terms>,
     source: u64,
-    encoding: Option<Encoding>,
+    encoding: Option<Encoding<'static>>,
     format: RecordFormat,
     writer: LineWriter,
     /// The counts of the lines of the last chunk.
@@ -90,7 +90,7 @@ impl RecordMaker {
 
     /// Returns this maker for lines with this encoding. If there is one, the lines are in UTF-8, and a byte order
     /// mark at the front of the line with the number 1 is left out.
-    pub fn with_encoding(self, encoding: Option<Encoding>) -> Self
+    pub fn with_encoding(self, encoding: Option<Encoding<'static>>) -> Self
         ensures { result ≡ record {
           terms = self.terms;
           source = self.source;

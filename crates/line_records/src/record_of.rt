@@ -7,7 +7,7 @@ pub struct RecordOf<'a> {
     /// The settings of the lines.
     pub terms: &'a Terms,
     /// The encoding of the font, for lines in UTF-8. Without one, each byte of a line is a code.
-    pub encoding: Option<Encoding>,
+    pub encoding: Option<Encoding<'a>>,
     /// The number of the source.
     pub source: u64,
 }

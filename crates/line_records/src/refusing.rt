@@ -31,7 +31,7 @@ fn first_missing_code(font: &Font, codes: &[u8]) -> Option<u8>
 /// Returns the codes of a character that has codes.
 fn codes_at(encoding: Encoding, character: char) -> &'static [u8]
     requires { is_none (codes_in encoding character) ≡ false }
-    ensures { codes_in encoding character ≡ Some result.now }
+    ensures { codes_in encoding.entry character ≡ Some result.now }
 {
     match codes_of(encoding, character) {
         Some(codes) => codes,
@@ -45,7 +45,7 @@ fn codes_at(encoding: Encoding, character: char) -> &'static [u8]
 fn first_missing(font: &Font, encoding: Encoding, places: Places<'_>) -> Option<LineRefusal>
     requires { first_uncoded_in encoding places ≡ None }
     ensures { result ≡ option_map (λ element. Missing element.offset element.number)
-        (missing_at font.now encoding places.entry) }
+        (missing_at font.now encoding.entry places.entry) }
 {
     for place in places {
         let codes = codes_at(encoding, place.character);
@@ -67,8 +67,8 @@ fn refusal_of(
     again: Places<'_>,
 ) -> Option<TextRefusal>
     requires { again ≡ places }
-    ensures { result ≡ option_or (uncoded_in RefusePolicy encoding places.entry)
-        (missing_code_in RefusePolicy font.now (flat_map (elements_at encoding) places.entry)) }
+    ensures { result ≡ option_or (uncoded_in RefusePolicy encoding.entry places.entry)
+        (missing_code_in RefusePolicy font.now (flat_map (elements_at encoding.entry) places.entry)) }
 {
     if let Some(Place { offset, character }) = first_uncoded(encoding, places) {
         return Some(TextRefusal::Uncoded { offset, character });
@@ -80,7 +80,7 @@ fn refusal_of(
 /// Returns the refusal of a line in UTF-8 that is known before it is set.
 #[tactic(auto, using(crate::proofs::RefusalLemmas::refusals), unfolding(crate::specs::Results::utf8_refusal))]
 fn find_in_text(terms: &Terms, encoding: Encoding, line: SourceLine<'_>) -> Option<TextRefusal>
-    ensures { result ≡ utf8_refusal terms.now encoding line.entry.first line.entry.bytes.now }
+    ensures { result ≡ utf8_refusal terms.now encoding.entry line.entry.first line.entry.bytes.now }
 {
     if line.bytes.len() > MOST_BYTES {
         return Some(TextRefusal::Line(LineRefusal::TooLong(line.bytes.len())));

@@ -19,7 +19,7 @@ pub struct OutputOptions<'a, G> {
     /// The encoding of the font, if the lines are in UTF-8: they are set with the codes of their characters, and
     /// offsets in records count bytes of the line before it is encoded. Without an encoding each byte of a line
     /// is a code of the font.
-    pub encoding: Option<Encoding>,
+    pub encoding: Option<Encoding<'static>>,
     /// Whether one carriage return before a line feed belongs to the line ending.
     pub crlf: bool,
     /// Whether a chunk has all lines that one read of its source completes, and not at most as many lines as the

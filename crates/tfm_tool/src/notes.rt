@@ -19,7 +19,7 @@ pub(crate) struct Notes {
     /// Whether lines that end with a carriage return are counted.
     returns_counted: bool,
     /// The encoding of the request with `--verbose`, with which the coding schemes of its fonts are compared.
-    encoding: Option<Encoding>,
+    encoding: Option<Encoding<'static>>,
     /// The lines about errors of files, coding schemes and names of glyphs, complete.
     causes: Mutex<Vec<u8>>,
     /// The number of lines that end with a carriage return.
@@ -31,7 +31,12 @@ pub(crate) struct Notes {
 impl Notes {
     /// Returns the notes of a request before it is carried out. With `--verbose` and without `--crlf`, lines
     /// that end with a carriage return are counted. With `--verbose` and an encoding, coding schemes are compared.
-    pub fn new(alloc: Global, verbose: bool, crlf: bool, encoding: Option<Encoding>) -> Self {
+    pub fn new(
+        alloc: Global,
+        verbose: bool,
+        crlf: bool,
+        encoding: Option<Encoding<'static>>,
+    ) -> Self {
         Notes {
             alloc,
             verbose,

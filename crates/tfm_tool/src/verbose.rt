@@ -42,7 +42,7 @@ fn crlf_of(request: &Request<'_>) -> Option<bool> {
 }
 
 /// Returns the encoding of a request, if it has one.
-fn encoding_of(request: &Request<'_>) -> Option<Encoding> {
+fn encoding_of(request: &Request<'_>) -> Option<Encoding<'static>> {
     match request {
         Request::Pairs(asked) => asked.layout.encoding,
         Request::Set(setting) | Request::Stream(setting) => setting.layout.encoding,

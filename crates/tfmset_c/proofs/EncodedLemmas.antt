@@ -1,6 +1,6 @@
 -- The codes of a text while they are written.
 use Rattle.std.proofs.Common.{◌≡◌, ℕ, zero, suc, ◌+◌, ◌-◌, ◌*◌, ◌^◌, ◌<◌, ◌≤◌, Bool, true, false, List, [], ◌∷◌, ◌++◌, length, map, take, drop, min, Some, None, arith, refl, ap, sym, ◌∙◌, append_assoc, set, subst}
-use Rattle.std.specs.Prelude.{codes as bytes_of, Option, if◌then◌else◌}
+use Rattle.std.specs.Prelude.{codes as bytes_of, Option, IfSome, MatchOption, if◌then◌else◌}
 use Rattle.std.specs.List.{range_with_len}
 use Rattle.std.specs.Option.{option_map}
 use Rattle.std.specs.Str.Lossy.{utf8_valid_len}
@@ -10,7 +10,12 @@ use Rattle.std.proofs.lemmas.Grind.{take-set_at}
 use Rattle.std.proofs.lemmas.List.{drop-set-lt, length-map}
 use Rattle.std.proofs.lemmas.List.FromFn.{length-map-range_with_len, map-range_with_len_more}
 use Rattle.std.proofs.lemmas.Str.{IsUtf8-from_is_utf8}
+use Rattle.std.specs.Borrow.{Bor}
+use Rattle.encoding_vectors.specs.Vectors.{characters_of, fault_line}
+use Rattle.encodings.specs.Codes.{IsMadeOf}
+use Rattle.encodings.specs.VectorContents.{Contents}
 use Rattle.encodings.specs.declared.encoding.Encoding.{Encoding}
+use Rattle.encodings.specs.declared.encoding.Encoding.TheVariants.{Vector}
 use Rattle.encodings.specs.declared.places.Place.{Place}
 use Rattle.encodings.specs.Lines.{fault_in, places_of}
 use Rattle.encodings.specs.Names.{encoding_named}
@@ -18,31 +23,76 @@ use Rattle.encodings.specs.Texts.{codes_at, offsets_at, text_codes, uncoded_at}
 use Rattle.encodings.proofs.NameLemmas.{no_encoding, other, other_name}
 use Rattle.encodings.proofs.TextLemmas.{text_few}
 use Rattle.caller_arrays.specs.Arrays.{ArePut, HasRoom, IsFilled, IsOverlaid, IsPartly, held}
-use Rattle.tfmset_c.specs.Encoded.{AreCodesTold, AreFilled, HaveRoom, IsCounted, TextCodes, codes_told, encoding_told, fault_told, offsets_for, offsets_from, report_of, uncoded_told}
+use Rattle.tfmset_c.specs.Encoded.{AreCodesTold, AreFilled, HaveRoom, IsCounted, IsEncodingTold, IsNoEncoding, TextCodes, codes_told, encoding_named_told, fault_told, offsets_for, offsets_from, report_of, uncoded_told}
 use Rattle.tfmset_c.specs.declared.encode.TfmsetEncoded.{TfmsetEncoded}
 use Rattle.tfmset_c.specs.declared.encode.TfmsetUncoded.{TfmsetUncoded}
+use Rattle.tfmset_c.specs.Records.{or_bytes}
 use Rattle.caller_arrays.proofs.ArrayLemmas.{all_counted, all_put, nothing_put, put_many, put_past, whole_put}
 
 -- ---- names
 
-pub no_name : (name : List ℕ) → ¬ (IsUtf8 name) → encoding_told name ≡ None
-unfolding encoding_told is_utf8 chars encode
+pub no_name : (name : List ℕ) → ¬ (IsUtf8 name) → encoding_named_told name ≡ None
+unfolding encoding_named_told is_utf8 chars encode
 no_name name bad = rw (other_name name (bytes_of "bytes") refl bad, no_encoding name bad) refl
 
 -- a name other than `bytes`
-pub other_told : (name text : List ℕ) (o : Option Encoding) → text ≡ name → (text ≡ bytes_of "bytes" → ⊥) → o ≡ encoding_named text → encoding_told name ≡ option_map Some o
-unfolding encoding_told
+pub other_told : (name text : List ℕ) (o : Option Encoding) → text ≡ name → (text ≡ bytes_of "bytes" → ⊥) → o ≡ encoding_named text → encoding_named_told name ≡ option_map Some o
+unfolding encoding_named_told
 other_told name text o is differ named = rw (sym is, other text (bytes_of "bytes") differ, sym named) refl
 
 -- the name `bytes`
-pub bytes_named : encoding_told (bytes_of "bytes") ≡ Some None
-unfolding encoding_told
+pub bytes_named : encoding_named_told (bytes_of "bytes") ≡ Some None
+unfolding encoding_named_told
 bytes_named = refl
 
-pub bytes_told : (name text : List ℕ) → text ≡ name → text ≡ bytes_of "bytes" → encoding_told name ≡ Some None
-bytes_told name text is bytes = ap encoding_told (sym is ∙ bytes) ∙ bytes_named
+pub bytes_told : (name text : List ℕ) → text ≡ name → text ≡ bytes_of "bytes" → encoding_named_told name ≡ Some None
+bytes_told name text is bytes = ap encoding_named_told (sym is ∙ bytes) ∙ bytes_named
 
 pub ruleset names = (no_name, other_told, bytes_told)
+
+-- ---- names and vectors
+
+pub of_name : (bytes : List ℕ) (o : Option (Option Encoding)) (encoding : Option Encoding) → o ≡ encoding_named_told bytes → o ≡ Some encoding → IsEncodingTold bytes encoding
+of_name bytes o encoding told some = rw (sym told ∙ some) refl
+
+pub of_vector : (bytes : List ℕ) (o : Option (Option Encoding)) (given : List (Option ℕ)) (made : Contents) (vector : Bor Contents) → o ≡ encoding_named_told bytes → o ≡ None
+    → fault_line bytes ≡ None → given ≡ characters_of bytes → vector.now ≡ made → ((v : Bor Contents) → v.now ≡ made → IsMadeOf given (Vector v)) → IsEncodingTold bytes (Some (Vector vector))
+of_vector bytes o given made vector told none sound same is all = rw (sym told ∙ none) (sound, (Vector vector, refl, rw same at all vector is))
+
+pub of_neither : (bytes : List ℕ) (o : Option (Option Encoding)) (line : ℕ) → o ≡ encoding_named_told bytes → o ≡ None → fault_line bytes ≡ Some line → IsNoEncoding bytes
+of_neither bytes o line told none fault = (sym told ∙ none, rw fault refl)
+
+-- bytes that are a name, or a vector, aren't neither
+pub named_stated : (bytes : List ℕ) (o : Option (Option Encoding)) (encoding : Option Encoding) → o ≡ encoding_named_told bytes → o ≡ Some encoding → IsNoEncoding bytes → ⊥
+named_stated bytes o encoding told some (unnamed, faulty) = cc
+
+pub vector_stated : (bytes : List ℕ) → fault_line bytes ≡ None → IsNoEncoding bytes → ⊥
+vector_stated bytes sound (unnamed, faulty) = cc (rw sound at faulty)
+
+-- bytes, or the name of the encoding of bytes
+pub none_given : (bytes : List ℕ) → length bytes ≡ 0 → IsEncodingTold (or_bytes bytes) None
+none_given [] empty = rw bytes_named refl
+none_given (byte ∷ bytes) empty = absurd (omega (arith, empty))
+
+pub none_stated : (bytes : List ℕ) → length bytes ≡ 0 → IsNoEncoding (or_bytes bytes) → ⊥
+none_stated [] empty (unnamed, faulty) = cc (bytes_named, unnamed)
+none_stated (byte ∷ bytes) empty neither = omega (arith, empty)
+
+given_same : (bytes : List ℕ) → (length bytes ≡ 0 → ⊥) → or_bytes bytes ≡ bytes
+given_same [] some = absurd (some refl)
+given_same (byte ∷ bytes) some = refl
+
+pub given_told : (bytes : List ℕ) (o : Option (Option Encoding)) → (length bytes ≡ 0 → ⊥) → MatchOption o (IsNoEncoding bytes) (IsEncodingTold bytes)
+    → MatchOption o (IsNoEncoding (or_bytes bytes)) (IsEncodingTold (or_bytes bytes))
+given_told bytes o some is = rw (given_same bytes some) is
+
+pub given_stated : (bytes : List ℕ) (o : Option (Option Encoding)) → (length bytes ≡ 0 → ⊥) → IfSome o (λ _. IsNoEncoding bytes → ⊥)
+    → IfSome o (λ _. IsNoEncoding (or_bytes bytes) → ⊥)
+given_stated bytes o some is = rw (given_same bytes some) is
+
+pub ruleset given = (none_given, none_stated, given_told, given_stated)
+
+pub ruleset stated = (of_name, of_vector, of_neither, named_stated, vector_stated)
 
 -- ---- the arrays
 
@@ -201,7 +251,3 @@ pub counted_all : (told : TextCodes) (report : TfmsetEncoded) (placed : ℕ) (co
     → AreFilled told report placed codes codes' offsets offsets' uncoded uncoded' → IsCounted told report placed
 counted_all told report placed codes codes' offsets offsets' uncoded uncoded' filled =
     record { codes = all_counted filled.codes_in; offsets = all_counted filled.offsets_in; uncoded = all_counted filled.uncoded_in }
-
--- the encoding that a name has is the only one
-pub same_named : (o p : Option (Option Encoding)) (named encoding : Option Encoding) → o ≡ Some named → p ≡ Some encoding → p ≡ o → encoding ≡ named
-same_named o p named encoding one other same = cc

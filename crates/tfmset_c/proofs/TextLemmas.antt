@@ -22,7 +22,7 @@ use Rattle.tfm_tables.specs.Acceptance.{font_fault_of}
 use Rattle.tfmset_c.specs.Filling.{AreUnderWay, count_in, wanted}
 use Rattle.tfmset_c.specs.Options.{IsReadAs, IsSetWith, call_limit_of, lines_at, outcome_within, outcomes_at, outcomes_within, result_within, steps_in, steps_of, terms_at}
 use Rattle.tfmset_c.specs.Reading.{IsAnswer}
-use Rattle.tfmset_c.specs.Records.{AreRecordsTold, record_within, records_told}
+use Rattle.tfmset_c.specs.Records.{AreRecordsTold, form_told, record_within, records_told}
 use Rattle.tfmset_c.specs.Texts.{item_told, items_in, items_told, line_told, lines_told}
 use Rattle.tfmset_c.specs.declared.lines.TfmsetCounts.{TfmsetCounts}
 use Rattle.tfmset_c.specs.declared.lines.TfmsetItem.{TfmsetItem}
@@ -30,6 +30,7 @@ use Rattle.tfmset_c.specs.declared.lines.TfmsetLine.{TfmsetLine}
 use Rattle.tfmset_c.specs.declared.options.Settings.{Settings}
 use Rattle.tfmset_c.specs.declared.options.TfmsetOptions.{TfmsetOptions}
 use Rattle.tfmset_c.specs.declared.records.Form.{Form}
+use Rattle.tfmset_c.specs.declared.records.TfmsetForm.{TfmsetForm}
 use Rattle.tfmset_c.proofs.FillingLemmas.{none_wanted, one_more}
 
 -- the result of the first line, and those of the others
@@ -176,14 +177,12 @@ pub outcomes_are : (bytes text : List ℕ) (options : TfmsetOptions) (settings :
 unfolding outcomes_at
 outcomes_are bytes text options settings terms read set = rw (terms_are bytes options settings terms read set, read.call_limit, read.crlf) refl
 
-pub records_called : (bytes text : List ℕ) (options : TfmsetOptions) (settings : Settings) (terms : TermsValue) (named : Option Form) (form asked : Form)
-    (answer count_before count : ℕ) (before records : List ℕ) → IsReadAs options settings → IsSetWith bytes settings terms
-    → Some form ≡ named → named ≡ Some asked
+pub records_called : (bytes text : List ℕ) (options : TfmsetOptions) (settings : Settings) (terms : TermsValue) (encoding : Option Encoding) (asked : TfmsetForm) (form : Form)
+    (answer count_before count : ℕ) (before records : List ℕ) → IsReadAs options settings → IsSetWith bytes settings terms → form ≡ form_told encoding asked
     → AreRecordsTold (records_told terms form form.first true settings.call_limit (lines_in settings.crlf text)) answer count_before count before records
-    → AreRecordsTold (records_told (terms_at bytes options) asked asked.first true (call_limit_of options.call_limit) (lines_at options text)) answer count_before count before records
-records_called bytes text options settings terms named form asked answer count_before count before records read set is are told =
-    let same : form ≡ asked = cc in
-    rw (terms_are bytes options settings terms read set, read.call_limit, read.crlf, same) at told
+    → AreRecordsTold (records_told (terms_at bytes options) (form_told encoding asked) asked.first true (call_limit_of options.call_limit) (lines_at options text)) answer count_before count before records
+records_called bytes text options settings terms encoding asked form answer count_before count before records read set is told =
+    rw (terms_are bytes options settings terms read set, read.call_limit, read.crlf, is) at told
 
 -- the code of a call whose arguments are in range, and whose font is accepted
 pub answered : (OutOfRange : Type 0) (font : List ℕ) (answer : ℕ) → (OutOfRange → ⊥) → font_fault_of font ≡ None
@@ -195,8 +194,7 @@ answered OutOfRange font answer within accepted one = record {
   accepted = λ _. accepted;
 }
 
--- none of three arguments is out of range
-pub neither : {A B C : Type 0} → (A → ⊥) → (B → ⊥) → (C → ⊥) → A ⊎ (B ⊎ C) → ⊥
-neither first second third (inl out) = first out
-neither first second third (inr (inl out)) = second out
-neither first second third (inr (inr out)) = third out
+-- neither of two arguments is out of range
+pub neither : {A B : Type 0} → (A → ⊥) → (B → ⊥) → A ⊎ B → ⊥
+neither first second (inl out) = first out
+neither first second (inr out) = second out

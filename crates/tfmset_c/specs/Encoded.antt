@@ -1,8 +1,10 @@
 -- A text in UTF-8 as the codes of a font, as C gets them.
 -- This project's own; the codes of a character are defined in Codes of `encodings`, and those of a text in Texts.
-use Rattle.std.specs.Prelude.{◌≡◌, ℕ, ◌+◌, ◌*◌, ◌⊎◌, zero, suc, true, bytes_eq, codes as bytes_of, List, [], length, map, Option, Some, None, if◌then◌else◌}
+use Rattle.std.specs.Prelude.{◌≡◌, ℕ, ◌+◌, ◌*◌, ◌⊎◌, zero, suc, true, bytes_eq, codes as bytes_of, List, [], length, map, Option, Some, None, IsSome, if◌then◌else◌}
 use Rattle.std.specs.List.{range_with_len}
 use Rattle.std.specs.Option.{option_map}
+use Rattle.encoding_vectors.specs.Vectors.{characters_of, fault_line}
+use Rattle.encodings.specs.Codes.{IsMadeOf}
 use Rattle.encodings.specs.declared.encoding.Encoding.{Encoding}
 use Rattle.encodings.specs.declared.places.Place.{Place}
 use Rattle.encodings.specs.Lines.{fault_in, places_of}
@@ -13,8 +15,20 @@ use Rattle.tfmset_c.specs.declared.encode.TfmsetEncoded.{TfmsetEncoded}
 use Rattle.tfmset_c.specs.declared.encode.TfmsetUncoded.{TfmsetUncoded}
 
 -- what a name stands for, if it is known: an encoding, or with `bytes` none, so that each byte is a code
-unfoldable pub encoding_told : List ℕ → Option (Option Encoding)
-encoding_told name = if bytes_eq name (bytes_of "bytes") then Some None else option_map Some (encoding_named name)
+unfoldable pub encoding_named_told : List ℕ → Option (Option Encoding)
+encoding_named_told name = if bytes_eq name (bytes_of "bytes") then Some None else option_map Some (encoding_named name)
+
+-- bytes that are neither such a name nor an encoding vector
+abbrev pub IsNoEncoding : List ℕ → Type 0
+IsNoEncoding bytes = (encoding_named_told bytes ≡ None) × IsSome (fault_line bytes)
+
+-- the encoding that bytes state: that of the name, or else one that is made of the characters of the vector
+abbrev pub IsNamedOrMade : Option (Option Encoding) → List ℕ → Option Encoding → Type 0
+IsNamedOrMade (Some named) bytes encoding = encoding ≡ named
+IsNamedOrMade None bytes encoding = (fault_line bytes ≡ None) × ((made : Encoding) × (encoding ≡ Some made) × IsMadeOf (characters_of bytes) made)
+
+abbrev pub IsEncodingTold : List ℕ → Option Encoding → Type 0
+IsEncodingTold bytes = IsNamedOrMade (encoding_named_told bytes) bytes
 
 -- a character without codes
 abbrev pub uncoded_told : Place → TfmsetUncoded

@@ -1,15 +1,15 @@
 -- The records of the lines of a text, as C gets them.
 -- This project's own; the text of a record is defined in Record of `set_line`, and what it says in Results of
 -- `line_records`.
-use Rattle.std.specs.Prelude.{◌≡◌, ℕ, Bool, false, Option, Some, None, ◌+◌, ◌-◌, ◌==◌, ◌&&◌, nat_lt, List, [], ◌∷◌, ◌++◌, length, if◌then◌else◌}
+use Rattle.std.specs.Prelude.{◌≡◌, ℕ, Bool, false, Option, Some, None, ◌+◌, ◌-◌, ◌<◌, ◌==◌, ◌&&◌, ◌⊎◌, nat_lt, List, [], ◌∷◌, ◌++◌, codes, length, if◌then◌else◌}
 use Rattle.std.specs.Option.{option_and_then}
 use Rattle.caller_arrays.specs.Arrays.{HasEffect, HasRoom, IsOverlaid, held}
+use Rattle.encodings.specs.declared.encoding.Encoding.{Encoding}
 use Rattle.set_line.specs.declared.version.Version.{Version}
 use Rattle.set_line.specs.declared.version.Version.TheVariants.{One, Two, Json}
 use Rattle.set_line.specs.Record.{text_record}
 use Rattle.set_line.specs.Terms.{TermsValue}
 use Rattle.line_records.specs.Results.{result_text}
-use Rattle.tfmset_c.specs.Encoded.{encoding_told}
 use Rattle.tfmset_c.specs.Options.{result_within, steps_in}
 use Rattle.tfmset_c.specs.declared.records.Form.{Form}
 use Rattle.tfmset_c.specs.declared.records.TfmsetForm.{TfmsetForm}
@@ -18,15 +18,18 @@ use Rattle.tfmset_c.specs.declared.records.TfmsetForm.{TfmsetForm}
 unfoldable pub version_of : ℕ → Version
 version_of n = if n == 1 then One else (if n == 2 then Two else Json)
 
--- how the lines of a text are read and recorded, if an encoding has this name and the record format is in range; an
--- empty name is that of bytes
-unfoldable pub form_told : List ℕ → TfmsetForm → Option Form
-form_told name form =
-    option_and_then
-    (λ encoding. if nat_lt 0 form.version && nat_lt form.version 4
-    then Some (record { encoding = encoding; version = version_of form.version; source = form.source; first = form.first })
-    else None)
-    (if length name == 0 then Some None else encoding_told name)
+-- a number that no record format has
+abbrev pub IsNoVersion : ℕ → Type 0
+IsNoVersion version = (version < 1) ⊎ (3 < version)
+
+-- how the lines of a text are read and recorded, with this encoding
+abbrev pub form_told : Option Encoding → TfmsetForm → Form
+form_told encoding form = record { encoding = encoding; version = version_of form.version; source = form.source; first = form.first }
+
+-- the bytes that state an encoding; if there are none, the name of that of bytes
+abbrev pub or_bytes : List ℕ → List ℕ
+or_bytes [] = codes "bytes"
+or_bytes (byte ∷ bytes) = byte ∷ bytes
 
 -- the record of a line of which this many steps are left for the call
 abbrev pub record_within : TermsValue → Form → ℕ → Bool → ℕ → List ℕ → List ℕ

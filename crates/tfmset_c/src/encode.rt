@@ -1,13 +1,14 @@
 //! `tfmset_encode`: turns a text in UTF-8 into the codes of a font.
-ghost use Rattle.std.specs.Prelude.{◌≡◌, ◌≤◌, ◌<◌, ◌+◌, ◌*◌, ◌^◌, ◌↔◌, ◌⊎◌, true, false, None, Option, Some, length, map, IfErr, IfOk};
+ghost use Rattle.std.specs.Prelude.{◌≡◌, ◌≤◌, ◌<◌, ◌+◌, ◌*◌, ◌^◌, ◌↔◌, ◌⊎◌, true, false, None, Option, Some, length, map, IfErr, IfOk, IfSome, MatchOption};
 ghost use Rattle.encodings.specs.declared.encoding.Encoding.{Encoding as EncodingValue};
 ghost use Rattle.encodings.specs.Texts.{codes_at, offsets_at, uncoded_at};
 ghost use Rattle.caller_arrays.specs.Arrays.{ArePut, IsFilled};
-ghost use Rattle.tfmset_c.specs.Encoded.{AreCodesTold, AreFilled, HaveRoom, IsCounted, IsFaultTold, TextCodes, codes_told, encoding_told, fault_told, offsets_from, uncoded_told};
+ghost use Rattle.tfmset_c.specs.Encoded.{AreCodesTold, AreFilled, HaveRoom, IsCounted, IsEncodingTold, IsFaultTold, IsNoEncoding, TextCodes, codes_told, encoding_named_told, fault_told, offsets_from, uncoded_told};
 
 use crate::reading::RANGE;
 use caller_arrays::{DONE, NO_ROOM, has_room, put_list};
-use encodings::{Encoding, Place, Places, codes_in_text, utf8_fault};
+use encoding_vectors::read_vector;
+use encodings::{Encoding, Place, Places, Vector, codes_in_text, utf8_fault};
 use std::str;
 
 /// The text isn't UTF-8.
@@ -38,13 +39,32 @@ pub struct TfmsetEncoded {
 /// Returns the encoding of this name: `None` within `Some` is that of bytes, each of which is a code. Returns
 /// `None` if no encoding has this name.
 #[tactic(auto, using(crate::proofs::EncodedLemmas::names))]
-pub fn encoding_of(name: &[u8]) -> Option<Option<Encoding>>
-    ensures { result ≡ encoding_told name.now }
+fn named_encoding(name: &[u8]) -> Option<Option<Encoding<'static>>>
+    ensures { result ≡ encoding_named_told name.now }
 {
     match str::from_utf8(name) {
         Ok("bytes") => Some(None),
         Ok(name) => Some(Some(Encoding::from_name(name)?)),
         Err(_) => None,
+    }
+}
+
+/// Returns the encoding that these bytes state: that of a name, or of a vector, which is then put into `vector`.
+/// Returns `None` if they are neither.
+#[tactic(auto, using(crate::proofs::EncodedLemmas::stated))]
+pub fn encoding_of<'a>(bytes: &[u8], vector: &'a mut Option<Vector>) -> Option<Option<Encoding<'a>>>
+    ensures told { MatchOption result (IsNoEncoding bytes.now) (IsEncodingTold bytes.now) }
+    ensures stated { IfSome result (λ _. IsNoEncoding bytes.now → ⊥) }
+{
+    match named_encoding(bytes) {
+        Some(encoding) => Some(encoding),
+        None => match read_vector(bytes) {
+            Ok(characters) => {
+                let made = Vector::of_characters(&characters);
+                Some(Some(Encoding::Vector(vector.insert(made))))
+            }
+            Err(_) => None,
+        },
     }
 }
 
@@ -83,9 +103,9 @@ fn fill_codes(
     offsets: &mut [usize],
     uncoded: &mut [TfmsetUncoded],
 ) -> (TfmsetEncoded, usize)
-    ensures codes { IsFilled (codes_at encoding places.entry) result.0.count codes.old codes.new }
-    ensures offsets { IsFilled (offsets_at encoding places.entry) result.1 offsets.old offsets.new }
-    ensures uncoded { IsFilled (map uncoded_told (uncoded_at encoding places.entry)) result.0.uncoded
+    ensures codes { IsFilled (codes_at encoding.entry places.entry) result.0.count codes.old codes.new }
+    ensures offsets { IsFilled (offsets_at encoding.entry places.entry) result.1 offsets.old offsets.new }
+    ensures uncoded { IsFilled (map uncoded_told (uncoded_at encoding.entry places.entry)) result.0.uncoded
         uncoded.old uncoded.new }
     ensures fault { result.0.offset ≡ 0 }
 {
@@ -123,10 +143,10 @@ fn fill(
     offsets: &mut [usize],
     uncoded: &mut [TfmsetUncoded],
 ) -> Result<(TfmsetEncoded, usize), usize>
-    ensures sound { IfOk result (λ _. fault_told encoding text.now ≡ None) }
-    ensures ok { IfOk result (λ filled. AreFilled (codes_told encoding text.now) filled.0 filled.1 codes.old codes.new offsets.old offsets.new uncoded.old uncoded.new) }
+    ensures sound { IfOk result (λ _. fault_told encoding.entry text.now ≡ None) }
+    ensures ok { IfOk result (λ filled. AreFilled (codes_told encoding.entry text.now) filled.0 filled.1 codes.old codes.new offsets.old offsets.new uncoded.old uncoded.new) }
     ensures few { IfOk result (λ filled. filled.0.count + filled.0.uncoded ≤ length text.now) }
-    ensures fault { IfErr result (λ offset. fault_told encoding text.now ≡ Some offset) }
+    ensures fault { IfErr result (λ offset. fault_told encoding.entry text.now ≡ Some offset) }
     ensures kept { IfErr result (λ _. (codes.new ≡ codes.old) × (offsets.new ≡ offsets.old) × (uncoded.new ≡ uncoded.old)) }
 {
     let Some(encoding) = encoding else {
@@ -165,17 +185,53 @@ fn have_room(
         && has_room(counts.uncoded, uncoded.len())
 }
 
+/// Writes what becomes of a text into the arrays, as `fill` does. Returns the code of the call, and its report.
+fn encoded(
+    encoding: Option<Encoding>,
+    text: &[u8],
+    codes: &mut [u8],
+    offsets: &mut [usize],
+    uncoded: &mut [TfmsetUncoded],
+) -> (u32, TfmsetEncoded)
+    ensures answers { (result.0 ≡ 0) ⊎ ((3 ≤ result.0) × (result.0 ≤ 5)) }
+    ensures stated { result.0 ≡ 4 → ⊥ }
+    ensures told { AreCodesTold (codes_told encoding.entry text.now) result.0 result.1 codes.old codes.new offsets.old offsets.new uncoded.old uncoded.new }
+    ensures fault { IsFaultTold (fault_told encoding.entry text.now) result.0 result.1 }
+    ensures few { (result.0 ≡ 0) ⊎ (result.0 ≡ 3) → result.1.count + result.1.uncoded ≤ length text.now }
+    ensures kept { result.0 ≡ 5 → (codes.new ≡ codes.old) × (offsets.new ≡ offsets.old) × (uncoded.new ≡ uncoded.old) }
+{
+    match fill(encoding, text, codes, offsets, uncoded) {
+        Ok((counts, placed)) => {
+            if have_room(counts, placed, codes, offsets, uncoded) {
+                (DONE, counts)
+            } else {
+                (NO_ROOM, counts)
+            }
+        }
+        Err(offset) => {
+            let report = TfmsetEncoded {
+                count: 0,
+                uncoded: 0,
+                offset,
+            };
+            (NOT_UTF8, report)
+        }
+    }
+}
+
 /// Turns a text in UTF-8 into the codes of a font, and writes them into the front of `codes`. `encoding` is the
-/// name of the font's encoding: `bytes`, `ot1`, `t1`, `ly1` or `latin1`; with `bytes` the text is copied. Line
-/// feeds are kept, and a byte order mark at the front of the text is left out.
+/// name of the font's encoding: `bytes`, `ot1`, `t1`, `ly1` or `latin1`; with `bytes` the text is copied. If it
+/// isn't a name, it is an encoding vector: the contents of a file `.enc`. Line feeds are kept, and a byte order mark
+/// at the front of the text is left out.
 ///
 /// For each code `offsets` has the byte offset in the text of the character that it comes from, unless its length is
 /// 0. A character that has no codes is left out, and is in `uncoded`.
 ///
 /// Returns: 0 after success, where the other elements of the arrays are unchanged; 3 if an array is too short, where
 /// `report` has the numbers of codes and of characters without codes, and the contents of the arrays are unspecified;
-/// 4 if there is no encoding of this name, where nothing is changed; 5 if the text isn't UTF-8, where the arrays are
-/// unchanged, and `report` has the offset. Arrays as long as the text are always long enough. No memory is allocated.
+/// 4 if `encoding` is neither a name nor a vector, where nothing is changed; 5 if the text isn't UTF-8, where the
+/// arrays are unchanged, and `report` has the offset. Arrays as long as the text are always long enough. No memory is
+/// allocated.
 #[unsafe(no_mangle)]
 pub extern "C" fn tfmset_encode(
     encoding: &[u8],
@@ -186,34 +242,19 @@ pub extern "C" fn tfmset_encode(
     report: &mut TfmsetEncoded,
 ) -> u32
     ensures answers { (result ≡ 0) ⊎ ((3 ≤ result) × (result ≤ 5)) }
-    ensures range { (result ≡ 4) ↔ (encoding_told encoding.now ≡ None) }
-    ensures told { (named : Option EncodingValue) → encoding_told encoding.now ≡ Some named → AreCodesTold
-        (codes_told named text.now) result report.new codes.old codes.new offsets.old offsets.new uncoded.old uncoded.new }
-    ensures fault { (named : Option EncodingValue) → encoding_told encoding.now ≡ Some named
-        → IsFaultTold (fault_told named text.now) result report.new }
+    ensures range { (result ≡ 4) ↔ IsNoEncoding encoding.now }
+    ensures told { (result ≡ 4) ⊎ ((told : Option EncodingValue) × IsEncodingTold encoding.now told
+        × AreCodesTold (codes_told told text.now) result report.new codes.old codes.new offsets.old offsets.new uncoded.old uncoded.new
+        × IsFaultTold (fault_told told text.now) result report.new) }
     ensures few { (result ≡ 0) ⊎ (result ≡ 3) → report.new.count + report.new.uncoded ≤ length text.now }
     ensures kept { (result ≡ 4) ⊎ (result ≡ 5) → (codes.new ≡ codes.old) × (offsets.new ≡ offsets.old) × (uncoded.new ≡ uncoded.old) }
     ensures unknown { result ≡ 4 → report.new ≡ report.old }
 {
-    let Some(encoding) = encoding_of(encoding) else {
+    let mut vector = None;
+    let Some(encoding) = encoding_of(encoding, &mut vector) else {
         return RANGE;
     };
-    match fill(encoding, text, codes, offsets, uncoded) {
-        Ok((counts, placed)) => {
-            *report = counts;
-            if have_room(counts, placed, codes, offsets, uncoded) {
-                DONE
-            } else {
-                NO_ROOM
-            }
-        }
-        Err(offset) => {
-            *report = TfmsetEncoded {
-                count: 0,
-                uncoded: 0,
-                offset,
-            };
-            NOT_UTF8
-        }
-    }
+    let (code, made) = encoded(encoding, text, codes, offsets, uncoded);
+    *report = made;
+    code
 }

@@ -1,21 +1,22 @@
 //! `tfmset_records`: writes the records of the lines of a text into an array of the caller.
-ghost use Rattle.std.specs.Prelude.{◌≡◌, ◌≤◌, ◌<◌, ◌+◌, ◌++◌, ◌^◌, ◌⊎◌, None, Some, true, IfOk, IfSome, OnOk, length, MatchOption};
+ghost use Rattle.std.specs.Prelude.{◌≡◌, ◌≤◌, ◌<◌, ◌+◌, ◌++◌, ◌^◌, ◌⊎◌, Option, true, IfOk, IfSome, OnOk, length, MatchOption};
+ghost use Rattle.encodings.specs.declared.encoding.Encoding.{Encoding as EncodingValue};
 ghost use Rattle.line_records.specs.Cells.{style_of};
 ghost use Rattle.line_records.specs.Results.{IsResult};
 ghost use Rattle.line_records.specs.declared.record_format.RecordFormat.TheVariants.{Items};
 ghost use Rattle.set_line.specs.Returns.{lines_in};
 ghost use Rattle.caller_arrays.specs.Arrays.{IsFilled};
+ghost use Rattle.tfmset_c.specs.Encoded.{IsEncodingTold, IsNoEncoding};
 ghost use Rattle.tfmset_c.specs.Options.{IsOutOfRange, call_limit_of, lines_at, result_within, terms_at};
 ghost use Rattle.tfmset_c.specs.Reading.{IsAnswer};
-ghost use Rattle.tfmset_c.specs.declared.records.Form.{Form as FormValue};
-ghost use Rattle.tfmset_c.specs.Records.{AreRecordsTold, form_told, record_within, records_told, version_of};
+ghost use Rattle.tfmset_c.specs.Records.{AreRecordsTold, IsNoVersion, form_told, or_bytes, record_within, records_told, version_of};
 
 use crate::encode::encoding_of;
 use crate::lines::steps_of;
 use crate::options::{Text, TfmsetOptions, terms_of};
 use crate::reading::{MEMORY, RANGE};
 use caller_arrays::{DONE, NO_ROOM, has_room, put_list};
-use encodings::Encoding;
+use encodings::{Encoding, Vector};
 use line_records::{LineResult, LineWriter, RecordFormat, RecordOf, SourceLine};
 use set_line::{
     LineRefusal, OutOfMemory, RecordNumber, TextRefusal, Version, append_refusal, next_line,
@@ -40,9 +41,9 @@ pub struct TfmsetForm {
 
 /// How the lines of a text are read, and the format and the source of their records.
 #[derive(Clone, Copy)]
-pub struct Form {
+pub struct Form<'a> {
     /// The encoding of the font, for a text in UTF-8. Without one, each byte is a code.
-    pub encoding: Option<Encoding>,
+    pub encoding: Option<Encoding<'a>>,
     /// The format.
     pub version: Version,
     /// The number of the source.
@@ -61,8 +62,7 @@ struct NextLine<'a> {
 /// Returns the record format with this number: 1, 2, or 3 for JSON. Returns `None` for any other number.
 #[tactic(auto, unfolding(crate::specs::Records::version_of))]
 fn version_numbered(version: u32) -> Option<Version>
-    ensures { MatchOption result ((version < 1) ⊎ (3 < version))
-        (λ v. (v ≡ version_of version) × ((1 ≤ version) × (version ≤ 3))) }
+    ensures { MatchOption result (IsNoVersion version) (λ v. (v ≡ version_of version) × (IsNoVersion version → ⊥)) }
 {
     match version {
         1 => Some(Version::One),
@@ -72,24 +72,30 @@ fn version_numbered(version: u32) -> Option<Version>
     }
 }
 
-/// Returns how the lines of a text are read and recorded, with this name of an encoding, which is that of bytes if
-/// it is empty. Returns `None` if no encoding has this name, or the record format is out of range.
-#[tactic(auto, unfolding(crate::specs::Records::form_told))]
-fn form_of(encoding: &[u8], form: &TfmsetForm) -> Option<Form>
-    ensures told { result ≡ form_told encoding.now form.now }
-    ensures first { IfSome result (λ read. read.first ≡ form.now.first) }
+/// Returns how the lines of a text are read and recorded, with this encoding. Returns `None` if the record format is
+/// out of range.
+fn form_of<'a>(encoding: Option<Encoding<'a>>, form: &TfmsetForm) -> Option<Form<'a>>
+    ensures { MatchOption result (IsNoVersion form.now.version)
+        (λ read. (read ≡ form_told encoding.entry form.now) × (IsNoVersion form.now.version → ⊥)) }
 {
-    let encoding = if encoding.is_empty() {
-        None
-    } else {
-        encoding_of(encoding)?
-    };
     Some(Form {
         encoding,
         version: version_numbered(form.version)?,
         source: form.source,
         first: form.first,
     })
+}
+
+/// Returns the encoding that these bytes state, as [`encoding_of`] does. No bytes state that of bytes.
+#[tactic(auto, using(crate::proofs::EncodedLemmas::given))]
+fn given_encoding<'a>(bytes: &[u8], vector: &'a mut Option<Vector>) -> Option<Option<Encoding<'a>>>
+    ensures told { MatchOption result (IsNoEncoding (or_bytes bytes.now)) (IsEncodingTold (or_bytes bytes.now)) }
+    ensures stated { IfSome result (λ _. IsNoEncoding (or_bytes bytes.now) → ⊥) }
+{
+    if bytes.is_empty() {
+        return Some(None);
+    }
+    encoding_of(bytes, vector)
 }
 
 /// Returns a writer for the lines of a text, which is prepared if the text is long enough.
@@ -144,7 +150,7 @@ fn fill_records(
     records: &mut [u8],
 ) -> Result<usize, OutOfMemory>
     requires { form.first + length text.bytes.now < 2 ^ 64 }
-    ensures { IfOk result (λ count. IsFilled (records_told text.entry.terms.now form form.first true
+    ensures { IfOk result (λ count. IsFilled (records_told text.entry.terms.now form.entry form.entry.first true
         text.entry.call_limit (lines_in text.entry.crlf text.entry.bytes.now)) count records.old records.new) }
 {
     let of = RecordOf {
@@ -194,7 +200,7 @@ fn write_records(
 ) -> u32
     requires { form.first + length text.bytes.now < 2 ^ 64 }
     ensures answers { (result ≡ 0) ⊎ ((result ≡ 2) ⊎ (result ≡ 3)) }
-    ensures told { AreRecordsTold (records_told text.entry.terms.now form form.first true text.entry.call_limit
+    ensures told { AreRecordsTold (records_told text.entry.terms.now form.entry form.entry.first true text.entry.call_limit
         (lines_in text.entry.crlf text.entry.bytes.now)) result count.old count.new records.old records.new }
 {
     let Ok(told) = fill_records(alloc, text, form, records) else {
@@ -207,17 +213,16 @@ fn write_records(
     NO_ROOM
 }
 
-/// Sets the lines of a text with these options, and writes their records into `records`. `encoding` is the name of
-/// the font's encoding, as in [`tfmset_encode`](crate::tfmset_encode), for a text in UTF-8; with the name `bytes` or
+/// Sets the lines of a text with these options, and writes their records into `records`. `encoding` states the
+/// font's encoding, as in [`tfmset_encode`](crate::tfmset_encode), for a text in UTF-8; with the name `bytes` or
 /// an empty one each byte of the text is a code.
 ///
 /// Returns: 0 after success, where `count` is the number of bytes that were written, and the other bytes of
 /// `records` are unchanged; 1 if the font is refused; 2 if an allocation fails; 3 if `records` is too short,
 /// where `count` is the number of bytes needed, or 2^64 - 1 if it is larger; 4 if an option or the record format is
-/// out of range, if no encoding has this name, or if the sum of `form.first` and the length of the text is 2^64 or
-/// more. After 1 and 4 nothing is changed. After 2 `count` is unchanged. After 2 and 3 the contents of `records` are
+/// out of range, if `encoding` is neither a name nor a vector, or if the sum of `form.first` and the length of the
+/// text is 2^64 or more. After 1 and 4 nothing is changed. After 2 `count` is unchanged. After 2 and 3 the contents of `records` are
 /// unspecified.
-#[tactic(auto, using(crate::proofs::TextLemmas::records_called))]
 #[unsafe(no_mangle)]
 pub extern "C" fn tfmset_records(
     alloc: Global,
@@ -229,15 +234,20 @@ pub extern "C" fn tfmset_records(
     records: &mut [u8],
     count: &mut usize,
 ) -> u32
-    ensures font { IsAnswer (IsOutOfRange options.now ⊎ ((form_told encoding.now form.now ≡ None)
-        ⊎ (2 ^ 64 ≤ form.now.first + length text.now))) font.now result }
-    ensures told { (read : FormValue) → form_told encoding.now form.now ≡ Some read
-        → AreRecordsTold (records_told (terms_at font.now options.now) read read.first true
+    ensures answers { result ≤ 4 }
+    ensures font { IsAnswer (IsOutOfRange options.now ⊎ (IsNoEncoding (or_bytes encoding.now)
+        ⊎ (IsNoVersion form.now.version ⊎ (2 ^ 64 ≤ form.now.first + length text.now)))) font.now result }
+    ensures told { (result ≡ 4) ⊎ ((told : Option EncodingValue) × IsEncodingTold (or_bytes encoding.now) told
+        × AreRecordsTold (records_told (terms_at font.now options.now) (form_told told form.now) form.now.first true
         (call_limit_of options.now.call_limit) (lines_at options.now text.now))
-        result count.old count.new records.old records.new }
+        result count.old count.new records.old records.new) }
     ensures kept { result ≡ 4 → (count.new ≡ count.old) × (records.new ≡ records.old) }
 {
     let Some(settings) = options.in_range() else {
+        return RANGE;
+    };
+    let mut vector = None;
+    let Some(encoding) = given_encoding(encoding, &mut vector) else {
         return RANGE;
     };
     let Some(read) = form_of(encoding, form) else {

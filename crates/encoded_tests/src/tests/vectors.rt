@@ -1,5 +1,5 @@
 //! Encodings that are made of characters.
-use encodings::{EncodedLine, Encoding, character_at, encode_line};
+use encodings::{EncodedLine, Encoding, Vector, character_at, encode_line};
 use std::process::Abort;
 use std::test::Fail;
 
@@ -43,8 +43,8 @@ fn lines_with_codes_of_vectors(rt: HostRuntime) -> Result<(), Fail> {
         for (code, character) in placed {
             characters[usize::from(*code)] = Some(*character);
         }
-        let vector = Encoding::of_characters(rt.alloc(), &characters)?;
-        let encoded = encode_line(vector, false, text.as_bytes(), &mut line);
+        let vector = Vector::of_characters(&characters);
+        let encoded = encode_line(Encoding::Vector(&vector), false, text.as_bytes(), &mut line);
         assert!(rt; encoded == Ok(()) && line.codes() == codes, "{text}");
         assert!(rt; line.has_gaps() == has_gaps, "{text}");
     }
@@ -54,7 +54,8 @@ fn lines_with_codes_of_vectors(rt: HostRuntime) -> Result<(), Fail> {
 #[test]
 fn characters_of_codes(rt: HostRuntime) -> Result<(), Fail> {
     let listed = [Some('a'), None, Some('a'), Some('\u{AD}'), Some('’')];
-    let vector = Encoding::of_characters(rt.alloc(), &listed)?;
+    let listed = Vector::of_characters(&listed);
+    let vector = Encoding::Vector(&listed);
     for (encoding, code, character) in [
         (vector, 0, Some('a')),
         (vector, 2, None),

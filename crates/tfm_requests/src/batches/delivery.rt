@@ -39,7 +39,7 @@ pub(crate) struct Output<'a> {
     /// The options of the request, except for its encoding.
     pub layout: &'a Layout,
     /// The encoding, if the lines are in UTF-8.
-    pub encoding: Option<Encoding>,
+    pub encoding: Option<Encoding<'static>>,
     /// When the output is written.
     pub delivery: Delivery,
     /// A cell for the numbers of lines that were set and refused.

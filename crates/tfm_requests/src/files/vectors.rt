@@ -7,7 +7,7 @@ use crate::failures::errors::EncodingError;
 use crate::files::opening::Opens;
 use crate::files::reading::font_file;
 use encoding_vectors::read_vector;
-use encodings::Encoding;
+use encodings::{Encoding, Vector};
 use std::alloc::Global;
 
 /// Returns the encoding of a request: that of the vector in the file that the arguments name, which is read to
@@ -16,8 +16,8 @@ pub(crate) fn encoding_of<F: Opens>(
     alloc: Global,
     files: &F,
     vector: Option<&str>,
-    stated: Option<Encoding>,
-) -> Result<Option<Encoding>, EncodingError>
+    stated: Option<Encoding<'static>>,
+) -> Result<Option<Encoding<'static>>, EncodingError>
     ensures encoding { IfOk result (IsEncodingOf (F.known files.now) vector.entry stated) }
     ensures cause { IfErr result (IsEncodingError (F.known files.now) vector.entry) }
 {
@@ -28,7 +28,11 @@ pub(crate) fn encoding_of<F: Opens>(
 }
 
 /// Reads the file of this name to its end, and returns the encoding of its vector.
-fn read_encoding<F: Opens>(alloc: Global, files: &F, file: &str) -> Result<Encoding, EncodingError>
+fn read_encoding<F: Opens>(
+    alloc: Global,
+    files: &F,
+    file: &str,
+) -> Result<Encoding<'static>, EncodingError>
     ensures encoding { IfOk result (λ encoding. OfKnown (F.known files.now file.now)
         (λ text. IsVectorIn text encoding)) }
     ensures cause { IfErr result (λ error. OfKnown (F.known files.now file.now)
@@ -38,14 +42,15 @@ fn read_encoding<F: Opens>(alloc: Global, files: &F, file: &str) -> Result<Encod
     vector_encoding(alloc, text.as_slice())
 }
 
-/// Returns the encoding of the vector in this text.
-fn vector_encoding(alloc: Global, text: &[u8]) -> Result<Encoding, EncodingError>
+/// Returns the encoding of the vector in this text. Its memory, 2.9 KB, is never freed, so that all threads can
+/// use it.
+fn vector_encoding(alloc: Global, text: &[u8]) -> Result<Encoding<'static>, EncodingError>
     ensures encoding { IfOk result (IsVectorIn text.now) }
     ensures cause { IfErr result (IsErrorOfText text.now) }
 {
     match read_vector(text) {
-        Ok(characters) => match Encoding::of_characters(alloc, &characters) {
-            Ok(encoding) => Ok(encoding),
+        Ok(characters) => match Box::new(alloc, Vector::of_characters(&characters)) {
+            Ok(vector) => Ok(Encoding::Vector(Box::leak(vector))),
             Err(_) => Err(EncodingError::OutOfMemory),
         },
         Err(fault) => Err(EncodingError::Refused(fault.line)),
