@@ -5,7 +5,11 @@ exactly the fonts that `check --strict` accepts, with warnings or without. If `c
 the messages of tftopl to the texts of warnings. tftopl differs as docs/TEX.md says: it doesn't check codes without a
 character, it follows programs of left neighbours without one, and it reports the texts of the header and the number
 of parameters. It stops after a program that never ends.
+
+The setter shows which programs never end: if a font has the warning, a line with its pair takes more steps than a
+large limit, and otherwise no line of two letters does.
 """
+import itertools
 import os
 import random
 import re
@@ -13,10 +17,12 @@ import re
 from lib import slow
 from lib.base import PROGRAM, Case, environment, execute, read, rows
 from lib.tex import fonts
-from lib.tfm import Font
+from lib.tfm import BOUNDARY, Font, make, sample
 
 WEIGHT = 4
-PARTS, COPIES = 8, 300
+PARTS, COPIES, PROGRAMS = 8, 300, 1250
+LIMIT = 20000  # of steps; the lines of two letters of programs that end take far fewer
+JOBS = 60  # of one call of `each`
 AT_ONCE = 90  # TeX stops at the 100th error
 LOOP = "program never ends"
 # What tftopl prints, and the texts of warnings; of a code, of a recipe, or of anything else.
@@ -56,6 +62,42 @@ def random_fonts(part):
             yield slow.random_font(chance)
         else:
             yield changed(slow.rich_font(chance) if turn % 4 == 1 else chance.choice(real), chance)
+
+
+def programs(part):
+    """Random fonts, half of them changed."""
+    chance, real = random.Random(f"programs {part}"), [data for _, data in fonts() if len(data) < 3000]
+    for turn in range(PROGRAMS):
+        font = slow.rich_font(chance) if turn % 4 == 1 else chance.choice(real) if turn % 8 == 3 else slow.random_font(chance)
+        yield changed(font, chance) if turn % 2 else font
+
+
+def lines_of(data, warning):
+    """Lines with the pair of a warning; without a warning the lines of one letter, and of two that may act.
+
+    A letter before the pair keeps the left boundary away from it. Bytes 10 and 32 are no letters.
+    """
+    font = Font(data)
+    letters = {*font.codes} - {10, 32}
+    if warning:
+        pair = [int(code) for code in warning.split()[-2:] if code != "left"]
+        line = [code for code in pair if code in font.codes]
+        found = [line, *([code, *line] for code in letters if len(pair) == 2)]
+    else:
+        found = [*([code] for code in letters), *itertools.product(font.starts(), {step[1] for step in font.program})]
+    return [line for line in found if {*line} <= letters]
+
+
+def ends(data, warning):
+    """Whether the pair of a warning ends on its own: no line has it if each letter before it changes it."""
+    left, right = (BOUNDARY if code == "left" else int(code) for code in warning.split()[-2:])
+    setter = slow.Setter(data, None, LIMIT, False)
+    setter.steps = 0
+    try:
+        setter.walk([(left, 0, 0), (right if right in setter.font.codes else -1, 0, 0)])
+    except slow.TooManySteps:
+        return False
+    return True
 
 
 def findings(out):
@@ -135,3 +177,42 @@ class Fonts(Case):
     def test_changed_fonts(self, part):
         """TeX and tftopl agree about random and changed fonts."""
         self.assertGreater(self.compare(list(random_fonts(part))), 20)
+
+    def test_only_check_refuses(self):
+        """TeX loads fonts that break only a rule that isn't TeX's, as docs/TEX.md says."""
+        firsts = [sample("ligature_0", f"{word}: {entry:08X}") for entry in (1, 2) for word in (11, 15, 16, 17)]
+        recipes = [make([(1, 0, 0, 0)], (0, 1), exten=[(0, 0, 0, 97)] * count) for count in (257, 256)]
+        contents = {f"f{number}.tfm": content for number, content in enumerate(firsts + recipes)}
+        for name, content in contents.items():
+            self.file(name, content)
+        words = [word for word, _ in findings(execute(PROGRAM, "check", "--strict", *contents, cwd=self.room)[1]).values()]
+        self.assertEqual(words, ["refused"] * 9 + ["accepted"])
+        self.assertEqual(self.refused_by_tex([*contents]), {f"f{number}.tfm" for number in range(4, 8)})
+
+    def never_ending(self, contents, warnings):
+        """The names of the fonts of which some line takes more than LIMIT steps."""
+        jobs, endless = [], set()
+        for name, content in contents.items():
+            lines = lines_of(content, warnings.get(name))
+            self.file(f"{name}.txt", b"".join(bytes(line) + b"\n" for line in lines))
+            jobs.append((name, str(LIMIT), f"{name}.txt"))
+        for at in range(0, len(jobs), JOBS):
+            group = jobs[at:at + JOBS]
+            out = execute(PROGRAM, "each", *itertools.chain(*group), cwd=self.room)[1]
+            self.assertEqual(len(re.findall("(?m)^[0-9]+ end complete ", out)), len(group))
+            endless |= {group[int(number) - 1][0] for number in re.findall("(?m)^([0-9]+):[0-9]+ refused steps ", out)}
+        return endless
+
+    @rows((f"part {part + 1} of {PARTS}", part) for part in range(PARTS))
+    def test_programs(self, part):
+        """The setter agrees which programs never end."""
+        contents = {f"f{number}.tfm": content for number, content in enumerate(programs(part))}
+        for name, content in contents.items():
+            self.file(name, content)
+        found = findings(execute(PROGRAM, "check", "--strict", *contents, cwd=self.room)[1])
+        contents = {name: content for name, content in contents.items() if found[name][0] == "accepted"}
+        warnings = {name: text for name in contents for text in found[name][1] if LOOP in text}
+        endless = self.never_ending(contents, warnings)
+        wrong = endless - {*warnings}, {name for name in {*warnings} - endless if ends(contents[name], warnings[name])}
+        self.none([f"{name}: {found[name][1]}" for name in sorted(set.union(*wrong))], len(endless), PROGRAMS // 5)
+        self.assertLess(len({*warnings} - endless), len(endless) // 20)

@@ -1,4 +1,4 @@
-//! The tests of `tfm_words`, `tfm_tables`, `font_texts` and `strict_checks`, over their public calls alone.
+//! The tests of `tfm_words`, `tfm_tables`, `font_texts` and `check_texts`, over their public calls alone.
 #![tactic(auto)]
 
 #[cfg(test)]

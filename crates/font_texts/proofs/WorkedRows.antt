@@ -1,5 +1,4 @@
--- Worked rows: lines of pairs with the characters of an encoding, and lines of findings, computed from the definitions
--- alone. The pairs in OT1 are those of cmr10.
+-- Worked rows: lines of pairs with the characters of an encoding, computed from the definitions alone. The pairs in OT1 are those of cmr10.
 use Rattle.std.proofs.Common.{◌≡◌, [], ◌∷◌, ◌++◌, negsuc, pos, false, true, Some, None, refl}
 use Rattle.std.specs.Prelude.{codes}
 use Rattle.std.specs.Char.{encode_utf8}
@@ -17,15 +16,6 @@ use Rattle.encodings.specs.Characters.{character_of}
 use Rattle.font_texts.specs.AllListing.{hex_byte}
 use Rattle.font_texts.specs.PairsText.{action_name, action_value, json_action_value, json_symbol, line_end, pair_front, symbol_word}
 use Rattle.font_texts.specs.PairCharacters.{character_cell, character_name, character_word, characters_beside, json_character, json_member, json_value, pair_line_with, symbol_character, symbol_field, value_character, value_field, value_member}
-use Rattle.font_texts.specs.FaultWords.{count_fault_number, fault_number}
-use Rattle.font_texts.specs.Findings.{finding_line, json_escaped, json_finding, json_line}
-use Rattle.font_texts.specs.ListingWords.{escaped}
-use Rattle.font_texts.specs.declared.finding.Finding.TheVariants.{Refused, NotRead}
-use Rattle.font_texts.specs.declared.finding.FindingFormat.TheVariants.{Json as FindingJson}
-use Rattle.tfm_tables.specs.FaultTexts.{font_fault_text}
-use Rattle.tfm_tables.specs.declared.fault.FontFault.TheVariants.{Counts}
-use Rattle.tfm_words.specs.FaultTexts.{count_fault_text}
-use Rattle.tfm_words.specs.declared.count_fault.CountFault.TheVariants.{Truncated}
 use Rattle.font_texts.specs.declared.pair.Pair.{Pair}
 use Rattle.font_texts.specs.declared.pairs_format.PairsFormat.TheVariants.{Text, Csv, Json}
 
@@ -98,15 +88,3 @@ string_in_json : pair_line_with Points None Json (pair (Char 86) (Char 65) (Kern
     ≡ codes "{\"left\":86,\"right\":65,\"action\":\"kern\",\"value\":\"-1.11113pt\"}\n"
 unfolding pair_line_with pair_front line_end characters_beside json_symbol action_name action_value json_action_value length_text decimal_in points_power decimal_text digits
 string_in_json = refl
-
--- ---- findings in JSON
-
--- a name with a double quote, a backslash and a byte that isn't ASCII
-refused_in_json : finding_line FindingJson (97 ∷ 34 ∷ 92 ∷ 195 ∷ [], Refused (Counts (Truncated 24)))
-    ≡ codes "{\"font\":\"a\\\"\\\\x5c\\\\xc3\",\"finding\":\"refused\",\"error\":1,\"words\":\"truncated, 24 bytes needed\"}\n"
-unfolding json_line json_escaped json_finding escaped fault_number count_fault_number font_fault_text count_fault_text digits
-refused_in_json = refl
-
-unread_in_json : finding_line FindingJson (codes "no", NotRead) ≡ codes "{\"font\":\"no\",\"finding\":\"not read\"}\n"
-unfolding json_line json_escaped json_finding escaped
-unread_in_json = refl

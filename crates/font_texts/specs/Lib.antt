@@ -3,7 +3,7 @@ pub mod CountsText
 pub mod Listing
 pub mod ListingWords
 pub mod FaultWords
-pub mod Findings
+pub mod JsonText
 pub mod Laws
 pub mod Pairs
 pub mod PairsText

@@ -1,7 +1,7 @@
 ghost use Rattle.std.specs.Prelude.{◌≡◌, ◌<◌, ◌++◌, OnOk, false, true};
 ghost use Rattle.std.specs.Fmt.{digit_glyph};
 ghost use Rattle.font_texts.specs.AllListing.{hex_byte, hex_text};
-ghost use Rattle.font_texts.specs.Findings.{json_escaped, json_text};
+ghost use Rattle.font_texts.specs.JsonText.{json_escaped, json_text};
 ghost use Rattle.font_texts.specs.ListingWords.{escaped, escaped_text};
 
 use std::alloc::AllocError;
@@ -50,7 +50,7 @@ pub fn push_escaped_text(text: &mut Vec<u8>, bytes: &[u8]) -> Result<(), AllocEr
     Ok(())
 }
 
-#[tactic(auto, unfolding(crate::specs::Findings::json_escaped))]
+#[tactic(auto, unfolding(crate::specs::JsonText::json_escaped))]
 fn push_json_escaped(text: &mut Vec<u8>, byte: u8) -> Result<(), AllocError>
     ensures { OnOk result (text.new.items ≡ text.old.items ++ json_escaped byte) }
 {

@@ -23,9 +23,9 @@ impl fmt::Display for Numbered {
     }
 }
 
-/// Returns the number of a font error.
+/// Returns the number of a font error, as [`Numbered`] writes it.
 #[tactic(auto, unfolding(crate::specs::FaultWords::fault_number))]
-pub(crate) fn number_of(fault: FontFault) -> u8
+pub fn number_of(fault: FontFault) -> u8
     ensures { result ≡ fault_number fault }
 {
     match fault {

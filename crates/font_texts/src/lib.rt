@@ -1,13 +1,11 @@
-//! Makes texts about a font: its counts and design size, its listing, its full listing, its pairs, and the
-//! result of its check.
+//! Makes texts about a font: its counts and design size, its listing, its full listing, its pairs, and its first error.
 #![tactic(auto)]
 
 pub use all_listing::list_all_text;
 pub use appending::{push_escaped_text, push_json_text};
-pub use checking::{check_font, finding_text};
 pub use counts::counts_text;
-pub use fault_words::Numbered;
-pub use finding::{Finding, FindingFormat};
+pub use fault_words::{Numbered, number_of};
+pub use finding::FindingFormat;
 pub use listing::{list_file_text, list_text};
 pub use pair::Pair;
 pub use pair_lines::pairs_text;
@@ -18,7 +16,6 @@ pub use pairs_layout::PairsLayout;
 mod all_listing;
 mod appending;
 mod character_fields;
-mod checking;
 mod counts;
 mod fault_words;
 mod finding;

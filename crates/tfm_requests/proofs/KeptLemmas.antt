@@ -13,7 +13,7 @@ use Rattle.tfm_words.specs.Word.{word_at}
 use Rattle.tfm_tables.specs.declared.fault.FontFault.TheVariants.{Counts}
 use Rattle.tfm_tables.specs.Acceptance.{after_counts, font_fault_of, words_of}
 use Rattle.tfm_tables.specs.Font.{FontValue, IsFontOf}
-use Rattle.strict_checks.specs.Warnings.{warnings_of}
+use Rattle.check_texts.specs.Warnings.{warnings_of}
 use Rattle.tfm_requests.specs.Kept.{HaveSameFont, kept_of}
 
 -- ---- the first n bytes

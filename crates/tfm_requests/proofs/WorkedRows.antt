@@ -7,10 +7,7 @@ use Rattle.tfm_tables.specs.declared.fault.FontFault.TheVariants.{Counts as InCo
 use Rattle.command_line.specs.declared.request.Checking.{Checking}
 use Rattle.command_line.specs.declared.request.Layout.{Layout}
 use Rattle.command_line.specs.declared.request.Setting.{Setting}
-use Rattle.std.specs.Fmt.{digits}
-use Rattle.font_texts.specs.declared.finding.Finding.TheVariants.{Accepted, NotRead}
-use Rattle.font_texts.specs.declared.finding.FindingFormat.TheVariants.{Json}
-use Rattle.tfm_requests.specs.Checking.{dashes_in, names_in, separator_of, summary_line, tally_of}
+use Rattle.tfm_requests.specs.Checking.{dashes_in, names_in, separator_of}
 use Rattle.tfm_requests.specs.Causes.{IsErrorOfCheck, IsErrorOfSetting, IsHeadError, IsJobError}
 use Rattle.tfm_requests.specs.Jobs.{IsErrorOfWords, IsLimitOf, WritesLimit, jobs_in}
 use Rattle.tfm_requests.specs.declared.failures.errors.FontError.TheVariants.{Refused}
@@ -90,8 +87,3 @@ named_lines = refl
 -- names that end with zero bytes, one of them with a line feed
 named_bytes : names_in (separator_of true) (97 ∷ 10 ∷ 98 ∷ 0 ∷ 255 ∷ 0 ∷ []) ≡ (97 ∷ 10 ∷ 98 ∷ []) ∷ (255 ∷ []) ∷ []
 named_bytes = refl
-
--- the summary in JSON of a font that is accepted and one that isn't read
-counted_in_json : summary_line Json (tally_of ((codes "a", (Accepted, [])) ∷ (codes "b", (NotRead, [])) ∷ [])) ≡ codes "{\"fonts\":2,\"accepted\":1,\"refused\":0,\"unread\":1}\n"
-unfolding digits
-counted_in_json = refl

@@ -6,7 +6,7 @@ use Rattle.std.specs.Prelude.{◌≡◌, ℕ, List, take, Option, None}
 use Rattle.font_texts.specs.CountsText.{counts_text_of, head_fault_of}
 use Rattle.tfm_tables.specs.Acceptance.{font_fault_of}
 use Rattle.tfm_tables.specs.Font.{FontValue, IsFontOf}
-use Rattle.strict_checks.specs.Warnings.{warnings_of}
+use Rattle.check_texts.specs.Warnings.{warnings_of}
 
 -- the first bytes of a file, up to one more than the largest font has
 abbrev pub kept_of : List ℕ → List ℕ

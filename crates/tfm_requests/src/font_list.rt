@@ -1,15 +1,13 @@
 //! The list of fonts that `--files-from` names.
-ghost use Rattle.std.specs.Prelude.{◌≡◌, ◌⊎◌, ◌∷◌, [], List, Option, map, IfErr, IfOk, IfSome, ℕ};
-ghost use Rattle.std.specs.Borrow.{Bor};
-ghost use Rattle.std.specs.List.{All};
-ghost use Rattle.tfm_requests.specs.Checking.{AddsRows, AreListed, AreNamed, IsOpenedList, IsRowOfFile, Row, is_input as is_input_name, separator_of, without_empty};
+ghost use Rattle.std.specs.Prelude.{◌≡◌, ◌⊎◌, ◌∷◌, [], List, Option, false, Bool, IfErr, IfOk, IfSome, ℕ};
+ghost use Rattle.tfm_requests.specs.Checking.{AddsFonts, AreIn, AreListed, AreNames, is_input as is_input_name, separator_of, without_empty};
 ghost use Rattle.tfm_requests.specs.Kept.{kept_of};
 
-use crate::checking::{Fonts, verdict_of, write_row};
+use crate::checking::{Fonts, write_font};
 use crate::failures::errors::{FileError, ReadFault};
 use crate::files::opening::Opens;
 use crate::files::reading::{font_file, opened};
-use crate::tally::Tally;
+use check_texts::Tally;
 use run_texts::ToolFault;
 use std::alloc::Global;
 use std::io::{BufRead, BufReader, ErrorKind, Read, Write};
@@ -41,7 +39,9 @@ pub(crate) fn open_list<F: Opens>(
     files: &F,
     list: Option<&str>,
 ) -> Result<FontList<F::File>, FileError>
-    ensures { IfOk result (IsOpenedList (F.known files.now) F.File.remaining list.entry) }
+    ensures { (input : Option (List ℕ)) (separator : ℕ) (ended : Bool) (names : List (List ℕ))
+        → IfOk result (λ opened. AreIn F.File.remaining input opened separator ended names
+        → AreListed (F.known files.now) input list.entry separator ended names) }
 {
     if is_input(list) {
         return Ok(FontList::Input);
@@ -63,12 +63,13 @@ fn separator(null: bool) -> u8
     if null { b'\0' } else { b'\n' }
 }
 
-/// Reads the fonts of a list, whose names end with a zero byte if the flag is set, and writes the line of each. Returns
-/// the numbers of all fonts, of which `tally` has those before, and whether the list was read to its end.
+/// Reads the fonts of a list, whose names end with a zero byte if the flag is set, and writes the text of each. Returns
+/// the numbers of all fonts, and whether the list was read to its end. `first` has the numbers of the fonts before, and
+/// whether `input` was read for one of them, in which case it isn't read as the list.
 pub(crate) fn check_list<F, I, O>(
     fonts: &Fonts<'_, F>,
     list: (FontList<F::File>, bool),
-    tally: Tally,
+    first: (Tally, bool),
     input: &mut I,
     out: &mut O,
 ) -> Result<(Tally, bool), ToolFault>
@@ -76,23 +77,24 @@ where
     F: Opens,
     I: Read,
     O: Write,
-    ensures text { (name : Option (Bor (List ℕ)))
-        → IsOpenedList (F.known fonts.now.files.now) F.File.remaining name list.0
-        → IfOk result (λ ended. (rows : List Row)
-        × AreListed fonts.now.layout.strict (F.known fonts.now.files.now) (I.remaining input.old) name (separator_of list.1) ended.1 rows
-        × AddsRows fonts.now.layout rows (O.contents out.old) tally (O.contents out.new) ended.0) }
+    ensures text { (start : Option (List ℕ)) → (first.1 ≡ false → I.remaining input.old ≡ start)
+        → IfOk result (λ done. (names : List (List ℕ))
+        × AreIn F.File.remaining start list.0 (separator_of list.1) done.1 names
+        × AddsFonts fonts.now.layout (F.known fonts.now.files.now) names
+        (O.contents out.old) first.0 (O.contents out.new) done.0) }
     ensures fault { IfErr result (λ fault. (fault ≡ ToolFault.OutOfMemory) ⊎ (fault ≡ ToolFault.Write)) }
 {
-    let (list, null) = list;
+    let ((list, null), (tally, is_read)) = (list, first);
     let separator = separator(null);
     match list {
         FontList::None => Ok((tally, true)),
+        FontList::Input if is_read => Ok((tally, false)),
         FontList::Input => check_named(fonts, input, separator, tally, out),
         FontList::File(file) => check_named(fonts, file, separator, tally, out),
     }
 }
 
-/// Reads the fonts whose names are in `list`, each with `separator` after it, and writes the line of each before it
+/// Reads the fonts whose names are in `list`, each with `separator` after it, and writes the text of each before it
 /// reads the next name. Returns what `check_list` does.
 fn check_named<F, L, O>(
     fonts: &Fonts<'_, F>,
@@ -105,9 +107,9 @@ where
     F: Opens,
     L: Read + Drop,
     O: Write,
-    ensures text { IfOk result (λ ended. (rows : List Row)
-        × AreNamed fonts.now.layout.strict (F.known fonts.now.files.now) separator (L.remaining list) ended.1 rows
-        × AddsRows fonts.now.layout rows (O.contents out.old) tally (O.contents out.new) ended.0) }
+    ensures text { IfOk result (λ done. (names : List (List ℕ)) × AreNames separator (L.remaining list) done.1 names
+        × AddsFonts fonts.now.layout (F.known fonts.now.files.now) names
+        (O.contents out.old) tally (O.contents out.new) done.0) }
     ensures fault { IfErr result (λ fault. (fault ≡ ToolFault.OutOfMemory) ⊎ (fault ≡ ToolFault.Write)) }
 {
     let mut tally = tally;
@@ -126,7 +128,7 @@ where
     Ok((tally, true))
 }
 
-/// Reads the font in the file of this name, and writes its line, unless the name is empty. Returns the numbers of all
+/// Reads the font in the file of this name, and writes its text, unless the name is empty. Returns the numbers of all
 /// fonts, of which `tally` has those before.
 fn check_name<F, O>(
     fonts: &Fonts<'_, F>,
@@ -137,18 +139,15 @@ fn check_name<F, O>(
 where
     F: Opens,
     O: Write,
-    ensures text { IfOk result (λ all. (rows : List Row)
-        × (map (λ row. row.0) rows ≡ without_empty (name.now ∷ []))
-        × All (IsRowOfFile fonts.now.layout.strict (F.known fonts.now.files.now)) rows
-        × AddsRows fonts.now.layout rows (O.contents out.old) tally (O.contents out.new) all) }
+    ensures text { IfOk result (λ all. AddsFonts fonts.now.layout (F.known fonts.now.files.now)
+        (without_empty (name.now ∷ [])) (O.contents out.old) tally (O.contents out.new) all) }
     ensures fault { IfErr result (λ fault. (fault ≡ ToolFault.OutOfMemory) ⊎ (fault ≡ ToolFault.Write)) }
 {
     if name.is_empty() {
         return Ok(tally);
     }
     let bytes = named_bytes(fonts.alloc, fonts.files, name);
-    let verdict = verdict_of(fonts.alloc, bytes, fonts.layout)?;
-    write_row(fonts, (name, &verdict), tally, out)
+    write_font(fonts, (name, bytes), tally, out)
 }
 
 /// Reads the file of this name as `font_file` does. A file whose name isn't UTF-8 isn't read, since a path of the

@@ -16,5 +16,4 @@ mod files;
 mod font_list;
 mod performing;
 mod stated;
-mod tally;
 mod texts;

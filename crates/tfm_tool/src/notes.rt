@@ -24,7 +24,7 @@ pub(crate) struct Notes {
     causes: Mutex<Vec<u8>>,
     /// The number of lines that end with a carriage return.
     returns: AtomicU64,
-    /// Whether a font wasn't found whose name is that of no directory, such as `cmr10`.
+    /// Whether a font wasn't found whose name has no slash, such as `cmr10`.
     bare_unfound: AtomicBool,
 }
 

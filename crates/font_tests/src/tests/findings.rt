@@ -1,6 +1,7 @@
 //! Findings of `check`, and the texts of errors.
 use super::faulty::BELOW_ONE;
-use font_texts::{Finding, FindingFormat, check_font, finding_text};
+use check_texts::{Verdict, verdict_text};
+use font_texts::FindingFormat;
 use std::process::Abort;
 use std::test::Fail;
 use test_support::fonts::files::NO_CHARACTERS;
@@ -11,6 +12,23 @@ use tfm_words::Table::{
     CharInfo, Depth, Exten, Header, Height, Italic, Kern, LigKern, Param, Width,
 };
 
+/// The verdict on a font with this error, or without one and without warnings.
+fn verdict_for<R: AllocGlobal>(rt: &R, fault: Option<FontFault>) -> Verdict {
+    match fault {
+        Some(fault) => Verdict::Refused(fault),
+        None => Verdict::Accepted(Vec::new(rt.alloc())),
+    }
+}
+
+/// The verdict is that one.
+fn is_for(verdict: &Verdict, fault: Option<FontFault>) -> bool {
+    match verdict {
+        Verdict::Accepted(warnings) => fault.is_none() && warnings.is_empty(),
+        Verdict::Refused(found) => fault == Some(*found),
+        Verdict::NotRead => false,
+    }
+}
+
 /// The font in these bytes has this error, or none, at each size, and this line under this name.
 fn checks<R: Abort + AllocGlobal>(
     rt: &R,
@@ -20,9 +38,9 @@ fn checks<R: Abort + AllocGlobal>(
     line: &str,
 ) -> Result<(), Fail> {
     for size in [None, Size::new(1), Size::new(134_217_727)] {
-        let finding = check_font(rt.alloc(), bytes, size)?;
-        let text = finding_text(rt.alloc(), FindingFormat::Text, name.as_bytes(), finding)?;
-        assert!(rt; finding == finding_of(fault), "{line}");
+        let verdict = Verdict::check(rt.alloc(), bytes, size, false)?;
+        assert!(rt; is_for(&verdict, fault), "{line}");
+        let text = verdict_text(rt.alloc(), FindingFormat::Text, name.as_bytes(), &verdict)?;
         assert!(rt; text.as_slice() == line.as_bytes(), "{line}");
     }
     Ok(())
@@ -69,21 +87,13 @@ static TEXTS: [(Option<FontFault>, &str); 25] = [
     (Some(FontFault::OutOfMemory), "15 out of memory"),
 ];
 
-/// The finding for a font with this error, or without one.
-fn finding_of(fault: Option<FontFault>) -> Finding {
-    match fault {
-        Some(fault) => Finding::Refused(fault),
-        None => Finding::Accepted,
-    }
-}
-
-/// The line of this finding under the name `x` has these words.
+/// The line of this verdict under the name `x` has these words.
 fn has_words<R: Abort + AllocGlobal>(
     rt: &R,
-    finding: Finding,
+    verdict: &Verdict,
     words: [&str; 2],
 ) -> Result<(), Fail> {
-    let text = finding_text(rt.alloc(), FindingFormat::Text, b"x", finding)?;
+    let text = verdict_text(rt.alloc(), FindingFormat::Text, b"x", verdict)?;
     let [before, words] = words;
     let wanted = format!(in rt.alloc(); "x: {before}{words}\n")?;
     assert!(rt; text.as_slice() == wanted.as_bytes(), "{words}");
@@ -93,8 +103,8 @@ fn has_words<R: Abort + AllocGlobal>(
 #[test]
 fn each_finding_has_its_words(rt: HostRuntime) -> Result<(), Fail> {
     for (fault, words) in TEXTS {
-        has_words(&rt, finding_of(fault), ["refused: ", words])?;
+        has_words(&rt, &verdict_for(&rt, fault), ["refused: ", words])?;
     }
-    has_words(&rt, Finding::Accepted, ["", "accepted"])?;
-    has_words(&rt, Finding::NotRead, ["", "not read"])
+    has_words(&rt, &verdict_for(&rt, None), ["", "accepted"])?;
+    has_words(&rt, &Verdict::NotRead, ["", "not read"])
 }

@@ -1,6 +1,7 @@
 //! Fonts of which a part is long are read and listed whole.
 use super::faults::fault_of;
-use font_texts::{Finding, check_font, list_all_text};
+use check_texts::Verdict;
+use font_texts::list_all_text;
 use std::process::Abort;
 use std::test::Fail;
 use test_support::fonts::lengths::{LONG, Lengths, amount_of};
@@ -91,15 +92,15 @@ fn lines_of(lengths: &Lengths, words: u16) -> usize {
     lines
 }
 
-/// The font is accepted by `check_font`, and its full listing has these lines.
+/// The font is accepted by `Verdict::check`, and its full listing has these lines.
 fn is_listed<R: Abort + AllocGlobal>(
     rt: &R,
     case: &str,
     file: &[u8],
     lines: usize,
 ) -> Result<(), Fail> {
-    let finding = check_font(rt.alloc(), file, None)?;
-    assert!(rt; finding == Finding::Accepted, "{case}");
+    let verdict = Verdict::check(rt.alloc(), file, None, false)?;
+    assert!(rt; verdict.is_plain(), "{case}");
     let text = String::from_utf8(list_all_text(rt.alloc(), file, None, LengthUnit::ScaledPoints)?)?;
     assert_eq!(rt; text.lines().count(), lines, "{case}");
     for (name, line) in LINES {

@@ -1,7 +1,7 @@
 //! The warnings of accepted fonts. TeX refuses those of `REFUSED`, and TFtoPL reports the others.
+use check_texts::{Warning, strict_warnings};
 use std::process::Abort;
 use std::test::Fail;
-use strict_checks::{Warning, strict_warnings};
 use test_support::fonts::examples::endless;
 use test_support::fonts::{A, B, C, Info, NOTHING, PLAIN, Sample};
 use tfm_tables::Step;

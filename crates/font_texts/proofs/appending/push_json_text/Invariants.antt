@@ -1,6 +1,6 @@
 -- the text consists of the text before the loop and the bytes so far, escaped
 use Rattle.std.proofs.Common.{◌≡◌, ◌++◌, take}
-use Rattle.font_texts.specs.Findings.{json_text}
+use Rattle.font_texts.specs.JsonText.{json_text}
 use Rattle.font_texts.proofs.appending.push_json_text.Given as goal
 
 abbrev pub invariant-loop-byte : goal.invariant-loop-byte

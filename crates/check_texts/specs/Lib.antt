@@ -1,0 +1,4 @@
+pub mod Warnings
+pub mod Texts
+pub mod Verdicts
+pub mod Tallies

@@ -1,0 +1,106 @@
+//! The numbers of fonts that `check` counts, and their summary.
+ghost use Rattle.std.specs.Prelude.{◌≡◌, ◌+◌, ◌∷◌, ◌++◌, ℕ, [], List, cond, string_bytes, IfOk};
+ghost use Rattle.check_texts.specs.Tallies.{counted, fonts_noun, summary_end as summary_end_of, summary_line as summary_line_of, tally_of};
+ghost use Rattle.check_texts.specs.Verdicts.{Row};
+
+use crate::Verdict;
+use font_texts::FindingFormat;
+use std::alloc::{AllocError, Global};
+
+/// The numbers of fonts that were checked. They saturate at 2^64 - 1.
+#[derive(Clone, Copy)]
+pub struct Tally {
+    /// The number of all fonts.
+    pub fonts: u64,
+    /// The number of fonts that are accepted, and that TeX doesn't refuse.
+    pub accepted: u64,
+    /// The number of fonts that are refused, by a font error or by TeX.
+    pub refused: u64,
+    /// The number of fonts that weren't read.
+    pub unread: u64,
+    /// The number of fonts that aren't accepted without any warning.
+    pub reported: u64,
+}
+
+/// Returns this count, or one more.
+fn counting(count: u64, one_more: bool) -> u64
+    ensures { result ≡ counted (count + cond one_more 1 0) }
+{
+    count.saturating_add(u64::from(one_more))
+}
+
+impl Tally {
+    /// Returns the numbers of no fonts.
+    pub fn new() -> Self
+        ensures { result ≡ tally_of [] }
+    {
+        Tally {
+            fonts: 0,
+            accepted: 0,
+            refused: 0,
+            unread: 0,
+            reported: 0,
+        }
+    }
+
+    /// Returns these numbers with one font more, which has this verdict.
+    pub fn with(self, verdict: &Verdict) -> Self
+        ensures { (rows : List Row) (name : List ℕ) → self ≡ tally_of rows
+            → result ≡ tally_of (rows ++ (name, verdict.now) ∷ []) }
+    {
+        let (accepted, unread) = (verdict.is_accepted(), verdict.is_unread());
+        Tally {
+            fonts: counting(self.fonts, true),
+            accepted: counting(self.accepted, accepted),
+            refused: counting(self.refused, !(accepted || unread)),
+            unread: counting(self.unread, unread),
+            reported: counting(self.reported, !verdict.is_plain()),
+        }
+    }
+}
+
+/// Returns the noun for this number of fonts.
+fn noun_of(count: u64) -> &'static str
+    ensures { result.now ≡ fonts_noun count }
+{
+    if count == 1 { "font" } else { "fonts" }
+}
+
+/// Returns the end of the line of `--summary`, by the number of fonts that weren't read.
+fn summary_end(alloc: Global, unread: u64) -> Result<String, AllocError>
+    ensures { IfOk result (λ text. string_bytes text ≡ summary_end_of unread) }
+{
+    if unread == 0 {
+        return String::from_str(alloc, " refused\n");
+    }
+    format!(in alloc; " refused, {unread} not read\n")
+}
+
+/// Returns the line of `--summary` in a format. Fails if an allocation fails.
+pub fn summary_line(
+    alloc: Global,
+    format: FindingFormat,
+    tally: Tally,
+) -> Result<String, AllocError>
+    ensures { IfOk result (λ line. string_bytes line ≡ summary_line_of format tally) }
+{
+    let Tally {
+        fonts,
+        accepted,
+        refused,
+        unread,
+        ..
+    } = tally;
+    match format {
+        FindingFormat::Text => {
+            let noun = noun_of(fonts);
+            let end = summary_end(alloc, unread)?;
+            format!(in alloc; "{fonts} {noun}: {accepted} accepted, {refused}{end}")
+        }
+        FindingFormat::Json => {
+            format!(in alloc;
+                "{{\"fonts\":{fonts},\"accepted\":{accepted},\"refused\":{refused},\"unread\":{unread}}}\n"
+            )
+        }
+    }
+}

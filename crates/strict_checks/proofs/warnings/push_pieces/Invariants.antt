@@ -1,7 +1,0 @@
--- the warnings are those before the loop and those of the pieces so far
-use Rattle.std.proofs.Common.{◌≡◌, ◌++◌}
-use Rattle.strict_checks.specs.Warnings.{piece_warning, warnings_below}
-use Rattle.strict_checks.proofs.warnings.push_pieces.Given as goal
-
-abbrev pub invariant-loop-k : goal.invariant-loop-k
-invariant-loop-k l = l.found.items ≡ l.initial.found.items ++ warnings_below (piece_warning l.tables) l.k

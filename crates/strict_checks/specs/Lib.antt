@@ -1,3 +1,0 @@
-pub mod Warnings
-pub mod Texts
-pub mod Verdicts
