@@ -215,4 +215,4 @@ class Fonts(Case):
         endless = self.never_ending(contents, warnings)
         wrong = endless - {*warnings}, {name for name in {*warnings} - endless if ends(contents[name], warnings[name])}
         self.none([f"{name}: {found[name][1]}" for name in sorted(set.union(*wrong))], len(endless), PROGRAMS // 5)
-        self.assertLess(len({*warnings} - endless), len(endless) // 20)
+        self.assertLess(len({*warnings} - endless), PROGRAMS // 20)

@@ -17,7 +17,7 @@ use Rattle.check_texts.specs.declared.warning.Warning.{Warning}
 use Rattle.command_line.specs.declared.request.CheckLayout.{CheckLayout}
 use Rattle.command_line.specs.declared.request.Checking.{Checking}
 use Rattle.tfm_tables.specs.Acceptance.{font_fault_of}
-use Rattle.tfm_requests.specs.Checking.{AddsFonts, AddsRows, AreChecked, AreListed, AreNames, IsFound, IsWritten, check_status, is_input, rows_text, separator_of, summary_text, text_shown}
+use Rattle.tfm_requests.specs.Checking.{AddsFonts, AreChecked, AreListed, AreNames, IsFound, IsWritten, check_status, is_input, rows_text, separator_of, summary_text, text_shown}
 use Rattle.tfm_requests.specs.Kept.{HaveSameFont}
 use Rattle.tfm_requests.specs.Known.{font_bytes_of}
 

@@ -1,6 +1,6 @@
 -- The output of `check`, and its exit status.
 -- This project's own.
-use Rattle.std.specs.Prelude.{◌≡◌, ◌⊎◌, ◌==◌, ℕ, List, [], ◌∷◌, ◌++◌, Bool, true, false, ◌&&◌, cond, codes, count_by, flat_map, length, map, nat_lt, Option, Some, None, IfSome}
+use Rattle.std.specs.Prelude.{◌≡◌, ◌⊎◌, ◌==◌, ℕ, List, [], ◌++◌, Bool, true, false, ◌&&◌, cond, codes, count_by, flat_map, length, map, nat_lt, Option, Some, None, IfSome}
 use Rattle.std.specs.Borrow.{Bor}
 use Rattle.std.specs.Io.KnownBytes.{Appends}
 use Rattle.std.specs.List.{All, filter, slice_split}

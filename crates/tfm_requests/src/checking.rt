@@ -1,8 +1,7 @@
 //! The subcommand `check`: writes the text of each font, and a summary.
-ghost use Rattle.std.specs.Prelude.{◌≡◌, ◌⊎◌, ◌∷◌, ◌&&◌, ℕ, [], List, Option, false, true, cond, map, IfErr, IfOk, IfSome, OnOk};
+ghost use Rattle.std.specs.Prelude.{◌≡◌, ◌⊎◌, ◌∷◌, ℕ, [], List, Option, false, map, IfErr, IfOk, IfSome, OnOk};
 ghost use Rattle.std.specs.Io.KnownBytes.{Appends};
 ghost use Rattle.check_texts.specs.Tallies.{tally_of};
-ghost use Rattle.check_texts.specs.Verdicts.{is_plain};
 ghost use Rattle.tfm_requests.specs.Causes.{IsCheckCause, IsErrorOfCheck};
 ghost use Rattle.tfm_requests.specs.Checking.{AddsFonts, AreChecked, IsFound, check_status, dashes_in, summary_text, text_shown};
 ghost use Rattle.tfm_requests.specs.Kept.{HaveSameFont};

@@ -1,4 +1,4 @@
-use Rattle.std.proofs.Common.{◌≡◌, [], ◌∷◌, ◌∙◌, ℕ, List, Bor, map, take, ap, refl, sym, subst}
+use Rattle.std.proofs.Common.{[], ◌∷◌, ◌∙◌, ℕ, List, Bor, map, take, ap, refl, sym, subst}
 use Rattle.std.proofs.lemmas.List.{map_more}
 use Rattle.std.specs.Prelude.{IfOk, IfSome}
 use Rattle.check_texts.specs.Tallies.{tally_of}

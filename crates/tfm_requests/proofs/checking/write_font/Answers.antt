@@ -1,4 +1,3 @@
-use Rattle.std.proofs.Common.{◌≡◌}
 use Rattle.tfm_requests.proofs.CheckingLemmas.{one_added}
 use Rattle.tfm_requests.proofs.checking.write_font.Goals as goal
 

@@ -1,4 +1,4 @@
-use Rattle.std.proofs.Common.{rules, ◌≡◌, [], ◌∷◌, length, subst}
+use Rattle.std.proofs.Common.{rules, ◌≡◌, length, subst}
 use Rattle.std.proofs.lemmas.Result.{IfOk-weaker}
 use Rattle.tfm_requests.specs.Checking.{AddsFonts}
 use Rattle.tfm_requests.proofs.CheckingLemmas.{none_added}

@@ -1,5 +1,5 @@
-use Rattle.std.proofs.Common.{◌≡◌, ◌∙◌, ◌<◌, ℕ, List, Option, [], ◌∷◌, ◌++◌, length, sym, ap, subst}
-use Rattle.std.specs.Prelude.{IfOk, IfSome, Result, vec_items}
+use Rattle.std.proofs.Common.{◌≡◌, ◌∙◌, ◌<◌, ℕ, List, [], ◌∷◌, ◌++◌, length, sym, ap, subst}
+use Rattle.std.specs.Prelude.{IfOk, IfSome, vec_items}
 use Rattle.std.specs.Io.BufRead.{DropsThrough, first_piece}
 use Rattle.std.specs.Io.Buffered.{reader_remaining}
 use Rattle.std.specs.Io.Iter.{split_byte, split_known_bytes}
