@@ -28,7 +28,7 @@ const JSON: &str = "{\"source\":2,\"line\":1,\"width\":962560,\"steps\":4,\"item
 const BY_TABLE: &str = "2:1 set 962560 steps 3 c97=327680 k-40960 c99=491520 k20480 c98=163840\n";
 
 /// The record of the box of `acb`.
-const BOXED: &str = "2:1 box 962560 327680 163840 0\n";
+const BOXED: &str = "2:1 box 962560 0 0 0\n";
 
 /// The record of `a€b`.
 const UNCODED: &str = "{\"source\":2,\"line\":1,\"width\":491520,\"steps\":2,\"items\":[\
