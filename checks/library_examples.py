@@ -87,6 +87,19 @@ class Examples(LibraryCase):
         self.same("widths", [f"{width / 65536:.2f}" for width in widths], [line[1] for line in lines])
         self.same("breaks", True, max(widths) <= 50 * 65536 < min(beyond))
 
+    def test_paragraph_in_utf8_in_c(self):
+        """With an encoding, the words of a text in UTF-8 have the widths of their codes; other texts are refused."""
+        out = self.built("examples/library/paragraph.c", "cc", "-std=c99")
+        text = "the oﬃce sta\u00adﬀ o\\-ﬀered ﬁfty wa\u00adﬄes"
+        given = self.file("text", text.encode())
+        lines = [line.rsplit("  ", 1) for line in self.output(out, DEMO, "50", "ot1", given=given).splitlines()]
+        self.same("texts", ["the oﬃce", "sta\u00adﬀ o-", "ﬀered ﬁfty", "wa\u00adﬄes"], [line[0] for line in lines])
+        widths = widths_of("the office\nstaff o-\nffered fifty\nwaffles".encode())
+        self.same("widths", [f"{width / 65536:.2f}" for width in widths], [line[1] for line in lines])
+        for bad in ("5 €".encode(), b"\xff"):
+            self.same("refused", (1, "", "the text can't be encoded\n"),
+                      execute(out, DEMO, "50", "ot1", given=bad, env=self.env))
+
     def test_font_of_a_stranger_in_c(self):
         """A broken font is refused with its error, and an endless program takes no more than both limits."""
         out = self.built("examples/library/stranger.c", "cc", "-std=c99")

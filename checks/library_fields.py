@@ -312,9 +312,10 @@ class Fields(LinesCase):
         yield "Font.pair", font.pair, {"left": 1, "right": 1}, (font.pair(*pair) for pair in (b"ox", b"fi", b"oo"))
         yield "Font.pairs", font.pairs, {}, [font.pairs()]
         yield "Font.prepare", font.prepare, {}, [font.prepare()]
-        for function in font.spans, font.span_items:
-            given = {"text": b"ox", "spans": spans, "limit": 1, "call_limit": 1}
-            yield f"Font.{function.__name__}", function, given, [function(b"ox", spans)]
+        for function in own.Font.spans, own.Font.span_items:
+            for form, given in zip(typing.get_overloads(function), ({"text": b"ox"}, {**encoded, "missing": "skip"}), strict=True):
+                given = {**given, "spans": spans, "limit": 1, "call_limit": 1}
+                yield f"Font.{function.__name__}", form, given, [function(font, b"ox", spans)]
         for name, added in (("set", {}), ("widths", {}), ("records", more)):
             for function, given in zip(typing.get_overloads(getattr(own.Font, name)), (plain, encoded), strict=True):
                 result = getattr(font, name)(**given)
@@ -433,11 +434,16 @@ class Codes(LinesCase):
         return code, bytes(last) != before, any(array.raw != BEFORE * ROOM for array in memory)
 
     def contracts(self):
-        """The codes that each function returns, by the clause `answers` of its contract."""
+        """The codes that each function returns, by the clause `answers` of its contract and by `IsAnswer`."""
         sources = "".join(read("crates/tfmset_c/src/" + name) for name in files(ROOT + "/crates/tfmset_c/src"))
         words, found = {"≤": "<=", "≢": "!=", "≡": "==", "×": "and", "⊎": "or"}, {}
-        form = r'extern "C" fn tfmset_(\w+)\([^{]*?\) -> u32\s+ensures answers \{ (.*?) \}\n'
-        for name, clause in re.findall(form, sources):
+        (most,) = re.findall(r"^  pub code : (answer ≤ \d)$", read("crates/tfmset_c/specs/Reading.antt"), re.M)
+        form = (r'extern "C" fn tfmset_(\w+)\([^{]*?\) -> u32\s+(?:ensures answers \{ (.*?) \}\n\s+)?'
+                r'(ensures font \{ IsAnswer )?')
+        for name, clause, is_answer in re.findall(form, sources):
+            if not clause and not is_answer:
+                continue
+            clause = " × ".join(filter(None, (f"({clause})" if clause else "", is_answer and most.replace("answer", "result"))))
             clause, codes = "".join(words.get(character, character) for character in clause), range(len(CODES))
             found[name] = {code for code in codes if eval(clause, {"result": code})}  # pylint: disable=eval-used
         return found

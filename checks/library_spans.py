@@ -3,6 +3,8 @@
 The results and the items of spans have to be those of the slow program of lib/slow.py, with a TFM file and with its table,
 for all sample fonts and for random ones. A table with changed bytes is refused, or gives any results, and the array bounds
 are kept. lib/library_lines.c sets the words of its texts, too, with guarded arrays and with allocations that fail.
+
+Spans of a str, in the Python module, are compared with the same slow program, whose elements have characters as places.
 """
 import ctypes
 import random
@@ -10,8 +12,9 @@ import re
 
 from lib.base import read, rows
 from lib.clib import DONE, NO_ROOM, RANGE, REFUSED, U8, Counts, LibraryCase, Line, Options, Placed, Span, listed, loaded, values
-from lib.slow import Setter, random_font
-from lib.tfm import Font, sample, samples
+from lib.slow import Setter, TooManySteps, random_font
+from lib.tfm import BOUNDARY, Font, make, sample, samples
+from library_lines import LinesCase
 
 WEIGHT = 3
 NO_HYPHEN = 256
@@ -43,6 +46,67 @@ def random_spans(chance, font, length, count):
         offset = chance.randrange(length + 1)
         yield (offset, chance.randrange(min(length - offset, 9) + 1) + (chance.random() < .03) * length, chance.randrange(4),
                chance.choice([NO_HYPHEN, NO_HYPHEN, *font.codes, 45]))
+
+
+# Characters with one code, with several ones, with none, and (None) uncoded ones, in OT1.
+CODES = {**{letter: letter.encode() for letter in "abcdefghiklnorstuvwx-"}, "ﬁ": b"fi", "ﬃ": b"ffi", "¡": b"!`",
+         "“": b"\\", "\u00ad": b"", "\u00a0": b" ", "€": None, "ä": None, "\U0001f600": None}
+
+
+def placed(setter, text, span):
+    """A span of characters: a refusal, or the width, the steps and the items. A character is in the item of its first
+    code; one without codes is in the item before it, or in the first one. The items of a span without codes are empty."""
+    offset, length, left, right, hyphen = span
+    end, run = offset + length, []
+    if end > len(text):
+        return "outside", 0, 0
+    for at, letter in enumerate(text[offset:end], offset):
+        codes = CODES[letter] or b""
+        if not codes and run:
+            run[-1][2:] = at + 1, run[-1][3]
+        run += [[code, at + (turn > 0) if run or turn else offset, at + 1, at] for turn, code in enumerate(codes)]
+    close = end if run else offset
+    run += [[hyphen, close, close, end]] if hyphen is not None else []
+    missing = [(at, code) for code, _, _, at in run if code not in setter.font.codes]
+    if missing:
+        return "missing", *missing[0]
+    elements = [(BOUNDARY, offset, offset)] * left + [(code, start, stop) for code, start, stop, _ in run]
+    elements += [(-1, close, close)] * (right and setter.font.right is not None)
+    setter.steps = 0
+    try:
+        items = [(int(item[0] == "k"), item[1] if item[0] == "c" else 0, item[-1], start, stop - start)
+                 for item, start, stop in setter.walk(elements)]
+    except TooManySteps:
+        return "steps", 0, 0
+    return sum(item[2] for item in items), setter.steps, tuple(items)
+
+
+class Characters(LinesCase):
+    """Spans of characters, in the Python module"""
+
+    @rows((name, name) for name in ("demo", "no ligatures", *(f"seeds from {first}" for first in range(0, 60, 20))))
+    def test_every_cut(self, name):
+        """The spans between all cuts of random texts; their items tile them."""
+        given = {"demo": sample("demo"), "no ligatures": make([(1, 0, 0, 0)] * 26, (0, 524288), (), (), ())}.get(name)
+        first = 0 if given else int(name.split()[-1])
+        for seed in range(first, first + 20):
+            chance = random.Random(seed)
+            data = given or random_font(chance)
+            usual = [letter for letter, codes in CODES.items() if not set(codes or b"") - set(Font(data).codes)]
+            font, limit = self.tfmset.Font(data), chance.choice([3, 1000])
+            text = "".join(chance.choice(usual if chance.random() < .98 else [*CODES]) for _ in range(chance.randrange(14)))
+            spans = [(start, stop - start, chance.random() < .7, chance.random() < .7, chance.choice([None, None, 97, 45]))
+                     for start in range(len(text) + 1) for stop in range(start, len(text) + 2)]
+            wanted = [placed(Setter(data, 0, limit, False), text, span) for span in spans]
+            found = [tuple(each) for each in font.span_items(text, spans, limit, encoding="ot1", missing="skip")]
+            self.same((seed, text), wanted, found)
+            widths = font.spans(text, spans, limit, encoding="ot1", missing="skip")
+            self.same("widths", [each[0] if type(each[0]) is int else each for each in wanted],
+                      [each if type(each) is int else tuple(each) for each in widths])
+            for span, each in zip(spans, found):
+                if type(each[0]) is int and any(CODES[letter] for letter in text[span[0]:span[0] + span[1]]):
+                    ends = [span[0], *(item.offset + item.length for item in each[2])]
+                    self.same(f"tiles of {span}", (ends[:-1], sum(span[:2])), ([item.offset for item in each[2]], ends[-1]))
 
 
 class Spans(LibraryCase):

@@ -82,6 +82,22 @@ print(len(font.prepare()), font.spans(b"", []), font.span_items(b"", []))
 """, "[1468004, 753662, 665189, ('missing', 16, 81), ('outside', 0, 0), 0]\n[1468004, 753662, 665189]\n"
      "[(0, 111, 3, 1), (0, 14, 4, 3), (0, 99, 7, 1), (0, 101, 8, 1), (0, 111, 14, 1), (1, 0, 15, 0), (0, 120, 15, 1)] "
      "('missing', 16, 81)\n1468004 7 [('steps', 0, 0)]\nTrue 30000\n2168 [] []\n"),
+    ("Spans of a str count its characters", """
+text = "\ufeff“ﬃce”€ of\xadﬁ a\xa0o"
+for span in (2, 3), (2, 1), (8, 4), (12, 3), (1, 2), (8, 2, True, True, 81), (13, 3), (10, 1), (15, 2):
+    found = font.span_items(text, [span], encoding="ot1", missing="skip")[0]
+    print([each[1:2] + each[3:] for each in found.items] if isinstance(found, tfmset.SpanItems) else tuple(found), end=" ")
+print(font.spans("office", [(0, 6), (3, 3)], encoding="t1"), font.widths(b"office\\nice"))
+for call in (lambda: font.spans(text, [], encoding="ot1"), lambda: font.spans(b"", [], missing="skip"),
+             lambda: font.spans(b"", [], encoding="t1"), lambda: font.spans(text, [], encoding="no")):
+    try:
+        print("accepted", call())
+    except (TypeError, ValueError) as error:
+        print(error)
+""", "[(14, 2, 1), (99, 3, 1), (101, 4, 1)] [(14, 2, 1)] [(111, 8, 1), (14, 9, 3)] ('missing', 12, 32) ('missing', 1, 92) "
+     "('missing', 10, 81) ('missing', 14, 32) [] ('outside', 0, 0) [1468004, 766769] [1468004, 766769]\n"
+     "no code in ot1 for U+20AC at index 6\nmissing is 'skip', but only an uncoded character of a str can be skipped\n"
+     "text must be a str, since an encoding is given\nencoding is 'no', but must be one of 'ot1', 't1', 'ly1', 'latin1'\n"),
     ("The lines of a str end at line feeds only, whatever characters they have", """
 for name in tfmset.ENCODINGS:
     lines, wanted = [], []
@@ -293,10 +309,11 @@ print(sum(during) > 9)
 """, "500000\nTrue\n"),
     ("The defaults of the arguments", """
 import inspect
-for method in tfmset.Font.set, tfmset.Font.records:
+for method in tfmset.Font.set, tfmset.Font.records, tfmset.Font.span_items:
     print(*(f"{each.name}={each.default}" for each in inspect.signature(method).parameters.values() if each.default != each.empty))
 """, "limit=1048576 missing=refuse encoding=None crlf=False call_limit=None\n"
-     "limit=1048576 missing=refuse version=1 source=1 first_line=1 encoding=None crlf=False call_limit=None\n"),
+     "limit=1048576 missing=refuse version=1 source=1 first_line=1 encoding=None crlf=False call_limit=None\n"
+     "limit=1048576 call_limit=None encoding=None missing=refuse\n"),
     ("An allocation that fails in each method", """
 class Library:
     def __getattr__(self, name):

@@ -1,13 +1,16 @@
 /* Breaks a paragraph into lines of at most a given width. Each line takes as many words as fit, and then
  * perhaps the first part of a word, which may be broken, with a hyphen, where the text has \-, as in TeX.
  *
- * usage: paragraph FONT POINTS < TEXT   TEXT is read until its words fill 65,536 bytes
+ * usage: paragraph FONT POINTS [ENCODING] < TEXT   TEXT is read until its words fill 65,536 bytes
+ *
+ * ENCODING is the encoding of the font, for a text in UTF-8. Without it, the bytes of the text are codes.
  *
  * One call returns the widths of all words and of their parts, which are spans of the text. No ligature or
  * kern crosses a space. The width of a line is therefore exactly the sum of the widths of its words and of
  * the spaces between them. */
 #include <stdio.h>
 #include <stdlib.h>
+#include <string.h>
 #include <tfmset.h>
 
 enum { LONGEST = 65536, LARGEST_FONT = 131068, MOST_PARAMETERS = 32767, MOST_BREAKS = 64 };
@@ -17,6 +20,10 @@ static uint8_t font[LARGEST_FONT], text[LONGEST];
 static struct tfmset_span spans[2 * LONGEST];
 static struct tfmset_line widths[2 * LONGEST];
 static size_t count;
+/* The codes of the text, the offset of the character of each code, and the same spans as spans of codes. */
+static uint8_t codes[LONGEST];
+static size_t offsets[LONGEST];
+static struct tfmset_span coded[2 * LONGEST];
 /* Parameters that the font doesn't have stay 0. */
 static int32_t parameters[MOST_PARAMETERS];
 
@@ -53,6 +60,31 @@ static size_t read_words(void)
         }
     } while (byte != EOF);
     return length;
+}
+
+/* Encodes the text once, and finds the codes of each span. Returns the number of codes, or LONGEST + 1 if the
+ * text can't be encoded. */
+static size_t encode(const char *encoding, size_t length)
+{
+    /* For each byte of the text, and for its end, the number of codes of the characters before it. */
+    static size_t before[LONGEST + 1];
+    struct tfmset_encoded encoded;
+    size_t i, code = 0;
+    /* The call also fails if a character has no codes, since there is no array for such characters. */
+    if (tfmset_encode((const uint8_t *)encoding, strlen(encoding), text, length, codes, LONGEST, offsets, LONGEST,
+                      NULL, 0, &encoded) != TFMSET_DONE)
+        return LONGEST + 1;
+    for (i = 0; i <= length; i++) {
+        while (code < encoded.count && offsets[code] < i)
+            code++;
+        before[i] = code;
+    }
+    for (i = 0; i < count; i++) {
+        coded[i] = spans[i];
+        coded[i].offset = before[spans[i].offset];
+        coded[i].length = before[spans[i].offset + spans[i].length] - coded[i].offset;
+    }
+    return encoded.count;
 }
 
 /* Prints a span after `gap`, which is the space before it or empty. */
@@ -101,14 +133,18 @@ int main(int argument_count, char **arguments)
     size_t length, i;
     FILE *file;
 
-    if (argument_count != 3 || (file = fopen(arguments[1], "rb")) == NULL)
+    if (argument_count < 3 || argument_count > 4 || (file = fopen(arguments[1], "rb")) == NULL)
         return EXIT_FAILURE;
     length = fread(font, 1, sizeof font, file);
     fclose(file);
     if (tfmset_parameters(font, length, 0, parameters, MOST_PARAMETERS, &i) != TFMSET_DONE)
         return EXIT_FAILURE;
-    i = read_words();
-    if (tfmset_spans(font, length, &options, text, i, spans, count, widths, sizeof widths / sizeof *widths,
+    i = encode(argument_count == 4 ? arguments[3] : "bytes", read_words());
+    if (i > LONGEST) {
+        fputs("the text can't be encoded\n", stderr);
+        return EXIT_FAILURE;
+    }
+    if (tfmset_spans(font, length, &options, codes, i, coded, count, widths, sizeof widths / sizeof *widths,
                      &counts) != TFMSET_DONE)
         return EXIT_FAILURE;
     for (i = 0; i < count; i++) {

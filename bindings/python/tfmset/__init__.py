@@ -334,7 +334,7 @@ class Refusal(NamedTuple):
     - 'outside': the span ends after the end of the text; `place` and `code` are 0
 
     For a span, `place` of 'missing' is the offset of the byte in the text or, if the hyphen is missing, the
-    offset of the end of the span.
+    offset of the end of the span; in a str, it is the index of the character, or of the end of the span.
     """
 
     reason: str
@@ -494,11 +494,12 @@ class Lines(Sequence[Outcome]):
 
 
 class Span(NamedTuple):
-    """A part of a text that is set as one run: `length` bytes from the byte offset `offset`.
+    """A part of a text that is set as one run: `length` bytes from the byte offset `offset`, or in a str
+    `length` characters from the index `offset`.
 
-    Each of these bytes is a character code, even 10 and 32. `left` states whether the left boundary of the
-    font precedes the span, and `right` whether the right boundary follows it. `hyphen` is a code that is set
-    after the last byte, before the right boundary, or None.
+    Each of the bytes is a character code, even 10 and 32. `left` states whether the left boundary of the font
+    precedes the span, and `right` whether the right boundary follows it. `hyphen` is a code that is set after
+    the last byte, before the right boundary, or None.
     """
 
     offset: int
@@ -514,6 +515,10 @@ class PlacedItem(NamedTuple):
     `kind` is CHARACTER or KERN. `code` is that of a character, and 0 for a kern. `width` is in sp. A character
     of the text comes from its own byte, and a ligature from the bytes of the characters that it replaces.
     `length` is 0 for a kern, for the hyphen, and for a ligature that replaces no character of the text.
+
+    In a str, `offset` and `length` count characters. A character with several codes belongs to the item that
+    its first code comes from, and one without codes, such as a soft hyphen, to the item before it or, at the
+    start of the span, to the first item. Each character of a span thus belongs to exactly one item.
     """
 
     kind: int
@@ -536,6 +541,37 @@ def _span(span: Span) -> _Span:
     offset, length, left, right, hyphen = Span(*span)
     return _Span(_number("offset", offset, 0, 2**64 - 1), _number("length", length, 0, 2**64 - 1),
                  bool(left) + 2 * bool(right), 256 if hyphen is None else _number("hyphen", hyphen, 0, 255))
+
+
+class _Characters:
+    """The codes of a text, and the characters that they come from."""
+
+    def __init__(self, text: str, encoding: str, skips: bool) -> None:
+        self.codes, offsets = _encoded(text, encoding, skips, True)
+        starts = (at for at, byte in enumerate(str.encode(text, "utf-8")) if byte & 0xC0 != 0x80)
+        numbers = {offset: number for number, offset in enumerate(starts)}
+        self._length, self._indices = len(text), [numbers[offset] for offset in offsets[:len(self.codes)]]
+
+    def coded(self, span: _Span) -> _Span:
+        """Returns the span of the codes whose characters are in a span."""
+        end, length = span.offset + span.length, len(self.codes)
+        first = bisect.bisect_left(self._indices, span.offset)
+        count = bisect.bisect_left(self._indices, end) - first if end <= self._length else length + 1
+        return _Span(first, count, span.edges, span.hyphen)
+
+    def relocate(self, line: _Line, items: Sequence[_Placed], span: _Span, coded: _Span) -> None:
+        """Replaces indices of codes, in the result of a span and in its items, with those of characters."""
+        first, last, end = coded.offset, coded.offset + coded.length, span.offset + span.length
+        if _REASONS[line.refusal] == "missing":
+            line.place = self._indices[line.place] if line.place < last else end
+        for item in items:
+            start, stop = (span.offset if at == first else end if at == last else self._after(at)
+                           for at in (item.offset, item.offset + item.length))
+            item.offset, item.length = start, stop - start
+
+    def _after(self, at: int) -> int:
+        """Returns the index of the first character whose first code is the one at an index, or after it."""
+        return self._indices[at] + (self._indices[at] == self._indices[at - 1])
 
 
 _EXAMPLES = {"size": ", in sp, or a str with a unit, such as '10pt'",
@@ -902,47 +938,89 @@ class Font:
         library sets spans without reading the font again. `spans` and `span_items` use it."""
         return self._table
 
+    @overload
     def spans(self, text: Text, spans: Sequence[Span], limit: int = 1_048_576, *,
-              call_limit: Optional[int] = None) -> List[Union[int, Refusal]]:
+              call_limit: Optional[int] = None) -> List[Union[int, Refusal]]: ...
+
+    @overload
+    def spans(self, text: str, spans: Sequence[Span], limit: int = 1_048_576, *,
+              call_limit: Optional[int] = None, encoding: str,
+              missing: str = "refuse") -> List[Union[int, Refusal]]: ...
+
+    def spans(self, text: Union[Text, str], spans: Sequence[Span], limit: int = 1_048_576, *,
+              call_limit: Optional[int] = None, encoding: Optional[str] = None,
+              missing: str = "refuse") -> List[Union[int, Refusal]]:
         """Sets spans of a text and returns the width of each span in sp, or a Refusal.
 
         `text` is bytes, which are codes of the font. Each span is set as one run, such as a word or the part of
         a word before a hyphen; a missing character refuses its span. `limit` and `call_limit` apply to spans
         as to lines in `set`.
 
-        Raises ValueError if a number is out of range, and TypeError for arguments of another type.
+        With `encoding`, `text` is a str, and spans and places count its characters. The codes of the text are
+        those of `encode(text, encoding, missing)`: an uncoded character raises EncodingError or, with
+        `missing="skip"`, is left out, and so is each soft hyphen. The codes before and after it are adjacent,
+        unless a span ends there. A no-break space is the code 32 of the font, and a hyphen is still a code.
+
+        Raises ValueError if a number is out of range, or for `missing="skip"` without an encoding, and
+        TypeError for arguments of another type.
 
         >>> font = Font.from_file("examples/demo.tfm")
         >>> font.spans(b"an office", [Span(3, 6), Span(3, 2, hyphen=ord("-")), Span(5, 9)])
         [1468004, 753662, Refusal(reason='outside', place=0, code=0)]
+        >>> font.spans("“¡an office", [Span(5, 6)], encoding="ot1")
+        [1468004]
         """
-        lines, _ = self._placed(text, spans, limit, call_limit, False)
+        lines, _ = self._placed(text, spans, limit, call_limit, encoding, missing, False)
         return [_refusal(line.refusal, line.place, line.code, 0, None) if line.refusal else line.width
                 for line in lines]
 
+    @overload
     def span_items(self, text: Text, spans: Sequence[Span], limit: int = 1_048_576, *,
-                   call_limit: Optional[int] = None) -> List[Union[SpanItems, Refusal]]:
-        """Sets spans of a text as `spans` does, and returns the items of each span, each with the bytes that it
-        comes from.
+                   call_limit: Optional[int] = None) -> List[Union[SpanItems, Refusal]]: ...
+
+    @overload
+    def span_items(self, text: str, spans: Sequence[Span], limit: int = 1_048_576, *,
+                   call_limit: Optional[int] = None, encoding: str,
+                   missing: str = "refuse") -> List[Union[SpanItems, Refusal]]: ...
+
+    def span_items(self, text: Union[Text, str], spans: Sequence[Span], limit: int = 1_048_576, *,
+                   call_limit: Optional[int] = None, encoding: Optional[str] = None,
+                   missing: str = "refuse") -> List[Union[SpanItems, Refusal]]:
+        """Sets spans of a text as `spans` does, and returns the items of each span, each with the bytes, or
+        with `encoding` the characters, that it comes from.
 
         >>> found = Font.from_file("examples/demo.tfm").span_items(b"an office", [Span(3, 6)])[0]
         >>> [(item.code, item.offset, item.length) for item in found.items]
         [(111, 3, 1), (14, 4, 3), (99, 7, 1), (101, 8, 1)]
         """
-        lines, items = self._placed(text, spans, limit, call_limit, True)
+        lines, items = self._placed(text, spans, limit, call_limit, encoding, missing, True)
         placed = [PlacedItem(item.kind, item.code, item.width, item.offset, item.length) for item in items]
         return [_refusal(line.refusal, line.place, line.code, 0, None) if line.refusal else
                 SpanItems(line.width, line.steps, tuple(placed[line.first:line.first + line.count]))
                 for line in lines]
 
-    def _placed(self, text: Text, spans: Sequence[Span], limit: int, call_limit: Optional[int],
-                with_items: bool) -> Tuple[Any, Any]:
+    def _placed(self, text: Union[Text, str], spans: Sequence[Span], limit: int, call_limit: Optional[int],
+                encoding: Optional[str], missing: str, with_items: bool) -> Tuple[Any, Any]:
         """Returns the results of spans, and with `with_items` their items."""
-        table, content = self._table, _bytes("text", text)
-        count, room = len(spans), len(content) + len(content) // 8 + 16
-        wanted, lines, counts = (_Span * count)(*map(_span, spans)), (_Line * count)(), _Counts()
-        options = ctypes.byref(self._options(limit, "refuse", False, call_limit))
-        arguments = (table, len(table), options, content, len(content), wanted, count, lines, count)
+        options, wanted = self._options(limit, "refuse", False, call_limit), list(map(_span, spans))
+        if _skips(missing) and encoding is None:
+            raise ValueError("missing is 'skip', but only an uncoded character of a str can be skipped")
+        if encoding is None:
+            return self._set_spans(_bytes("text", text), wanted, options, with_items)
+        characters = _Characters(_string(text), encoding, _skips(missing))
+        coded = list(map(characters.coded, wanted))
+        lines, items = self._set_spans(characters.codes, coded, options, with_items)
+        for line, span, codes in zip(lines, wanted, coded):
+            characters.relocate(line, items[line.first:line.first + line.count], span, codes)
+        return lines, items
+
+    def _set_spans(self, content: bytes, spans: List[_Span], options: _Options,
+                   with_items: bool) -> Tuple[Any, Any]:
+        """Returns the results of spans of codes, and with `with_items` their items."""
+        table, count, room = self._table, len(spans), len(content) + len(content) // 8 + 16
+        lines, counts = (_Line * count)(), _Counts()
+        arguments = (table, len(table), ctypes.byref(options), content, len(content), (_Span * count)(*spans),
+                     count, lines, count)
         while with_items:
             items = (_Placed * room)()
             code = _library.tfmset_span_items(*arguments, items, room, ctypes.byref(counts))
