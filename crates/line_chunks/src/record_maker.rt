@@ -94,7 +94,7 @@ impl RecordMaker {
         ensures { result ≡ record {
           terms = self.terms;
           source = self.source;
-          style = record { encoding = encoding; format = self.style.format };
+          style = record { encoding = encoding.entry; format = self.style.format };
         } }
     {
         let mut maker = self;

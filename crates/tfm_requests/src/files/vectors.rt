@@ -18,7 +18,7 @@ pub(crate) fn encoding_of<F: Opens>(
     vector: Option<&str>,
     stated: Option<Encoding<'static>>,
 ) -> Result<Option<Encoding<'static>>, EncodingError>
-    ensures encoding { IfOk result (IsEncodingOf (F.known files.now) vector.entry stated) }
+    ensures encoding { IfOk result (IsEncodingOf (F.known files.now) vector.entry stated.entry) }
     ensures cause { IfErr result (IsEncodingError (F.known files.now) vector.entry) }
 {
     match vector {
