@@ -1,4 +1,4 @@
-use Rattle.std.proofs.Common.{arith, ap, inr, ◌∙◌}
+use Rattle.std.proofs.Common.{arith, ap, inr}
 use Rattle.std.proofs.lemmas.Bool.Decides.{nat_tests}
 use Rattle.tfmset_c.specs.declared.records.Form.{Form}
 use Rattle.tfmset_c.proofs.TextLemmas.{answered, neither, records_called}
@@ -17,9 +17,7 @@ pub returns-in-Ok-clause-told : goal.returns-in-Ok-clause-told
 returns-in-Ok-clause-told c =
     inr (
       c.in-Some-given_encoding.encoding,
-      (
-        c.in-Some-given_encoding.ensures.told,
-        records_called c.args.font.now c.args.text.now c.args.options.now _ _ c.in-Some-given_encoding.encoding c.args.form.now _ _ _ _ _ _
-            c.in-Some.ensures.0 c.in-Ok.ensures.ok c.in-Some-form_of.ensures.0 c.write_records.ensures.told,
-      ),
+      c.in-Some-given_encoding.ensures.told,
+      records_called c.args.font.now c.args.text.now c.args.options.now _ _ c.in-Some-given_encoding.encoding c.args.form.now _ _ _ _ _ _
+          c.in-Some.ensures.0 c.in-Ok.ensures.ok c.in-Some-form_of.ensures.0 c.write_records.ensures.told,
     )
