@@ -4,25 +4,30 @@ Python's json must be able to read each line of JSON, in which no name occurs tw
 spaces it must be the same line. Its names must be in the order of docs/OUTPUT.md, and its values must be those
 of the line in record format 2. It must also conform to docs/records.schema.json; the validator here has the
 keywords that the schemas use. If Python's jsonschema is installed, it has to agree about the lines of the tables.
-The lines of `check --format json` are compared with those of text, and with docs/check.schema.json.
+The lines of `check --format json` are compared with those of text, and with docs/check.schema.json; the objects of
+`list --format json` with the lines of text, with tftopl, and with docs/list.schema.json.
 """
 import functools
 import json
 import re
 
-from lib.base import PROGRAM, Case, execute, read, rows, table
+from against_tftopl import Comparison
+from lib.base import PROGRAM, Case, execute, output, read, rows, table
 from lib.docs import blocks, text_of, worked_examples
+from lib.tex import fonts
 from lib.tfm import path_of, sample, samples
 from library_lines import LinesCase
 
 WEIGHT = 3
 CASES, SCHEMA = table("json_records"), json.loads(read("docs/records.schema.json"))
 FINDINGS = json.loads(read("docs/check.schema.json"))
+LISTING = json.loads(read("docs/list.schema.json"))
+UNNAMED = ("remainder", "action", "value", "bytes")  # names that the text of a listing doesn't have
 BOUNDS = {"minimum", "maximum", "minLength", "maxLength", "minItems", "additionalProperties", "required"}
 KNOWN = {"$schema", "title", "description", "$defs", "$ref", "allOf", "oneOf", "type", "const", "enum",
          "minimum", "maximum", "minLength", "maxLength", "pattern", "prefixItems", "items", "minItems", "properties",
          "required", "additionalProperties"}
-TYPES = {"object": dict, "array": list, "integer": int, "string": str}
+TYPES = {"object": dict, "array": list, "integer": int, "string": str, "boolean": bool}
 # All bytes in words and by themselves, spaces, empty lines, lines on both sides of the longest, and some
 # without a last line feed.
 TEXTS = {
@@ -74,17 +79,18 @@ def pairs_of_json(line):
     return pairs
 
 
-def is_valid(value, its):
-    """Whether a value conforms to a schema, by the keywords of KNOWN."""
+def is_valid(value, its, root=None):
+    """Whether a value conforms to a schema, or to a part of the schema `root`, by the keywords of KNOWN."""
+    root = its if root is None else root
     if isinstance(its, bool):
         return its
     if not set(its) <= KNOWN:
         raise Wrong(f"keywords of the schema that aren't known here: {sorted(set(its) - KNOWN)}")
-    if "$ref" in its and not is_valid(value, functools.reduce(dict.get, its["$ref"].split("/")[1:], SCHEMA)):
+    if "$ref" in its and not is_valid(value, functools.reduce(dict.get, its["$ref"].split("/")[1:], root), root):
         return False
-    if not all(is_valid(value, one) for one in its.get("allOf", [])):
+    if not all(is_valid(value, one, root) for one in its.get("allOf", [])):
         return False
-    if "oneOf" in its and sum(is_valid(value, one) for one in its["oneOf"]) != 1:
+    if "oneOf" in its and sum(is_valid(value, one, root) for one in its["oneOf"]) != 1:
         return False
     if "type" in its and type(value) is not TYPES[its["type"]]:
         return False
@@ -98,11 +104,11 @@ def is_valid(value, its):
     if isinstance(value, list):
         first = its.get("prefixItems", [])
         parts = list(zip(value, first)) + [(one, its.get("items", True)) for one in value[len(first):]]
-        return len(value) >= its.get("minItems", 0) and all(is_valid(*part) for part in parts)
+        return len(value) >= its.get("minItems", 0) and all(is_valid(*part, root) for part in parts)
     if isinstance(value, dict):
         names, others = its.get("properties", {}), its.get("additionalProperties", True)
         return (set(its.get("required", [])) <= set(value)
-                and all(is_valid(one, names.get(name, others)) for name, one in value.items()))
+                and all(is_valid(one, names.get(name, others), root) for name, one in value.items()))
     return True
 
 
@@ -279,3 +285,74 @@ class Findings(Case):
         self.none([line for line in refused if is_valid(json.loads(line), FINDINGS)], len(refused), 13)
         loose, count = loose_bounds(FINDINGS, refused)
         self.none(loose, count, 13)
+
+
+def entry_text(value):
+    """The value of an entry of a listing as text."""
+    return {None: "none", True: "yes", False: "no"}[value] if value is None or isinstance(value, bool) else str(value)
+
+
+def listing_lines(value):
+    """The lines of text for the object of `list`."""
+    for name, found in value.items():
+        if isinstance(found, list):
+            hidden = [*UNNAMED, *(["kern"] if name == "steps" else [])]
+            for row in found:
+                yield " ".join(str(word) for pair in row.items() for word in pair[pair[0] in hidden:])
+        elif name != "unit":
+            yield f"{name} {entry_text(found)}"
+
+
+class Listings(Case):
+    """JSON of `list` next to its text"""
+
+    def compare(self, path, *options, unit="sp"):
+        """Compares the object with the lines of text, and returns the text that it has without --all."""
+        text, seen = (execute(PROGRAM, "list", "--format", form, "--unit", unit, *options, path)
+                      for form in ("text", "json"))
+        self.same(f"{path} {options}", (0, "", 0, ""), (text[0], text[2], seen[0], seen[2]))
+        value = json.loads(seen[1])
+        self.same("again", seen[1], json.dumps(value, separators=(",", ":")) + "\n")
+        self.same("unit", unit, value["unit"])
+        self.same("lines", text[1].splitlines(), list(listing_lines(value)))
+        self.same(f"{path} conforms to the schema", True, is_valid(value, LISTING))
+        return "".join(line + "\n" for line in listing_lines(value))
+
+    @rows((f"the font {name}", name) for name in samples())
+    def test_sample(self, name):
+        path = path_of(name)
+        for options in ([], ["--all"], ["--size", "12pt"]):
+            for unit in ("sp", "pt", "mm"):
+                self.compare(path, *options, unit=unit)
+        # A header of 18 words, in which each byte from 0 occurs in a text.
+        for first in range(0, 256, 32):
+            data = bytearray(sample(name))
+            lf, lh = (int.from_bytes(data[at:at + 2], "big") for at in (0, 2))
+            texts = bytes([32, *range(first, first + 32)]).ljust(40, b"\0") + bytes([3, 34, 92, first]).ljust(20, b"\0")
+            data[:4] = (lf + 18 - lh).to_bytes(2, "big") + (18).to_bytes(2, "big")
+            data[24:24 + 4 * lh] = data[24:32] + texts + bytes([first // 32 * 4, 0, 0, first])
+            self.compare(self.file("font.tfm", bytes(data)), "--all")
+
+    def test_fonts_of_tex(self):
+        """The fonts of TeX: the lines that the object stands for are also those of tftopl's property list."""
+        self.need("tftopl", "kpsewhich", "cmr10")
+        chosen = fonts()[::20]
+        for path, content in chosen:
+            self.compare(path, "--all", unit="pt")
+            properties = output("tftopl", "-charcode-format=octal", path)
+            self.none(Comparison(content, self.compare(path), properties).wrong)
+        self.none([], len(chosen), 5)
+
+    def test_each_bound_of_the_schema(self):
+        """The schema refuses an object after each change. Without any of its bounds, it accepts one of them."""
+        whole, refused = CASES["listing"]["json"], []
+        self.same(whole, True, is_valid(json.loads(whole), LISTING))
+        for change in CASES["listing"]["changes"]:
+            line = whole
+            for old, new in zip(change[::2], change[1::2]):
+                self.assertIn(old, line)
+                line = line.replace(old, new, 1)
+            refused.append(line)
+        self.none([line for line in refused if is_valid(json.loads(line), LISTING)], len(refused), 30)
+        loose, count = loose_bounds(LISTING, refused)
+        self.none(loose, count, 30)

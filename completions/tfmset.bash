@@ -9,7 +9,7 @@ _tfmset_options() {
     case $1 in
         '') options='-h --help -V --version' ;;
         counts) options='-v --verbose -h --help' ;;
-        list) options='--size --unit --all -v --verbose -h --help' ;;
+        list) options='--size --unit --format --all -v --verbose -h --help' ;;
         pairs) options='--size --unit --format --encoding -v --verbose -h --help' ;;
         check) options='--strict --quiet --summary --format --files-from --null -v --verbose -h --help' ;;
         set) options='--size --limit --missing --crlf --encoding --workers --capacity --block --record --unit -v --verbose -h --help' ;;

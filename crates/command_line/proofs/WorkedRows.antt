@@ -58,6 +58,10 @@ module _ (choices : AllChoices) where
   unfolding clap_on_literals
   list_size = refl
 
+  list_format : text_in (codes "format") (codes "list" ∷ codes "--format" ∷ codes "json" ∷ codes "f.tfm" ∷ []) ≡ Some (Some (codes "json"))
+  unfolding clap_on_literals
+  list_format = refl
+
   check_quiet : read_in (codes "quiet") (codes "check" ∷ codes "--quiet" ∷ codes "f.tfm" ∷ []) ≡ Some (Some (codes "true"))
   unfolding clap_on_literals
   check_quiet = refl

@@ -19,6 +19,7 @@ use Rattle.tex_sizes.specs.Sizes.{is_plain, size_of}
 use Rattle.tex_sizes.specs.declared.length_unit.LengthUnit.{LengthUnit}
 use Rattle.font_texts.specs.declared.finding.FindingFormat.{FindingFormat}
 use Rattle.font_texts.specs.declared.finding.FindingFormat.TheVariants.{Text as TextFinding, Json as JsonFinding}
+use Rattle.font_texts.specs.declared.list_layout.ListLayout.{ListLayout}
 use Rattle.font_texts.specs.declared.pairs_format.PairsFormat.{PairsFormat}
 use Rattle.font_texts.specs.declared.pairs_layout.PairsLayout.{PairsLayout}
 use Rattle.font_texts.specs.declared.pairs_format.PairsFormat.TheVariants.{Text as TextFormat, Csv, Json as JsonFormat}
@@ -108,7 +109,7 @@ format_word TextFormat = codes "text"
 format_word Csv = codes "csv"
 format_word JsonFormat = codes "json"
 
--- the value of `--format` for a format of findings
+-- the value of `--format` for a format of findings or of a listing
 abbrev pub finding_format_word : FindingFormat → Text
 finding_format_word TextFinding = codes "text"
 finding_format_word JsonFinding = codes "json"
@@ -176,14 +177,20 @@ module _ (rows : List Row) where
       × IsEncoding layout.encoding
       × IsUnit layout.unit
 
-  -- the values of `list`: the font, its size, whether that has no unit, the unit of dimensions, and whether
-  -- `--all` and `--verbose` are given
+  -- the format of the output of `list`, and the unit of its dimensions
+  abbrev pub IsListLayout : ListLayout → Type 0
+  IsListLayout layout =
+      (first_of (codes "format") rows ≡ Some (finding_format_word layout.format))
+      × IsUnit layout.unit
+
+  -- the values of `list`: the font, its size, whether that has no unit, the layout, and whether `--all` and
+  -- `--verbose` are given
   abbrev pub IsListing : Listing → Type 0
   IsListing asked =
       (first_of (codes "FONT") rows ≡ Some asked.font.now)
       × IsSize asked.size
       × (asked.plain_size ≡ has_plain_size)
-      × IsUnit asked.unit
+      × IsListLayout asked.layout
       × IsFlag (one_of (codes "all") rows) asked.all
       × IsVerbose asked.verbose
 

@@ -65,9 +65,9 @@ format_words = codes "text" ∷ codes "csv" ∷ codes "json" ∷ []
 abbrev pub unit_words : List Text
 unit_words = map unit_name length_units
 
--- the values of `--format` of `check`
-abbrev pub check_format_words : List Text
-check_format_words = codes "text" ∷ codes "json" ∷ []
+-- the values of `--format` of `list` and `check`
+abbrev pub json_format_words : List Text
+json_format_words = codes "text" ∷ codes "json" ∷ []
 
 -- the parsers of `--missing`, `--record` and `--unit`
 pub record Choices : Type 0 where
@@ -78,10 +78,12 @@ pub record Choices : Type 0 where
   pub records_taken : TakesWords record_words records
   pub units_taken : TakesWords unit_words units
 
--- the parser of `--unit` of `list`
+-- the parsers of `--unit` and `--format` of `list`
 pub record ListChoices : Type 0 where
   pub units : ValueParser
+  pub formats : ValueParser
   pub units_taken : TakesWords unit_words units
+  pub formats_taken : TakesWords json_format_words formats
 
 -- the parsers of `--unit` and `--format` of `pairs`
 pub record PairsChoices : Type 0 where
@@ -93,7 +95,7 @@ pub record PairsChoices : Type 0 where
 -- the parser of `--format` of `check`
 pub record CheckChoices : Type 0 where
   pub formats : ValueParser
-  pub formats_taken : TakesWords check_format_words formats
+  pub formats_taken : TakesWords json_format_words formats
 
 -- the option of this name whose value is any text for a parse
 abbrev pub text_rule : Text → Rule
@@ -144,11 +146,12 @@ subcommand_with name rules = record (new_app name).top { rules = rules }
 abbrev pub counts_shape : Shape
 counts_shape = subcommand_with (codes "counts") (verbose_rule ∷ needed (new_rule (codes "FONT")) ∷ [])
 
--- `list` takes `--size`, `--unit` with this parser, the flags `--all` and `--verbose`, and one font
+-- `list` takes `--size`, `--unit` and `--format` with these parsers, the flags `--all` and `--verbose`, and one font
 abbrev pub list_shape : ListChoices → Shape
 list_shape choices =
     subcommand_with (codes "list")
-    (size_rule ∷ unit_rule choices.units ∷ flag_rule (codes "all") ∷ verbose_rule ∷ needed (new_rule (codes "FONT")) ∷ [])
+    (size_rule ∷ unit_rule choices.units ∷ with_default (codes "text") (choice_rule (codes "format") choices.formats)
+    ∷ flag_rule (codes "all") ∷ verbose_rule ∷ needed (new_rule (codes "FONT")) ∷ [])
 
 -- `pairs` takes `--size`, `--unit` and `--format` with these parsers, `--encoding`, the flag `--verbose`, and
 -- one font

@@ -3,13 +3,13 @@ ghost use Rattle.std.specs.Prelude.{codes, IfOk, IsOkAnd};
 ghost use Rattle.clap.specs.declared.builder.value_parser.ValueParser.{ValueParser};
 ghost use Rattle.clap.specs.declared.builder.value_parser.ValueParser.TheVariants.{Names};
 ghost use Rattle.clap.specs.Words.{App, Rule, Shape, new_app, new_rule, with_rule, with_subcommand};
-ghost use Rattle.command_line.specs.Commands.{AllChoices, Choices, IsArgument, IsCommandOf, IsSubcommand, ListChoices, PairsChoices, TakesWords, bare_app, block_rule, check_shape, choice_rule, counts_shape, each_shape, encoding_rule, flag_rule, format_words, list_shape, missing_words, needed, number_rule, pairs_shape, record_words, run_rules, set_shape, setting_rules, size_rule, stream_shape, text_rule, tfmset_app, unit_rule, unit_words, verbose_rule, with_default, with_rules, words_rule, CheckChoices, check_format_words};
+ghost use Rattle.command_line.specs.Commands.{AllChoices, Choices, IsArgument, IsCommandOf, IsSubcommand, ListChoices, PairsChoices, TakesWords, bare_app, block_rule, check_shape, choice_rule, counts_shape, each_shape, encoding_rule, flag_rule, format_words, list_shape, missing_words, needed, number_rule, pairs_shape, record_words, run_rules, set_shape, setting_rules, size_rule, stream_shape, text_rule, tfmset_app, unit_rule, unit_words, verbose_rule, with_default, with_rules, words_rule, CheckChoices, json_format_words};
 
 use crate::help::{
     ABOUT, AFTER_HELP, ALL_HELP, BLOCK_HELP, BOX_UNIT_HELP, CAPACITY_HELP, CAUSES_HELP,
     CHECK_ABOUT, CHECK_AFTER_HELP, COUNTS_ABOUT, COUNTS_AFTER_HELP, CRLF_HELP, EACH_ABOUT,
-    EACH_AFTER_HELP, ENCODING_HELP, FILE_HELP, FILES_FROM_HELP, FINDING_FORMAT_HELP, FONT_HELP,
-    FONTS_HELP, FORMAT_HELP, LIMIT_HELP, LIST_ABOUT, LIST_AFTER_HELP, MISSING_HELP, NULL_HELP,
+    EACH_AFTER_HELP, ENCODING_HELP, FILE_HELP, FILES_FROM_HELP, FONT_HELP, FONTS_HELP, FORMAT_HELP,
+    JSON_FORMAT_HELP, LIMIT_HELP, LIST_ABOUT, LIST_AFTER_HELP, MISSING_HELP, NULL_HELP,
     PAIRS_ABOUT, PAIRS_AFTER_HELP, QUIET_HELP, RECORD_HELP, SET_ABOUT, SET_AFTER_HELP, SIZE_HELP,
     STREAM_ABOUT, STREAM_AFTER_HELP, STREAM_BLOCK_HELP, STREAM_FILE_HELP, STRICT_HELP,
     SUMMARY_HELP, UNIT_HELP, VERBOSE_HELP, WORDS_HELP, WORKERS_HELP,
@@ -87,6 +87,7 @@ fn list_command<'a>(alloc: Global) -> Result<Command<'a>, AllocError>
     let command = subcommand(alloc, "list", LIST_ABOUT, LIST_AFTER_HELP);
     let command = with_argument(command, size_option(alloc))?;
     let command = with_argument(command, unit_option(alloc))?;
+    let command = with_argument(command, json_format_option(alloc))?;
     let command = with_argument(command, flag_option(alloc, "all", ALL_HELP))?;
     let command = with_argument(command, verbose_option(alloc, CAUSES_HELP))?;
     with_argument(command, font_argument(alloc))
@@ -112,7 +113,7 @@ fn check_command<'a>(alloc: Global) -> Result<Command<'a>, AllocError>
     let command = with_argument(command, flag_option(alloc, "strict", STRICT_HELP))?;
     let command = with_argument(command, flag_option(alloc, "quiet", QUIET_HELP))?;
     let command = with_argument(command, flag_option(alloc, "summary", SUMMARY_HELP))?;
-    let command = with_argument(command, finding_format_option(alloc))?;
+    let command = with_argument(command, json_format_option(alloc))?;
     let list = text_option(alloc, "files-from", "FILE", FILES_FROM_HELP);
     let command = with_argument(command, list)?;
     let command = with_argument(command, flag_option(alloc, "null", NULL_HELP))?;
@@ -272,13 +273,13 @@ fn unit_option<'a>(alloc: Global) -> Arg<'a>
     choice_option(alloc, "unit", "U", UNIT_HELP, words).default_value("sp")
 }
 
-/// Builds the option `--format` of `check`.
-fn finding_format_option<'a>(alloc: Global) -> Arg<'a>
-    ensures { (parser : ValueParser) × TakesWords check_format_words parser
+/// Builds the option `--format` of `list` and `check`.
+fn json_format_option<'a>(alloc: Global) -> Arg<'a>
+    ensures { (parser : ValueParser) × TakesWords json_format_words parser
         × IsArgument (with_default (codes "text") (choice_rule (codes "format") parser)) result }
 {
     let words = &["text", "json"];
-    choice_option(alloc, "format", "F", FINDING_FORMAT_HELP, words).default_value("text")
+    choice_option(alloc, "format", "F", JSON_FORMAT_HELP, words).default_value("text")
 }
 
 /// Builds an argument that takes one or more values.

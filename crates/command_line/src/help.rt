@@ -66,7 +66,9 @@ printed on standard error.
 
 With --unit, dimensions are printed in another unit, with its name after the
 number: in pt as \\the of TeX prints them, such as 39.44447pt, and in bp, mm,
-cm, in or pc with five decimals. The slant stays a ratio.
+cm, in or pc with five decimals. The slant stays a ratio. With --format json,
+the contents are one JSON object, in one line; a dimension in a unit other than
+sp is then a string.
 
 Exit status:
   0  The contents were printed.
@@ -355,7 +357,7 @@ pub(crate) const QUIET_HELP: &str = "Leave out the lines of accepted fonts";
 
 pub(crate) const SUMMARY_HELP: &str = "Print a last line with the numbers of fonts";
 
-pub(crate) const FINDING_FORMAT_HELP: &str = "Output format: text or json";
+pub(crate) const JSON_FORMAT_HELP: &str = "Output format: text or json";
 
 pub(crate) const FILES_FROM_HELP: &str = "File with the names of further fonts, one per line";
 

@@ -3,7 +3,7 @@
 ghost use Rattle.std.specs.Prelude.{◌≡◌, [], map, IfErr, IfOk, Some, codes, option_and_then, option_map, unwrap_or};
 ghost use Rattle.clap.specs.Words.{all_of, first_of, found_of, kind_of, one_of, rows_of, subcommand_rows_of};
 ghost use Rattle.command_line.specs.Commands.{AllChoices, IsCommandOf, tfmset_app};
-ghost use Rattle.command_line.specs.Asked.{AreJobs, Asks, AsksFor, Finds, encoding_stated, format_word, has_no_block, has_plain_size, IsAskedBy, IsAskedOf, IsAskedWith, IsBlock, IsChecking, IsEncoding, IsFlag, IsLayout, IsListing, IsNumberIn, IsPairing, IsPairsLayout, IsPlan, IsRefusedBy, IsRefusedWith, IsSetting, IsSize, IsUnit, IsVerbose, is_path, kind_of_values, kind_without_request, misstates_encoding, misstates_size, policy_word, texts, vector_in, vector_named, format_stated, misplaces_unit, version_named, finding_format_word, has_no_font as has_no_font_in, IsCheckLayout};
+ghost use Rattle.command_line.specs.Asked.{AreJobs, Asks, AsksFor, Finds, encoding_stated, format_word, has_no_block, has_plain_size, IsAskedBy, IsAskedOf, IsAskedWith, IsBlock, IsChecking, IsEncoding, IsFlag, IsLayout, IsListing, IsListLayout, IsNumberIn, IsPairing, IsPairsLayout, IsPlan, IsRefusedBy, IsRefusedWith, IsSetting, IsSize, IsUnit, IsVerbose, is_path, kind_of_values, kind_without_request, misstates_encoding, misstates_size, policy_word, texts, vector_in, vector_named, format_stated, misplaces_unit, version_named, finding_format_word, has_no_font as has_no_font_in, IsCheckLayout};
 
 use crate::commands::{alone, tfmset_command};
 use crate::help::{ENCODING_ERROR, FONT_ERROR, SIZE_ERROR, UNIT_ERROR};
@@ -13,7 +13,7 @@ use crate::request::{
 use clap::error::ErrorKind;
 use clap::{ArgMatches, Command, Error};
 use encodings::Encoding;
-use font_texts::{FindingFormat, PairsFormat, PairsLayout};
+use font_texts::{FindingFormat, ListLayout, PairsFormat, PairsLayout};
 use line_records::RecordFormat;
 use run_plan::{Block, Capacity, Plan, Workers};
 use set_line::{Limit, Policy, Version};
@@ -220,9 +220,19 @@ fn asked_list<'a>(matches: &ArgMatches<'a>) -> Option<Listing<'a>>
         font: text(matches, "FONT")?,
         size: asked_size(matches)?,
         plain_size: asked_plain_size(matches),
-        unit: asked_unit(matches)?,
+        layout: asked_list_layout(matches)?,
         all: flag(matches, "all"),
         verbose: asked_verbose(matches),
+    })
+}
+
+/// Returns the format of the output of `list`, and the unit of its dimensions.
+fn asked_list_layout(matches: &ArgMatches<'_>) -> Option<ListLayout>
+    ensures { Finds (IsListLayout (rows_of (found_of matches.now))) result }
+{
+    Some(ListLayout {
+        format: asked_finding_format(matches)?,
+        unit: asked_unit(matches)?,
     })
 }
 

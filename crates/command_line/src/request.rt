@@ -1,10 +1,9 @@
 //! The requests that arguments can state.
 use encodings::Encoding;
-use font_texts::{FindingFormat, PairsLayout};
+use font_texts::{FindingFormat, ListLayout, PairsLayout};
 use line_records::RecordFormat;
 use run_plan::Plan;
 use set_line::{Limit, Policy};
-use tex_sizes::LengthUnit;
 use tfm_words::Size;
 
 /// What the arguments state: a request, and the file with its encoding vector if `--encoding` names one.
@@ -76,8 +75,8 @@ pub struct Listing<'a> {
     pub size: Option<Size>,
     /// Whether the size was given as a number without a unit.
     pub plain_size: bool,
-    /// The unit of dimensions.
-    pub unit: LengthUnit,
+    /// The format of the output, and the unit of dimensions.
+    pub layout: ListLayout,
     /// Whether the counts, the extensible recipes and all words of the file are printed, too.
     pub all: bool,
     /// Whether the causes of errors are printed on standard error.

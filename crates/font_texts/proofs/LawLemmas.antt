@@ -1,5 +1,5 @@
 -- Proofs that fonts with equal full listings have the same words and the same size.
-use Rattle.std.proofs.Common.{arith, ◌≡◌, ℕ, ◌+◌, ◌*◌, ◌^◌, ◌<◌, ◌≤◌, Bool, true, false, List, [], ◌∷◌, ◌++◌, ◌∙◌, Option, Some, None, length, map, not, take, drop, refl, ap, sym, subst}
+use Rattle.std.proofs.Common.{arith, ◌≡◌, ℕ, ◌+◌, ◌*◌, ◌^◌, ◌<◌, ◌≤◌, Bool, true, false, List, [], ◌∷◌, ◌++◌, ◌∙◌, Option, Some, None, flat_map, length, not, take, drop, refl, ap, sym, subst}
 use Rattle.std.proofs.lemmas.Bool.{leb-false, ltb-false}
 use Rattle.std.proofs.lemmas.Bool.Decides.{nat_tests}
 use Rattle.std.proofs.lemmas.List.{append-nil, append_assoc, append_cancel_left, append_cancel_right, get_or-take, length-append, length-drop, length-take-le, take_all}
@@ -18,13 +18,15 @@ use Rattle.tfm_words.specs.Word.{word_at}
 use Rattle.tfm_tables.specs.Acceptance.{after_counts, font_fault_of}
 use Rattle.tfm_tables.specs.Font.{FontValue}
 use Rattle.tfm_tables.specs.Header.{check_sum_of}
-use Rattle.font_texts.specs.AllListing.{all_listing_of, hex_text, recipe_rows, word_row, word_rows}
+use Rattle.font_texts.specs.AllListing.{all_listing_of, hex_text, recipe_lines, word_line, word_lines}
 use Rattle.font_texts.specs.CountsText.{count_rows, count_rows_text}
-use Rattle.font_texts.specs.Laws.{IsAccepted, ListingTellsFont, ListingTellsWords}
+use Rattle.font_texts.specs.Laws.{IsAccepted, ListingTellsFont, ListingTellsWords, all_text_of, text_in}
 use Rattle.tex_sizes.specs.Lengths.{length_text}
 use Rattle.tex_sizes.specs.declared.length_unit.LengthUnit.{LengthUnit}
 use Rattle.tex_sizes.specs.declared.length_unit.LengthUnit.TheVariants.{ScaledPoints}
-use Rattle.font_texts.specs.Listing.{Row, boundary_rows, char_rows, header_rows, kern_rows, listing_of, listing_row_of, listing_row_text, listing_rows_text, param_rows, size_rows, step_rows}
+use Rattle.font_texts.specs.declared.finding.FindingFormat.TheVariants.{Text}
+use Rattle.font_texts.specs.Listing.{boundary_entries, char_lines, contents_of, header_entries, kern_lines, length_entry, listing_head, param_lines, size_entries, step_lines}
+use Rattle.font_texts.specs.ListingFormats.{entry, hidden_name, length_in, length_quote, line_of, table_of_lines, word_in}
 use Rattle.font_texts.proofs.TextLemmas.{hex_equal, length-hex_text, numbers_equal, rows_equal, words_equal}
 
 -- ---- the words of an accepted font
@@ -102,39 +104,39 @@ whole font (bytes, size, small, read) =
 -- ---- the text
 
 -- the parts of the full listing, grouped to the right, with the first count at the front
-grouped : (d r l e w : List ℕ) → ((((d ++ 10 ∷ []) ++ r) ++ l) ++ e) ++ w ≡ d ++ 10 ∷ (r ++ (l ++ (e ++ w)))
-grouped d r l e w = simp append_assoc
+grouped : (d r l e w : List ℕ) → (((((d ++ 10 ∷ []) ++ r) ++ l) ++ e) ++ w) ++ [] ≡ d ++ 10 ∷ (r ++ (l ++ (e ++ w)))
+grouped d r l e w = simp (append_assoc, append-nil)
 
 -- the text after the line of the first count
 abbrev after_lf : LengthUnit → FontValue → List ℕ
 after_lf unit font =
-    count_rows_text (drop 1 (count_rows (counts_of font.words)))
-    ++ (listing_of unit font ++ (listing_rows_text (recipe_rows font) ++ listing_rows_text (word_rows font)))
+    count_rows_text Text (drop 1 (count_rows (counts_of font.words)))
+    ++ (contents_of (text_in unit) font ++ (recipe_lines Text font ++ word_lines Text font))
 
 -- a full listing begins with the line of lf
 starts : (unit : LengthUnit) (font : FontValue)
-    → all_listing_of unit font ≡ 108 ∷ 102 ∷ 32 ∷ (decimal (counts_of font.words).lf ++ 10 ∷ after_lf unit font)
-unfolding all_listing_of count_rows
+    → all_text_of unit font ≡ 108 ∷ 102 ∷ 32 ∷ (decimal (counts_of font.words).lf ++ 10 ∷ after_lf unit font)
+unfolding all_listing_of count_rows entry listing_head table_of_lines
 starts unit font =
     ap (λ t. 108 ∷ 102 ∷ 32 ∷ t)
-    (grouped (decimal (counts_of font.words).lf) (count_rows_text (drop 1 (count_rows (counts_of font.words)))) (listing_of unit font)
-    (listing_rows_text (recipe_rows font)) (listing_rows_text (word_rows font)))
+    (grouped (decimal (counts_of font.words).lf) (count_rows_text Text (drop 1 (count_rows (counts_of font.words))))
+    (contents_of (text_in unit) font) (recipe_lines Text font) (word_lines Text font))
 
 -- equal full listings have the same lf
 same_count : (unit : LengthUnit) (font other : FontValue) → (counts_of font.words).lf < 2 ^ 15 → (counts_of other.words).lf < 2 ^ 15
-    → all_listing_of unit font ≡ all_listing_of unit other → (counts_of font.words).lf ≡ (counts_of other.words).lf
+    → all_text_of unit font ≡ all_text_of unit other → (counts_of font.words).lf ≡ (counts_of other.words).lf
 same_count unit font other small few same =
     numbers_equal (counts_of font.words).lf (counts_of other.words).lf (after_lf unit font) (after_lf unit other) (omega arith) (omega arith)
     (ap (drop 3) (sym (starts unit font) ∙ same ∙ starts unit other))
 
 -- the parts of the row of a word, grouped to the right
-row_grouped : (d h : List ℕ) → (d ++ 32 ∷ (h ++ [])) ++ 10 ∷ [] ≡ d ++ 32 ∷ (h ++ 10 ∷ [])
-row_grouped d h = simp (append_assoc, append-nil)
+row_grouped : (d h : List ℕ) → (d ++ 32 ∷ h) ++ 10 ∷ [] ≡ d ++ 32 ∷ (h ++ 10 ∷ [])
+row_grouped d h = simp append_assoc
 
 -- the text of the row of a word
 row_text : (words : List ℕ) (i : ℕ)
-    → listing_row_text (word_row words i) ≡ 119 ∷ 111 ∷ 114 ∷ 100 ∷ 32 ∷ (decimal i ++ 32 ∷ (hex_text (word_at words i) ++ 10 ∷ []))
-unfolding listing_row_text word_row
+    → word_line Text words i ≡ 119 ∷ 111 ∷ 114 ∷ 100 ∷ 32 ∷ (decimal i ++ 32 ∷ (hex_text (word_at words i) ++ 10 ∷ []))
+unfolding word_line line_of hidden_name word_in
 row_text words i = ap (λ t. 119 ∷ 111 ∷ 114 ∷ 100 ∷ 32 ∷ t) (row_grouped (decimal i) (hex_text (word_at words i)))
 
 -- a word has four bytes
@@ -143,7 +145,7 @@ length-word_at words n i long below = length-take-le 4 (drop (4 * i) words) (ome
 
 -- the length of the row of a word depends only on the index of the word
 length-row : (words : List ℕ) (n i : ℕ) → length words ≡ 4 * n → i < n
-    → length (listing_row_text (word_row words i)) ≡ 15 + length (decimal i)
+    → length (word_line Text words i) ≡ 15 + length (decimal i)
 length-row words n i long below =
     ap length (row_text words i)
     ∙ (omega (
@@ -156,7 +158,7 @@ length-row words n i long below =
 
 -- words with equal rows are equal
 word_equal : (xs ys : List ℕ) (n i : ℕ) → All (λ byte. byte < 256) xs → All (λ byte. byte < 256) ys
-    → length xs ≡ 4 * n → length ys ≡ 4 * n → i < n → listing_row_text (word_row xs i) ≡ listing_row_text (word_row ys i) → word_at xs i ≡ word_at ys i
+    → length xs ≡ 4 * n → length ys ≡ 4 * n → i < n → word_line Text xs i ≡ word_line Text ys i → word_at xs i ≡ word_at ys i
 word_equal xs ys n i small few long wide below same =
     let x = word_at xs i in
     let y = word_at ys i in
@@ -174,18 +176,20 @@ word_equal xs ys n i small few long wide below same =
 -- are those of words, and equal rows are those of equal words
 -- Law: accepted fonts with equal full listings have the same words
 pub listing_tells : (unit : LengthUnit) (font : FontValue) (other : FontValue) → ListingTellsWords unit font other
-unfolding all_listing_of word_rows
+unfolding all_listing_of word_lines listing_head table_of_lines
 listing_tells unit font other accepted read same =
     let own = whole font accepted in
     let its = whole other read in
     let lf = same_count unit font other own.small its.small same in
     let n = (counts_of font.words).lf in
     let before : FontValue → List ℕ =
-    λ f. (count_rows_text (count_rows (counts_of f.words)) ++ listing_of unit f) ++ listing_rows_text (recipe_rows f)
+    λ f. (count_rows_text Text (count_rows (counts_of f.words)) ++ contents_of (text_in unit) f) ++ recipe_lines Text f
+    in let text : before font ++ word_lines Text font ≡ before other ++ word_lines Text other =
+    sym (append-nil (before font ++ word_lines Text font)) ∙ same ∙ append-nil (before other ++ word_lines Text other)
     in let wide : length other.words ≡ 4 * n = its.whole ∙ ap (λ k. 4 * k) (sym lf) in
-    let rows = rows_equal (word_row font.words) (word_row other.words) n (before font) (before other)
+    let rows = rows_equal (word_line Text font.words) (word_line Text other.words) n (before font) (before other)
     (λ i below. length-row font.words n i own.whole below ∙ sym (length-row other.words n i wide below))
-    (same ∙ ap (λ k. before other ++ listing_rows_text (map (word_row other.words) (range_with_len 0 k))) (sym lf))
+    (text ∙ ap (λ k. before other ++ flat_map (word_line Text other.words) (range_with_len 0 k)) (sym lf))
     in let words = words_equal font.words other.words n
     (λ i below. word_equal font.words other.words n i own.bytes its.bytes own.whole wide below (rows i below))
     in sym (take_all (4 * n) font.words (omega arith)) ∙ words ∙ take_all (4 * n) other.words (omega arith)
@@ -195,37 +199,40 @@ listing_tells unit font other accepted read same =
 -- the text before the line of the size, which depends only on the words
 abbrev before_size : List ℕ → List ℕ
 before_size words =
-    count_rows_text (count_rows (counts_of words))
-    ++ (listing_row_text (listing_row_of (codes "checksum") (decimal (check_sum_of words)))
-    ++ listing_row_text (listing_row_of (codes "design") (length_text ScaledPoints (pos (result_unwrap_or (design_size_of words) 0)))))
+    count_rows_text Text (count_rows (counts_of words))
+    ++ (entry Text (codes "checksum") (decimal (check_sum_of words))
+    ++ length_entry (text_in ScaledPoints) (codes "design") (pos (result_unwrap_or (design_size_of words) 0)))
 
--- the rows after that of the size
-abbrev rows_after_size : FontValue → List Row
-rows_after_size font =
-    header_rows font ++ boundary_rows font ++ char_rows ScaledPoints font ++ step_rows ScaledPoints font
-    ++ kern_rows ScaledPoints font ++ param_rows ScaledPoints font
+-- the parts of the contents after the line of the size
+abbrev tables : FontValue → List ℕ
+tables font =
+    boundary_entries Text font
+    ++ (char_lines (text_in ScaledPoints) font
+    ++ (step_lines (text_in ScaledPoints) font
+    ++ (kern_lines (text_in ScaledPoints) font ++ param_lines (text_in ScaledPoints) font)))
 
 -- the text after the line of the size
 abbrev after_size : FontValue → List ℕ
 after_size font =
-    listing_rows_text (rows_after_size font)
-    ++ (listing_rows_text (recipe_rows font) ++ listing_rows_text (word_rows font))
+    header_entries Text font ++ (tables font ++ (recipe_lines Text font ++ word_lines Text font))
 
 -- the parts of the full listing, grouped to the right, with the number of the size apart
-size_grouped : (c t u d l e w : List ℕ)
-    → ((c ++ (t ++ (u ++ ((115 ∷ 105 ∷ 122 ∷ 101 ∷ 32 ∷ ((d ++ []) ++ 10 ∷ [])) ++ l)))) ++ e) ++ w ≡ (c ++ (t ++ u)) ++ 115 ∷ 105 ∷ 122 ∷ 101 ∷ 32 ∷ (d ++ 10 ∷ (l ++ (e ++ w)))
-size_grouped c t u d l e w = simp (append_assoc, append-nil)
+size_grouped : (n t u d h b c s k p e w : List ℕ)
+    → (((n ++ ((((((((t ++ u) ++ (115 ∷ 105 ∷ 122 ∷ 101 ∷ 32 ∷ ((d ++ []) ++ 10 ∷ []))) ++ h) ++ b) ++ c) ++ s) ++ k) ++ p)) ++ e) ++ w) ++ []
+    ≡ (n ++ (t ++ u)) ++ 115 ∷ 105 ∷ 122 ∷ 101 ∷ 32 ∷ (d ++ 10 ∷ (h ++ ((b ++ (c ++ (s ++ (k ++ p)))) ++ (e ++ w))))
+size_grouped n t u d h b c s k p e w = simp (append_assoc, append-nil)
 
 -- the full listing is the text before the size, the line of the size, and the text after it
 sized : (font : FontValue)
-    → all_listing_of ScaledPoints font ≡ before_size font.words ++ 115 ∷ 105 ∷ 122 ∷ 101 ∷ 32 ∷ (decimal font.size ++ 10 ∷ after_size font)
-unfolding all_listing_of listing_of listing_row_text size_rows length_text
+    → all_text_of ScaledPoints font ≡ before_size font.words ++ 115 ∷ 105 ∷ 122 ∷ 101 ∷ 32 ∷ (decimal font.size ++ 10 ∷ after_size font)
+unfolding all_listing_of contents_of entry length_in length_quote length_text listing_head size_entries table_of_lines
 sized font =
-    size_grouped (count_rows_text (count_rows (counts_of font.words)))
-    (listing_row_text (listing_row_of (codes "checksum") (decimal (check_sum_of font.words))))
-    (listing_row_text (listing_row_of (codes "design") (length_text ScaledPoints (pos (result_unwrap_or (design_size_of font.words) 0))))) (decimal font.size)
-    (listing_rows_text (rows_after_size font))
-    (listing_rows_text (recipe_rows font)) (listing_rows_text (word_rows font))
+    size_grouped (count_rows_text Text (count_rows (counts_of font.words)))
+    (entry Text (codes "checksum") (decimal (check_sum_of font.words)))
+    (length_entry (text_in ScaledPoints) (codes "design") (pos (result_unwrap_or (design_size_of font.words) 0))) (decimal font.size)
+    (header_entries Text font) (boundary_entries Text font) (char_lines (text_in ScaledPoints) font)
+    (step_lines (text_in ScaledPoints) font) (kern_lines (text_in ScaledPoints) font) (param_lines (text_in ScaledPoints) font)
+    (recipe_lines Text font) (word_lines Text font)
 
 -- fonts with the same words and the same size are the same font
 same_font : (font other : FontValue) → font.words ≡ other.words → font.size ≡ other.size → font ≡ other

@@ -1,7 +1,7 @@
 -- The name of each ligature operation in the text of pairs is the name that a listing has.
 use Rattle.std.proofs.Common.{◌≡◌, ℕ, refl}
 use Rattle.lig_kern.specs.Matching.{ligature_by, operation_of}
-use Rattle.font_texts.specs.ListingWords.{operation_name}
+use Rattle.font_texts.specs.ListingFields.{operation_name}
 use Rattle.font_texts.specs.PairsText.{action_name}
 
 abbrev HasListedName : ℕ → Type 0

@@ -1,5 +1,5 @@
 -- Lemmas that equal texts have equal parts.
-use Rattle.std.proofs.Common.{arith, ◌≡◌, ◌⊎◌, inl, inr, ℕ, zero, suc, ◌+◌, ◌*◌, ◌/◌, ◌%◌, ◌^◌, ◌<◌, false, List, [], ◌∷◌, ◌++◌, ◌∙◌, length, map, take, drop, refl, ap, sym, subst}
+use Rattle.std.proofs.Common.{arith, ◌≡◌, ◌⊎◌, inl, inr, ℕ, zero, suc, ◌+◌, ◌*◌, ◌/◌, ◌%◌, ◌^◌, ◌<◌, false, List, [], ◌∷◌, ◌++◌, ◌∙◌, flat_map, length, take, drop, refl, ap, sym, subst}
 use Rattle.std.proofs.Math.Seq.{take-add, take-append_seam, drop-append_seam}
 use Rattle.std.proofs.lemmas.Bool.Decides.{nat_tests}
 use Rattle.std.proofs.lemmas.List.{append_assoc, length-append}
@@ -10,8 +10,7 @@ use Rattle.std.specs.List.{range_with_len}
 use Rattle.std.specs.Prelude.{All}
 use Rattle.std.specs.Str.Parse.{AllDigits}
 use Rattle.font_texts.specs.AllListing.{hex_byte, hex_text}
-use Rattle.font_texts.specs.Listing.{Row, listing_row_text, listing_rows_text}
-use Rattle.font_texts.proofs.ListingLemmas.{rows_more}
+use Rattle.font_texts.proofs.ListingLemmas.{lines_more}
 
 -- if two lists are equal and their last parts have the same length, the parts are equal
 pub parts_equal : (a b x y : List ℕ) → length x ≡ length y → a ++ x ≡ b ++ y → (a ≡ b) × (x ≡ y)
@@ -92,29 +91,29 @@ last_or_less (suc i) (suc n) below = next (last_or_less i n (omega arith))
     next (inr less) = inr (omega arith)
 
 -- the text of the first n rows, numbered from 0
-abbrev lines : (ℕ → Row) → ℕ → List ℕ
-lines row n = listing_rows_text (map row (range_with_len 0 n))
+abbrev lines : (ℕ → List ℕ) → ℕ → List ℕ
+lines row n = flat_map row (range_with_len 0 n)
 
 -- the text of n + 1 rows is the text of n rows and the last row
-split_last : (row : ℕ → Row) (n : ℕ) (a : List ℕ) → a ++ lines row (suc n) ≡ (a ++ lines row n) ++ listing_row_text (row n)
+split_last : (row : ℕ → List ℕ) (n : ℕ) (a : List ℕ) → a ++ lines row (suc n) ≡ (a ++ lines row n) ++ row n
 split_last row n a =
     let more : n + 1 ≡ suc n = omega arith in
-    ap (λ k. a ++ lines row k) (sym more) ∙ ap (λ l. a ++ l) (rows_more row n) ∙ sym (append_assoc a (lines row n) (listing_row_text (row n)))
+    ap (λ k. a ++ lines row k) (sym more) ∙ ap (λ l. a ++ l) (lines_more row n) ∙ sym (append_assoc a (lines row n) (row n))
 
 -- if the rows at index n are the same, and those below n are, then those at every index up to n are
-same_rows : (row other : ℕ → Row) (n i : ℕ) → listing_row_text (row n) ≡ listing_row_text (other n)
-    → (i < n → listing_row_text (row i) ≡ listing_row_text (other i)) → (i ≡ n) ⊎ (i < n) → listing_row_text (row i) ≡ listing_row_text (other i)
-same_rows row other n i last before (inl is) = subst (λ k. listing_row_text (row k) ≡ listing_row_text (other k)) (sym is) last
+same_rows : (row other : ℕ → List ℕ) (n i : ℕ) → row n ≡ other n
+    → (i < n → row i ≡ other i) → (i ≡ n) ⊎ (i < n) → row i ≡ other i
+same_rows row other n i last before (inl is) = subst (λ k. row k ≡ other k) (sym is) last
 same_rows row other n i last before (inr less) = before less
 
 -- if two texts that end with rows are equal, and the rows have the same lengths, then the rows are the same
-pub rows_equal : (row other : ℕ → Row) (n : ℕ) (a b : List ℕ)
-    → ((i : ℕ) → i < n → length (listing_row_text (row i)) ≡ length (listing_row_text (other i)))
+pub rows_equal : (row other : ℕ → List ℕ) (n : ℕ) (a b : List ℕ)
+    → ((i : ℕ) → i < n → length (row i) ≡ length (other i))
     → a ++ lines row n ≡ b ++ lines other n
-    → (i : ℕ) → i < n → listing_row_text (row i) ≡ listing_row_text (other i)
+    → (i : ℕ) → i < n → row i ≡ other i
 rows_equal row other zero a b long same i below = absurd (omega arith)
 rows_equal row other (suc n) a b long same i below =
-    let parts = parts_equal (a ++ lines row n) (b ++ lines other n) (listing_row_text (row n)) (listing_row_text (other n)) (long n (omega arith))
+    let parts = parts_equal (a ++ lines row n) (b ++ lines other n) (row n) (other n) (long n (omega arith))
     (sym (split_last row n a) ∙ same ∙ split_last other n b)
     in same_rows row other n i parts.1
     (λ less. rows_equal row other n a b (λ k small. long k (omega (arith, small))) parts.0 i less)

@@ -1,4 +1,5 @@
--- Worked rows: lines of pairs with the characters of an encoding, computed from the definitions alone. The pairs in OT1 are those of cmr10.
+-- Worked rows: lines of pairs with the characters of an encoding, and parts of listings in JSON, computed from the
+-- definitions alone. The pairs in OT1 are those of cmr10.
 use Rattle.std.proofs.Common.{◌≡◌, [], ◌∷◌, ◌++◌, negsuc, pos, false, true, Some, None, refl}
 use Rattle.std.specs.Prelude.{codes}
 use Rattle.std.specs.Char.{encode_utf8}
@@ -16,6 +17,9 @@ use Rattle.encodings.specs.Characters.{character_of}
 use Rattle.font_texts.specs.AllListing.{hex_byte}
 use Rattle.font_texts.specs.PairsText.{action_name, action_value, json_action_value, json_symbol, line_end, pair_front, symbol_word}
 use Rattle.font_texts.specs.PairCharacters.{character_cell, character_name, character_word, characters_beside, json_character, json_member, json_value, pair_line_with, symbol_character, symbol_field, value_character, value_field, value_member}
+use Rattle.font_texts.specs.Listing.{length_line}
+use Rattle.font_texts.specs.ListingFormats.{hidden_name, length_in, length_quote, line_of, table_of_lines}
+use Rattle.font_texts.specs.declared.finding.FindingFormat.TheVariants.{Json as FindingJson}
 use Rattle.font_texts.specs.declared.pair.Pair.{Pair}
 use Rattle.font_texts.specs.declared.pairs_format.PairsFormat.TheVariants.{Text, Csv, Json}
 
@@ -73,7 +77,7 @@ escaped_in_json = refl
 -- a boundary, and a kern
 null_in_json : pair_line_with ScaledPoints (Some Ot1) Json (pair (Char 65) Right (Kern (pos 1)))
     ≡ codes "{\"left\":65,\"right\":\"right\",\"action\":\"kern\",\"value\":1,\"left_character\":\"A\",\"right_character\":null}\n"
-unfolding pair_line_with pair_front line_end characters_beside json_symbol action_name action_value json_action_value length_text digits symbol_character value_member json_member json_value json_character encode_utf8 character_of characters_of ot1_characters
+unfolding pair_line_with pair_front line_end characters_beside json_symbol action_name json_action_value length_in length_quote length_text digits symbol_character value_member json_member json_value json_character encode_utf8 character_of characters_of ot1_characters
 null_in_json = refl
 
 -- ---- without an encoding
@@ -86,5 +90,21 @@ of_bytes = refl
 
 string_in_json : pair_line_with Points None Json (pair (Char 86) (Char 65) (Kern (negsuc 72818)))
     ≡ codes "{\"left\":86,\"right\":65,\"action\":\"kern\",\"value\":\"-1.11113pt\"}\n"
-unfolding pair_line_with pair_front line_end characters_beside json_symbol action_name action_value json_action_value length_text decimal_in points_power decimal_text digits
+unfolding pair_line_with pair_front line_end characters_beside json_symbol action_name json_action_value length_in length_quote length_text decimal_in points_power decimal_text digits
 string_in_json = refl
+
+-- ---- listings in JSON
+
+-- a kern in points is a string
+kern_in_points : length_line (record { format = FindingJson; unit = Points }) (codes "kern") 7 (negsuc 40959) ≡ codes ",{\"kern\":7,\"value\":\"-0.625pt\"}"
+unfolding line_of hidden_name length_in length_quote length_text decimal_in points_power decimal_text digits
+kern_in_points = refl
+
+-- a table with two lines, and one with none
+table_in_json : table_of_lines FindingJson (codes "kerns") (codes ",{},{}") ≡ codes ",\"kerns\":[{},{}]"
+unfolding table_of_lines
+table_in_json = refl
+
+empty_table_in_json : table_of_lines FindingJson (codes "kerns") [] ≡ codes ",\"kerns\":[]"
+unfolding table_of_lines
+empty_table_in_json = refl

@@ -12,6 +12,9 @@ use Rattle.tfm_words.specs.declared.count_fault.CountFault.{CountFault}
 use Rattle.tfm_words.specs.declared.design.DesignFault.{DesignFault}
 use Rattle.tfm_tables.specs.declared.fault.FontFault.{FontFault}
 use Rattle.tfm_tables.specs.declared.fault.FontFault.TheVariants.{Counts, Design, OutOfMemory}
+use Rattle.font_texts.specs.declared.finding.FindingFormat.{FindingFormat}
+use Rattle.font_texts.specs.declared.finding.FindingFormat.TheVariants.{Text}
+use Rattle.font_texts.specs.ListingFormats.{entry}
 
 -- each count with its name, in the order of the file
 unfoldable pub count_rows : Numbers → List (List ℕ × ℕ)
@@ -30,13 +33,13 @@ count_rows c =
     ∷ (codes "np", c.np)
     ∷ []
 
--- the text of a row: the name, a space, the number in decimal and a line feed
-abbrev pub count_row_text : List ℕ × ℕ → List ℕ
-count_row_text row = row.0 ++ codes " " ++ decimal row.1 ++ codes "\n"
+-- the text of a row: an entry of a listing, which is the name, a space, the number in decimal and a line feed
+abbrev pub count_row_text : FindingFormat → List ℕ × ℕ → List ℕ
+count_row_text format row = entry format row.0 (decimal row.1)
 
 -- the text of rows, one after the other
-abbrev pub count_rows_text : List (List ℕ × ℕ) → List ℕ
-count_rows_text rows = flat_map count_row_text rows
+abbrev pub count_rows_text : FindingFormat → List (List ℕ × ℕ) → List ℕ
+count_rows_text format rows = flat_map (count_row_text format) rows
 
 -- the rows of the twelve counts and of the design size, in scaled points (sp)
 abbrev pub head_rows : Numbers → ℕ → List (List ℕ × ℕ)
@@ -44,7 +47,7 @@ head_rows c points = count_rows c ++ (codes "design", points) ∷ []
 
 -- the text of the counts and the design size of a font in which neither has an error
 abbrev pub counts_text_of : List ℕ → List ℕ
-counts_text_of bytes = count_rows_text (head_rows (counts_of bytes) (result_unwrap_or (design_size_of bytes) 0))
+counts_text_of bytes = count_rows_text Text (head_rows (counts_of bytes) (result_unwrap_or (design_size_of bytes) 0))
 
 -- the row of a name, given by reference, and a number
 abbrev pub count_row_of : Bor (List ℕ) × ℕ → List ℕ × ℕ

@@ -1,6 +1,8 @@
 pub mod AllListing
 pub mod CountsText
 pub mod Listing
+pub mod ListingFields
+pub mod ListingFormats
 pub mod ListingWords
 pub mod FaultWords
 pub mod JsonText

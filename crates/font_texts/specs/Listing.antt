@@ -1,11 +1,10 @@
--- The listing of a font: its lines, each with a name and the fields after it.
--- This project's own text; the fields of tags and instructions are defined in ListingWords.
-use Rattle.std.specs.Prelude.{ℕ, ℤ, ◌==◌, Bool, List, [], ◌∷◌, ◌++◌, map, filter, flat_map, codes, decimal, Option, Some, None, pos, if◌then◌else◌}
+-- The listing of a font, as lines of text or as a JSON object in one line.
+-- This project's own; ListingFormats defines the form of names and values, and ListingFields the fields of lines.
+use Rattle.std.specs.Prelude.{ℕ, ℤ, ◌==◌, Bool, List, [], ◌++◌, filter, flat_map, codes, decimal, Option, option_map, pos, if◌then◌else◌}
 use Rattle.std.specs.List.{range_with_len}
-use Rattle.std.specs.Option.{option_map}
+use Rattle.std.specs.Option.{option_map_or}
 use Rattle.std.specs.Result.{result_unwrap_or}
-use Rattle.tex_sizes.specs.Lengths.{length_text}
-use Rattle.tex_sizes.specs.declared.length_unit.LengthUnit.{LengthUnit}
+use Rattle.tex_sizes.specs.Lengths.{unit_name}
 use Rattle.tex_sizes.specs.declared.length_unit.LengthUnit.TheVariants.{ScaledPoints}
 use Rattle.tfm_words.specs.declared.table.Table.TheVariants.{LigKern, Kern, Param}
 use Rattle.tfm_words.specs.DesignSize.{design_size_of}
@@ -16,130 +15,124 @@ use Rattle.tfm_tables.specs.Character.{exists, char_info_of, measures_of, remain
 use Rattle.tfm_tables.specs.Measure.{kern_at, parameter_of}
 use Rattle.tfm_tables.specs.Program.{program_of, right_code_of, start_of, step_at}
 use Rattle.tfm_tables.specs.Font.{FontValue}
-use Rattle.font_texts.specs.ListingWords.{char_words, escaped_text, number_or_none, step_words, yes_or_no}
+use Rattle.font_texts.specs.declared.finding.FindingFormat.{FindingFormat}
+use Rattle.font_texts.specs.declared.list_layout.ListLayout.{ListLayout}
+use Rattle.font_texts.specs.ListingFields.{char_fields, step_fields}
+use Rattle.font_texts.specs.ListingFormats.{entry, flag_in, hidden_name, in_format, length_in, line_of, number_or_none, string_in, table_of_lines}
 
--- a line of a listing: its name, and the fields after it
-abbrev pub Row : Type 0
-Row = List ℕ × List (List ℕ)
+-- ---- the entries of the header
 
--- the text of the fields of a line, with a space before each
-abbrev pub spaced : List (List ℕ) → List ℕ
-spaced words = flat_map (λ word. 32 ∷ word) words
+-- an entry with a length
+abbrev pub length_entry : ListLayout → List ℕ → ℤ → List ℕ
+length_entry layout name sp = entry layout.format name (length_in layout sp)
 
--- the text of a line: its name, its fields and a line feed
-unfoldable pub listing_row_text : Row → List ℕ
-listing_row_text row = row.0 ++ spaced row.1 ++ codes "\n"
+-- the entry of this value, or nothing if there is no value
+abbrev pub entry_where : FindingFormat → List ℕ → Option (List ℕ) → List ℕ
+entry_where format name value = option_map_or (entry format name) value []
 
--- the text of several lines, one after the other
-abbrev pub listing_rows_text : List Row → List ℕ
-listing_rows_text rows = flat_map listing_row_text rows
+-- the check sum, the design size, and the size that the font is read at
+unfoldable pub size_entries : ListLayout → FontValue → List ℕ
+size_entries layout font =
+    entry layout.format (codes "checksum") (decimal (check_sum_of font.words))
+    ++ length_entry layout (codes "design") (pos (result_unwrap_or (design_size_of font.words) 0))
+    ++ length_entry layout (codes "size") (pos font.size)
 
--- a line with one field
-abbrev pub listing_row_of : List ℕ → List ℕ → Row
-listing_row_of name word = (name, word ∷ [])
+-- a text of the header, if the header contains it
+unfoldable pub text_where : FindingFormat → List ℕ → Option (List ℕ) → List ℕ
+text_where format name text = entry_where format name (option_map (string_in format) text)
 
--- a line with one field, or no line if there is no field
-abbrev pub row_where : List ℕ → Option (List ℕ) → List Row
-row_where name None = []
-row_where name (Some word) = listing_row_of name word ∷ []
+-- a flag of the header, if the header contains it
+unfoldable pub flag_where : FindingFormat → List ℕ → Option Bool → List ℕ
+flag_where format name flag = entry_where format name (option_map (flag_in format) flag)
 
--- the line of a text of the header, if the header contains it
-unfoldable pub text_where : List ℕ → Option (List ℕ) → List Row
-text_where name text = row_where name (option_map escaped_text text)
+-- a number of the header, if the header contains it
+unfoldable pub number_where : FindingFormat → List ℕ → Option ℕ → List ℕ
+number_where format name number = entry_where format name (option_map decimal number)
 
--- the line of a flag of the header, if the header contains it
-unfoldable pub flag_where : List ℕ → Option Bool → List Row
-flag_where name flag = row_where name (option_map yes_or_no flag)
+-- those header entries that a header may be too short to contain: coding scheme, family, seven-bit flag and face
+unfoldable pub header_entries : FindingFormat → FontValue → List ℕ
+header_entries format font =
+    text_where format (codes "coding") (coding_of font.words)
+    ++ text_where format (codes "family") (family_of font.words)
+    ++ flag_where format (codes "sevenbit") (seven_bit_of font.words)
+    ++ number_where format (codes "face") (face_of font.words)
 
--- the line of a number of the header, if the header contains it
-unfoldable pub number_where : List ℕ → Option ℕ → List Row
-number_where name number = row_where name (option_map decimal number)
+-- the code of the right boundary character, and the starting address of the left boundary's program
+unfoldable pub boundary_entries : FindingFormat → FontValue → List ℕ
+boundary_entries format font =
+    entry format (codes "right") (number_or_none format (right_code_of (program_of font.words)))
+    ++ entry format (codes "left") (number_or_none format (start_of font.words Boundary))
 
--- the lines of the check sum, of the design size and of the size that the font is read at; both sizes are in
--- the unit
-unfoldable pub size_rows : LengthUnit → FontValue → List Row
-size_rows unit font =
-    listing_row_of (codes "checksum") (decimal (check_sum_of font.words))
-    ∷ listing_row_of (codes "design") (length_text unit (pos (result_unwrap_or (design_size_of font.words) 0)))
-    ∷ listing_row_of (codes "size") (length_text unit (pos font.size))
-    ∷ []
-
--- the lines of those header entries that a header may be too short to contain: coding scheme, family,
--- seven-bit flag and face
-unfoldable pub header_rows : FontValue → List Row
-header_rows font =
-    text_where (codes "coding") (coding_of font.words)
-    ++ text_where (codes "family") (family_of font.words)
-    ++ flag_where (codes "sevenbit") (seven_bit_of font.words)
-    ++ number_where (codes "face") (face_of font.words)
-
--- the lines of the code of the right boundary character and of the starting address of the left boundary's
--- program
-unfoldable pub boundary_rows : FontValue → List Row
-boundary_rows font =
-    listing_row_of (codes "right") (number_or_none (right_code_of (program_of font.words)))
-    ∷ listing_row_of (codes "left") (number_or_none (start_of font.words Boundary))
-    ∷ []
+-- ---- the tables
 
 -- the line of an existing character
-unfoldable pub char_row : LengthUnit → FontValue → ℕ → Row
-char_row unit font code = (
-  codes "char",
-  char_words unit code (measures_of font.words font.size code)
-      (tag_with (tag_number (char_info_of font.words code)) (remainder_of (char_info_of font.words code))),
-)
+unfoldable pub char_line : ListLayout → FontValue → ℕ → List ℕ
+char_line layout font code =
+    line_of layout.format (codes "char") code
+    (char_fields layout (measures_of font.words font.size code)
+    (tag_with (tag_number (char_info_of font.words code)) (remainder_of (char_info_of font.words code))))
 
 -- the line of the instruction at an address
-unfoldable pub step_row : LengthUnit → FontValue → ℕ → Row
-step_row unit font i = (codes "step", step_words unit font i (step_at font.words i))
+unfoldable pub step_line : ListLayout → FontValue → ℕ → List ℕ
+step_line layout font i = line_of layout.format (codes "step") i (step_fields layout font (step_at font.words i))
 
--- a line with an index and an amount in a unit
-abbrev pub amount_row : LengthUnit → List ℕ → ℕ → ℤ → Row
-amount_row unit name number amount = (name, decimal number ∷ length_text unit amount ∷ [])
+-- a line with an index and a length
+abbrev pub length_line : ListLayout → List ℕ → ℕ → ℤ → List ℕ
+length_line layout name number sp = line_of layout.format name number (hidden_name layout.format (codes "value") ++ length_in layout sp)
 
 -- the line of kern k
-unfoldable pub kern_row : LengthUnit → FontValue → ℕ → Row
-kern_row unit font k = amount_row unit (codes "kern") k (kern_at font.words font.size k)
+unfoldable pub kern_line : ListLayout → FontValue → ℕ → List ℕ
+kern_line layout font k = length_line layout (codes "kern") k (kern_at font.words font.size k)
 
--- the unit of parameter n; the slant, number 1, is a ratio, and is printed as a number of units of 2^-20
-abbrev pub param_unit : LengthUnit → ℕ → LengthUnit
-param_unit unit n = if n == 1 then ScaledPoints else unit
+-- the layout of parameter n; the slant, number 1, is a ratio, and is printed as a number of units of 2^-20
+abbrev pub param_layout : ListLayout → ℕ → ListLayout
+param_layout layout n = record layout { unit = if n == 1 then ScaledPoints else layout.unit }
 
 -- the line of parameter n
-unfoldable pub param_row : LengthUnit → FontValue → ℕ → Row
-param_row unit font n = amount_row (param_unit unit n) (codes "param") n (parameter_of font.words font.size n)
+unfoldable pub param_line : ListLayout → FontValue → ℕ → List ℕ
+param_line layout font n = length_line (param_layout layout n) (codes "param") n (parameter_of font.words font.size n)
 
 -- the codes that a character may have, 0 to 255
 unfoldable pub all_codes : List ℕ
 all_codes = range_with_len 0 256
 
 -- the lines of the existing characters, in the order of their codes
-unfoldable pub char_rows : LengthUnit → FontValue → List Row
-char_rows unit font = map (char_row unit font) (filter (exists font.words) all_codes)
+unfoldable pub char_lines : ListLayout → FontValue → List ℕ
+char_lines layout font = flat_map (char_line layout font) (filter (exists font.words) all_codes)
 
 -- the lines of the instructions, in the order of their addresses
-unfoldable pub step_rows : LengthUnit → FontValue → List Row
-step_rows unit font = map (step_row unit font) (range_with_len 0 (entries_of font.words LigKern))
+unfoldable pub step_lines : ListLayout → FontValue → List ℕ
+step_lines layout font = flat_map (step_line layout font) (range_with_len 0 (entries_of font.words LigKern))
 
 -- the lines of the kerns, from 0
-unfoldable pub kern_rows : LengthUnit → FontValue → List Row
-kern_rows unit font = map (kern_row unit font) (range_with_len 0 (entries_of font.words Kern))
+unfoldable pub kern_lines : ListLayout → FontValue → List ℕ
+kern_lines layout font = flat_map (kern_line layout font) (range_with_len 0 (entries_of font.words Kern))
 
 -- the lines of the parameters, from 1
-unfoldable pub param_rows : LengthUnit → FontValue → List Row
-param_rows unit font = map (param_row unit font) (range_with_len 1 (entries_of font.words Param))
+unfoldable pub param_lines : ListLayout → FontValue → List ℕ
+param_lines layout font = flat_map (param_line layout font) (range_with_len 1 (entries_of font.words Param))
 
--- the lines of a font's listing, with its dimensions in a unit
-abbrev pub listing_rows : LengthUnit → FontValue → List Row
-listing_rows unit font =
-    size_rows unit font
-    ++ header_rows font
-    ++ boundary_rows font
-    ++ char_rows unit font
-    ++ step_rows unit font
-    ++ kern_rows unit font
-    ++ param_rows unit font
+-- ---- the whole
 
--- the text of the listing of a font
-unfoldable pub listing_of : LengthUnit → FontValue → List ℕ
-listing_of unit font = listing_rows_text (listing_rows unit font)
+-- the entries and the tables of a font
+unfoldable pub contents_of : ListLayout → FontValue → List ℕ
+contents_of layout font =
+    size_entries layout font
+    ++ header_entries layout.format font
+    ++ boundary_entries layout.format font
+    ++ table_of_lines layout.format (codes "chars") (char_lines layout font)
+    ++ table_of_lines layout.format (codes "steps") (step_lines layout font)
+    ++ table_of_lines layout.format (codes "kerns") (kern_lines layout font)
+    ++ table_of_lines layout.format (codes "params") (param_lines layout font)
+
+-- what a listing begins with: in JSON the name of the unit
+unfoldable pub listing_head : ListLayout → List ℕ
+listing_head layout = in_format layout.format [] (codes "{\"unit\":\"" ++ unit_name layout.unit ++ codes "\"")
+
+-- the end of a listing
+abbrev pub listing_end : FindingFormat → List ℕ
+listing_end format = in_format format [] (codes "}\n")
+
+-- the listing of a font
+unfoldable pub listing_of : ListLayout → FontValue → List ℕ
+listing_of layout font = listing_head layout ++ contents_of layout font ++ listing_end layout.format

@@ -5,13 +5,14 @@
 use Rattle.std.specs.Prelude.{ℕ, Bool, List, [], ◌++◌, codes, decimal, flat_map, replicate, if◌then◌else◌}
 use Rattle.tex_sizes.specs.Lengths.{length_text}
 use Rattle.tex_sizes.specs.declared.length_unit.LengthUnit.{LengthUnit}
-use Rattle.tex_sizes.specs.declared.length_unit.LengthUnit.TheVariants.{ScaledPoints}
 use Rattle.lig_kern.specs.declared.action.Action.{Action}
 use Rattle.lig_kern.specs.declared.action.Action.TheVariants.{Kern, Lig}
 use Rattle.lig_kern.specs.declared.symbol.Symbol.{Symbol}
 use Rattle.lig_kern.specs.declared.symbol.Symbol.TheVariants.{Left, Char, Right}
 use Rattle.tfm_tables.specs.Font.{FontValue}
 use Rattle.font_texts.specs.Pairs.{pairs_of}
+use Rattle.font_texts.specs.ListingFormats.{length_in}
+use Rattle.font_texts.specs.declared.finding.FindingFormat.TheVariants.{Json as JsonFormat}
 use Rattle.font_texts.specs.declared.pair.Pair.{Pair}
 use Rattle.font_texts.specs.declared.pairs_format.PairsFormat.{PairsFormat}
 use Rattle.font_texts.specs.declared.pairs_format.PairsFormat.TheVariants.{Text, Csv, Json}
@@ -45,8 +46,7 @@ action_value unit (Lig code keep_left keep_right pass) = decimal code
 
 -- the value of an action in JSON: a number, but a string for a kern in a unit other than sp
 unfoldable pub json_action_value : LengthUnit → Action → List ℕ
-json_action_value ScaledPoints action = action_value ScaledPoints action
-json_action_value unit (Kern amount) = codes "\"" ++ length_text unit amount ++ codes "\""
+json_action_value unit (Kern amount) = length_in (record { format = JsonFormat; unit = unit }) amount
 json_action_value unit (Lig code keep_left keep_right pass) = decimal code
 
 -- the four fields of a pair with a separator between neighbours

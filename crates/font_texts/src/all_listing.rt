@@ -1,38 +1,40 @@
 //! The full listing of a font: its counts, listing, extensible recipes, and each of its lf words.
-ghost use Rattle.std.specs.Prelude.{◌≡◌, ◌+◌, ◌*◌, ◌<◌, ◌≤◌, ◌++◌, codes, length, map, take, IfOk, IfErr, OnOk};
+ghost use Rattle.std.specs.Prelude.{◌≡◌, ◌+◌, ◌*◌, ◌/◌, ◌<◌, ◌≤◌, ◌++◌, flat_map, length, take, IfOk, IfErr, OnOk};
 ghost use Rattle.std.specs.List.{range_with_len};
 ghost use Rattle.tfm_words.specs.Counts.{AreCountsOf};
 ghost use Rattle.tfm_words.specs.declared.table.Table.TheVariants.{Exten};
 ghost use Rattle.tfm_tables.specs.Font.{FontValue, IsFontOf, IsRefusalOf};
 ghost use Rattle.tfm_tables.specs.Table.{entries_of, table_of};
-ghost use Rattle.font_texts.specs.AllListing.{all_listing_of, piece_words, recipe_row, word_row};
-ghost use Rattle.font_texts.specs.Listing.{listing_row_text, listing_rows_text, spaced};
+ghost use Rattle.font_texts.specs.AllListing.{all_listing_of, hex_text, piece_fields, recipe_line, word_line};
+ghost use Rattle.font_texts.specs.ListingFormats.{word_in};
 
 use crate::appending::push_hex;
 use crate::counts::push_counts;
-use crate::listing;
+use crate::fields::{pick, push_hidden_name, push_number_field};
+use crate::listing::{push_contents, push_end, push_head};
+use crate::rows::{push_line_end, push_line_start, push_table};
+use crate::{FindingFormat, ListLayout};
 use std::alloc::{AllocError, Global};
-use tex_sizes::LengthUnit;
 use tfm_tables::{FontFault, FontMetrics};
-use tfm_words::{Counts, Size, Table, push_number, word_at};
+use tfm_words::{Counts, Size, Table, word_at};
 
-/// Reads a font at `size`, or at its design size for `None`, and returns its full listing: the lines of the
-/// twelve counts, the listing in this unit, a line for each extensible recipe (tftopl.web, section 14), and a
+/// Reads a font at `size`, or at its design size for `None`, and returns its full listing in this layout: the
+/// twelve counts, the contents of the listing, a line for each extensible recipe (tftopl.web, section 14), and a
 /// line for each of the lf words of the file (bytes after these aren't part of the font). The error is that
 /// of `FontMetrics::read`, or `OutOfMemory` if an allocation fails after it.
 pub fn list_all_text(
     alloc: Global,
     bytes: &[u8],
     size: Option<Size>,
-    unit: LengthUnit,
+    layout: ListLayout,
 ) -> Result<Vec<u8>, FontFault>
     ensures text { IfOk result (λ text. (f : FontValue) × IsFontOf bytes.now size f
-        × (text.items ≡ all_listing_of unit f)) }
+        × (text.items ≡ all_listing_of layout f)) }
     ensures fault { IfErr result (IsRefusalOf bytes.now) }
 {
     let (counts, font) = accepted(alloc, bytes, size)?;
     let words = &bytes[..4 * usize::from(counts.lf())];
-    match text_of(alloc, words, &counts, &font, unit) {
+    match text_of(alloc, words, &counts, &font, layout) {
         Ok(text) => Ok(text),
         Err(_) => Err(FontFault::OutOfMemory),
     }
@@ -59,35 +61,28 @@ fn accepted(
 }
 
 /// Returns the full listing of a font. `words` are the bytes of its file, and `counts` are its counts.
-#[tactic(auto, unfolding(crate::specs::AllListing::all_listing_of, crate::specs::AllListing::recipe_rows, crate::specs::AllListing::word_rows))]
+#[tactic(auto, using(crate::proofs::ListingLemmas::joined), unfolding(crate::specs::AllListing::all_listing_of, crate::specs::AllListing::recipe_lines, crate::specs::AllListing::word_lines))]
 fn text_of(
     alloc: Global,
     words: &[u8],
     counts: &Counts,
     font: &FontMetrics,
-    unit: LengthUnit,
+    layout: ListLayout,
 ) -> Result<Vec<u8>, AllocError>
     requires counts { AreCountsOf words.now counts.now }
     requires words { font.now.words ≡ words.now }
-    ensures { IfOk result (λ text. text.items ≡ all_listing_of unit font.now) }
+    ensures { IfOk result (λ text. text.items ≡ all_listing_of layout font.now) }
 {
-    let listing = listing::text_of(alloc, font, unit)?;
     let mut text = Vec::new(alloc);
-    push_counts(&mut text, counts)?;
-    text.extend_from_slice(listing.as_slice())?;
-    push_recipes(&mut text, words, counts)?;
-    push_words(&mut text, words, usize::from(counts.lf()))?;
+    push_head(&mut text, layout)?;
+    push_counts(&mut text, layout.format, counts)?;
+    push_contents(alloc, &mut text, font, layout)?;
+    let recipes = recipe_lines(alloc, layout.format, recipes_of(words, counts))?;
+    push_table(&mut text, layout.format, b"recipes", recipes.as_slice())?;
+    let lines = word_lines(alloc, layout.format, words, usize::from(counts.lf()))?;
+    push_table(&mut text, layout.format, b"words", lines.as_slice())?;
+    push_end(&mut text, layout.format)?;
     Ok(text)
-}
-
-/// Appends a line for each extensible recipe.
-fn push_recipes(text: &mut Vec<u8>, words: &[u8], counts: &Counts) -> Result<(), AllocError>
-    requires { AreCountsOf words.now counts.now }
-    ensures { OnOk result (text.new.items ≡ text.old.items
-        ++ listing_rows_text (map (recipe_row (table_of words.now Exten)) (range_with_len 0 (entries_of words.now Exten)))) }
-{
-    let recipes = recipes_of(words, counts);
-    push_recipe_rows(text, recipes, recipes.len() / 4)
 }
 
 /// Returns the bytes of the table of extensible recipes, four for each.
@@ -102,58 +97,86 @@ fn recipes_of<'a>(words: &'a [u8], counts: &Counts) -> &'a [u8]
     &rest[..4 * count]
 }
 
+/// Returns the lines of the extensible recipes in these bytes.
 #[tactic(auto, using(crate::proofs::ListingLemmas::more))]
-fn push_recipe_rows(text: &mut Vec<u8>, recipes: &[u8], count: usize) -> Result<(), AllocError>
-    requires { 4 * count ≤ length recipes.now }
-    ensures { OnOk result (text.new.items ≡ text.old.items
-        ++ listing_rows_text (map (recipe_row recipes.now) (range_with_len 0 count))) }
+fn recipe_lines(alloc: Global, format: FindingFormat, recipes: &[u8]) -> Result<Vec<u8>, AllocError>
+    ensures { IfOk result (λ lines. lines.items
+        ≡ flat_map (recipe_line format recipes.now) (range_with_len 0 (length recipes.now / 4))) }
 {
-    for i in 0..count {
-        push_recipe(text, recipes, i)?;
+    let mut text = Vec::new(alloc);
+    for i in 0..recipes.len() / 4 {
+        push_recipe(&mut text, format, recipes, i)?;
     }
-    Ok(())
+    Ok(text)
 }
 
-#[tactic(auto, unfolding(crate::specs::Listing::listing_row_text, crate::specs::AllListing::recipe_row))]
-fn push_recipe(text: &mut Vec<u8>, recipes: &[u8], i: usize) -> Result<(), AllocError>
+#[tactic(auto, using(crate::proofs::ListingLemmas::joined), unfolding(crate::specs::ListingFormats::line_of, crate::specs::AllListing::recipe_line))]
+fn push_recipe(
+    text: &mut Vec<u8>,
+    format: FindingFormat,
+    recipes: &[u8],
+    i: usize,
+) -> Result<(), AllocError>
     requires { 4 * i + 4 ≤ length recipes.now }
-    ensures { OnOk result (text.new.items ≡ text.old.items ++ listing_row_text (recipe_row recipes.now i)) }
+    ensures { OnOk result (text.new.items ≡ text.old.items ++ recipe_line format recipes.now i) }
 {
-    push_number(text, b"recipe ", i)?;
-    push_pieces(text, word_at(recipes, i))?;
-    text.extend_from_slice(b"\n")
+    push_line_start(text, format, b"recipe", i)?;
+    push_pieces(text, format, word_at(recipes, i))?;
+    push_line_end(text, format)
 }
 
-#[tactic(auto, using(crate::proofs::ListingLemmas::joined), unfolding(crate::specs::AllListing::piece_words))]
-fn push_pieces(text: &mut Vec<u8>, recipe: [u8; 4]) -> Result<(), AllocError>
-    ensures { OnOk result (text.new.items ≡ text.old.items ++ spaced (piece_words recipe)) }
+#[tactic(auto, using(crate::proofs::ListingLemmas::joined), unfolding(crate::specs::AllListing::piece_fields))]
+fn push_pieces(text: &mut Vec<u8>, format: FindingFormat, recipe: [u8; 4]) -> Result<(), AllocError>
+    ensures { OnOk result (text.new.items ≡ text.old.items ++ piece_fields format recipe) }
 {
-    push_number(text, b" top ", recipe[0])?;
-    push_number(text, b" mid ", recipe[1])?;
-    push_number(text, b" bot ", recipe[2])?;
-    push_number(text, b" rep ", recipe[3])
+    push_number_field(text, format, b"top", recipe[0])?;
+    push_number_field(text, format, b"mid", recipe[1])?;
+    push_number_field(text, format, b"bot", recipe[2])?;
+    push_number_field(text, format, b"rep", recipe[3])
 }
 
-/// Appends a line for each of the first `count` words.
+/// Returns a line for each of the first `count` words.
 #[tactic(auto, using(crate::proofs::ListingLemmas::more))]
-fn push_words(text: &mut Vec<u8>, words: &[u8], count: usize) -> Result<(), AllocError>
+fn word_lines(
+    alloc: Global,
+    format: FindingFormat,
+    words: &[u8],
+    count: usize,
+) -> Result<Vec<u8>, AllocError>
     requires { 4 * count ≤ length words.now }
-    ensures { OnOk result (text.new.items ≡ text.old.items
-        ++ listing_rows_text (map (word_row words.now) (range_with_len 0 count))) }
+    ensures { IfOk result (λ lines. lines.items
+        ≡ flat_map (word_line format words.now) (range_with_len 0 count)) }
 {
+    let mut text = Vec::new(alloc);
     for i in 0..count {
-        push_word(text, words, i)?;
+        push_word_line(&mut text, format, words, i)?;
     }
-    Ok(())
+    Ok(text)
 }
 
-#[tactic(auto, unfolding(crate::specs::Listing::listing_row_text, crate::specs::AllListing::word_row))]
-fn push_word(text: &mut Vec<u8>, words: &[u8], i: usize) -> Result<(), AllocError>
+#[tactic(auto, using(crate::proofs::ListingLemmas::joined), unfolding(crate::specs::ListingFormats::line_of, crate::specs::AllListing::word_line))]
+fn push_word_line(
+    text: &mut Vec<u8>,
+    format: FindingFormat,
+    words: &[u8],
+    i: usize,
+) -> Result<(), AllocError>
     requires { 4 * i + 4 ≤ length words.now }
-    ensures { OnOk result (text.new.items ≡ text.old.items ++ listing_row_text (word_row words.now i)) }
+    ensures { OnOk result (text.new.items ≡ text.old.items ++ word_line format words.now i) }
 {
-    push_number(text, b"word ", i)?;
-    text.extend_from_slice(b" ")?;
-    push_hex(text, &word_at(words, i))?;
-    text.extend_from_slice(b"\n")
+    push_line_start(text, format, b"word", i)?;
+    push_hidden_name(text, format, b"bytes")?;
+    push_digits(text, format, &word_at(words, i))?;
+    push_line_end(text, format)
+}
+
+/// Appends the hexadecimal digits of these bytes.
+#[tactic(auto, using(crate::proofs::ListingLemmas::joined), unfolding(crate::specs::ListingFormats::word_in))]
+fn push_digits(text: &mut Vec<u8>, format: FindingFormat, bytes: &[u8]) -> Result<(), AllocError>
+    ensures { OnOk result (text.new.items ≡ text.old.items ++ word_in format (hex_text bytes.now)) }
+{
+    let quote = pick(format, b"", b"\"");
+    text.extend_from_slice(quote)?;
+    push_hex(text, bytes)?;
+    text.extend_from_slice(quote)
 }

@@ -1,7 +1,9 @@
 ghost use Rattle.std.specs.Prelude.{◌≡◌, ◌++◌, ◌∷◌, [], map, length, None, IfOk, IfErr, OnOk};
-ghost use Rattle.font_texts.specs.CountsText.{IsHeadRefusalOf, count_rows, counts_text_of, head_rows, head_fault_of, count_row_of, count_row_text, count_rows_text};
+ghost use Rattle.font_texts.specs.CountsText.{IsHeadRefusalOf, count_rows, counts_text_of, head_rows, head_fault_of, count_row_of, count_rows_text};
+ghost use Rattle.font_texts.specs.declared.finding.FindingFormat.TheVariants.{Text};
 
-use itoa::Buffer;
+use crate::FindingFormat;
+use crate::rows::push_number_entry;
 use std::alloc::{AllocError, Global};
 use tfm_tables::FontFault;
 use tfm_words::{Counts, Size, design_size};
@@ -27,11 +29,11 @@ pub fn counts_text(alloc: Global, bytes: &[u8]) -> Result<Vec<u8>, FontFault>
 
 /// Returns the text of these counts and this design size.
 fn text_of(alloc: Global, counts: &Counts, design: Size) -> Result<Vec<u8>, AllocError>
-    ensures { IfOk result (λ text. text.items ≡ count_rows_text (head_rows counts.now design)) }
+    ensures { IfOk result (λ text. text.items ≡ count_rows_text Text (head_rows counts.now design)) }
 {
     let mut text = Vec::with_capacity(alloc, TEXT_ROOM)?;
-    push_rows(&mut text, &rows_of(counts))?;
-    push_row(&mut text, "design", design.get())?;
+    push_counts(&mut text, FindingFormat::Text, counts)?;
+    push_number_entry(&mut text, FindingFormat::Text, b"design", design.get())?;
     Ok(text)
 }
 
@@ -56,31 +58,28 @@ fn rows_of(counts: &Counts) -> [(&'static str, u16); 12]
     ]
 }
 
-/// Appends one line for each of the twelve counts.
-pub fn push_counts(text: &mut Vec<u8>, counts: &Counts) -> Result<(), AllocError>
-    ensures { OnOk result (text.new.items ≡ text.old.items ++ count_rows_text (count_rows counts.now)) }
+/// Appends an entry for each of the twelve counts.
+pub fn push_counts(
+    text: &mut Vec<u8>,
+    format: FindingFormat,
+    counts: &Counts,
+) -> Result<(), AllocError>
+    ensures { OnOk result (text.new.items ≡ text.old.items ++ count_rows_text format (count_rows counts.now)) }
 {
-    push_rows(text, &rows_of(counts))
+    push_rows(text, format, &rows_of(counts))
 }
 
-/// Appends one line for each name and its number.
+/// Appends an entry for each name and its number.
 #[tactic(auto, using(crate::proofs::CountsTextLemmas::row_more))]
-fn push_rows(text: &mut Vec<u8>, rows: &[(&str, u16)]) -> Result<(), AllocError>
-    ensures { OnOk result (text.new.items ≡ text.old.items ++ count_rows_text (map count_row_of rows.now)) }
+fn push_rows(
+    text: &mut Vec<u8>,
+    format: FindingFormat,
+    rows: &[(&str, u16)],
+) -> Result<(), AllocError>
+    ensures { OnOk result (text.new.items ≡ text.old.items ++ count_rows_text format (map count_row_of rows.now)) }
 {
     for (name, number) in rows {
-        push_row(text, name, u32::from(*number))?;
+        push_number_entry(text, format, name.as_bytes(), *number)?;
     }
     Ok(())
-}
-
-/// Appends one line: a name, a space and a number in decimal.
-fn push_row(text: &mut Vec<u8>, name: &str, number: u32) -> Result<(), AllocError>
-    ensures { OnOk result (text.new.items ≡ text.old.items ++ count_row_text (name.now, number)) }
-{
-    let mut buffer = Buffer::new();
-    text.extend_from_slice(name.as_bytes())?;
-    text.extend_from_slice(b" ")?;
-    text.extend_from_slice(buffer.format(number).as_bytes())?;
-    text.extend_from_slice(b"\n")
 }

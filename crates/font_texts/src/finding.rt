@@ -1,8 +1,8 @@
-/// A format of the lines of `check`.
+/// A format of the output of `check` and of listings.
 #[derive(Clone, Copy, Debug, PartialEq, Eq, Hash)]
 pub enum FindingFormat {
-    /// The name, a colon, and the finding.
+    /// Lines of text.
     Text,
-    /// A JSON object.
+    /// A JSON object in a line for each font.
     Json,
 }

@@ -3,25 +3,27 @@ ghost use Rattle.tfm_words.specs.declared.table.Table.TheVariants.{Kern, LigKern
 ghost use Rattle.tfm_tables.specs.Font.{FontValue, IsFontOf, IsRefusalOf};
 ghost use Rattle.tfm_tables.specs.Character.{exists};
 ghost use Rattle.tfm_tables.specs.Table.{entries_of};
-ghost use Rattle.font_texts.specs.Listing.{boundary_rows, char_row, char_rows, header_rows, kern_row, kern_rows, listing_of, param_row, param_rows, listing_row_text, listing_rows_text, size_rows, step_row, step_rows};
+ghost use Rattle.font_texts.specs.Listing.{boundary_entries, char_line, char_lines, contents_of, header_entries, kern_lines, listing_end as end_of, listing_head as head_of, listing_of, param_layout as layout_of, param_lines, size_entries, step_lines};
 
+use crate::fields::pick;
 use crate::rows::{
-    push_amount_row, push_char_row, push_flag_where, push_number_or_none, push_number_row,
-    push_number_where, push_step_row, push_text_where,
+    push_char_line, push_flag_where, push_length_entry, push_length_line, push_number_entry,
+    push_number_or_none, push_number_where, push_step_line, push_table, push_text_where,
 };
+use crate::{FindingFormat, ListLayout};
 use std::alloc::{AllocError, Global};
-use tex_sizes::{LengthUnit, push_length};
+use tex_sizes::LengthUnit;
 use tfm_tables::{Font, FontFault, FontMetrics, LeftSide};
 use tfm_words::Size;
 
-/// Returns the listing of a font: its check sum, design size and size; the coding scheme, the family, the
-/// seven-bit flag and the face, if its header contains them; the boundaries; the characters, instructions,
-/// kerns and parameters. Dimensions are in the unit, except the slant, which is a number of units of 2^-20.
-/// Fails if an allocation fails.
-pub fn list_text(alloc: Global, font: &Font, unit: LengthUnit) -> Result<Vec<u8>, AllocError>
-    ensures { IfOk result (λ text. text.items ≡ listing_of unit font.now) }
+/// Returns the listing of a font, as lines of text or as a JSON object in one line: its check sum, design size
+/// and size; the coding scheme, the family, the seven-bit flag and the face, if its header contains them; the
+/// boundaries; the characters, instructions, kerns and parameters. Dimensions are in the unit of the layout,
+/// except the slant, which is a number of units of 2^-20. Fails if an allocation fails.
+pub fn list_text(alloc: Global, font: &Font, layout: ListLayout) -> Result<Vec<u8>, AllocError>
+    ensures { IfOk result (λ text. text.items ≡ listing_of layout font.now) }
 {
-    text_of(alloc, font, unit)
+    text_of(alloc, font, layout)
 }
 
 /// Reads a font at `size`, or at its design size for `None`, and returns its listing, as `list_text` does.
@@ -31,72 +33,119 @@ pub fn list_file_text(
     alloc: Global,
     bytes: &[u8],
     size: Option<Size>,
-    unit: LengthUnit,
+    layout: ListLayout,
 ) -> Result<Vec<u8>, FontFault>
     ensures text { IfOk result (λ text. (f : FontValue) × IsFontOf bytes.now size f
-        × (text.items ≡ listing_of unit f)) }
+        × (text.items ≡ listing_of layout f)) }
     ensures fault { IfErr result (IsRefusalOf bytes.now) }
 {
     let font = FontMetrics::read(alloc, bytes, size)?;
-    match text_of(alloc, &font, unit) {
+    match text_of(alloc, &font, layout) {
         Ok(text) => Ok(text),
         Err(_) => Err(FontFault::OutOfMemory),
     }
 }
 
-/// Returns the listing of a font, with its dimensions in this unit. Fails if an allocation fails.
-#[tactic(auto, unfolding(crate::specs::Listing::listing_of))]
-pub fn text_of(alloc: Global, font: &FontMetrics, unit: LengthUnit) -> Result<Vec<u8>, AllocError>
-    ensures { IfOk result (λ text. text.items ≡ listing_of unit font.now) }
+#[tactic(auto, using(crate::proofs::ListingLemmas::joined), unfolding(crate::specs::Listing::listing_of))]
+fn text_of(alloc: Global, font: &FontMetrics, layout: ListLayout) -> Result<Vec<u8>, AllocError>
+    ensures { IfOk result (λ text. text.items ≡ listing_of layout font.now) }
 {
     let mut text = Vec::new(alloc);
-    push_sizes(&mut text, font, unit)?;
-    push_header_rows(&mut text, font)?;
-    push_boundary_rows(&mut text, font)?;
-    push_chars(&mut text, font, unit)?;
-    push_steps(&mut text, font, unit)?;
-    push_kerns(&mut text, font, unit)?;
-    push_params(&mut text, font, unit)?;
+    push_head(&mut text, layout)?;
+    push_contents(alloc, &mut text, font, layout)?;
+    push_end(&mut text, layout.format)?;
     Ok(text)
 }
 
-#[tactic(auto, using(crate::proofs::ListingLemmas::joined), unfolding(crate::specs::Listing::size_rows, crate::specs::Listing::listing_row_text))]
-fn push_sizes(text: &mut Vec<u8>, font: &FontMetrics, unit: LengthUnit) -> Result<(), AllocError>
-    ensures { OnOk result (text.new.items ≡ text.old.items ++ listing_rows_text (size_rows unit font.now)) }
+/// Appends what a listing begins with.
+#[tactic(auto, unfolding(crate::specs::Listing::listing_head))]
+pub fn push_head(text: &mut Vec<u8>, layout: ListLayout) -> Result<(), AllocError>
+    ensures { OnOk result (text.new.items ≡ text.old.items ++ head_of layout) }
 {
-    push_number_row(text, b"checksum", font.check_sum())?;
-    push_length(text, b"design ", i64::from(font.design().get()), unit)?;
-    push_length(text, b"\nsize ", i64::from(font.size().get()), unit)?;
-    text.extend_from_slice(b"\n")
+    match layout.format {
+        FindingFormat::Text => Ok(()),
+        FindingFormat::Json => {
+            text.extend_from_slice(b"{\"unit\":\"")?;
+            text.extend_from_slice(layout.unit.name().as_bytes())?;
+            text.extend_from_slice(b"\"")
+        }
+    }
 }
 
-#[tactic(auto, unfolding(crate::specs::Listing::header_rows))]
-fn push_header_rows(text: &mut Vec<u8>, font: &FontMetrics) -> Result<(), AllocError>
-    ensures { OnOk result (text.new.items ≡ text.old.items ++ listing_rows_text (header_rows font.now)) }
+/// Appends the end of a listing.
+pub fn push_end(text: &mut Vec<u8>, format: FindingFormat) -> Result<(), AllocError>
+    ensures { OnOk result (text.new.items ≡ text.old.items ++ end_of format) }
 {
-    push_text_where(text, b"coding", font.coding())?;
-    push_text_where(text, b"family", font.family())?;
-    push_flag_where(text, b"sevenbit", font.seven_bit())?;
-    push_number_where(text, b"face", font.face())
+    text.extend_from_slice(pick(format, b"", b"}\n"))
 }
 
-#[tactic(auto, unfolding(crate::specs::Listing::boundary_rows))]
-fn push_boundary_rows(text: &mut Vec<u8>, font: &FontMetrics) -> Result<(), AllocError>
-    ensures { OnOk result (text.new.items ≡ text.old.items ++ listing_rows_text (boundary_rows font.now)) }
+/// Appends the entries and the tables of a font.
+#[tactic(auto, using(crate::proofs::ListingLemmas::joined), unfolding(crate::specs::Listing::contents_of))]
+pub fn push_contents(
+    alloc: Global,
+    text: &mut Vec<u8>,
+    font: &FontMetrics,
+    layout: ListLayout,
+) -> Result<(), AllocError>
+    ensures { OnOk result (text.new.items ≡ text.old.items ++ contents_of layout font.now) }
 {
-    push_number_or_none(text, b"right", font.right_boundary())?;
-    push_number_or_none(text, b"left", font.start(LeftSide::Boundary))
+    push_sizes(text, font, layout)?;
+    push_header(text, font, layout.format)?;
+    push_boundaries(text, font, layout.format)?;
+    let chars = chars(alloc, font, layout)?;
+    push_table(text, layout.format, b"chars", chars.as_slice())?;
+    let steps = steps(alloc, font, layout)?;
+    push_table(text, layout.format, b"steps", steps.as_slice())?;
+    let kerns = kerns(alloc, font, layout)?;
+    push_table(text, layout.format, b"kerns", kerns.as_slice())?;
+    let params = params(alloc, font, layout)?;
+    push_table(text, layout.format, b"params", params.as_slice())
 }
 
-#[tactic(auto, unfolding(crate::specs::Listing::char_row))]
+#[tactic(auto, using(crate::proofs::ListingLemmas::joined), unfolding(crate::specs::Listing::size_entries))]
+fn push_sizes(text: &mut Vec<u8>, font: &FontMetrics, layout: ListLayout) -> Result<(), AllocError>
+    ensures { OnOk result (text.new.items ≡ text.old.items ++ size_entries layout font.now) }
+{
+    push_number_entry(text, layout.format, b"checksum", font.check_sum())?;
+    push_length_entry(text, layout, b"design", i64::from(font.design().get()))?;
+    push_length_entry(text, layout, b"size", i64::from(font.size().get()))
+}
+
+#[tactic(auto, using(crate::proofs::ListingLemmas::joined), unfolding(crate::specs::Listing::header_entries))]
+fn push_header(
+    text: &mut Vec<u8>,
+    font: &FontMetrics,
+    format: FindingFormat,
+) -> Result<(), AllocError>
+    ensures { OnOk result (text.new.items ≡ text.old.items ++ header_entries format font.now) }
+{
+    push_text_where(text, format, b"coding", font.coding())?;
+    push_text_where(text, format, b"family", font.family())?;
+    push_flag_where(text, format, b"sevenbit", font.seven_bit())?;
+    push_number_where(text, format, b"face", font.face())
+}
+
+#[tactic(auto, using(crate::proofs::ListingLemmas::joined), unfolding(crate::specs::Listing::boundary_entries))]
+fn push_boundaries(
+    text: &mut Vec<u8>,
+    font: &FontMetrics,
+    format: FindingFormat,
+) -> Result<(), AllocError>
+    ensures { OnOk result (text.new.items ≡ text.old.items ++ boundary_entries format font.now) }
+{
+    push_number_or_none(text, format, b"right", font.right_boundary())?;
+    push_number_or_none(text, format, b"left", font.start(LeftSide::Boundary))
+}
+
+#[tactic(auto, unfolding(crate::specs::Listing::char_line))]
 fn push_char_where(
     text: &mut Vec<u8>,
     font: &FontMetrics,
     code: u8,
-    unit: LengthUnit,
+    layout: ListLayout,
 ) -> Result<(), AllocError>
     ensures { OnOk result (text.new.items ≡ text.old.items
-        ++ (if exists font.now.words code then listing_row_text (char_row unit font.now code) else [])) }
+        ++ (if exists font.now.words code then char_line layout font.now code else [])) }
 {
     let Some(metrics) = font.metrics(code) else {
         return Ok(());
@@ -104,50 +153,68 @@ fn push_char_where(
     let Some(tag) = font.tag(code) else {
         return Ok(());
     };
-    push_char_row(text, code, metrics, tag, unit)
+    push_char_line(text, layout, code, metrics, tag)
 }
 
-#[tactic(auto, using(crate::proofs::ListingLemmas::more), unfolding(crate::specs::Listing::char_rows))]
-fn push_chars(text: &mut Vec<u8>, font: &FontMetrics, unit: LengthUnit) -> Result<(), AllocError>
-    ensures { OnOk result (text.new.items ≡ text.old.items ++ listing_rows_text (char_rows unit font.now)) }
+/// Returns the lines of the characters.
+#[tactic(auto, using(crate::proofs::ListingLemmas::more), unfolding(crate::specs::Listing::char_lines))]
+fn chars(alloc: Global, font: &FontMetrics, layout: ListLayout) -> Result<Vec<u8>, AllocError>
+    ensures { IfOk result (λ lines. lines.items ≡ char_lines layout font.now) }
 {
+    let mut text = Vec::new(alloc);
     for code in 0..256u16 {
-        push_char_where(text, font, code as u8, unit)?;
+        push_char_where(&mut text, font, code as u8, layout)?;
     }
-    Ok(())
+    Ok(text)
 }
 
-#[tactic(auto, using(crate::proofs::ListingLemmas::more), unfolding(crate::specs::Listing::step_rows, crate::specs::Listing::step_row))]
-fn push_steps(text: &mut Vec<u8>, font: &FontMetrics, unit: LengthUnit) -> Result<(), AllocError>
-    ensures { OnOk result (text.new.items ≡ text.old.items ++ listing_rows_text (step_rows unit font.now)) }
+/// Returns the lines of the instructions.
+#[tactic(auto, using(crate::proofs::ListingLemmas::more), unfolding(crate::specs::Listing::step_lines, crate::specs::Listing::step_line))]
+fn steps(alloc: Global, font: &FontMetrics, layout: ListLayout) -> Result<Vec<u8>, AllocError>
+    ensures { IfOk result (λ lines. lines.items ≡ step_lines layout font.now) }
 {
+    let mut text = Vec::new(alloc);
     for i in 0..font.steps() {
-        push_step_row(text, font, i, font.step(i), unit)?;
+        push_step_line(&mut text, layout, font, i, font.step(i))?;
     }
-    Ok(())
+    Ok(text)
 }
 
-#[tactic(auto, using(crate::proofs::ListingLemmas::more), unfolding(crate::specs::Listing::kern_rows, crate::specs::Listing::kern_row))]
-fn push_kerns(text: &mut Vec<u8>, font: &FontMetrics, unit: LengthUnit) -> Result<(), AllocError>
-    ensures { OnOk result (text.new.items ≡ text.old.items ++ listing_rows_text (kern_rows unit font.now)) }
+/// Returns the lines of the kerns.
+#[tactic(auto, using(crate::proofs::ListingLemmas::more), unfolding(crate::specs::Listing::kern_lines, crate::specs::Listing::kern_line))]
+fn kerns(alloc: Global, font: &FontMetrics, layout: ListLayout) -> Result<Vec<u8>, AllocError>
+    ensures { IfOk result (λ lines. lines.items ≡ kern_lines layout font.now) }
 {
+    let mut text = Vec::new(alloc);
     for k in 0..font.kerns() {
-        push_amount_row(text, b"kern", k, font.kern(k), unit)?;
+        push_length_line(&mut text, layout, b"kern", k, font.kern(k))?;
     }
-    Ok(())
+    Ok(text)
 }
 
-#[tactic(auto, using(crate::proofs::ListingLemmas::more), unfolding(crate::specs::Listing::param_rows, crate::specs::Listing::param_row))]
-fn push_params(text: &mut Vec<u8>, font: &FontMetrics, unit: LengthUnit) -> Result<(), AllocError>
-    ensures { OnOk result (text.new.items ≡ text.old.items ++ listing_rows_text (param_rows unit font.now)) }
+/// Returns the lines of the parameters.
+#[tactic(auto, using(crate::proofs::ListingLemmas::more), unfolding(crate::specs::Listing::param_lines, crate::specs::Listing::param_line))]
+fn params(alloc: Global, font: &FontMetrics, layout: ListLayout) -> Result<Vec<u8>, AllocError>
+    ensures { IfOk result (λ lines. lines.items ≡ param_lines layout font.now) }
 {
+    let mut text = Vec::new(alloc);
     for i in 0..font.params() {
-        let unit = if i == 0 {
+        let layout = param_layout(layout, i + 1);
+        push_length_line(&mut text, layout, b"param", i + 1, font.param(i + 1))?;
+    }
+    Ok(text)
+}
+
+/// Returns the layout of a parameter: the slant, number 1, isn't a dimension.
+fn param_layout(layout: ListLayout, number: usize) -> ListLayout
+    ensures { result ≡ layout_of layout number }
+{
+    ListLayout {
+        unit: if number == 1 {
             LengthUnit::ScaledPoints
         } else {
-            unit
-        };
-        push_amount_row(text, b"param", i + 1, font.param(i + 1), unit)?;
+            layout.unit
+        },
+        ..layout
     }
-    Ok(())
 }

@@ -3,9 +3,10 @@ ghost use Rattle.std.specs.Prelude.{◌≡◌, ◌++◌, codes, flat_map, replic
 ghost use Rattle.font_texts.specs.PairCharacters.{pair_line_with, pairs_head_with, pairs_text_with};
 ghost use Rattle.font_texts.specs.PairsText.{action_name, action_value, json_action_value, json_symbol, line_end as end_of, pair_fields, pair_front, pair_members, slash_if, symbol_word};
 
+use crate::fields::push_length_in;
 use crate::pair_characters::push_characters;
 use crate::pairing::pairs;
-use crate::{Pair, PairsFormat, PairsLayout};
+use crate::{FindingFormat, ListLayout, Pair, PairsFormat, PairsLayout};
 use lig_kern::{Action, Symbol};
 use std::alloc::{AllocError, Global};
 use tex_sizes::{LengthUnit, push_length};
@@ -192,12 +193,12 @@ fn push_value(text: &mut Vec<u8>, action: Action, unit: LengthUnit) -> Result<()
 fn push_json_action(text: &mut Vec<u8>, action: Action, unit: LengthUnit) -> Result<(), AllocError>
     ensures { OnOk result (text.new.items ≡ text.old.items ++ json_action_value unit action) }
 {
-    match (unit, action) {
-        (LengthUnit::ScaledPoints, _) => push_value(text, action, unit),
-        (_, Action::Lig { code, .. }) => push_number(text, b"", code),
-        (_, Action::Kern(amount)) => {
-            push_length(text, b"\"", i64::from(amount), unit)?;
-            text.extend_from_slice(b"\"")
-        }
+    let layout = ListLayout {
+        format: FindingFormat::Json,
+        unit,
+    };
+    match action {
+        Action::Kern(amount) => push_length_in(text, layout, i64::from(amount)),
+        Action::Lig { code, .. } => push_number(text, b"", code),
     }
 }

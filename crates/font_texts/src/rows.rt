@@ -1,176 +1,308 @@
-ghost use Rattle.std.specs.Prelude.{◌≡◌, ◌<◌, ◌≤◌, ◌++◌, [], ◌∷◌, codes, decimal, OnOk};
-ghost use Rattle.std.specs.Option.{option_map, option_map_or};
+//! Appends the entries and the lines of a listing.
+ghost use Rattle.std.specs.Prelude.{◌≡◌, ◌<◌, ◌≤◌, ◌++◌, codes, drop, OnOk, [], option_map};
+ghost use Rattle.std.specs.Option.{option_map_or};
 ghost use Rattle.tfm_words.specs.declared.table.Table.TheVariants.{Kern};
 ghost use Rattle.tfm_tables.specs.Acceptance.{kern_index_of};
 ghost use Rattle.tfm_tables.specs.Table.{entries_of};
-ghost use Rattle.font_texts.specs.Listing.{amount_row, flag_where, number_where, listing_row_of, listing_row_text, listing_rows_text, spaced, text_where};
-ghost use Rattle.font_texts.specs.ListingWords.{action_words, char_words, escaped_text, measure_words, operation_name, step_words, tag_words};
+ghost use Rattle.font_texts.specs.Listing.{flag_where, length_entry, length_line, number_where, text_where};
+ghost use Rattle.font_texts.specs.ListingFields.{action_fields, char_fields, measure_fields, operation_name, step_fields, tag_text, tag_with_remainder};
+ghost use Rattle.font_texts.specs.ListingFormats.{entry, entry_start, hidden_name, in_format, line_end, line_of, line_start, string_in, table_of_lines, word_in};
 
-use crate::appending::push_escaped_text;
+use crate::appending::{push_escaped_text, push_json_text};
+use crate::fields::{
+    pick, push_field_name, push_hidden_name, push_length_field, push_length_in, push_name,
+    push_number_field, push_word,
+};
+use crate::{FindingFormat, ListLayout};
 use itoa::Integer;
 use std::alloc::AllocError;
-use tex_sizes::{LengthUnit, push_length};
 use tfm_tables::{FontMetrics, Metrics, Step, Tag};
 use tfm_words::push_number;
 
-/// Appends one line: a name and a number.
-#[tactic(auto, unfolding(crate::specs::Listing::listing_row_text))]
-pub fn push_number_row<I: Integer>(
+/// Appends what precedes the value of an entry.
+fn push_entry_start(
     text: &mut Vec<u8>,
+    format: FindingFormat,
+    name: &[u8],
+) -> Result<(), AllocError>
+    ensures { OnOk result (text.new.items ≡ text.old.items ++ entry_start format name.now) }
+{
+    push_name(text, format, pick(format, b"", b",\""), name)
+}
+
+/// Appends the end of an entry.
+fn push_entry_end(text: &mut Vec<u8>, format: FindingFormat) -> Result<(), AllocError>
+    ensures { OnOk result (text.new.items ≡ text.old.items ++ in_format format (codes "\n") []) }
+{
+    text.extend_from_slice(pick(format, b"\n", b""))
+}
+
+/// Appends an entry with a number.
+#[tactic(auto, using(crate::proofs::ListingLemmas::joined), unfolding(crate::specs::ListingFormats::entry))]
+pub fn push_number_entry<I: Integer>(
+    text: &mut Vec<u8>,
+    format: FindingFormat,
     name: &[u8],
     number: I,
 ) -> Result<(), AllocError>
-    ensures { OnOk result (text.new.items ≡ text.old.items ++ listing_row_text (listing_row_of name.now (I.text number))) }
+    ensures { OnOk result (text.new.items ≡ text.old.items ++ entry format name.now (I.text number)) }
 {
-    text.extend_from_slice(name)?;
-    push_number(text, b" ", number)?;
-    text.extend_from_slice(b"\n")
+    push_entry_start(text, format, name)?;
+    push_number(text, b"", number)?;
+    push_entry_end(text, format)
 }
 
-/// Appends one line: a name and this field, unescaped.
-#[tactic(auto, unfolding(crate::specs::Listing::listing_row_text))]
-pub fn push_word_row(text: &mut Vec<u8>, name: &[u8], word: &[u8]) -> Result<(), AllocError>
-    ensures { OnOk result (text.new.items ≡ text.old.items ++ listing_row_text (listing_row_of name.now word.now)) }
+/// Appends an entry with a length of so many sp.
+#[tactic(auto, using(crate::proofs::ListingLemmas::joined), unfolding(crate::specs::ListingFormats::entry))]
+pub fn push_length_entry(
+    text: &mut Vec<u8>,
+    layout: ListLayout,
+    name: &[u8],
+    sp: i64,
+) -> Result<(), AllocError>
+    ensures { OnOk result (text.new.items ≡ text.old.items ++ length_entry layout name.now sp) }
 {
-    text.extend_from_slice(name)?;
-    text.extend_from_slice(b" ")?;
-    text.extend_from_slice(word)?;
-    text.extend_from_slice(b"\n")
+    push_entry_start(text, layout.format, name)?;
+    push_length_in(text, layout, sp)?;
+    push_entry_end(text, layout.format)
 }
 
-/// Appends one line: a name and a number, or `none` if there is no number.
+/// Appends an entry with this value.
+#[tactic(auto, using(crate::proofs::ListingLemmas::joined), unfolding(crate::specs::ListingFormats::entry))]
+fn push_entry(
+    text: &mut Vec<u8>,
+    format: FindingFormat,
+    name: &[u8],
+    value: &[u8],
+) -> Result<(), AllocError>
+    ensures { OnOk result (text.new.items ≡ text.old.items ++ entry format name.now value.now) }
+{
+    push_entry_start(text, format, name)?;
+    text.extend_from_slice(value)?;
+    push_entry_end(text, format)
+}
+
+/// Appends an entry with a number, or with `none`, in JSON `null`, if there is no number.
 pub fn push_number_or_none<I: Integer>(
     text: &mut Vec<u8>,
+    format: FindingFormat,
     name: &[u8],
     number: Option<I>,
 ) -> Result<(), AllocError>
     ensures { OnOk result (text.new.items ≡ text.old.items
-        ++ listing_row_text (listing_row_of name.now (option_map_or I.text number (codes "none")))) }
+        ++ entry format name.now (option_map_or I.text number (in_format format (codes "none") (codes "null")))) }
 {
     match number {
-        Some(number) => push_number_row(text, name, number),
-        None => push_word_row(text, name, b"none"),
+        Some(number) => push_number_entry(text, format, name, number),
+        None => push_entry(text, format, name, pick(format, b"none", b"null")),
     }
 }
 
-#[tactic(auto, unfolding(crate::specs::Listing::listing_row_text))]
-fn push_text_row(text: &mut Vec<u8>, name: &[u8], bytes: &[u8]) -> Result<(), AllocError>
-    ensures { OnOk result (text.new.items ≡ text.old.items ++ listing_row_text (listing_row_of name.now (escaped_text bytes.now))) }
+/// Appends a text of the header.
+#[tactic(auto, unfolding(crate::specs::ListingFormats::string_in))]
+fn push_string(text: &mut Vec<u8>, format: FindingFormat, bytes: &[u8]) -> Result<(), AllocError>
+    ensures { OnOk result (text.new.items ≡ text.old.items ++ string_in format bytes.now) }
 {
-    text.extend_from_slice(name)?;
-    text.extend_from_slice(b" ")?;
-    push_escaped_text(text, bytes)?;
-    text.extend_from_slice(b"\n")
+    match format {
+        FindingFormat::Text => push_escaped_text(text, bytes),
+        FindingFormat::Json => {
+            text.extend_from_slice(b"\"")?;
+            push_json_text(text, bytes)?;
+            text.extend_from_slice(b"\"")
+        }
+    }
 }
 
-/// Appends one line with a name and a text, escaped, or nothing if there is no text.
+/// Appends an entry with a text of the header.
+#[tactic(auto, using(crate::proofs::ListingLemmas::joined), unfolding(crate::specs::ListingFormats::entry))]
+fn push_text_entry(
+    text: &mut Vec<u8>,
+    format: FindingFormat,
+    name: &[u8],
+    bytes: &[u8],
+) -> Result<(), AllocError>
+    ensures { OnOk result (text.new.items ≡ text.old.items ++ entry format name.now (string_in format bytes.now)) }
+{
+    push_entry_start(text, format, name)?;
+    push_string(text, format, bytes)?;
+    push_entry_end(text, format)
+}
+
+/// Appends an entry with a text of the header, or nothing if there is no text.
 #[tactic(auto, unfolding(crate::specs::Listing::text_where))]
 pub fn push_text_where(
     text: &mut Vec<u8>,
+    format: FindingFormat,
     name: &[u8],
     bytes: Option<&[u8]>,
 ) -> Result<(), AllocError>
     ensures { OnOk result (text.new.items ≡ text.old.items
-        ++ listing_rows_text (text_where name.now (option_map (λ shown. shown.now) bytes.entry))) }
+        ++ text_where format name.now (option_map (λ shown. shown.now) bytes.entry)) }
 {
     match bytes {
-        Some(bytes) => push_text_row(text, name, bytes),
+        Some(bytes) => push_text_entry(text, format, name, bytes),
         None => Ok(()),
     }
 }
 
-/// Appends one line with a name and `yes` or `no`, or nothing if there is no flag.
+/// Appends an entry with a flag, or nothing if there is no flag.
 #[tactic(auto, unfolding(crate::specs::Listing::flag_where))]
 pub fn push_flag_where(
     text: &mut Vec<u8>,
+    format: FindingFormat,
     name: &[u8],
     flag: Option<bool>,
 ) -> Result<(), AllocError>
-    ensures { OnOk result (text.new.items ≡ text.old.items
-        ++ listing_rows_text (flag_where name.now flag)) }
+    ensures { OnOk result (text.new.items ≡ text.old.items ++ flag_where format name.now flag) }
 {
     match flag {
-        Some(true) => push_word_row(text, name, b"yes"),
-        Some(false) => push_word_row(text, name, b"no"),
+        Some(true) => push_entry(text, format, name, pick(format, b"yes", b"true")),
+        Some(false) => push_entry(text, format, name, pick(format, b"no", b"false")),
         None => Ok(()),
     }
 }
 
-/// Appends one line with a name and a number, or nothing if there is no number.
+/// Appends an entry with a number, or nothing if there is no number.
 #[tactic(auto, unfolding(crate::specs::Listing::number_where))]
 pub fn push_number_where(
     text: &mut Vec<u8>,
+    format: FindingFormat,
     name: &[u8],
     number: Option<u8>,
 ) -> Result<(), AllocError>
-    ensures { OnOk result (text.new.items ≡ text.old.items
-        ++ listing_rows_text (number_where name.now number)) }
+    ensures { OnOk result (text.new.items ≡ text.old.items ++ number_where format name.now number) }
 {
     match number {
-        Some(number) => push_number_row(text, name, number),
+        Some(number) => push_number_entry(text, format, name, number),
         None => Ok(()),
     }
 }
 
-/// Appends one line: a name, an index and an amount of sp in a unit.
-#[tactic(auto, using(crate::proofs::ListingLemmas::signed), unfolding(crate::specs::Listing::listing_row_text))]
-pub fn push_amount_row(
+/// Appends these lines or, in JSON, a member with this name and a list of them.
+#[tactic(auto, using(crate::proofs::ListingLemmas::joined), unfolding(crate::specs::ListingFormats::table_of_lines))]
+pub fn push_table(
     text: &mut Vec<u8>,
+    format: FindingFormat,
     name: &[u8],
-    number: usize,
-    amount: i32,
-    unit: LengthUnit,
+    lines: &[u8],
 ) -> Result<(), AllocError>
-    ensures { OnOk result (text.new.items ≡ text.old.items ++ listing_row_text (amount_row unit name.now number amount)) }
+    ensures { OnOk result (text.new.items ≡ text.old.items ++ table_of_lines format name.now lines.now) }
 {
-    text.extend_from_slice(name)?;
-    push_number(text, b" ", number)?;
-    push_length(text, b" ", i64::from(amount), unit)?;
-    text.extend_from_slice(b"\n")
-}
-
-#[tactic(auto, unfolding(crate::specs::ListingWords::tag_words))]
-fn push_tag(text: &mut Vec<u8>, tag: Tag) -> Result<(), AllocError>
-    ensures { OnOk result (text.new.items ≡ text.old.items ++ spaced (tag_words tag)) }
-{
-    match tag {
-        Tag::Plain => text.extend_from_slice(b" none"),
-        Tag::Lig(remainder) => push_number(text, b" lig ", remainder),
-        Tag::List(remainder) => push_number(text, b" list ", remainder),
-        Tag::Ext(remainder) => push_number(text, b" ext ", remainder),
+    match format {
+        FindingFormat::Text => text.extend_from_slice(lines),
+        FindingFormat::Json => {
+            push_name(text, format, b",\"", name)?;
+            text.extend_from_slice(b"[")?;
+            text.extend_from_slice(after_first(lines))?;
+            text.extend_from_slice(b"]")
+        }
     }
 }
 
-#[tactic(auto, using(crate::proofs::ListingLemmas::signed), unfolding(crate::specs::ListingWords::measure_words))]
-fn push_measures(text: &mut Vec<u8>, metrics: Metrics, unit: LengthUnit) -> Result<(), AllocError>
-    ensures { OnOk result (text.new.items ≡ text.old.items ++ spaced (measure_words unit metrics)) }
+/// Returns the bytes after the first one.
+fn after_first(bytes: &[u8]) -> &[u8]
+    ensures { result.now ≡ drop 1 bytes.now }
 {
-    push_length(text, b" width ", i64::from(metrics.width), unit)?;
-    push_length(text, b" height ", i64::from(metrics.height), unit)?;
-    push_length(text, b" depth ", i64::from(metrics.depth), unit)?;
-    push_length(text, b" italic ", i64::from(metrics.italic), unit)
+    match bytes.split_first() {
+        Some((_, rest)) => rest,
+        None => bytes,
+    }
+}
+
+/// Appends the name and the number of a line.
+#[tactic(auto, using(crate::proofs::ListingLemmas::joined))]
+pub fn push_line_start<I: Integer>(
+    text: &mut Vec<u8>,
+    format: FindingFormat,
+    name: &[u8],
+    number: I,
+) -> Result<(), AllocError>
+    ensures { OnOk result (text.new.items ≡ text.old.items ++ (line_start format name.now ++ I.text number)) }
+{
+    push_name(text, format, pick(format, b"", b",{\""), name)?;
+    push_number(text, b"", number)
+}
+
+/// Appends the end of a line.
+pub fn push_line_end(text: &mut Vec<u8>, format: FindingFormat) -> Result<(), AllocError>
+    ensures { OnOk result (text.new.items ≡ text.old.items ++ line_end format) }
+{
+    text.extend_from_slice(pick(format, b"\n", b"}"))
+}
+
+/// Appends the line of an index and a length of so many sp.
+#[tactic(auto, using(crate::proofs::ListingLemmas::signed), unfolding(crate::specs::ListingFormats::line_of))]
+pub fn push_length_line(
+    text: &mut Vec<u8>,
+    layout: ListLayout,
+    name: &[u8],
+    number: usize,
+    sp: i32,
+) -> Result<(), AllocError>
+    ensures { OnOk result (text.new.items ≡ text.old.items ++ length_line layout name.now number sp) }
+{
+    push_line_start(text, layout.format, name, number)?;
+    push_hidden_name(text, layout.format, b"value")?;
+    push_length_in(text, layout, i64::from(sp))?;
+    push_line_end(text, layout.format)
+}
+
+#[tactic(auto, using(crate::proofs::ListingLemmas::joined))]
+fn push_tag_with(
+    text: &mut Vec<u8>,
+    format: FindingFormat,
+    name: &[u8],
+    remainder: u8,
+) -> Result<(), AllocError>
+    ensures { OnOk result (text.new.items ≡ text.old.items ++ tag_with_remainder format name.now remainder) }
+{
+    push_word(text, format, name)?;
+    push_hidden_name(text, format, b"remainder")?;
+    push_number(text, b"", remainder)
+}
+
+#[tactic(auto, unfolding(crate::specs::ListingFields::tag_text))]
+fn push_tag(text: &mut Vec<u8>, format: FindingFormat, tag: Tag) -> Result<(), AllocError>
+    ensures { OnOk result (text.new.items ≡ text.old.items ++ tag_text format tag) }
+{
+    match tag {
+        Tag::Plain => push_word(text, format, b"none"),
+        Tag::Lig(remainder) => push_tag_with(text, format, b"lig", remainder),
+        Tag::List(remainder) => push_tag_with(text, format, b"list", remainder),
+        Tag::Ext(remainder) => push_tag_with(text, format, b"ext", remainder),
+    }
+}
+
+#[tactic(auto, using(crate::proofs::ListingLemmas::signed), unfolding(crate::specs::ListingFields::measure_fields))]
+fn push_measures(text: &mut Vec<u8>, layout: ListLayout, metrics: Metrics) -> Result<(), AllocError>
+    ensures { OnOk result (text.new.items ≡ text.old.items ++ measure_fields layout metrics) }
+{
+    push_length_field(text, layout, b"width", i64::from(metrics.width))?;
+    push_length_field(text, layout, b"height", i64::from(metrics.height))?;
+    push_length_field(text, layout, b"depth", i64::from(metrics.depth))?;
+    push_length_field(text, layout, b"italic", i64::from(metrics.italic))
 }
 
 /// Appends the line of a character: its code, dimensions and tag.
-#[tactic(auto, unfolding(crate::specs::Listing::listing_row_text, crate::specs::ListingWords::char_words))]
-pub fn push_char_row(
+#[tactic(auto, using(crate::proofs::ListingLemmas::joined), unfolding(crate::specs::ListingFormats::line_of, crate::specs::ListingFields::char_fields))]
+pub fn push_char_line(
     text: &mut Vec<u8>,
+    layout: ListLayout,
     code: u8,
     metrics: Metrics,
     tag: Tag,
-    unit: LengthUnit,
 ) -> Result<(), AllocError>
     ensures { OnOk result (text.new.items ≡ text.old.items
-        ++ listing_row_text (codes "char", char_words unit code metrics tag)) }
+        ++ line_of layout.format (codes "char") code (char_fields layout metrics tag)) }
 {
-    push_number(text, b"char ", code)?;
-    push_measures(text, metrics, unit)?;
-    text.extend_from_slice(b" tag")?;
-    push_tag(text, tag)?;
-    text.extend_from_slice(b"\n")
+    push_line_start(text, layout.format, b"char", code)?;
+    push_measures(text, layout, metrics)?;
+    push_field_name(text, layout.format, b"tag")?;
+    push_tag(text, layout.format, tag)?;
+    push_line_end(text, layout.format)
 }
 
-#[tactic(auto, unfolding(crate::specs::ListingWords::operation_name))]
+#[tactic(auto, unfolding(crate::specs::ListingFields::operation_name))]
 fn name_of(op: u8) -> &'static [u8]
     ensures { result.now ≡ operation_name op }
 {
@@ -186,53 +318,65 @@ fn name_of(op: u8) -> &'static [u8]
     }
 }
 
-fn push_ligature(text: &mut Vec<u8>, op: u8, remainder: u8) -> Result<(), AllocError>
-    ensures { OnOk result (text.new.items ≡ text.old.items ++ spaced (operation_name op ∷ decimal remainder ∷ [])) }
+/// Appends the name of an action, and a number of this name.
+#[tactic(auto, using(crate::proofs::ListingLemmas::joined))]
+fn push_action_with<I: Integer>(
+    text: &mut Vec<u8>,
+    format: FindingFormat,
+    action: &[u8],
+    name: &[u8],
+    number: I,
+) -> Result<(), AllocError>
+    ensures { OnOk result (text.new.items ≡ text.old.items
+        ++ (hidden_name format (codes "action") ++ word_in format action.now ++ hidden_name format name.now ++ I.text number)) }
 {
-    text.extend_from_slice(b" ")?;
-    text.extend_from_slice(name_of(op))?;
-    push_number(text, b" ", remainder)
+    push_hidden_name(text, format, b"action")?;
+    push_word(text, format, action)?;
+    push_hidden_name(text, format, name)?;
+    push_number(text, b"", number)
 }
 
-#[tactic(auto, using(crate::proofs::ListingLemmas::signed), unfolding(crate::specs::ListingWords::action_words))]
+#[tactic(auto, using(crate::proofs::ListingLemmas::signed), unfolding(crate::specs::ListingFields::action_fields))]
 fn push_action(
     text: &mut Vec<u8>,
+    layout: ListLayout,
     font: &FontMetrics,
     step: Step,
-    unit: LengthUnit,
 ) -> Result<(), AllocError>
     requires { step.skip ≤ 128 → 128 ≤ step.op → kern_index_of step < entries_of font.now.words Kern }
-    ensures { OnOk result (text.new.items ≡ text.old.items ++ spaced (action_words unit font.now step)) }
+    ensures { OnOk result (text.new.items ≡ text.old.items ++ action_fields layout font.now step) }
 {
+    let format = layout.format;
     if step.skip > 128 {
-        return push_number(text, b" goto ", step.target());
+        return push_action_with(text, format, b"goto", b"value", step.target());
     }
     match step.kern_index() {
         Some(kern) => {
-            push_number(text, b" KRN ", kern)?;
-            push_length(text, b" ", i64::from(font.kern(kern)), unit)
+            push_action_with(text, format, b"KRN", b"kern", kern)?;
+            push_hidden_name(text, format, b"value")?;
+            push_length_in(text, layout, i64::from(font.kern(kern)))
         }
-        None => push_ligature(text, step.op, step.remainder),
+        None => push_action_with(text, format, name_of(step.op), b"value", step.remainder),
     }
 }
 
 /// Appends the line of the instruction at address `i`: its address, its skip, the code to its right,
 /// and its action.
-#[tactic(auto, unfolding(crate::specs::Listing::listing_row_text, crate::specs::ListingWords::step_words))]
-pub fn push_step_row(
+#[tactic(auto, using(crate::proofs::ListingLemmas::joined), unfolding(crate::specs::ListingFormats::line_of, crate::specs::ListingFields::step_fields))]
+pub fn push_step_line(
     text: &mut Vec<u8>,
+    layout: ListLayout,
     font: &FontMetrics,
     i: usize,
     step: Step,
-    unit: LengthUnit,
 ) -> Result<(), AllocError>
     requires { step.skip ≤ 128 → 128 ≤ step.op → kern_index_of step < entries_of font.now.words Kern }
     ensures { OnOk result (text.new.items ≡ text.old.items
-        ++ listing_row_text (codes "step", step_words unit font.now i step)) }
+        ++ line_of layout.format (codes "step") i (step_fields layout font.now step)) }
 {
-    push_number(text, b"step ", i)?;
-    push_number(text, b" skip ", step.skip)?;
-    push_number(text, b" next ", step.next)?;
-    push_action(text, font, step, unit)?;
-    text.extend_from_slice(b"\n")
+    push_line_start(text, layout.format, b"step", i)?;
+    push_number_field(text, layout.format, b"skip", step.skip)?;
+    push_number_field(text, layout.format, b"next", step.next)?;
+    push_action(text, layout, font, step)?;
+    push_line_end(text, layout.format)
 }

@@ -8,8 +8,8 @@ use Rattle.font_texts.specs.AllListing.{all_listing_of}
 use Rattle.font_texts.specs.CountsText.{counts_text_of, head_fault_of}
 use Rattle.font_texts.specs.Listing.{listing_of}
 use Rattle.font_texts.specs.PairCharacters.{pairs_text_with}
+use Rattle.font_texts.specs.declared.list_layout.ListLayout.{ListLayout}
 use Rattle.font_texts.specs.declared.pairs_layout.PairsLayout.{PairsLayout}
-use Rattle.tex_sizes.specs.declared.length_unit.LengthUnit.{LengthUnit}
 use Rattle.tfm_tables.specs.Font.{FontValue, IsFontOf}
 use Rattle.set_line.specs.Terms.{TermsValue}
 use Rattle.encodings.specs.declared.encoding.Encoding.{Encoding}
@@ -37,10 +37,10 @@ use Rattle.tfm_requests.specs.declared.batches.delivery.Delivery.TheVariants.{At
 
 -- ---- the text of a font
 
--- the listing of a font in a unit, or its full listing if the flag is true
-abbrev pub list_text_of : LengthUnit → Bool → FontValue → List ℕ
-list_text_of unit true font = all_listing_of unit font
-list_text_of unit false font = listing_of unit font
+-- the listing of a font in this layout, or its full listing if the flag is true
+abbrev pub list_text_of : ListLayout → Bool → FontValue → List ℕ
+list_text_of layout true font = all_listing_of layout font
+list_text_of layout false font = listing_of layout font
 
 -- the counts and the design size in these bytes have no error, and this is their text
 abbrev pub IsCountsText : Option (List ℕ) → List ℕ → Type 0
@@ -49,7 +49,7 @@ IsCountsText bytes text = OfKnown bytes (λ all. (head_fault_of all ≡ None) ×
 -- this is the listing of the font in these bytes that is requested
 abbrev pub IsListText : Option (List ℕ) → Listing → List ℕ → Type 0
 IsListText bytes asked text =
-    OfKnown bytes (λ all. (font : FontValue) × IsFontOf all asked.size font × (text ≡ list_text_of asked.unit asked.all font))
+    OfKnown bytes (λ all. (font : FontValue) × IsFontOf all asked.size font × (text ≡ list_text_of asked.layout asked.all font))
 
 -- these are the pairs of the font in these bytes at this size, or at its design size, in the format and the
 -- unit of the layout, with the characters of this encoding

@@ -4,6 +4,7 @@ ghost use Rattle.std.specs.Io.KnownBytes.{Appends};
 ghost use Rattle.encodings.specs.declared.encoding.Encoding.{Encoding as EncodingValue};
 ghost use Rattle.font_texts.specs.CountsText.{counts_text_of, head_fault_of};
 ghost use Rattle.font_texts.specs.Listing.{listing_of};
+ghost use Rattle.font_texts.specs.Laws.{text_in};
 ghost use Rattle.tex_sizes.specs.declared.length_unit.LengthUnit.TheVariants.{ScaledPoints};
 ghost use Rattle.tfm_tables.specs.Font.{FontValue, IsFontOf, IsRefusalOf};
 ghost use Rattle.tfm_tables.specs.declared.fault.FontFault.{FontFault as Fault};
@@ -18,7 +19,7 @@ use crate::files::opening::Opens;
 use crate::files::reading::font_bytes;
 use crate::files::vectors::encoding_of;
 use command_line::{Listing, Pairing};
-use font_texts::PairsLayout;
+use font_texts::{FindingFormat, ListLayout, PairsLayout};
 use run_texts::{ToolFault, write_text};
 use std::alloc::Global;
 use std::io::{Read, Write};
@@ -41,14 +42,18 @@ pub fn counts_text<W: Write>(alloc: Global, bytes: &[u8], out: &mut W) -> Result
     write_text(text.as_slice(), out)
 }
 
-/// Writes the listing of a font in sp, as `font_texts::list_text` returns it. The error is `OutOfMemory` if
-/// an allocation fails, or `Write` if the writer fails.
+/// Writes the listing of a font as text, in sp, as `font_texts::list_text` returns it. The error is
+/// `OutOfMemory` if an allocation fails, or `Write` if the writer fails.
 pub fn list_text<W: Write>(alloc: Global, font: &Font, out: &mut W) -> Result<(), ToolFault>
     ensures text { OnOk result
-        (Appends (W.contents out.old) (W.contents out.new) (listing_of ScaledPoints font.now)) }
+        (Appends (W.contents out.old) (W.contents out.new) (listing_of (text_in ScaledPoints) font.now)) }
     ensures fault { IfErr result (λ fault. (fault ≡ ToolFault.OutOfMemory) ⊎ (fault ≡ ToolFault.Write)) }
 {
-    let text = font_texts::list_text(alloc, font, LengthUnit::ScaledPoints)?;
+    let layout = ListLayout {
+        format: FindingFormat::Text,
+        unit: LengthUnit::ScaledPoints,
+    };
+    let text = font_texts::list_text(alloc, font, layout)?;
     write_text(text.as_slice(), out)
 }
 
@@ -96,13 +101,13 @@ where
 /// Returns the listing of the font in these bytes, or its full listing.
 fn list_bytes(alloc: Global, bytes: &[u8], listed: &Listing<'_>) -> Result<Vec<u8>, FontFault>
     ensures text { IfOk result (λ text. (f : FontValue) × IsFontOf bytes.now listed.now.size f
-        × (text.items ≡ list_text_of listed.now.unit listed.now.all f)) }
+        × (text.items ≡ list_text_of listed.now.layout listed.now.all f)) }
     ensures fault { IfErr result (IsRefusalOf bytes.now) }
 {
     if listed.all {
-        return font_texts::list_all_text(alloc, bytes, listed.size, listed.unit);
+        return font_texts::list_all_text(alloc, bytes, listed.size, listed.layout);
     }
-    font_texts::list_file_text(alloc, bytes, listed.size, listed.unit)
+    font_texts::list_file_text(alloc, bytes, listed.size, listed.layout)
 }
 
 /// Reads the font of this name at this size.

@@ -1,19 +1,27 @@
 //! Listings as whole texts, the texts of counts, and the names of operations.
 use super::faulty::BELOW_ONE;
 use super::samples::{Change, FULL, changed};
-use font_texts::{counts_text, list_all_text, list_file_text, list_text};
+use font_texts::FindingFormat::{Json, Text};
+use font_texts::{ListLayout, counts_text, list_all_text, list_file_text, list_text};
 use std::alloc::Global;
 use std::test::Fail;
 use test_support::fonts::examples::ligature;
 use test_support::fonts::{A, BOUNDARY_EXISTS, HALF, Info, LIGATURE, NO_CHARACTERS, PLAIN, Sample};
 use tex_sizes::LengthUnit::{Points, ScaledPoints};
 use tfm_tables::Font;
+use tfm_words::Size;
 
 /// A header of 18 words, with a coding scheme, a family and a face; the length of a text precedes it.
 const LONG_HEADER: Sample<'static> = Sample {
     texts: b"\x08TEX TEXT\0\0\0\0\0\0\0\0\0\0\0\0\0\0\0\0\0\0\0\0\0\0\0\0\0\0\0\0\0\0\0\
         \x03CMR\0\0\0\0\0\0\0\0\0\0\0\0\0\0\0\0\0\0\0\xEA",
     ..NO_CHARACTERS
+};
+
+/// Text with dimensions in sp.
+const TEXT: ListLayout = ListLayout {
+    format: Text,
+    unit: ScaledPoints,
 };
 
 /// A font, the words of its file that are changed, and its listing.
@@ -37,16 +45,18 @@ static LISTINGS: [Row; 5] = [
         "checksum 0\ndesign 327680\nsize 327680\ncoding TEX TEXT\nfamily CMR\n\
             sevenbit no\nface 234\nright none\nleft none\n",
     ),
-    // the coding scheme is a space, a, a backslash, 127, 233, a tilde and 31; the family is empty
+    // the coding scheme is a space, a, a backslash, 127, 233, a tilde, 31 and a double quote; the family
+    // is empty
     (
         LONG_HEADER,
         &[
-            (8, 0x0720_615C),
+            (8, 0x0820_615C),
             (9, 0x7FE9_7E1F),
+            (10, 0x2200_0000),
             (18, 0),
             (23, 0x8000_0009),
         ],
-        "checksum 0\ndesign 327680\nsize 327680\ncoding  a\\x5c\\x7f\\xe9~\\x1f\n\
+        "checksum 0\ndesign 327680\nsize 327680\ncoding  a\\x5c\\x7f\\xe9~\\x1f\"\n\
             family \nsevenbit yes\nface 9\nright none\nleft none\n",
     ),
     (
@@ -82,7 +92,7 @@ static LISTINGS: [Row; 5] = [
 /// The listing of an accepted font.
 fn listing(alloc: Global, bytes: &[u8]) -> Result<Vec<u8>, Fail> {
     let font = Font::read(alloc, bytes, None)?;
-    Ok(list_text(alloc, &font, ScaledPoints)?)
+    Ok(list_text(alloc, &font, TEXT)?)
 }
 
 #[test]
@@ -91,7 +101,7 @@ fn listings(rt: HostRuntime) -> Result<(), Fail> {
         let file = changed(rt.alloc(), font, changes)?;
         let text = listing(rt.alloc(), &file)?;
         assert!(rt; text.as_slice() == wanted.as_bytes(), "{wanted}");
-        let text = list_file_text(rt.alloc(), &file, None, ScaledPoints)?;
+        let text = list_file_text(rt.alloc(), &file, None, TEXT)?;
         assert!(rt; text.as_slice() == wanted.as_bytes(), "of a file: {wanted}");
     }
     Ok(())
@@ -100,7 +110,15 @@ fn listings(rt: HostRuntime) -> Result<(), Fail> {
 #[test]
 fn a_listing_in_points(rt: HostRuntime) -> Result<(), Fail> {
     let file = changed(rt.alloc(), &FULL, &[(8, 0x0112_0662), (9, 0x0321_0B07)])?;
-    let text = list_file_text(rt.alloc(), &file, None, Points)?;
+    let text = list_file_text(
+        rt.alloc(),
+        &file,
+        None,
+        ListLayout {
+            unit: Points,
+            ..TEXT
+        },
+    )?;
     let wanted = "checksum 0\ndesign 10.0pt\nsize 10.0pt\nright none\nleft none\n\
         char 97 width 5.0pt height 5.0pt depth 0.3125pt italic -0.625pt tag list 98\n\
         char 98 width 7.5pt height 2.5pt depth 7.5pt italic 5.0pt tag ext 7\n\
@@ -160,13 +178,72 @@ static ALL: &str = "lf 17\nlh 2\nbc 65\nec 65\nnw 2\nnh 1\nnd 1\nni 1\nnl 0\nnk 
 fn all_of_a_font_is_listed(rt: HostRuntime) -> Result<(), Fail> {
     let mut bytes = RECIPES.file(rt.alloc())?;
     bytes.extend_from_slice(&[1, 2, 3, 4])?; // after the font
-    let text = list_all_text(rt.alloc(), &bytes, None, ScaledPoints)?;
+    let text = list_all_text(rt.alloc(), &bytes, None, TEXT)?;
     assert!(rt; text.as_slice() == ALL.as_bytes());
     bytes.truncate(67);
-    let fault = list_all_text(rt.alloc(), &bytes, None, ScaledPoints).err();
+    let fault = list_all_text(rt.alloc(), &bytes, None, TEXT).err();
     assert_eq!(rt; fault, truncated!(68));
-    let fault = list_file_text(rt.alloc(), &bytes, None, ScaledPoints).err();
+    let fault = list_file_text(rt.alloc(), &bytes, None, TEXT).err();
     assert_eq!(rt; fault, truncated!(68));
+    Ok(())
+}
+
+/// The listing of `FULL` with other tags, in JSON.
+static JSON: &str = "{\"unit\":\"sp\",\"checksum\":0,\"design\":655360,\"size\":655360,\
+    \"right\":null,\"left\":null,\"chars\":[\
+    {\"char\":97,\"width\":327680,\"height\":327680,\"depth\":20480,\"italic\":-40960,\"tag\":\"list\",\"remainder\":98},\
+    {\"char\":98,\"width\":491520,\"height\":163840,\"depth\":491520,\"italic\":327680,\"tag\":\"ext\",\"remainder\":7},\
+    {\"char\":99,\"width\":491520,\"height\":0,\"depth\":0,\"italic\":0,\"tag\":\"lig\",\"remainder\":2}],\
+    \"steps\":[{\"step\":0,\"skip\":0,\"next\":98,\"action\":\"LIG\",\"value\":99},\
+    {\"step\":1,\"skip\":128,\"next\":99,\"action\":\"KRN\",\"kern\":0,\"value\":-40960},\
+    {\"step\":2,\"skip\":128,\"next\":98,\"action\":\"KRN\",\"kern\":1,\"value\":20480}],\
+    \"kerns\":[{\"kern\":0,\"value\":-40960},{\"kern\":1,\"value\":20480}],\
+    \"params\":[{\"param\":1,\"value\":1},{\"param\":2,\"value\":327680},\
+    {\"param\":3,\"value\":-40960},{\"param\":4,\"value\":0}]}\n";
+
+/// The full listing of a font with a recipe, in JSON and in points.
+static ALL_JSON: &str =
+    "{\"unit\":\"pt\",\"lf\":17,\"lh\":2,\"bc\":65,\"ec\":65,\"nw\":2,\"nh\":1,\"nd\":1,\
+    \"ni\":1,\"nl\":0,\"nk\":0,\"ne\":2,\"np\":1,\"checksum\":1145417487,\"design\":\"10.0pt\",\
+    \"size\":\"1.5pt\",\"right\":null,\"left\":null,\"chars\":[{\"char\":65,\"width\":\"0.75pt\",\
+    \"height\":\"0.0pt\",\"depth\":\"0.0pt\",\"italic\":\"0.0pt\",\"tag\":\"ext\",\"remainder\":1}],\
+    \"steps\":[],\"kerns\":[],\"params\":[{\"param\":1,\"value\":1048576}],\
+    \"recipes\":[{\"recipe\":0,\"top\":0,\"mid\":0,\"bot\":0,\"rep\":65},\
+    {\"recipe\":1,\"top\":48,\"mid\":60,\"bot\":58,\"rep\":255}],\
+    \"words\":[{\"word\":0,\"bytes\":\"00110002\"},{\"word\":1,\"bytes\":\"00410041\"},";
+
+/// A listing of the header in JSON: the texts have a double quote, a backslash and other bytes.
+static HEADER_JSON: &str =
+    "\"coding\":\" a\\\\x5c\\\\x7f\\\\xe9~\\\\x1f\\\"\",\"family\":\"\",\"sevenbit\":true,\"face\":9,\"right\":";
+
+#[test]
+fn listings_in_json(rt: HostRuntime) -> Result<(), Fail> {
+    let layout = ListLayout {
+        format: Json,
+        ..TEXT
+    };
+    let file = changed(rt.alloc(), &FULL, &[(8, 0x0112_0662), (9, 0x0321_0B07)])?;
+    let text = list_file_text(rt.alloc(), &file, None, layout)?;
+    assert!(rt;
+        text.as_slice() == JSON.as_bytes(),
+        "{:?}",
+        String::from_utf8(text)
+    );
+    let (_, texts, _) = LISTINGS[2];
+    let file = changed(rt.alloc(), &LONG_HEADER, texts)?;
+    let text = String::from_utf8(list_file_text(rt.alloc(), &file, None, layout)?)?;
+    assert!(rt; text.contains(HEADER_JSON), "{text}");
+    let points = ListLayout {
+        unit: Points,
+        ..layout
+    };
+    let file = RECIPES.file(rt.alloc())?;
+    let text = String::from_utf8(list_all_text(rt.alloc(), &file, Size::new(98_304), points)?)?;
+    assert!(rt; text.starts_with(ALL_JSON), "{text}");
+    assert!(rt;
+        text.ends_with("{\"word\":16,\"bytes\":\"00100000\"}]}\n"),
+        "{text}"
+    );
     Ok(())
 }
 

@@ -4,7 +4,7 @@ use Rattle.command_line.proofs.commands.check_command.Goals as goal
 
 pub returns : goal.returns
 returns c =
-    let format = c.finding_format_option.ensures in
+    let format = c.json_format_option.ensures in
     let with_size = c.in_ok-command.ensures _ _ c.subcommand-command.ensures c.hidden_size_option.ensures in
     let with_strict = c.in_ok-command-2.ensures _ _ with_size c.flag_option.ensures in
     let with_quiet = c.in_ok-command-3.ensures _ _ with_strict c.flag_option-2.ensures in

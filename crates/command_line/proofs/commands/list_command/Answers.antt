@@ -7,9 +7,11 @@ returns c =
     let with_size = c.in_ok-command.ensures _ _ c.subcommand-command.ensures c.size_option.ensures in
     let unit = c.unit_option.ensures in
     let with_unit = c.in_ok-command-2.ensures _ _ with_size unit.2 in
-    let with_all = c.in_ok-command-3.ensures _ _ with_unit c.flag_option.ensures in
-    let with_verbose = c.in_ok-command-4.ensures _ _ with_all c.verbose_option.ensures in
-    IfOk-weaker c.with_argument-5.result _ _ (λ made more. (
-      record { units = unit.0; units_taken = unit.1 },
+    let format = c.json_format_option.ensures in
+    let with_format = c.in_ok-command-3.ensures _ _ with_unit format.2 in
+    let with_all = c.in_ok-command-4.ensures _ _ with_format c.flag_option.ensures in
+    let with_verbose = c.in_ok-command-5.ensures _ _ with_all c.verbose_option.ensures in
+    IfOk-weaker c.with_argument-6.result _ _ (λ made more. (
+      record { units = unit.0; formats = format.0; units_taken = unit.1; formats_taken = format.1 },
       as_subcommand _ made (more _ _ with_verbose c.font_argument.ensures),
-    )) c.with_argument-5.ensures
+    )) c.with_argument-6.ensures

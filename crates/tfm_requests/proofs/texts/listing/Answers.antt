@@ -12,8 +12,8 @@ pub returns-clause-text : goal.returns-clause-text
 returns-clause-text g c =
     let listed = c.args.listed.now in
     of_font (font_bytes_of (g.F.Opens.known c.args.files.now) (g.I.Read.remaining c.args.input.now) listed.font.now) c.in_ok-bytes.bytes.items listed.size
-    (λ font. c.in_ok-text.text.items ≡ list_text_of listed.unit listed.all font) c.in_ok-bytes.ensures.bytes
-    (subst (λ b. (f : FontValue) × IsFontOf b listed.size f × (c.in_ok-text.text.items ≡ list_text_of listed.unit listed.all f)) c.as_slice.ensures.value c.in_ok-text.ensures.text)
+    (λ font. c.in_ok-text.text.items ≡ list_text_of listed.layout listed.all font) c.in_ok-bytes.ensures.bytes
+    (subst (λ b. (f : FontValue) × IsFontOf b listed.size f × (c.in_ok-text.text.items ≡ list_text_of listed.layout listed.all f)) c.as_slice.ensures.value c.in_ok-text.ensures.text)
 
 pub returns-in_err-bytes-clause-cause : goal.returns-in_err-bytes-clause-cause
 returns-in_err-bytes-clause-cause g c = handed_on c.from_residual.result _ _ c.from_residual.ensures.1 (unread_font _ c.in_err-bytes.field-0.0)

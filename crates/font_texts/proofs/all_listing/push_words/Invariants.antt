@@ -1,9 +1,0 @@
--- the text consists of the text before the loop and the lines of the words so far
-use Rattle.std.proofs.Common.{◌≡◌, ◌++◌, map}
-use Rattle.std.specs.List.{range_with_len}
-use Rattle.font_texts.specs.AllListing.{word_row}
-use Rattle.font_texts.specs.Listing.{listing_rows_text}
-use Rattle.font_texts.proofs.all_listing.push_words.Given as goal
-
-abbrev pub invariant-loop-i : goal.invariant-loop-i
-invariant-loop-i l = l.text.items ≡ l.initial.text.items ++ listing_rows_text (map (word_row l.words) (range_with_len 0 l.i))
