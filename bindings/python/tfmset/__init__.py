@@ -546,7 +546,7 @@ def _span(span: Span) -> _Span:
 class _Characters:
     """The codes of a text, and the characters that they come from."""
 
-    def __init__(self, text: str, encoding: str, skips: bool) -> None:
+    def __init__(self, text: str, encoding: _Stated, skips: bool) -> None:
         self.codes, offsets = _encoded(text, encoding, skips, True)
         starts = (at for at, byte in enumerate(str.encode(text, "utf-8")) if byte & 0xC0 != 0x80)
         numbers = {offset: number for number, offset in enumerate(starts)}
@@ -944,11 +944,11 @@ class Font:
 
     @overload
     def spans(self, text: str, spans: Sequence[Span], limit: int = 1_048_576, *,
-              call_limit: Optional[int] = None, encoding: str,
+              call_limit: Optional[int] = None, encoding: Encoding,
               missing: str = "refuse") -> List[Union[int, Refusal]]: ...
 
     def spans(self, text: Union[Text, str], spans: Sequence[Span], limit: int = 1_048_576, *,
-              call_limit: Optional[int] = None, encoding: Optional[str] = None,
+              call_limit: Optional[int] = None, encoding: Optional[Encoding] = None,
               missing: str = "refuse") -> List[Union[int, Refusal]]:
         """Sets spans of a text and returns the width of each span in sp, or a Refusal.
 
@@ -980,11 +980,11 @@ class Font:
 
     @overload
     def span_items(self, text: str, spans: Sequence[Span], limit: int = 1_048_576, *,
-                   call_limit: Optional[int] = None, encoding: str,
+                   call_limit: Optional[int] = None, encoding: Encoding,
                    missing: str = "refuse") -> List[Union[SpanItems, Refusal]]: ...
 
     def span_items(self, text: Union[Text, str], spans: Sequence[Span], limit: int = 1_048_576, *,
-                   call_limit: Optional[int] = None, encoding: Optional[str] = None,
+                   call_limit: Optional[int] = None, encoding: Optional[Encoding] = None,
                    missing: str = "refuse") -> List[Union[SpanItems, Refusal]]:
         """Sets spans of a text as `spans` does, and returns the items of each span, each with the bytes, or
         with `encoding` the characters, that it comes from.
@@ -1000,14 +1000,14 @@ class Font:
                 for line in lines]
 
     def _placed(self, text: Union[Text, str], spans: Sequence[Span], limit: int, call_limit: Optional[int],
-                encoding: Optional[str], missing: str, with_items: bool) -> Tuple[Any, Any]:
+                encoding: Optional[Encoding], missing: str, with_items: bool) -> Tuple[Any, Any]:
         """Returns the results of spans, and with `with_items` their items."""
         options, wanted = self._options(limit, "refuse", False, call_limit), list(map(_span, spans))
         if _skips(missing) and encoding is None:
             raise ValueError("missing is 'skip', but only an uncoded character of a str can be skipped")
         if encoding is None:
             return self._set_spans(_bytes("text", text), wanted, options, with_items)
-        characters = _Characters(_string(text), encoding, _skips(missing))
+        characters = _Characters(_string(text), _stated(encoding), _skips(missing))
         coded = list(map(characters.coded, wanted))
         lines, items = self._set_spans(characters.codes, coded, options, with_items)
         for line, span, codes in zip(lines, wanted, coded):

@@ -17,7 +17,7 @@ pub(crate) fn push_characters(
     layout: PairsLayout,
 ) -> Result<(), AllocError>
     ensures { OnOk result (text.new.items ≡ text.old.items
-        ++ characters_beside layout.entry.encoding layout.entry.format pair.now) }
+        ++ characters_beside layout.encoding layout.format pair.now) }
 {
     let Some(encoding) = layout.encoding else {
         return Ok(());

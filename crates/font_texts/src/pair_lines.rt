@@ -25,7 +25,7 @@ const CHARACTERS_HEAD: &[u8] =
 /// the pairs. Fails if an allocation fails.
 #[tactic(auto, unfolding(crate::specs::PairCharacters::pairs_text_with))]
 pub fn pairs_text(alloc: Global, font: &Font, layout: PairsLayout) -> Result<Vec<u8>, AllocError>
-    ensures { IfOk result (λ text. text.items ≡ pairs_text_with layout.entry.unit layout.entry.encoding layout.entry.format font.now) }
+    ensures { IfOk result (λ text. text.items ≡ pairs_text_with layout.unit layout.encoding layout.format font.now) }
 {
     let pairs = pairs(alloc, font)?;
     let mut text = Vec::from_slice(alloc, head(layout))?;
@@ -35,7 +35,7 @@ pub fn pairs_text(alloc: Global, font: &Font, layout: PairsLayout) -> Result<Vec
 
 #[tactic(auto, using(crate::proofs::PairLemmas::heads), unfolding(crate::specs::PairCharacters::pairs_head_with, crate::specs::PairsText::pairs_head))]
 fn head(layout: PairsLayout) -> &'static [u8]
-    ensures { result.now ≡ pairs_head_with layout.entry.encoding layout.entry.format }
+    ensures { result.now ≡ pairs_head_with layout.encoding layout.format }
 {
     match layout.format {
         PairsFormat::Csv => match layout.encoding {
@@ -48,7 +48,7 @@ fn head(layout: PairsLayout) -> &'static [u8]
 
 fn push_lines(text: &mut Vec<u8>, pairs: &[Pair], layout: PairsLayout) -> Result<(), AllocError>
     ensures { OnOk result (text.new.items ≡ text.old.items
-        ++ flat_map (pair_line_with layout.entry.unit layout.entry.encoding layout.entry.format) pairs.now) }
+        ++ flat_map (pair_line_with layout.unit layout.encoding layout.format) pairs.now) }
 {
     for pair in pairs {
         push_line(text, pair, layout)?;
@@ -59,7 +59,7 @@ fn push_lines(text: &mut Vec<u8>, pairs: &[Pair], layout: PairsLayout) -> Result
 #[tactic(auto, using(crate::proofs::ListingLemmas::joined), unfolding(crate::specs::PairCharacters::pair_line_with))]
 fn push_line(text: &mut Vec<u8>, pair: &Pair, layout: PairsLayout) -> Result<(), AllocError>
     ensures { OnOk result (text.new.items ≡ text.old.items
-        ++ pair_line_with layout.entry.unit layout.entry.encoding layout.entry.format pair.now) }
+        ++ pair_line_with layout.unit layout.encoding layout.format pair.now) }
 {
     push_front(text, pair, layout)?;
     push_characters(text, pair, layout)?;
@@ -79,7 +79,7 @@ fn line_end(format: PairsFormat) -> &'static [u8]
 /// Appends the line of a pair up to the end of its four fields.
 #[tactic(auto, unfolding(crate::specs::PairsText::pair_front))]
 fn push_front(text: &mut Vec<u8>, pair: &Pair, layout: PairsLayout) -> Result<(), AllocError>
-    ensures { OnOk result (text.new.items ≡ text.old.items ++ pair_front layout.entry.unit layout.entry.format pair.now) }
+    ensures { OnOk result (text.new.items ≡ text.old.items ++ pair_front layout.unit layout.format pair.now) }
 {
     match layout.format {
         PairsFormat::Text => push_fields(text, pair, b" ", layout.unit),
