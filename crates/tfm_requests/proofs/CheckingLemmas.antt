@@ -32,7 +32,7 @@ appends_more (Some xs) (Some ys) None a b first next = elim next [ ]
 appends_more (Some xs) (Some ys) (Some zs) a b first next = next ∙ (ap (λ l. l ++ b) first ∙ append_assoc xs a b)
 
 -- a text that was written stays
-kept_text : (w w' w'' : Option (List ℕ)) (text : List ℕ) → Appends w w' text → Keeps w' w'' → Appends w w'' text
+pub kept_text : (w w' w'' : Option (List ℕ)) (text : List ℕ) → Appends w w' text → Keeps w' w'' → Appends w w'' text
 kept_text None w' w'' text is kept = tt
 kept_text (Some xs) None w'' text is kept = elim is [ ]
 kept_text (Some xs) (Some ys) None text is kept = elim kept [ ]

@@ -6,6 +6,7 @@ pub mod CauseLemmas
 pub mod VectorLemmas
 pub mod EachLemmas
 pub mod WordLemmas
+pub mod JobLemmas
 pub mod NameLemmas
 pub mod CheckingLemmas
 pub mod SourceLemmas

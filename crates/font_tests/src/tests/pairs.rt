@@ -17,7 +17,7 @@ use tfm_tables::{Font, Step};
 fn has_text<R: Abort + AllocGlobal>(
     rt: &R,
     file: &[u8],
-    (encoding, format): (Option<Encoding>, PairsFormat),
+    (encoding, format): (Option<Encoding<'static>>, PairsFormat),
     wanted: &str,
 ) -> Result<(), Fail> {
     let layout = PairsLayout {
@@ -35,7 +35,11 @@ fn has_text<R: Abort + AllocGlobal>(
 }
 
 /// Fonts, layouts, and texts.
-const PAIRS: [(Sample<'static>, (Option<Encoding>, PairsFormat), &str); 4] = [
+const PAIRS: [(
+    Sample<'static>,
+    (Option<Encoding<'static>>, PairsFormat),
+    &str,
+); 4] = [
     (
         LEFT_BOUNDARY,
         (Some(T1), Json),
@@ -64,7 +68,7 @@ fn pairs(rt: HostRuntime) -> Result<(), Fail> {
 
 /// The texts of a font with all codes, in which A has a kern before a line feed, a space and a soft hyphen, and
 /// a ligature before a double quote, a comma, a backslash, a delete, a no-break space, and the codes of é and ÿ.
-const OF_ALL_CODES: [((Option<Encoding>, PairsFormat), &str); 3] = [
+const OF_ALL_CODES: [((Option<Encoding<'static>>, PairsFormat), &str); 3] = [
     (
         (Some(Latin1), Text),
         "65 10 kern -40960 A U+000A\n65 32 kern -40960 A U+0020\n\

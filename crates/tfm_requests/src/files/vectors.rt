@@ -1,5 +1,5 @@
 //! The encoding of a request, which an encoding vector may define.
-ghost use Rattle.std.specs.Prelude.{IfErr, IfOk};
+ghost use Rattle.std.specs.Prelude.{◌≡◌, IfErr, IfOk};
 ghost use Rattle.tfm_requests.specs.Known.{OfKnown};
 ghost use Rattle.tfm_requests.specs.Vectors.{IsEncodingError, IsEncodingOf, IsErrorOfText, IsVectorIn};
 
@@ -8,7 +8,7 @@ use crate::files::opening::Opens;
 use crate::files::reading::font_file;
 use encoding_vectors::read_vector;
 use encodings::{Encoding, Vector};
-use std::alloc::Global;
+use std::alloc::{AllocError, Global};
 
 /// Returns the encoding of a request: that of the vector in the file that the arguments name, which is read to
 /// its end, or `stated` if they name none.
@@ -42,15 +42,21 @@ fn read_encoding<F: Opens>(
     vector_encoding(alloc, text.as_slice())
 }
 
-/// Returns the encoding of the vector in this text. Its memory, 2.9 KB, is never freed, so that all threads can
-/// use it.
+/// Keeps a vector for all threads. Its memory, 2.9 KB, is never freed.
+fn keep_vector(alloc: Global, vector: Vector) -> Result<&'static Vector, AllocError>
+    ensures { IfOk result (λ kept. kept.now ≡ vector) }
+{
+    Ok(Box::leak(Box::new(alloc, vector)?))
+}
+
+/// Returns the encoding of the vector in this text.
 fn vector_encoding(alloc: Global, text: &[u8]) -> Result<Encoding<'static>, EncodingError>
     ensures encoding { IfOk result (IsVectorIn text.now) }
     ensures cause { IfErr result (IsErrorOfText text.now) }
 {
     match read_vector(text) {
-        Ok(characters) => match Box::new(alloc, Vector::of_characters(&characters)) {
-            Ok(vector) => Ok(Encoding::Vector(Box::leak(vector))),
+        Ok(characters) => match keep_vector(alloc, Vector::of_characters(&characters)) {
+            Ok(vector) => Ok(Encoding::Vector(vector)),
             Err(_) => Err(EncodingError::OutOfMemory),
         },
         Err(fault) => Err(EncodingError::Refused(fault.line)),
