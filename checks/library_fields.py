@@ -331,7 +331,7 @@ class Fields(LinesCase):
     def taken(self, title, given, name):
         """The types of the values that a function takes for an argument."""
         own, words = self.tfmset, {"encoding": "t1", "missing": "skip", "size": "9pt"}
-        content = ARGUMENTS["data"] if name == "data" else b"ox"
+        content = {"data": ARGUMENTS["data"], "encoding": b"/E [" + b" /x" * 256 + b" ] def"}.get(name, b"ox")
         font = own.Font(ARGUMENTS["data"])
         lines = font.set(b"ox\nox")
         call = {"encode": own.encode, "Font": own.Font, "Lines": lambda index: lines[index],

@@ -97,7 +97,7 @@ for call in (lambda: font.spans(text, [], encoding="ot1"), lambda: font.spans(b"
 """, "[(14, 2, 1), (99, 3, 1), (101, 4, 1)] [(14, 2, 1)] [(111, 8, 1), (14, 9, 3)] ('missing', 12, 32) ('missing', 1, 92) "
      "('missing', 10, 81) ('missing', 14, 32) [] ('outside', 0, 0) [1468004, 766769] [1468004, 766769]\n"
      "no code in ot1 for U+20AC at index 6\nmissing is 'skip', but only an uncoded character of a str can be skipped\n"
-     "text must be a str, since an encoding is given\nencoding is 'no', but must be one of 'ot1', 't1', 'ly1', 'latin1'\n"),
+     "text must be a str, since an encoding is given\nencoding is 'no', but must be one of 'ot1', 't1', 'ly1', 'latin1', or the bytes of an encoding vector (a file .enc)\n"),
     ("The lines of a str end at line feeds only, whatever characters they have", """
 for name in tfmset.ENCODINGS:
     lines, wanted = [], []
