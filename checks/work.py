@@ -75,7 +75,7 @@ COUNTERS = [
     ("an instruction of a font, check", ["check", "@"], SIZES, 25555, 75),
     ("an instruction of a font, set", ["set", "@", "nothing"], SIZES, 25555, 91),
     # Each instruction, and each pair, becomes a line once.
-    ("an instruction of a font, list", ["list", "--all", "@"], SIZES, 25555, 720),
+    ("an instruction of a font, list", ["list", "--all", "@"], SIZES, 25555, 1666),
     ("a pair, with characters", ["pairs", "--encoding", "t1", "@"], ("2,560 pairs", "65,536 pairs"), 62976, 700),
 ]
 
