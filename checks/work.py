@@ -154,10 +154,10 @@ class Library(LibraryCase):
 
     # A call reads its font; one that sets lines first makes the table of pairs. A byte of a long text
     # is set with a table of sums or of texts, and its record is copied; a third of the calls makes it in JSON. A byte
-    # that is encoded is compared with its code, and copied.
+    # that is encoded is compared with its code, and copied. A sixth of the calls with an encoding reads a vector.
     @rows((function, function, *usual) for function, *usual in (
-        ("characters", 2, 29500, 0), ("set", 2, 96400, 0), ("widths", 2, 96300, 30), ("records", 30, 118000, 101),
-        ("encode", 10, 970, 7)))
+        ("characters", 2, 29500, 0), ("set", 2, 96400, 0), ("widths", 2, 96300, 30), ("records", 36, 176000, 101),
+        ("encode", 12, 60500, 7)))
     def test_instructions(self, function, calls, usual, usual_byte):
         """A call for a short text, and a byte more, take at most twice the usual number of instructions."""
         self.need("valgrind")
