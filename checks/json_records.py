@@ -328,6 +328,8 @@ class Listings(Case):
         for first in range(0, 256, 32):
             data = bytearray(sample(name))
             lf, lh = (int.from_bytes(data[at:at + 2], "big") for at in (0, 2))
+            if lf + 18 - lh > 32767:
+                return
             texts = bytes([32, *range(first, first + 32)]).ljust(40, b"\0") + bytes([3, 34, 92, first]).ljust(20, b"\0")
             data[:4] = (lf + 18 - lh).to_bytes(2, "big") + (18).to_bytes(2, "big")
             data[24:24 + 4 * lh] = data[24:32] + texts + bytes([first // 32 * 4, 0, 0, first])
