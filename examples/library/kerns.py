@@ -3,9 +3,9 @@
 
 usage: kerns.py FONT
 
-Each row begins with a left character, and lists the right characters before which the font has a kern. A
-character is printed as itself, or by its code if it isn't a visible ASCII character; `|` is a boundary. The
-script needs the module tfmset (docs/LIBRARY.md).
+Each row begins with a left character, and lists each right character with a kern between the two. A character
+that isn't visible ASCII is printed by its code, and a boundary as `|`. The script needs the module tfmset
+(docs/LIBRARY.md).
 """
 import itertools
 import sys

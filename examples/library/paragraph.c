@@ -1,13 +1,12 @@
-/* Breaks a paragraph into lines of at most a given width. Each line takes as many words as fit, and then
- * perhaps the first part of a word, which may be broken, with a hyphen, where the text has \-, as in TeX.
+/* Breaks a paragraph into lines of at most a given width. Each line takes as many words as fit. A word may be
+ * broken with a hyphen where the text has \-, as in TeX. Its first part is then the last one of the line.
  *
  * usage: paragraph FONT POINTS [ENCODING] < TEXT   TEXT is read until its words fill 65,536 bytes
  *
  * ENCODING is the encoding of the font, for a text in UTF-8. Without it, the bytes of the text are codes.
  *
- * One call returns the widths of all words and of their parts, which are spans of the text. No ligature or
- * kern crosses a space. The width of a line is therefore exactly the sum of the widths of its words and of
- * the spaces between them. */
+ * One call returns the widths of all words and of their parts, which are spans of the text. The width of a
+ * line is the sum of the widths of its words and spaces, since no ligature or kern crosses a space. */
 #include <stdio.h>
 #include <stdlib.h>
 #include <string.h>
@@ -16,13 +15,15 @@
 enum { LONGEST = 65536, LARGEST_FONT = 131068, MOST_PARAMETERS = 32767, MOST_BREAKS = 64 };
 
 static uint8_t font[LARGEST_FONT], text[LONGEST];
-/* Each word, and after it two spans for each break: the part before it with a hyphen, the part after it. */
+/* A span for each word. It is followed by two spans for each break of the word: the part before the break, with
+ * a hyphen, and the part after it. */
 static struct tfmset_span spans[2 * LONGEST];
 static struct tfmset_line widths[2 * LONGEST];
 static size_t count;
-/* The codes of the text, the offset of the character of each code, and the same spans as spans of codes. */
+/* The codes of the text, and for each code the offset of its character in the text. */
 static uint8_t codes[LONGEST];
 static size_t offsets[LONGEST];
+/* The spans of the codes that belong to `spans`. */
 static struct tfmset_span coded[2 * LONGEST];
 /* Parameters that the font doesn't have stay 0. */
 static int32_t parameters[MOST_PARAMETERS];
@@ -96,8 +97,8 @@ static void print_span(const char *gap, size_t i)
         putchar('-');
 }
 
-/* Prints the lines, each followed by its width in points. A part that is wider than `widest` has a line to
- * itself. */
+/* Prints the lines, each followed by its width in points. A word or part that is wider than `widest` has a line
+ * to itself. */
 static void print_lines(int64_t space, int64_t widest)
 {
     int64_t width = 0;

@@ -1,10 +1,10 @@
-/* Prints the words of a text: the width of each word in points, and for each of its characters the bytes of
- * the text that it comes from.
+/* Prints a line for each word of a text: its width in points, and for each of its characters the bytes of the
+ * text that the character comes from.
  *
  * usage: words FONT < TEXT   TEXT is read until it has 65,536 bytes
  *
- * One call returns the widths of all words. A program that gets its words one by one prepares the font once,
- * and sets each word in a call of its own: here a call for each word returns its items. */
+ * `main` sets all words in one call, which returns their widths. A program that gets its words one by one
+ * prepares the font once, and sets each word in a call of its own, as `print_word` does. */
 #include <stdio.h>
 #include <stdlib.h>
 #include <tfmset.h>
@@ -33,7 +33,7 @@ static size_t find_words(size_t length)
     return count;
 }
 
-/* Returns the table of the font, which the caller frees, and its length, or null. */
+/* Returns the table of the font, or null, and sets its length. The caller frees the table. */
 static uint8_t *prepare(size_t font_length, size_t *length)
 {
     uint8_t *table;

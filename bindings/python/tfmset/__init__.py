@@ -1,10 +1,10 @@
 # SPDX-License-Identifier: MIT OR Apache-2.0
 """Sets lines of text with a TeX font metric (TFM) file, by calling the C library libtfmset.
 
-A `Font` is made from the bytes of a TFM file, and is read at its design size or at another size. A text is
-bytes: byte 32 is a space, byte 10 ends a line, and every other byte is a character code of the font. Or it is
-a str together with the encoding of the font: `font.set("Straße", encoding="t1")`. All dimensions are in
-scaled points (sp); 65,536 sp are one TeX point, and 72.27 TeX points are one inch.
+A `Font` is made from the bytes of a TFM file, at its design size or at another size. A text is bytes or a
+str. In bytes, byte 32 is a space, byte 10 ends a line, and every other byte is a character code of the font.
+A str needs the encoding of the font: `font.set("Straße", encoding="t1")`. All dimensions are in scaled points
+(sp): 65,536 sp are one TeX point, and 72.27 TeX points are one inch.
 
     >>> import tfmset
     >>> font = tfmset.Font.from_file("examples/demo.tfm")
@@ -18,31 +18,29 @@ scaled points (sp); 65,536 sp are one TeX point, and 72.27 TeX points are one in
     >>> font.widths(b"office\\nbox")
     [1468004, 1025637]
 
-`encode` turns a str into the codes of a font. `ENCODINGS` are the names of the encodings. For a font with
-another encoding, `encoding` is the bytes of an encoding vector: the contents of a file `.enc` of dvips.
+`encode` turns a str into the codes of a font. `ENCODINGS` has the names of the encodings. For a font with
+another encoding, pass the bytes of an encoding vector: the contents of a file `.enc` of dvips.
 
-`Font.spans` and `Font.span_items` set parts of a text, such as words, without a call for each.
+`Font.spans` and `Font.span_items` set many parts of a text, such as words, in one call.
 
 `POINT` is the number of sp in a point. `CHARACTER`, `KERN`, `SPACE` and `SKIPPED` are the kinds of items.
 `BOUNDARY` stands for a boundary in `Font.pair` and `Font.pairs`.
 
 On import the module loads the library from the first of these locations that has one:
 
-1. the path in the environment variable TFMSET_LIBRARY, if it isn't empty; no other location is tried then;
+1. the path in the environment variable TFMSET_LIBRARY; if it isn't empty, no other location is tried;
 2. `libtfmset.so` in the directory of this package, where `pip install` puts it;
 3. `PREFIX/lib/libtfmset.so.0`, if this package is in `PREFIX/lib/pythonX.Y/site-packages` (or
    `dist-packages`);
 4. the directories that the system's dynamic linker searches, such as those in LD_LIBRARY_PATH.
 
-The import raises ImportError if no library is found, if it can't be loaded, or if its version isn't that of
-this module (the first two numbers of `__version__` have to be the same): the layout of its structs could
-differ.
+The import raises ImportError if no library is found, if it can't be loaded, or if the first two numbers of
+its version aren't those of `__version__`.
 
-The library has no state. Any thread may call any function at any time, and calls of several threads run
-concurrently. Each call that sets lines reads the font again, which takes about 25 microseconds for cmr10. One
-call for many lines is therefore much faster than a call for each line. `Font.set`, `Font.widths` and
-`Font.records` without `call_limit` pass a long text to the library in blocks of lines, and Ctrl-C takes
-effect between two blocks.
+Any thread may call any function at any time, and calls of several threads run concurrently. Each call that
+sets lines reads the font again, which takes about 25 microseconds for cmr10. One call for many lines is
+therefore much faster than a call for each line. `Font.set`, `Font.widths` and `Font.records` pass a long text
+to the library in blocks of lines, unless `call_limit` is set. Ctrl-C takes effect between two blocks.
 """
 from __future__ import annotations
 
@@ -74,7 +72,7 @@ CHARACTER, KERN, SPACE, SKIPPED = range(4)
 """The kinds of items: a character, a kern, a space, and a missing character that was skipped."""
 
 BOUNDARY = 256
-"""In `Font.pair` and `Font.pairs`: as left neighbour the left boundary, as right neighbour the right one."""
+"""The left boundary as left neighbour, and the right one as right neighbour, in `Font.pair` and `pairs`."""
 
 ENCODINGS = ("ot1", "t1", "ly1", "latin1")
 """The names of the encodings: OT1 is that of cmr10, T1 that of ecrm1000, and Latin 1 is ISO 8859-1."""
@@ -101,8 +99,8 @@ def version() -> Tuple[int, int, int]:
 class Item(ctypes.Structure):
     """An item of a line: a character, a kern, a space, or a missing character that was skipped.
 
-    `kind` is CHARACTER, KERN, SPACE or SKIPPED. `code` is the code of a character or of a skipped one, and
-    otherwise 0. `width` is in sp, and is 0 for a skipped character.
+    `kind` is CHARACTER, KERN, SPACE or SKIPPED. `code` is 0 for a kern and for a space. `width` is in sp, and
+    is 0 for a skipped character.
     """
 
     kind: int
@@ -118,8 +116,8 @@ class Item(ctypes.Structure):
 class EncodingError(ValueError):
     """Raised for a character that has no codes in an encoding.
 
-    `encoding` is the name of the encoding, which is 'vector' for an encoding vector, `place` the index of the
-    character in the text, and `character` the character.
+    `encoding` is the name of the encoding, or 'vector' for an encoding vector. `place` is the index in the
+    text of the character, and `character` is the character itself.
 
     >>> encode("5 €", "t1")
     Traceback (most recent call last):
@@ -159,8 +157,8 @@ def _utf8(text: object, encoding: _Stated) -> bytes:
 
 @functools.lru_cache(maxsize=8)
 def _is_vector(content: bytes) -> bool:
-    """Returns whether these bytes are an encoding vector. Its 256 names have two characters each, or more; the
-    library takes short bytes such as b't1' for the name of an encoding."""
+    """Returns whether these bytes are an encoding vector. The library takes short bytes, such as b't1', for
+    the name of an encoding. A vector is longer: its 256 names have at least two characters each."""
     return len(content) > 512 and _library.tfmset_encode(
         content, len(content), b"", 0, None, 0, None, 0, None, 0, ctypes.byref(_Encoded())) == _DONE
 
@@ -210,17 +208,17 @@ def _encoded(text: str, encoding: _Stated, skips: bool, with_offsets: bool = Fal
 
 
 def encode(text: str, encoding: Encoding, missing: str = "refuse") -> bytes:
-    """Returns the codes that the characters of a text have in a font, as LaTeX sets them.
+    """Returns the codes of the characters of a text, as bytes.
 
     `encoding` is one of ENCODINGS, or the same in capitals, or the bytes of an encoding vector. Most
-    characters have one code, some have two or three, and the soft hyphen has none: the codes before and after
-    it are adjacent. Line feeds are kept, and a byte order mark (U+FEFF) at the front of the text is left out.
+    characters have one code, and some have two or three. Line feeds are kept. A soft hyphen, and a byte order
+    mark (U+FEFF) at the front of the text, are left out.
 
-    Some characters have no codes: those that aren't in the encoding, and those that LaTeX takes from another
-    font or puts together from an accent and a letter. With `missing="refuse"` the first of them raises
-    EncodingError, and with `missing="skip"` they are left out. Raises ValueError for any other name of an
-    encoding or value of `missing`, and for bytes that aren't an encoding vector; and TypeError if an argument
-    has another type.
+    A character is uncoded if it isn't in the encoding, or if LaTeX takes it from another font or puts it
+    together from an accent and a letter. With `missing="refuse"` the first uncoded character raises
+    EncodingError. With `missing="skip"` uncoded characters are left out.
+
+    Raises ValueError for any other value of `encoding` or `missing`, and TypeError for another type.
 
     >>> encode("Straße – “naïve”", "t1")
     b'Stra\\xffe \\x15 \\x10na\\xefve\\x11'
@@ -231,13 +229,16 @@ def encode(text: str, encoding: Encoding, missing: str = "refuse") -> bytes:
 
 
 class FontRefused(ValueError):
-    """Raised for a font that is refused. Carries the first error of the font.
+    """Raised for a font that is refused. Has the first error of the font (docs/ERRORS.md in the sources).
 
     `number` is the number of the rule that the font breaks, from 1 to 14. `named` is the name of the count,
-    of the table or of the part of an instruction that is wrong, or an empty string. `place` depends on
-    `number`: with 1 and 8 it is the number of bytes that are needed; with 10 and 11 a character code; with
-    13 the index of an entry in its table, from 0 (in the table `param` from 1); with 14 the address of an
-    instruction, from 0. With any other `number` it is 0. `str` returns the text that the program prints.
+    of the table or of the part of an instruction that is wrong, or an empty str. `str` returns the text that
+    the program prints. `place` is 0, except with these values of `number`:
+
+    - 1 and 8: the number of bytes that are needed
+    - 10 and 11: a character code
+    - 13: the index of an entry in its table, from 0 (in the table `param` from 1)
+    - 14: the address of an instruction, from 0
 
     >>> Font(b"no font")
     Traceback (most recent call last):
@@ -264,7 +265,7 @@ class FontRefused(ValueError):
 
 
 class Recipe(NamedTuple):
-    """The codes of the pieces of an extensible character; 0 for a missing one of the first three."""
+    """The codes of the pieces of an extensible character. A missing `top`, `middle` or `bottom` is 0."""
 
     top: int
     middle: int
@@ -278,11 +279,12 @@ class Metrics(NamedTuple):
     `italic` is the italic correction. The meaning of `remainder` depends on `tag`:
 
     - tag 0: the character has no tag; `remainder` is 0
-    - tag 1: the character has instructions in the lig/kern program; `remainder` is the address of one, as it
-      is in the file: an indirect start (docs/LIGATURES.md in the sources) isn't followed
+    - tag 1: the character has instructions in the lig/kern program, and `remainder` is the address of one. If
+      this is an indirect start (docs/LIGATURES.md in the sources), its program begins at another one.
     - tag 2: `remainder` is the code of the next larger character
-    - tag 3: `remainder` is the number of its extensible recipe, and `recipe` has the pieces; for the other
-      tags `recipe` is None
+    - tag 3: `remainder` is the number of its extensible recipe, and `recipe` has the pieces
+
+    For the other tags `recipe` is None.
     """
 
     width: int
@@ -323,18 +325,16 @@ def _action(pair: _Pair) -> Action:
 
 
 class Refusal(NamedTuple):
-    """A line or a span that is refused, with the reason. `place` and `code` depend on `reason`:
+    """A line or a span that is refused. `reason` is one of these:
 
-    - 'missing': the byte at the offset `place` (from 0) of the line is `code`, and the font has no such
-      character. In a str, `place` is the index in the line of the character that has this code.
-    - 'too-long': the line has `place` bytes, which are more than 65,535; `code` is 0. In a str, `place` is
-      the number of its codes.
-    - 'steps': the line takes more steps than the limit, or no steps were left for it; `place` and `code`
-      are 0
-    - 'outside': the span ends after the end of the text; `place` and `code` are 0
+    - 'missing': the font has no character with the code `code`, which is at the index `place`
+    - 'too-long': the line has `place` bytes, or for a str codes, which are more than 65,535
+    - 'steps': the line takes more than `limit` steps, or the call has taken `call_limit` steps
+    - 'outside': the span ends after the end of the text
 
-    For a span, `place` of 'missing' is the offset of the byte in the text or, if the hyphen is missing, the
-    offset of the end of the span; in a str, it is the index of the character, or of the end of the span.
+    `place` and `code` are 0 where they aren't listed. With 'missing', `place` is an index of a byte or, in a
+    str, of a character, from 0. In a line it counts from the beginning of the line, and in a span from that
+    of the text. If the hyphen of a span is missing, `place` is the end of the span.
     """
 
     reason: str
@@ -390,7 +390,7 @@ def _refusal(refusal: int, place: int, code: int, number: int, source: Optional[
 
 
 def _front(buffer: ctypes.Array[ctypes.c_char], count: int) -> bytes:
-    """Returns a copy of the first `count` bytes of a buffer, even if these are more than a C int can count."""
+    """Returns a copy of the first `count` bytes of a buffer, which may be more than a C int can count."""
     return bytes(memoryview(buffer)[:count])
 
 
@@ -425,9 +425,9 @@ def _items(count: int) -> Type[ctypes.Array[Item]]:
 class Line(NamedTuple):
     """A line that is set.
 
-    `width` is its width in sp, and `steps` is the number of steps that it took: kerns, ligature operations,
-    and moves to the next element. `packed` has the items as they are in memory, three 32-bit numbers for
-    each: `struct.iter_unpack("IIi", line.packed)` or `numpy.frombuffer(line.packed, "u4,u4,i4")` reads them.
+    `width` is its width in sp. `steps` is the number of steps that it took: kerns, ligature operations, and
+    moves from a character to the next. `packed` has the items as bytes, three 32-bit numbers for each:
+    `struct.iter_unpack("IIi", line.packed)` or `numpy.frombuffer(line.packed, "u4,u4,i4")` reads them.
     """
 
     width: int
@@ -494,10 +494,10 @@ class Lines(Sequence[Outcome]):
 
 
 class Span(NamedTuple):
-    """A part of a text that is set as one run: `length` bytes from the byte offset `offset`, or in a str
-    `length` characters from the index `offset`.
+    """A part of a text that is set as one run: `length` bytes from the index `offset`, or in a str `length`
+    characters.
 
-    Each of the bytes is a character code, even 10 and 32. `left` states whether the left boundary of the font
+    Each byte is a character code, even 10 and 32. `left` states whether the left boundary of the font
     precedes the span, and `right` whether the right boundary follows it. `hyphen` is a code that is set after
     the last byte, before the right boundary, or None.
     """
@@ -512,13 +512,14 @@ class Span(NamedTuple):
 class PlacedItem(NamedTuple):
     """An item of a span: a character or a kern, and the bytes of the text that it comes from.
 
-    `kind` is CHARACTER or KERN. `code` is that of a character, and 0 for a kern. `width` is in sp. A character
-    of the text comes from its own byte, and a ligature from the bytes of the characters that it replaces.
-    `length` is 0 for a kern, for the hyphen, and for a ligature that replaces no character of the text.
+    `kind` is CHARACTER or KERN. `code` is that of a character, and 0 for a kern. `width` is in sp. A
+    character of the text comes from its own byte, and a ligature from the bytes of the characters that it
+    replaces. `length` is 0 for a kern, for the hyphen, and for a ligature that replaces no character of the
+    text.
 
-    In a str, `offset` and `length` count characters. A character with several codes belongs to the item that
-    its first code comes from, and one without codes, such as a soft hyphen, to the item before it or, at the
-    start of the span, to the first item. Each character of a span thus belongs to exactly one item.
+    In a str, `offset` and `length` count characters. Each character of a span belongs to exactly one item:
+    one with several codes to the item of its first code, and one without codes, such as a soft hyphen, to the
+    item before it. At the start of the span, a character without codes belongs to the first item.
     """
 
     kind: int
@@ -529,7 +530,7 @@ class PlacedItem(NamedTuple):
 
 
 class SpanItems(NamedTuple):
-    """A span that is set: its width in sp, the number of its steps, and its items, in order."""
+    """A span that is set: its width in sp, the number of steps that it took, and its items, in order."""
 
     width: int
     steps: int
@@ -617,26 +618,29 @@ def _bytes(name: str, content: Union[Text, str]) -> bytes:
 class Font:
     """A font: the contents of a TFM file, read at a size.
 
-    `data` is the contents of the file. `size` is from 1 to 134,217,727 sp: a str with a unit (pt, in, pc, cm,
-    mm, bp, dd, cc or sp), such as "10pt", "10.95pt" or "4mm", which is rounded as TeX rounds it; or an int, in
-    sp; or None for the design size of the font. Spaces in a str are ignored.
+    `data` is the contents of the file. `size`, from 1 to 134,217,727 sp, is one of these:
+
+    - a str with a unit (pt, in, pc, cm, mm, bp, dd, cc or sp), such as "10pt" or "4mm". It is rounded as TeX
+      rounds it, and spaces are ignored.
+    - an int, in sp
+    - None: the design size of the font
 
     Raises FontRefused if the font is refused, ValueError if the size is out of range or the str isn't a size,
-    and TypeError for arguments of another type. Like each method that calls the library, it raises
-    MemoryError if an allocation fails.
+    and TypeError for arguments of another type. Each call of the library raises MemoryError if an allocation
+    fails.
 
     Attributes, which are read-only:
 
     - `data`: the contents of the file
     - `size`, `design_size`: the size that the font is read at, and its design size, in sp
     - `check_sum`: the check sum, as it is in the file
-    - `parameters`: all parameters, from number 1; the slant in units of 2^-20, the others in sp
+    - `parameters`: all parameters, from number 1, which is the slant
     - `kerns`, `instructions`: the numbers of kerns and of lig/kern instructions
     - `right_boundary`: the code of the right boundary character, or None if the font has none
     - `left_boundary`: whether the left boundary has instructions
-    - `slant`: parameter 1, in units of 2^-20, not scaled
-    - `space`, `stretch`, `shrink`, `x_height`, `quad`, `extra_space`: parameters 2 to 7, in sp; 0 for one that
-      the font lacks
+    - `slant`: parameter 1, a ratio in units of 2^-20
+    - `space`, `stretch`, `shrink`, `x_height`, `quad`, `extra_space`: parameters 2 to 7, in sp, or 0 if the
+      font lacks them
 
     >>> font = Font.from_file("examples/demo.tfm", size="10pt")
     >>> font.size == font.design_size == 10 * POINT
@@ -734,9 +738,8 @@ class Font:
     def pairs(self) -> List[Tuple[int, int, Action]]:
         """Returns all pairs of neighbours that have a kern or a ligature operation, each with its action.
 
-        A neighbour is the code of a character of the font, or BOUNDARY. The pairs are in the order of the
-        left neighbour, where the left boundary comes first, and then of the right one, where the right
-        boundary comes last.
+        A neighbour is the code of a character of the font, or BOUNDARY. The pairs are sorted by the left
+        neighbour, with the left boundary first, and then by the right one, with the right boundary last.
 
         >>> font = Font.from_file("examples/demo.tfm")
         >>> font.pairs()[1]
@@ -822,28 +825,23 @@ class Font:
             encoding: Optional[Encoding] = None, crlf: bool = False, call_limit: Optional[int] = None) -> Lines:
         """Sets the lines of a text and returns their results, with the items of each line.
 
-        A line that takes more than `limit` steps is refused; `limit` is from 1 to 16,777,216. A missing
-        character is a byte that is neither a space nor a character of the font. With `missing="refuse"` a
-        line with a missing character is refused. With `missing="skip"` the byte is skipped, and is an item of
-        kind SKIPPED.
+        `text` is bytes, a bytearray or a memoryview, whose bytes are codes of the font. With `encoding` it is a
+        str, and its codes are those that `encode(text, encoding, missing)` returns. An uncoded character
+        raises EncodingError, or is left out with `missing="skip"`. Unlike in `records`, the codes before and
+        after a soft hyphen or an uncoded character can have a kern or a ligature.
 
-        `text` is bytes, which are codes of the font; or a str, with `encoding`, the encoding of the font: one
-        of ENCODINGS, or the bytes of an encoding vector. The codes of a str are those that `encode` returns.
-        The codes before and after a soft hyphen are therefore adjacent, and can have a kern or a ligature,
-        unlike in `records`. A character without codes raises EncodingError. With `missing="skip"` it is left
-        out and has no item, and the codes before and after it are adjacent. If a line of a str has a missing
-        character, `place` in its refusal is the index of the character in the line.
+        - `limit`, from 1 to 16,777,216: a line that takes more steps is refused.
+        - `missing`: whether a missing character refuses its line ("refuse") or is skipped, and is an item of
+          kind SKIPPED ("skip"). A missing character is a byte that is neither a space nor a character of the
+          font.
+        - `encoding`: the encoding of the font, one of ENCODINGS or the bytes of an encoding vector.
+        - `crlf`: whether one carriage return before a line feed belongs to the line ending. If it does, both
+          count as one character in the `place` of an EncodingError.
+        - `call_limit`, from 1 to 2^64 - 1, or None: once the lines have taken this many steps together, each
+          further line is refused with the reason 'steps'. Set it for a font from an untrusted source. Ctrl-C
+          doesn't interrupt a call with a `call_limit`.
 
-        With `crlf=True` one carriage return before a line feed belongs to the line ending. In the `place` of
-        an EncodingError, the carriage return and the line feed then count as one character. Once the lines
-        have taken `call_limit` steps together, each further line is refused with the reason 'steps' and takes
-        no time; `call_limit` is from 1 to 2^64 - 1, or None for no limit. Set a `call_limit` to bound the
-        time for a font from an untrusted source. A text with a `call_limit` is set in one block, which Ctrl-C
-        doesn't interrupt.
-
-        Raises ValueError if `limit`, `missing`, `encoding` or `call_limit` has any other value; EncodingError;
-        and TypeError if `limit` or `call_limit` isn't an int, or if `text` has another type: with
-        `encoding` it has to be a str, and without it bytes, a bytearray or a memoryview.
+        Raises ValueError for any other value of an argument, and TypeError for another type.
 
         >>> lines = Font.from_file("examples/demo.tfm").set(b"fox Q", missing="skip")
         >>> [(item.kind, item.code) for item in lines[0].items]
@@ -893,14 +891,14 @@ class Font:
         """Sets the lines of a text and returns their records, as the program prints them.
 
         `version` is the record format: 1, 2, or 3 for JSON (`--record json` on the command line). `source`,
-        from 0 to 2^64 - 1, is the number of the source in each record, and `first_line` is the number of the
-        first line; `first_line` plus the length of the text must be below 2^64. The result has neither the
-        line `records 2`, with which the output of the program begins in format 2, nor an end line.
+        from 0 to 2^64 - 1, is the number of the source in each record. `first_line` is the number of the
+        first line; `first_line` plus the length of the text must be below 2^64. The result has neither an end
+        line nor the line `records 2` of the program.
 
         With `encoding`, `text` is a str. Offsets and lengths in the records then count bytes of the line in
-        UTF-8. A character without codes doesn't raise EncodingError: it refuses the line, as in
-        `1:1 refused uncoded 3 U+20AC`, or with `missing="skip"` it is skipped, and is an item such as
-        `u20AC`. Only a lone surrogate, which UTF-8 doesn't have, raises EncodingError.
+        UTF-8. An uncoded character refuses the line, as in `1:1 refused uncoded 3 U+20AC`, or is an item such
+        as `u20AC` with `missing="skip"`. Only a lone surrogate, which UTF-8 doesn't have, raises
+        EncodingError.
 
         The other arguments and the exceptions are those of `set`.
 
@@ -934,8 +932,8 @@ class Font:
         return bytes(self._list(ctypes.c_char, 4096, "prepare"))
 
     def prepare(self) -> bytes:
-        """Returns the table of the font at its size, the bytes that tfmset_prepare writes. With the table, the
-        library sets spans without reading the font again. `spans` and `span_items` use it."""
+        """Returns the table of the font at its size, as tfmset_prepare of the C library writes it. `spans`
+        and `span_items` use this table: they don't read the font again."""
         return self._table
 
     @overload
@@ -952,16 +950,16 @@ class Font:
               missing: str = "refuse") -> List[Union[int, Refusal]]:
         """Sets spans of a text and returns the width of each span in sp, or a Refusal.
 
-        `text` is bytes, which are codes of the font. Each span is set as one run, such as a word or the part of
-        a word before a hyphen; a missing character refuses its span. `limit` and `call_limit` apply to spans
-        as to lines in `set`.
+        `text` is bytes, which are codes of the font. Each span is set as one run, such as a word or the part
+        of a word before a hyphen. A missing character refuses its span. `limit` and `call_limit` apply to
+        spans as to lines in `set`.
 
         With `encoding`, `text` is a str, and spans and places count its characters. The codes of the text are
-        those of `encode(text, encoding, missing)`: an uncoded character raises EncodingError or, with
-        `missing="skip"`, is left out, and so is each soft hyphen. The codes before and after it are adjacent,
-        unless a span ends there. A no-break space is the code 32 of the font, and a hyphen is still a code.
+        those of `encode(text, encoding, missing)`. The codes before and after a soft hyphen, and with
+        `missing="skip"` those before and after an uncoded character, can have a kern or a ligature: to
+        prevent it, let a span end there. A no-break space is the code 32. `hyphen` in a span is a code.
 
-        Raises ValueError if a number is out of range, or for `missing="skip"` without an encoding, and
+        Raises ValueError if a number is out of range, or for `missing="skip"` without an encoding. Raises
         TypeError for arguments of another type.
 
         >>> font = Font.from_file("examples/demo.tfm")
@@ -986,8 +984,8 @@ class Font:
     def span_items(self, text: Union[Text, str], spans: Sequence[Span], limit: int = 1_048_576, *,
                    call_limit: Optional[int] = None, encoding: Optional[Encoding] = None,
                    missing: str = "refuse") -> List[Union[SpanItems, Refusal]]:
-        """Sets spans of a text as `spans` does, and returns the items of each span, each with the bytes, or
-        with `encoding` the characters, that it comes from.
+        """Sets spans of a text as `spans` does, and returns the `SpanItems` of each span, or a Refusal. An
+        item has the bytes, or in a str the characters, that it comes from.
 
         >>> found = Font.from_file("examples/demo.tfm").span_items(b"an office", [Span(3, 6)])[0]
         >>> [(item.code, item.offset, item.length) for item in found.items]
