@@ -1,5 +1,5 @@
 /* Breaks a paragraph into lines of at most a given width. Each line takes as many words as fit. A word may be
- * broken with a hyphen where the text has \-, as in TeX. Its first part is then the last one of the line.
+ * broken with a hyphen where the text has \-, as in TeX.
  *
  * usage: paragraph FONT POINTS [ENCODING] < TEXT   TEXT is read until its words fill 65,536 bytes
  *
@@ -15,8 +15,8 @@
 enum { LONGEST = 65536, LARGEST_FONT = 131068, MOST_PARAMETERS = 32767, MOST_BREAKS = 64 };
 
 static uint8_t font[LARGEST_FONT], text[LONGEST];
-/* A span for each word. It is followed by two spans for each break of the word: the part before the break, with
- * a hyphen, and the part after it. */
+/* A span for each word, followed by two spans for each break of the word: the part before the break, with a
+ * hyphen, and the part after it. */
 static struct tfmset_span spans[2 * LONGEST];
 static struct tfmset_line widths[2 * LONGEST];
 static size_t count;
@@ -97,8 +97,8 @@ static void print_span(const char *gap, size_t i)
         putchar('-');
 }
 
-/* Prints the lines, each followed by its width in points. A word or part that is wider than `widest` has a line
- * to itself. */
+/* Prints the lines, each followed by its width in points. A word or part that is wider than `widest` has a
+ * line to itself. */
 static void print_lines(int64_t space, int64_t widest)
 {
     int64_t width = 0;

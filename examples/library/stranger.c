@@ -2,9 +2,9 @@
  *
  * usage: stranger FONT < TEXT   TEXT is read until it has 65,536 bytes
  *
- * Any bytes may be passed as a font. A broken font is refused, with its first error. The lig/kern program of an
- * accepted font may never end. Each line therefore takes at most `limit` steps, and all lines of a call take at
- * most `call_limit` plus `limit` steps. */
+ * Any bytes may be passed as a font. A broken font is refused, with its first error. The lig/kern program of
+ * an accepted font may never end. Each line therefore takes at most `limit` steps, and all lines of a call
+ * take at most `call_limit` plus `limit` steps. */
 #include <stdio.h>
 #include <stdlib.h>
 #include <tfmset.h>
