@@ -3,14 +3,15 @@
  *
  * Example:
  *
- * struct tfmset_character characters[256]; size_t count; if (tfmset_characters(font, font_length, 0,
- * characters, 256, &count) == TFMSET_DONE)
+ *     struct tfmset_character characters[256];
+ *     size_t count;
+ *     if (tfmset_characters(font, font_length, 0, characters, 256, &count) == TFMSET_DONE)
  *         printf("%ld\n", (long)characters['a'].width);
  *
  * Font: `font` points to the contents of a TFM file. tfmset_spans and tfmset_span_items also take a table
- * that tfmset_prepare wrote. The bytes may be arbitrary: if they aren't a valid font, the functions return
- * TFMSET_FONT_REFUSED. Each call reads a TFM file again. The library keeps nothing between two calls: there
- * is no handle, and nothing has to be freed.
+ * that tfmset_prepare wrote. The bytes may be arbitrary: TFMSET_FONT_REFUSED reports that they aren't a valid
+ * font. Each call reads a TFM file again. The library keeps nothing between two calls: there is no handle, and
+ * nothing has to be freed.
  *
  * Size: `size` is from 1 to 134,217,727 scaled points, or 0 for the design size of the font. All dimensions
  * are in scaled points, of which 65,536 are one point.
