@@ -10,8 +10,8 @@
  *
  * Font: `font` points to the contents of a TFM file. tfmset_spans and tfmset_span_items also take a table
  * that tfmset_prepare wrote. The bytes may be arbitrary: TFMSET_FONT_REFUSED reports that they aren't a valid
- * font. Each call reads a TFM file again. The library keeps nothing between two calls: there is no handle, and
- * nothing has to be freed.
+ * font. Each call reads a TFM file again. The library keeps nothing between two calls: there is no handle,
+ * and nothing has to be freed.
  *
  * Size: `size` is from 1 to 134,217,727 scaled points, or 0 for the design size of the font. All dimensions
  * are in scaled points, of which 65,536 are one point.
