@@ -23,7 +23,7 @@ static size_t count;
 /* The codes of the text, and for each code the offset of its character in the text. */
 static uint8_t codes[LONGEST];
 static size_t offsets[LONGEST];
-/* The spans of the codes that belong to `spans`. */
+/* The same spans, as spans of `codes`. */
 static struct tfmset_span coded[2 * LONGEST];
 /* Parameters that the font doesn't have stay 0. */
 static int32_t parameters[MOST_PARAMETERS];
