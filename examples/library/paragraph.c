@@ -20,10 +20,9 @@ static uint8_t font[LARGEST_FONT], text[LONGEST];
 static struct tfmset_span spans[2 * LONGEST];
 static struct tfmset_line widths[2 * LONGEST];
 static size_t count;
-/* The codes of the text, and for each code the offset of its character in the text. */
+/* The codes of the text, for each code the offset of its character, and the same spans as spans of `codes`. */
 static uint8_t codes[LONGEST];
 static size_t offsets[LONGEST];
-/* The same spans, as spans of `codes`. */
 static struct tfmset_span coded[2 * LONGEST];
 /* Parameters that the font doesn't have stay 0. */
 static int32_t parameters[MOST_PARAMETERS];
