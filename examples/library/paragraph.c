@@ -20,7 +20,7 @@ static uint8_t font[LARGEST_FONT], text[LONGEST];
 static struct tfmset_span spans[2 * LONGEST];
 static struct tfmset_line widths[2 * LONGEST];
 static size_t count;
-/* The codes of the text, for each code the offset of its character, and the same spans as spans of `codes`. */
+/* The codes of the text, for each code the offset of its character, and the spans as spans of `codes`. */
 static uint8_t codes[LONGEST];
 static size_t offsets[LONGEST];
 static struct tfmset_span coded[2 * LONGEST];
