@@ -1,7 +1,7 @@
 -- A decoded list grows by one entry at a time, and each entry is the value of the decoding function at its
 -- index.
 use Rattle.std.proofs.Common.{◌≡◌, ℕ, ℤ, pos, ◌+◌, ◌<◌, ◌≤◌, ◌^◌, Bool, true, false, ◌&&◌, if◌then◌else◌, nat_lt, nat_le, List, [], ◌∷◌, ◌++◌, length, length-append, map, get_or, ap, ◌∙◌, arith, refl, sym, subst}
-use Rattle.std.specs.Prelude.{Ok, Option, Some, None}
+use Rattle.std.specs.Prelude.{Option, Some, None}
 use Rattle.std.proofs.lemmas.Bool.{lt-leb}
 use Rattle.std.proofs.lemmas.List.FromFn.{map-range_with_len_more, length-map-range_with_len, get_or-map-range_with_len}
 use Rattle.std.proofs.lemmas.Int.{to_z-of_z}
@@ -12,39 +12,36 @@ use Rattle.tfm_words.specs.declared.table.Table.TheVariants.{Kern, Param}
 use Rattle.tfm_words.specs.declared.numbers.Numbers.{Numbers}
 use Rattle.tfm_words.specs.Counts.{counts_of, AreCountsOf}
 use Rattle.tfm_tables.proofs.ProgramLemmas.{length-program_of}
-use Rattle.tfm_words.specs.DesignSize.{design_size_of}
-use Rattle.tfm_tables.specs.declared.character.Character.{Character}
-use Rattle.tfm_tables.specs.declared.font_metrics.FontMetrics.TheInside.{Inside}
+use Rattle.tfm_tables.specs.declared.metrics.Metrics.{Metrics}
+use Rattle.tfm_tables.specs.Character.{metrics_of}
 use Rattle.tfm_tables.specs.declared.left_side.LeftSide.TheVariants.{Boundary, Char}
 use Rattle.tfm_tables.specs.Table.{entries_of}
 use Rattle.tfm_tables.specs.Measure.{parameter_of}
-use Rattle.tfm_tables.specs.Program.{program_of, right_code_of, start_of}
-use Rattle.tfm_tables.specs.Sound.{HasSoundTables}
-use Rattle.tfm_tables.specs.Decoded.{character_of, characters_of, kerns_of, parameters_of, starts_of}
-use Rattle.tfm_tables.specs.Inside.{IsDecoded}
+use Rattle.tfm_tables.specs.Program.{program_of, start_of}
+use Rattle.tfm_tables.specs.Decoded.{characters_of, starts_of}
 
 pub ruleset grown = (map-range_with_len_more)
 
 -- the same for signed entries, which a push converts to bits and back
 pub ruleset grown_signed = (map-range_with_len_more, to_z-of_z)
 
+-- a list of the values below a number, after that number's own
+pub more_of_map : {X : Type 0} (f : ℕ → X) (before : List X) (n : ℕ) (own : X) → before ≡ map f (range_with_len 0 n) → own ≡ f n
+    → before ++ own ∷ [] ≡ map f (range_with_len 0 (n + 1))
+more_of_map f before n own is here = rw (is, here) (sym (map-range_with_len_more f 0 n n (omega arith)))
+
 -- an entry of a decoded list
 pub entry_of_map : {X : Type 0} (f : ℕ → X) (n i : ℕ) (d : X) → i < n → get_or (map f (range_with_len 0 n)) i d ≡ f i
 entry_of_map f n i d h = get_or-map-range_with_len f 0 n i i d h (omega arith)
 
-pub entry_of_map_from_1 : {X : Type 0} (f : ℕ → X) (n i j : ℕ) (d : X) → i < n → j ≡ i + 1 → get_or (map f (range_with_len 1 n)) i d ≡ f j
-entry_of_map_from_1 f n i j d h e = get_or-map-range_with_len f 1 n i j d h (omega arith)
-
-pub ruleset entries = (entry_of_map, entry_of_map_from_1, length-map-range_with_len)
-
 -- an entry of the list of decoded characters
-pub entry_of_characters : (words : List ℕ) (size code : ℕ) (d : Character) → code < 256 → get_or (characters_of words size) code d ≡ character_of words size code
+pub entry_of_characters : (words : List ℕ) (size code : ℕ) (d : Option Metrics) → code < 256 → get_or (characters_of words size) code d ≡ metrics_of words size code
 unfolding characters_of
-entry_of_characters words size code d h = entry_of_map (character_of words size) 256 code d h
+entry_of_characters words size code d h = entry_of_map (metrics_of words size) 256 code d h
 
 pub length-characters_of : (words : List ℕ) (size : ℕ) → length (characters_of words size) ≡ 256
 unfolding characters_of
-length-characters_of words size = length-map-range_with_len (character_of words size) 0 256
+length-characters_of words size = length-map-range_with_len (metrics_of words size) 0 256
 
 pub ruleset characters = (entry_of_characters, length-characters_of)
 
@@ -64,7 +61,7 @@ parameter_past words size n h =
     let past : nat_le n (entries_of words Param) ≡ false = lt-leb n (entries_of words Param) h in
     by_test _ _ (nat_lt 0 n) (nat_le n (entries_of words Param)) past
 
-pub ruleset parameters = (entry_of_map_from_1, length-map-range_with_len, parameter_zero, parameter_past)
+pub ruleset parameters = (parameter_zero, parameter_past)
 
 -- ---- starts
 
@@ -94,12 +91,6 @@ start_at_boundary words =
     slice_get-get_or (starts_of words) 256 None (omega (arith, length-starts_of words))
     ∙ ap Some (get_or-append_right (code_starts words) (start_of words Boundary ∷ []) 256 256 None (length-code_starts words) (omega arith))
 
--- a list of the starting addresses of the codes below a code, after that code's own
-pub starts_more : (words : List ℕ) (starts : List (Option ℕ)) (code : ℕ) (start : Option ℕ)
-    → starts ≡ map (λ at. start_of words (Char at)) (range_with_len 0 code) → start ≡ start_of words (Char code)
-    → starts ++ start ∷ [] ≡ map (λ at. start_of words (Char at)) (range_with_len 0 (code + 1))
-starts_more words starts code start is own = rw (is, own) (sym (map-range_with_len_more (λ at. start_of words (Char at)) 0 code code (omega arith)))
-
 -- a list of the starting addresses of all codes, after that of the left boundary
 pub starts_all : (words : List ℕ) (starts : List (Option ℕ)) (codes : ℕ) (left : Option ℕ)
     → starts ≡ map (λ at. start_of words (Char at)) (range_with_len 0 codes) → codes ≡ 256 → left ≡ start_of words Boundary
@@ -120,33 +111,3 @@ few_kerns words c are =
     omega (arith, small)
 
 pub ruleset sized = (few_steps, few_kerns)
-
--- ---- the metrics of a font from their parts
-
--- data that was decoded from words is the decoded data of the metrics' own copy of these words
-pub decoded_of : (f : Inside) (words : List ℕ) → f.words.items ≡ words → AreCountsOf words f.counts → HasSoundTables words
-    → design_size_of words ≡ Ok f.design → f.right ≡ right_code_of (program_of words) → f.left ≡ start_of words Boundary
-    → f.characters.items ≡ characters_of words f.size → f.program.items ≡ program_of words → f.kerns.items ≡ kerns_of words f.size
-    → f.parameters.items ≡ parameters_of words f.size → IsDecoded f
-decoded_of f words own counts sound design right left characters program kerns parameters =
-    let are : List ℕ → Type 0 = λ w. AreCountsOf w f.counts in
-    let are_sound : List ℕ → Type 0 = λ w. HasSoundTables w in
-    let designed : List ℕ → Type 0 = λ w. design_size_of w ≡ Ok f.design in
-    let righted : List ℕ → Type 0 = λ w. f.right ≡ right_code_of (program_of w) in
-    let lefted : List ℕ → Type 0 = λ w. f.left ≡ start_of w Boundary in
-    let charactered : List ℕ → Type 0 = λ w. f.characters.items ≡ characters_of w f.size in
-    let programmed : List ℕ → Type 0 = λ w. f.program.items ≡ program_of w in
-    let kerned : List ℕ → Type 0 = λ w. f.kerns.items ≡ kerns_of w f.size in
-    let parametered : List ℕ → Type 0 = λ w. f.parameters.items ≡ parameters_of w f.size in
-    let back = sym own in
-    record {
-      counts = subst are back counts;
-      sound = subst are_sound back sound;
-      design = subst designed back design;
-      right = subst righted back right;
-      left = subst lefted back left;
-      characters = subst charactered back characters;
-      program = subst programmed back program;
-      kerns = subst kerned back kerns;
-      parameters = subst parametered back parameters;
-    }

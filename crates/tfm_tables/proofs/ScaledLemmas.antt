@@ -44,6 +44,8 @@ width_scaled words size code width sound there is =
     let same : width ≡ (measures_of words size code).width = rw there at is in
     (measures_scaled words size code sound there).width ∙ ap Some (sym same)
 
+pub ruleset dimensions = (metrics_scaled, width_scaled)
+
 -- a parameter from number 2 upward
 pub parameter_scaled : (words : List ℕ) (size n : ℕ) (amount : ℤ) → HasSoundTables words → 2 ≤ n → n ≤ entries_of words Param → amount ≡ parameter_of words size n
     → scaled_entry words size Param (n - 1) ≡ Some amount

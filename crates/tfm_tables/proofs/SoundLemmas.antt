@@ -1,14 +1,18 @@
 -- If the tables of a font have no error, they are sound.
-use Rattle.std.proofs.Common.{◌≡◌, ℕ, zero, suc, ◌+◌, ◌-◌, ◌⊎◌, inl, inr, subst, if◌then◌else◌, ◌<◌, ◌≤◌, Bool, true, false, not, ◌||◌, ◌&&◌, nat_lt, nat_le, ◌==◌, List, ◌++◌, Option, Some, None, arith, refl, sym, ◌∙◌, eq-eqb}
+use Rattle.std.proofs.Common.{◌≡◌, ap, ℕ, zero, suc, ◌+◌, ◌-◌, ◌⊎◌, inl, inr, subst, if◌then◌else◌, ◌<◌, ◌≤◌, Bool, true, false, not, ◌||◌, ◌&&◌, nat_lt, nat_le, ◌==◌, List, ◌++◌, Option, Some, None, arith, refl, sym, ◌∙◌, eq-eqb}
 use Rattle.std.proofs.lemmas.Bool.{cases_lt, ltb-true, ltb-false, leb-true, leb-false, lt-ltb, le-leb}
 use Rattle.std.specs.List.{range_with_len, flat_map}
 use Rattle.std.specs.Option.{option_or}
+use Rattle.std.specs.Prelude.{Ok}
 use Rattle.tfm_words.specs.declared.table.Table.{Table}
 use Rattle.tfm_words.specs.declared.table.Table.TheVariants.{CharInfo, Width, Height, Depth, Italic, LigKern, Kern, Param}
-use Rattle.tfm_words.specs.Counts.{counts_of}
+use Rattle.tfm_words.specs.Counts.{AreCountsOf, counts_of}
+use Rattle.tfm_words.specs.DesignSize.{design_size_of}
 use Rattle.tfm_words.specs.CountFaults.{first_fault}
 use Rattle.tfm_words.proofs.FirstFault.{AllPassed, first_fault-append, passed_of_none}
 use Rattle.tfm_tables.specs.declared.step.Step.{Step}
+use Rattle.tfm_tables.specs.declared.font_metrics.FontMetrics.TheInside.{Inside}
+use Rattle.tfm_tables.specs.Inside.{HasAcceptedWords}
 use Rattle.tfm_tables.specs.declared.fault.FontFault.{FontFault}
 use Rattle.tfm_tables.specs.Table.{entries_of, entry_at}
 use Rattle.tfm_tables.specs.Character.{exists, is_coded, char_info_of, width_index, height_index, depth_index, italic_index, tag_number, remainder_of}
@@ -203,4 +207,15 @@ sound_of_accepted words bytes e =
       starts = λ code is tag. sound_start words code (row_of_code words (start_faults words) (back_none indices starts to_starts) code is) tag;
       measures = scalable_measures words bytes (back_none (indices ++ starts ++ first_entry_faults words) measures to_measures);
       steps = λ i within. sound_step words i (step_at words i) (each_none (instruction_faults words) 0 (entries_of words LigKern) of_steps i (omega arith) (omega arith));
+    }
+
+-- metrics whose words are a copy of accepted words
+pub accepted_of : (f : Inside) (words : List ℕ) → f.words.items ≡ words → AreCountsOf words f.counts → HasSoundTables words → design_size_of words ≡ Ok f.design → HasAcceptedWords f
+accepted_of f words own counts sound design =
+    let are : List ℕ → Type 0 = λ w. AreCountsOf w f.counts in
+    let are_sound : List ℕ → Type 0 = λ w. HasSoundTables w in
+    record {
+      counts = subst are (sym own) counts;
+      sound = subst are_sound (sym own) sound;
+      design = ap design_size_of own ∙ design;
     }

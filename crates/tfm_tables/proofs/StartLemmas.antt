@@ -76,14 +76,10 @@ by_existence words code true sound is = by_tag words code (tag_number (char_info
 by_existence words code false sound is = tt
 
 -- the starting address of a left side's program
-pub start_within : (words : List ℕ) (left : LeftSide) → HasSoundTables words → IfSome (start_of words left) (λ at. at < entries_of words LigKern)
+start_within : (words : List ℕ) (left : LeftSide) → HasSoundTables words → IfSome (start_of words left) (λ at. at < entries_of words LigKern)
 unfolding start_of
 start_within words Boundary sound = left_within words sound
 start_within words (Char code) sound = by_existence words code (exists words code) sound refl
 
--- the same for a starting address that was read from the fields of a font
-pub begun_within : (words now : List ℕ) (left : LeftSide) (start : Option ℕ) → words ≡ now → HasSoundTables words → start ≡ start_of words left
-    → IfSome start (λ at. at < entries_of now LigKern)
-begun_within words now left start same sound is =
-    subst (λ (ws : List ℕ). IfSome start (λ at. at < entries_of ws LigKern)) same
-    (subst (λ (s : Option ℕ). IfSome s (λ at. at < entries_of words LigKern)) (sym is) (start_within words left sound))
+pub begun_within : (words : List ℕ) (left : LeftSide) (start : Option ℕ) → HasSoundTables words → start ≡ start_of words left → IfSome start (λ at. at < entries_of words LigKern)
+begun_within words left start sound is = subst (λ (s : Option ℕ). IfSome s (λ at. at < entries_of words LigKern)) (sym is) (start_within words left sound)

@@ -1,6 +1,7 @@
 -- The scaled values of the table entries of a font at a size: dimensions of characters, kerns and parameters.
 -- Public source: tex.web, sections 571 to 573 and 575.
-use Rattle.std.specs.Prelude.{ℕ, ℤ, pos, ◌-◌, ◌==◌, ◌&&◌, nat_lt, nat_le, List, unwrap_or, Option, if◌then◌else◌}
+use Rattle.std.specs.Prelude.{ℕ, ℤ, pos, ◌-◌, ◌==◌, ◌&&◌, nat_lt, nat_le, List, map, unwrap_or, Option, if◌then◌else◌}
+use Rattle.std.specs.List.{range_with_len}
 use Rattle.tfm_words.specs.declared.table.Table.{Table}
 use Rattle.tfm_words.specs.declared.table.Table.TheVariants.{Kern, Param}
 use Rattle.tfm_words.specs.Word.{value_of}
@@ -32,3 +33,7 @@ parameter_of words size n =
     if nat_lt 0 n && nat_le n (entries_of words Param)
     then (if n == 1 then value_of (entry_at words Param 0) else measure_at words size Param (n - 1))
     else pos 0
+
+-- the parameters at a size, from number 1 upward
+abbrev pub parameters_of : List ℕ → ℕ → List ℤ
+parameters_of words size = map (parameter_of words size) (range_with_len 1 (entries_of words Param))

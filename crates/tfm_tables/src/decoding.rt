@@ -1,18 +1,16 @@
-ghost use Rattle.std.specs.Prelude.{◌≡◌, ◌+◌, ◌<◌, ◌≤◌, IfOk, true};
+//! Computes the values of a font from its words, each when it is needed.
+ghost use Rattle.std.specs.Prelude.{◌≡◌, ◌<◌, ◌≤◌, IfOk};
 ghost use Rattle.tfm_words.specs.Counts.{AreCountsOf};
 ghost use Rattle.tfm_words.specs.declared.table.Table.TheVariants.{Kern, Param};
-ghost use Rattle.tfm_tables.specs.Table.{entries_of, entry_at};
-ghost use Rattle.tfm_tables.specs.Character.{is_coded, measures_of, metrics_of, tag_of, tag_with};
+ghost use Rattle.tfm_tables.specs.Table.{entries_of};
+ghost use Rattle.tfm_tables.specs.Character.{character_width_of, metrics_of, tag_of};
 ghost use Rattle.tfm_tables.specs.Measure.{kern_at, measure_at, parameter_of};
-ghost use Rattle.tfm_tables.specs.Program.{begin_at, left_start_of, program_of, start_of, tag_start};
-ghost use Rattle.tfm_tables.specs.declared.left_side.LeftSide.TheVariants.{Char};
+ghost use Rattle.tfm_tables.specs.Program.{begin_at, left_start_of, program_of, start_of};
 ghost use Rattle.tfm_tables.specs.Sound.{HasSoundTables, IsScalableEntry};
-ghost use Rattle.tfm_tables.specs.Decoded.{character_of, characters_of, kerns_of, parameters_of};
 
-use crate::character::Character;
 use crate::entries::{char_info, exists, step_at};
 use crate::tables::entry;
-use crate::{Metrics, Step, Tag};
+use crate::{LeftSide, Metrics, Step, Tag};
 use std::alloc::{AllocError, Global};
 use tfm_words::{Counts, FixWord, Size, Table};
 
@@ -29,8 +27,9 @@ fn measure(words: &[u8], counts: &Counts, size: Size, table: Table, i: usize) ->
         .unwrap()
 }
 
+/// Returns kern `k` in sp.
 #[tactic(auto, unfolding(crate::specs::Measure::kern_at))]
-fn kern(words: &[u8], counts: &Counts, size: Size, k: usize) -> i32
+pub fn kern(words: &[u8], counts: &Counts, size: Size, k: usize) -> i32
     requires lawful { AreCountsOf words.now counts.now }
     requires sound { HasSoundTables words.now }
     requires within { k < entries_of words.now Kern }
@@ -39,8 +38,10 @@ fn kern(words: &[u8], counts: &Counts, size: Size, k: usize) -> i32
     measure(words, counts, size, Table::Kern, k)
 }
 
+/// Returns parameter `number`, counted from 1: the slant as a plain number in units of 2^-20, and any other
+/// parameter in sp.
 #[tactic(auto, unfolding(crate::specs::Measure::parameter_of))]
-fn parameter(words: &[u8], counts: &Counts, size: Size, number: usize) -> i32
+pub fn parameter(words: &[u8], counts: &Counts, size: Size, number: usize) -> i32
     requires lawful { AreCountsOf words.now counts.now }
     requires sound { HasSoundTables words.now }
     requires within { (1 ≤ number) × (number ≤ entries_of words.now Param) }
@@ -67,162 +68,103 @@ pub fn program(alloc: Global, words: &[u8], counts: &Counts) -> Result<Vec<Step>
     Ok(steps)
 }
 
-/// Returns the kerns in sp, by index. The error means that an allocation failed.
-#[tactic(auto, using(crate::proofs::DecodedLemmas::grown_signed))]
-pub fn kerns(
-    alloc: Global,
-    words: &[u8],
-    counts: &Counts,
-    size: Size,
-) -> Result<Vec<i32>, AllocError>
-    requires lawful { AreCountsOf words.now counts.now }
-    requires sound { HasSoundTables words.now }
-    ensures { IfOk result (λ v. v.items ≡ kerns_of words.now size) }
+/// Returns the tag of a character, or `None` if it doesn't exist.
+#[tactic(auto, using(crate::proofs::SoundLemmas::coded))]
+pub fn tag(words: &[u8], counts: &Counts, code: u8) -> Option<Tag>
+    requires { AreCountsOf words.now counts.now }
+    ensures { result ≡ tag_of words.now code }
 {
-    let entries = usize::from(counts.nk());
-    let mut kerns = Vec::with_capacity(alloc, entries)?;
-    for i in 0..entries {
-        kerns.push(kern(words, counts, size, i))?;
+    if !exists(words, counts, code) {
+        return None;
     }
-    Ok(kerns)
-}
-
-/// Returns the parameters from number 1: the slant as a plain number in units of 2^-20, and the
-/// others in sp. The error means that an allocation failed.
-#[tactic(auto, using(crate::proofs::DecodedLemmas::grown_signed))]
-pub fn parameters(
-    alloc: Global,
-    words: &[u8],
-    counts: &Counts,
-    size: Size,
-) -> Result<Vec<i32>, AllocError>
-    requires lawful { AreCountsOf words.now counts.now }
-    requires sound { HasSoundTables words.now }
-    ensures { IfOk result (λ v. v.items ≡ parameters_of words.now size) }
-{
-    let entries = usize::from(counts.np());
-    let mut parameters = Vec::with_capacity(alloc, entries)?;
-    for number in 1..entries + 1 {
-        parameters.push(parameter(words, counts, size, number))?;
-    }
-    Ok(parameters)
-}
-
-fn tag(number: u8, remainder: u8) -> Tag
-    ensures { result ≡ tag_with number remainder }
-{
-    match number {
+    let [_, _, italic_tag, remainder] = char_info(words, counts, u16::from(code));
+    Some(match italic_tag % 4 {
         0 => Tag::Plain,
         1 => Tag::Lig(remainder),
         2 => Tag::List(remainder),
         _ => Tag::Ext(remainder),
-    }
+    })
 }
 
-#[tactic(auto, unfolding(crate::specs::Program::begin_at))]
-fn begin(program: &[Step], first: u8) -> usize
-    ensures { result ≡ begin_at program.now first }
+/// Returns the starting address of the program of a character whose tag refers to the address `first`.
+#[tactic(auto, using(crate::proofs::ProgramLemmas::instructions), unfolding(crate::specs::Program::begin_at))]
+fn begin(words: &[u8], counts: &Counts, first: u8) -> usize
+    requires { AreCountsOf words.now counts.now }
+    ensures { result ≡ begin_at (program_of words.now) first }
 {
-    match program.get(usize::from(first)) {
-        Some(step) if step.skip > 128 => step.target(),
-        _ => usize::from(first),
+    let first = usize::from(first);
+    if first >= usize::from(counts.nl()) {
+        return first;
     }
-}
-
-fn start(program: &[Step], tag: Tag) -> Option<usize>
-    ensures { result ≡ tag_start program.now tag }
-{
-    match tag {
-        Tag::Lig(remainder) => Some(begin(program, remainder)),
-        _ => None,
+    let step = step_at(words, counts, first);
+    if step.skip > 128 {
+        step.target()
+    } else {
+        first
     }
 }
 
 /// Returns the starting address of the left boundary's program, which the last instruction may specify.
-#[tactic(auto, unfolding(crate::specs::Program::left_start_of))]
-pub fn left_start(program: &[Step]) -> Option<usize>
-    ensures { result ≡ left_start_of program.now }
+#[tactic(auto, using(crate::proofs::ProgramLemmas::instructions), unfolding(crate::specs::Program::left_start_of))]
+fn left_start(words: &[u8], counts: &Counts) -> Option<usize>
+    requires { AreCountsOf words.now counts.now }
+    ensures { result ≡ left_start_of (program_of words.now) }
 {
-    match program.last() {
-        Some(step) if step.skip == 255 => Some(step.target()),
-        _ => None,
+    let last = usize::from(counts.nl()).checked_sub(1)?;
+    let step = step_at(words, counts, last);
+    if step.skip == 255 {
+        Some(step.target())
+    } else {
+        None
     }
 }
 
+/// Returns the starting address of a left side, or `None` if it has no program.
+#[tactic(auto, unfolding(crate::specs::Program::start_of))]
+pub fn start(words: &[u8], counts: &Counts, left: LeftSide) -> Option<usize>
+    requires { AreCountsOf words.now counts.now }
+    ensures { result ≡ start_of words.now left }
+{
+    match left {
+        LeftSide::Boundary => left_start(words, counts),
+        LeftSide::Char(code) => match tag(words, counts, code) {
+            Some(Tag::Lig(first)) => Some(begin(words, counts, first)),
+            _ => None,
+        },
+    }
+}
+
+/// Returns the width of a character in sp, or 0 if it doesn't exist.
 #[tactic(auto, using(crate::proofs::SoundLemmas::coded))]
-fn metrics(words: &[u8], counts: &Counts, size: Size, code: u16) -> Metrics
+pub fn width(words: &[u8], counts: &Counts, size: Size, code: u8) -> i32
     requires lawful { AreCountsOf words.now counts.now }
     requires sound { HasSoundTables words.now }
-    requires coded { is_coded words.now code ≡ true }
-    ensures { result ≡ measures_of words.now size code }
-{
-    let [width, height_depth, italic_tag, _] = char_info(words, counts, code);
-    Metrics {
-        width: measure(words, counts, size, Table::Width, usize::from(width)),
-        height: measure(
-            words,
-            counts,
-            size,
-            Table::Height,
-            usize::from(height_depth / 16),
-        ),
-        depth: measure(
-            words,
-            counts,
-            size,
-            Table::Depth,
-            usize::from(height_depth % 16),
-        ),
-        italic: measure(
-            words,
-            counts,
-            size,
-            Table::Italic,
-            usize::from(italic_tag / 4),
-        ),
-    }
-}
-
-#[tactic(auto, using(crate::proofs::SoundLemmas::coded), unfolding(crate::specs::Decoded::character_of, crate::specs::Program::start_of))]
-fn character(words: &[u8], counts: &Counts, size: Size, program: &[Step], code: u8) -> Character
-    requires lawful { AreCountsOf words.now counts.now }
-    requires sound { HasSoundTables words.now }
-    requires program { program.now ≡ program_of words.now }
-    ensures { result ≡ character_of words.now size code }
+    ensures { result ≡ character_width_of words.now size code }
 {
     if !exists(words, counts, code) {
-        return Character {
-            metrics: None,
-            tag: None,
-            start: None,
-        };
+        return 0;
     }
-    let [_, _, italic_tag, remainder] = char_info(words, counts, u16::from(code));
-    let tag = tag(italic_tag % 4, remainder);
-    Character {
-        metrics: Some(metrics(words, counts, size, u16::from(code))),
-        tag: Some(tag),
-        start: start(program, tag),
-    }
+    let [width, _, _, _] = char_info(words, counts, u16::from(code));
+    measure(words, counts, size, Table::Width, usize::from(width))
 }
 
-/// Returns the decoded data of each of the 256 codes. The error means that an allocation failed.
-#[tactic(auto, using(crate::proofs::DecodedLemmas::grown), unfolding(crate::specs::Decoded::characters_of))]
-pub fn characters(
-    alloc: Global,
-    words: &[u8],
-    counts: &Counts,
-    size: Size,
-    program: &[Step],
-) -> Result<Vec<Character>, AllocError>
+/// Returns the dimensions of a character in sp, or `None` if it doesn't exist.
+#[tactic(auto, using(crate::proofs::SoundLemmas::coded))]
+pub fn metrics(words: &[u8], counts: &Counts, size: Size, code: u8) -> Option<Metrics>
     requires lawful { AreCountsOf words.now counts.now }
     requires sound { HasSoundTables words.now }
-    requires program { program.now ≡ program_of words.now }
-    ensures { IfOk result (λ v. v.items ≡ characters_of words.now size) }
+    ensures { result ≡ metrics_of words.now size code }
 {
-    let mut characters = Vec::with_capacity(alloc, 256)?;
-    for code in 0..256u16 {
-        characters.push(character(words, counts, size, program, code as u8))?;
+    if !exists(words, counts, code) {
+        return None;
     }
-    Ok(characters)
+    let [width, height_depth, italic_tag, _] = char_info(words, counts, u16::from(code));
+    let (height, depth) = (height_depth / 16, height_depth % 16);
+    let italic = italic_tag / 4;
+    Some(Metrics {
+        width: measure(words, counts, size, Table::Width, usize::from(width)),
+        height: measure(words, counts, size, Table::Height, usize::from(height)),
+        depth: measure(words, counts, size, Table::Depth, usize::from(depth)),
+        italic: measure(words, counts, size, Table::Italic, usize::from(italic)),
+    })
 }

@@ -1,26 +1,26 @@
 ghost use Rattle.std.specs.Prelude.{◌≡◌, IfOk, IfErr, IfSome, Some, true};
 ghost use Rattle.tfm_words.specs.declared.table.Table.TheVariants.{Width};
 ghost use Rattle.tfm_tables.specs.Font.{IsFontOf, IsRefusalOf};
-ghost use Rattle.tfm_tables.specs.Character.{char_info_of, character_width_of, exists as exists_in, width_index};
+ghost use Rattle.tfm_tables.specs.Character.{AreScaled, char_info_of, character_width_of, exists as exists_in, metrics_of, width_index};
 ghost use Rattle.tfm_tables.specs.Measure.{scaled_entry};
 ghost use Rattle.tfm_tables.specs.Program.{IsServing, address_between};
-ghost use Rattle.tfm_tables.specs.Decoded.{AreWidthsOf, starts_of};
+ghost use Rattle.tfm_tables.specs.Decoded.{characters_of, starts_of};
 
 use crate::pairs::PairTable;
-use crate::{FontFault, FontMetrics, LeftSide};
+use crate::{FontFault, FontMetrics, LeftSide, Metrics};
 use std::alloc::{AllocError, Global};
 use std::marker::Model;
 use std::ops::Deref;
 use tfm_words::Size;
 
 /// An accepted font, at the size that it was read at: its metrics, and a table of pairs and a table of
-/// widths, which setting lines needs. A font has all methods of its metrics. In contracts it is its words,
+/// characters, which setting lines needs. A font has all methods of its metrics. In contracts it is its words,
 /// which are the first `4 * lf` bytes of the file, and that size.
 #[derive(Debug, Drop)]
 pub struct Font {
     metrics: FontMetrics,
     pairs: PairTable,
-    widths: [i32; 256],
+    characters: Vec<Option<Metrics>>,
 }
 
 impl Model for Font {
@@ -55,29 +55,48 @@ impl Font {
         }
     }
 
-    /// Returns the font with these metrics: computes the table of pairs and the table of widths. The
+    /// Returns the font with these metrics: computes the table of pairs and the table of characters. The
     /// error means that an allocation failed.
     pub fn new(alloc: Global, metrics: FontMetrics) -> Result<Font, AllocError>
         ensures { IfOk result (λ font. font ≡ metrics) }
     {
         let starts = starts(alloc, &metrics)?;
-        let pairs = PairTable::build(alloc, metrics.program(), &starts)?;
-        let widths = widths(&metrics);
+        let program = metrics.program(alloc)?;
+        let pairs = PairTable::build(alloc, &program, &starts)?;
+        let characters = characters(alloc, &metrics)?;
         Ok(Font {
             metrics,
             pairs,
-            widths,
+            characters,
         })
+    }
+
+    /// Returns whether the font has a character with this code. A call is one lookup in a table.
+    pub fn exists(&self, code: u8) -> bool
+        ensures { result ≡ exists_in self.now.words code }
+    {
+        self.metrics(code).is_some()
+    }
+
+    /// Returns the dimensions of a character in sp, as `FontMetrics::metrics` does. A call is one lookup in a
+    /// table.
+    #[tactic(auto, using(crate::proofs::DecodedLemmas::characters, crate::proofs::ScaledLemmas::dimensions))]
+    pub fn metrics(&self, code: u8) -> Option<Metrics>
+        ensures value { result ≡ metrics_of self.now.words self.now.size code }
+        ensures scaled { IfSome result (AreScaled self.now.words self.now.size code) }
+    {
+        self.characters[usize::from(code)]
     }
 
     /// Returns the width of a character in sp: the scaled value of its table entry, or 0 for a code
     /// without a character. A call is one lookup in a table.
+    #[tactic(auto, using(crate::proofs::ScaledLemmas::dimensions))]
     pub fn width(&self, code: u8) -> i32
         ensures value { result ≡ character_width_of self.now.words self.now.size code }
         ensures scaled { exists_in self.now.words code ≡ true →
             scaled_entry self.now.words self.now.size Width (width_index (char_info_of self.now.words code)) ≡ Some result }
     {
-        self.widths[usize::from(code)]
+        self.metrics(code).map_or(0, |metrics| metrics.width)
     }
 
     /// Returns the address of the match for a left side and the code to its right: the first
@@ -128,13 +147,15 @@ fn starts(alloc: Global, metrics: &FontMetrics) -> Result<Vec<Option<usize>>, Al
     Ok(starts)
 }
 
-/// Returns the width of each code in sp, or 0 for a code without a character.
-fn widths(metrics: &FontMetrics) -> [i32; 256]
-    ensures { AreWidthsOf metrics.now.words metrics.now.size result }
+/// Returns the dimensions of each code, or `None` for a code without a character. The error means that an
+/// allocation failed.
+#[tactic(auto, using(crate::proofs::DecodedLemmas::grown), unfolding(crate::specs::Decoded::characters_of))]
+fn characters(alloc: Global, metrics: &FontMetrics) -> Result<Vec<Option<Metrics>>, AllocError>
+    ensures { IfOk result (λ v. v.items ≡ characters_of metrics.now.words metrics.now.size) }
 {
-    let mut widths = [0; 256];
-    for code in 0..256 {
-        widths[code] = metrics.width(code as u8);
+    let mut characters = Vec::with_capacity(alloc, 256)?;
+    for code in 0..256u16 {
+        characters.push(metrics.metrics(code as u8))?;
     }
-    widths
+    Ok(characters)
 }

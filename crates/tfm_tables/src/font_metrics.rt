@@ -8,33 +8,26 @@ ghost use Rattle.tfm_tables.specs.Font.{IsFontOf, IsRefusalOf};
 ghost use Rattle.tfm_tables.specs.Header.{check_sum_of, coding_of, face_of, family_of, seven_bit_of};
 ghost use Rattle.tfm_tables.specs.Character.{AreScaled, char_info_of, character_width_of, exists as exists_in, metrics_of, tag_of, width_index};
 ghost use Rattle.tfm_tables.specs.Measure.{kern_at, parameter_of, scaled_entry};
-ghost use Rattle.tfm_tables.specs.Program.{program_of, right_code_of, start_of, step_at};
-ghost use Rattle.tfm_tables.specs.Decoded.{character_of};
+ghost use Rattle.tfm_tables.specs.Program.{program_of, right_code_of, start_of, step_at as step_at_address};
 ghost use Rattle.tfm_tables.specs.Sound.{HasSoundTables, IsSoundStep};
 
-use crate::character::Character;
 use crate::checks::check_tables;
-use crate::entries::right_code;
+use crate::entries::{exists, right_code, step_at};
 use crate::{FontFault, LeftSide, Metrics, Step, Tag, decoding, header};
 use std::alloc::{AllocError, Global};
 use std::marker::Model;
 use tfm_words::{Counts, Size, design_size};
 
-/// The metrics of an accepted font, at the size that they were read at: the data of its TFM file, without
-/// the tables that `Font` adds for setting lines. In contracts they are the words of the font, which are the
-/// first `4 * lf` bytes of the file, and that size.
+/// The metrics of an accepted font, at the size that they were read at, without the tables that `Font` adds
+/// for setting lines. Each call reads the entries that it needs from the words of the TFM file, and scales
+/// them. In contracts the metrics are the words of the font, which are the first `4 * lf` bytes of the file,
+/// and that size.
 #[derive(Debug, Drop)]
 pub struct FontMetrics {
     words: Vec<u8>,
-    characters: Vec<Character>,
-    program: Vec<Step>,
-    kerns: Vec<i32>,
-    parameters: Vec<i32>,
-    left: Option<usize>,
     counts: Counts,
     size: Size,
     design: Size,
-    right: Option<u8>,
 }
 
 impl Model for FontMetrics {
@@ -44,9 +37,9 @@ impl Model for FontMetrics {
 
     ghost view = { λ f. record { words = f.words.items; size = f.size } };
 
-    ghost use Rattle.tfm_tables.specs.Inside.{IsDecoded};
+    ghost use Rattle.tfm_tables.specs.Inside.{HasAcceptedWords};
 
-    ghost invariant = { IsDecoded };
+    ghost invariant = { HasAcceptedWords };
 }
 
 impl FontMetrics {
@@ -71,13 +64,13 @@ impl FontMetrics {
         if let Err(fault) = check_tables(words, &counts) {
             return Err(fault);
         }
-        match FontMetrics::decode(alloc, words, counts, design, size.unwrap_or(design)) {
+        match FontMetrics::of(alloc, words, counts, design, size.unwrap_or(design)) {
             Ok(metrics) => Ok(metrics),
             Err(_) => Err(FontFault::OutOfMemory),
         }
     }
 
-    fn decode(
+    fn of(
         alloc: Global,
         words: &[u8],
         counts: Counts,
@@ -89,38 +82,19 @@ impl FontMetrics {
         requires design { design_size_of words.now ≡ Ok design }
         ensures { IfOk result (λ metrics. (metrics.words ≡ words.now) × (metrics.size ≡ size)) }
     {
-        let program = decoding::program(alloc, words, &counts)?;
-        let characters = decoding::characters(alloc, words, &counts, size, &program)?;
-        let kerns = decoding::kerns(alloc, words, &counts, size)?;
-        let parameters = decoding::parameters(alloc, words, &counts, size)?;
         Ok(FontMetrics {
             words: Vec::from_slice(alloc, words)?,
-            left: decoding::left_start(&program),
-            right: right_code(words, &counts),
-            characters,
-            program,
-            kerns,
-            parameters,
             counts,
             size,
             design,
         })
     }
 
-    #[tactic(auto, using(crate::proofs::DecodedLemmas::characters))]
-    fn character(&self, code: u8) -> Character
-        ensures value { result ≡ character_of self.now.words self.now.size code }
-        ensures scaled { IfSome result.metrics (AreScaled self.now.words self.now.size code) }
-    {
-        self.characters[usize::from(code)]
-    }
-
     /// Returns whether the font has a character with this code.
-    #[tactic(auto, unfolding(crate::specs::Decoded::character_of))]
     pub fn exists(&self, code: u8) -> bool
         ensures { result ≡ exists_in self.now.words code }
     {
-        self.character(code).tag.is_some()
+        exists(&self.words, &self.counts, code)
     }
 
     /// States that the code of each character of the font is at most 255.
@@ -134,54 +108,50 @@ impl FontMetrics {
     /// Returns the dimensions of a character in sp, or `None` if it doesn't exist. Each dimension is
     /// the scaled value of its table entry, and no 0 takes the place of an entry that can't be
     /// scaled: the tables of an accepted font have no such entry.
-    #[tactic(auto, unfolding(crate::specs::Decoded::character_of))]
+    #[tactic(auto, using(crate::proofs::ScaledLemmas::dimensions))]
     pub fn metrics(&self, code: u8) -> Option<Metrics>
         ensures value { result ≡ metrics_of self.now.words self.now.size code }
         ensures scaled { IfSome result (AreScaled self.now.words self.now.size code) }
     {
-        self.character(code).metrics
+        decoding::metrics(&self.words, &self.counts, self.size, code)
     }
 
     /// Returns the width of a character in sp: the scaled value of its table entry, or 0 for a code
     /// without a character.
+    #[tactic(auto, using(crate::proofs::ScaledLemmas::dimensions))]
     pub fn width(&self, code: u8) -> i32
         ensures value { result ≡ character_width_of self.now.words self.now.size code }
         ensures scaled { exists_in self.now.words code ≡ true →
             scaled_entry self.now.words self.now.size Width (width_index (char_info_of self.now.words code)) ≡ Some result }
     {
-        self.metrics(code).map_or(0, |metrics| metrics.width)
+        decoding::width(&self.words, &self.counts, self.size, code)
     }
 
     /// Returns the tag of a character, or `None` if it doesn't exist.
-    #[tactic(auto, unfolding(crate::specs::Decoded::character_of))]
     pub fn tag(&self, code: u8) -> Option<Tag>
         ensures { result ≡ tag_of self.now.words code }
     {
-        self.character(code).tag
+        decoding::tag(&self.words, &self.counts, code)
     }
 
     /// Returns the starting address of a left side's program. For a character it is the address after
     /// an indirect start, which redirects once; for the left boundary it is the address to which the
     /// last instruction points, without another redirection. The address is below `steps`. Returns
     /// `None` for a left side without a program, and for a code without a character.
-    #[tactic(auto, unfolding(crate::specs::Decoded::character_of))]
     pub fn start(&self, left: LeftSide) -> Option<usize>
         ensures value { result ≡ start_of self.now.words left }
         ensures within { IfSome result (λ start. start < entries_of self.now.words LigKern) }
     {
-        match left {
-            LeftSide::Boundary => self.left,
-            LeftSide::Char(code) => self.character(code).start,
-        }
+        decoding::start(&self.words, &self.counts, left)
     }
 
     /// Returns the number of instructions, which is below 2^15 as every count of a file is.
-    #[tactic(auto, using(crate::proofs::DecodedLemmas::sized, crate::proofs::ProgramLemmas::reads))]
+    #[tactic(auto, using(crate::proofs::DecodedLemmas::sized))]
     pub fn steps(&self) -> usize
         ensures value { result ≡ entries_of self.now.words LigKern }
         ensures few { result ≤ 2 ^ 15 }
     {
-        self.program.len()
+        usize::from(self.counts.nl())
     }
 
     /// Returns the instruction at address `i`, which must be below `steps`. All that it refers to
@@ -192,21 +162,21 @@ impl FontMetrics {
     #[tactic(auto, using(crate::proofs::ProgramLemmas::reads))]
     pub fn step(&self, i: usize) -> Step
         requires { i < entries_of self.now.words LigKern }
-        ensures value { result ≡ step_at self.now.words i }
+        ensures value { result ≡ step_at_address self.now.words i }
         ensures sound { IsSoundStep self.now.words i result }
     {
-        self.program[i]
+        step_at(&self.words, &self.counts, i)
     }
 
-    /// Returns the lig/kern program: its instructions, by address. For the proof: `few` and `sound` are
-    /// properties of the words that the invariant of `Font` states again.
+    /// Returns the lig/kern program: its instructions, by address. The error means that an allocation failed.
+    /// For the proof: `few` and `sound` are properties of the words that the invariant of `Font` states again.
     #[tactic(auto, using(crate::proofs::DecodedLemmas::sized))]
-    pub(crate) fn program(&self) -> &[Step]
-        ensures instructions { result.now ≡ program_of self.now.words }
-        ensures few { length result.now ≤ 2 ^ 15 }
+    pub(crate) fn program(&self, alloc: Global) -> Result<Vec<Step>, AllocError>
+        ensures instructions { IfOk result (λ program. program.items ≡ program_of self.now.words) }
+        ensures few { length (program_of self.now.words) ≤ 2 ^ 15 }
         ensures sound { HasSoundTables self.now.words }
     {
-        &self.program
+        decoding::program(alloc, &self.words, &self.counts)
     }
 
     /// Returns the code of the right boundary character, or `None` if the font doesn't specify one. The
@@ -214,35 +184,34 @@ impl FontMetrics {
     pub fn right_boundary(&self) -> Option<u8>
         ensures { result ≡ right_code_of (program_of self.now.words) }
     {
-        self.right
+        right_code(&self.words, &self.counts)
     }
 
     /// Returns the number of kerns, which is below 2^15.
-    #[tactic(auto, using(crate::proofs::DecodedLemmas::sized, crate::proofs::DecodedLemmas::entries))]
+    #[tactic(auto, using(crate::proofs::DecodedLemmas::sized))]
     pub fn kerns(&self) -> usize
         ensures value { result ≡ entries_of self.now.words Kern }
         ensures few { result ≤ 2 ^ 15 }
     {
-        self.kerns.len()
+        usize::from(self.counts.nk())
     }
 
     /// Returns kern `k`, from 0, in sp; `k` must be below `kerns`. The kern is the scaled value of
     /// its table entry, and no 0 takes the place of an entry that can't be scaled.
-    #[tactic(auto, using(crate::proofs::DecodedLemmas::entries, crate::proofs::ScaledLemmas::kern))]
+    #[tactic(auto, using(crate::proofs::ScaledLemmas::kern))]
     pub fn kern(&self, k: usize) -> i32
         requires { k < entries_of self.now.words Kern }
         ensures value { result ≡ kern_at self.now.words self.now.size k }
         ensures scaled { scaled_entry self.now.words self.now.size Kern k ≡ Some result }
     {
-        self.kerns[k]
+        decoding::kern(&self.words, &self.counts, self.size, k)
     }
 
     /// Returns the number of parameters.
-    #[tactic(auto, using(crate::proofs::DecodedLemmas::entries))]
     pub fn params(&self) -> usize
         ensures { result ≡ entries_of self.now.words Param }
     {
-        self.parameters.len()
+        usize::from(self.counts.np())
     }
 
     /// Returns parameter `number`, counted from 1, or 0 if the font has no parameter with this number.
@@ -257,10 +226,10 @@ impl FontMetrics {
         if number == 0 {
             return 0;
         }
-        if number > self.parameters.len() {
+        if number > self.params() {
             return 0;
         }
-        self.parameters[number - 1]
+        decoding::parameter(&self.words, &self.counts, self.size, number)
     }
 
     /// Returns the width of a space in sp: parameter 2, or 0 if the font has no parameter 2.

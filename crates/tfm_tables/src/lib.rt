@@ -12,7 +12,6 @@ pub use metrics::Metrics;
 pub use step::Step;
 pub use tag::Tag;
 
-mod character;
 mod checks;
 mod decoding;
 mod entries;

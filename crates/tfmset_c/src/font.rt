@@ -1,7 +1,7 @@
 //! `tfmset_font`, `tfmset_parameters` and `tfmset_header_text`: what a font states about itself.
 ghost use Rattle.std.specs.Prelude.{◌≡◌, ◌≢◌, ◌<◌, IfOk};
 ghost use Rattle.tfm_tables.specs.Acceptance.{words_of};
-ghost use Rattle.tfm_tables.specs.Decoded.{parameters_of as all_parameters};
+ghost use Rattle.tfm_tables.specs.Measure.{parameters_of as all_parameters};
 ghost use Rattle.caller_arrays.specs.Arrays.{IsListed};
 ghost use Rattle.tfmset_c.specs.Fonts.{font_told, header_text_of, right_or_none};
 ghost use Rattle.tfmset_c.specs.Reading.{IsAnswer, IsNoSize, font_at};
