@@ -121,8 +121,10 @@ text = "o€x\\n" + "€" * 40 + "\\nß\ufeff"
 print(tfmset.encode(text, "t1", missing="skip"), tfmset.encode("€", "ly1", "skip"))
 print(font.widths(text, encoding="t1", missing="skip"), [len(line.items) for line in font.set(text, encoding="t1", missing="skip")])
 print(font.widths("\ufeffoß\xado\\n“¡oQ", encoding="ot1"))
+for text in "", "o\\n", "€", "\ufeff", "o\\n€", "o\\n\xad", "€\\n":
+    print(len(font.set(text, encoding="t1", missing="skip")), font.records(text, encoding="t1", missing="skip").count(b"\\n"), end=" ")
 """, "b'ox\\n\\n\\xff' b'\\x01'\n[665189, 0, 0] [3, 0, 1]\n"
-     "[Refusal(reason='missing', place=2, code=25), Refusal(reason='missing', place=0, code=92)]\n"),
+     "[Refusal(reason='missing', place=2, code=25), Refusal(reason='missing', place=0, code=92)]\n0 0 1 1 1 1 1 1 2 2 2 2 1 1 "),
     ("A subclass of str counts as the characters that it has", """
 class Text(str):
     encode = lambda *_: b"\\xff"

@@ -793,6 +793,8 @@ class Font:
             text = str.replace(_string(text), "\r\n", "\n") if options.crlf else _string(text)
             stated = _stated(encoding)
             content, source = _encoded(text, stated, bool(options.policy))[0], _Source(text, stated)
+            if text and not text.endswith("\n") and content[-1:] in (b"", b"\n"):
+                content += b"\n"  # the last line, which has no codes
         function = _library.tfmset_set if with_items else _library.tfmset_widths
         # The text has at most this many lines. The number of items is an estimate.
         room = len(content) + len(content) // 8 + 16 if with_items else 0
