@@ -21,11 +21,12 @@
  *
  * Lists: a function whose last argument is `count` writes a list to an array. After TFMSET_DONE the list is
  * at the front of the array, and `*count` is its length. After TFMSET_NO_ROOM `*count` is the length that is
- * needed. Everything else is unchanged, except the array of tfmset_records.
+ * needed. Everything else is unchanged, except that TFMSET_NO_ROOM and TFMSET_OUT_OF_MEMORY leave unspecified
+ * contents in the array of tfmset_records.
  *
- * Pointers: a pointer to an array or a text may be null if its length is 0; no other pointer may be null.
- * Each pointer must be aligned for its type. Memory that a function writes to must not overlap any other
- * memory that is passed to it. Memory that is only read may overlap, and several calls may share it.
+ * Pointers: each pointer that is followed by a length may be null if the length is 0. No other pointer may be
+ * null. Each pointer must be aligned for its type. Memory that a function writes to must not overlap any
+ * other memory that is passed to it. Memory that is only read may overlap, and several calls may share it.
  *
  * Memory: functions free all that they allocate (with malloc and realloc) before they return. tfmset_version,
  * tfmset_size and tfmset_encode allocate nothing. Calls don't check the stack; in tests 64 KB were enough.
@@ -64,8 +65,8 @@ extern "C" {
 #define TFMSET_OUT_OF_MEMORY 2u
 /* An array is too short. The last argument contains the lengths that are needed. */
 #define TFMSET_NO_ROOM 3u
-/* A number is out of its range, a text isn't a size, or `encoding` is neither a name nor an encoding vector.
- * Nothing has changed. */
+/* A number is out of its range, a text isn't a size, `encoding` is neither a name nor an encoding vector, or
+ * `size` isn't that of the table. Nothing has changed. */
 #define TFMSET_OUT_OF_RANGE 4u
 /* tfmset_encode: the text isn't UTF-8. */
 #define TFMSET_NOT_UTF8 5u
@@ -78,9 +79,9 @@ uint32_t tfmset_version(void);
 /* Reads a size from a text, which needs no zero byte at its end. The text is a number with a unit, such as
  * "12pt", "10.95pt" or "4mm", or a whole number of scaled points, such as "655360". The units are pt, in, pc,
  * cm, mm, bp, dd, cc and sp, in lower case. The fraction follows a point or a comma. The size is rounded as
- * TeX rounds a dimension, and a fraction of sp is ignored. Signs and spaces aren't allowed, except for a plus
- * sign before a number of sp without a unit. Returns TFMSET_DONE, or TFMSET_OUT_OF_RANGE if the text isn't a
- * size from 1 to 134,217,727 scaled points. */
+ * TeX rounds a dimension. With sp the digits after the point are ignored, as in TeX. Signs and spaces aren't
+ * allowed, except for a plus sign before a number of sp without a unit. Returns TFMSET_DONE, or
+ * TFMSET_OUT_OF_RANGE if the text isn't a size from 1 to 134,217,727 scaled points. */
 uint32_t tfmset_size(const uint8_t *text, size_t text_length, uint32_t *size);
 
 /* An uncoded character: one that has no codes in an encoding. `offset` is the offset in the text at which it
@@ -152,7 +153,8 @@ struct tfmset_fault {
 uint32_t tfmset_check(const uint8_t *font, size_t font_length, struct tfmset_fault *fault);
 
 /* Reports the first error of a font in words, such as "10 character 98, table width", as the program prints
- * it. The text has no zero byte at its end. For an accepted font it is empty. */
+ * it. The text has no zero byte at its end. Returns TFMSET_DONE for a refused font, too. For an accepted font
+ * the text is empty. */
 uint32_t tfmset_fault_text(const uint8_t *font, size_t font_length, uint8_t *text, size_t text_length,
                            size_t *count);
 
@@ -258,7 +260,7 @@ struct tfmset_item {
     int32_t width;
 };
 
-/* The values of `refusal` in a line. The line is set. */
+/* The values of `refusal` in a line. TFMSET_SET: the line is set. */
 #define TFMSET_SET 0u
 /* The line has a missing character, and the policy is TFMSET_REFUSE. */
 #define TFMSET_MISSING 1u
@@ -322,8 +324,8 @@ struct tfmset_form {
  *
  * If `encoding` is empty or "bytes", the bytes of the text are codes. Otherwise the text is UTF-8, and
  * `encoding` is a name or a vector, as for tfmset_encode. Lengths and offsets in the records then count bytes
- * of the line in UTF-8. A line that isn't UTF-8 is refused. An uncoded character refuses the line with
- * TFMSET_REFUSE, and is an item with TFMSET_SKIP. */
+ * of the line in UTF-8. A line that isn't UTF-8 is refused. With the policy TFMSET_REFUSE a line with an
+ * uncoded character is refused. With TFMSET_SKIP its record lists the character as skipped. */
 uint32_t tfmset_records(const uint8_t *font, size_t font_length, const struct tfmset_options *options,
                         const uint8_t *encoding, size_t encoding_length, const uint8_t *text,
                         size_t text_length, const struct tfmset_form *form, uint8_t *records,
@@ -340,7 +342,8 @@ uint32_t tfmset_refusal_text(const struct tfmset_line *line, uint8_t *text, size
 uint32_t tfmset_prepare(const uint8_t *font, size_t font_length, uint32_t size, uint8_t *table,
                         size_t table_length, size_t *count);
 
-/* The edges of a span. The left boundary of the font precedes the span; the right boundary follows it. */
+/* The edges of a span. TFMSET_LEFT_EDGE: the left boundary of the font precedes the span. TFMSET_RIGHT_EDGE:
+ * the right boundary follows it. */
 #define TFMSET_LEFT_EDGE 1u
 #define TFMSET_RIGHT_EDGE 2u
 /* The value of `hyphen` for a span without a hyphen. */

@@ -38,9 +38,9 @@ The import raises ImportError if no library is found, if it can't be loaded, or 
 its version aren't those of `__version__`.
 
 Any thread may call any function at any time, and calls of several threads run concurrently. Each call that
-sets lines reads the font again, which takes about 25 microseconds for cmr10. One call for many lines is
-therefore much faster than a call for each line. `Font.set`, `Font.widths` and `Font.records` pass a long text
-to the library in blocks of lines, unless `call_limit` is set. Ctrl-C takes effect between two blocks.
+sets lines reads the font again, and makes an index of its pairs. One call for many lines is therefore much
+faster than a call for each line. `Font.set`, `Font.widths` and `Font.records` pass a long text to the library
+in blocks of lines, unless `call_limit` is set. Ctrl-C takes effect between two blocks.
 """
 from __future__ import annotations
 
@@ -140,7 +140,8 @@ def _string(text: object) -> str:
 
 
 class _Stated(NamedTuple):
-    """The name of an encoding, which is 'vector' for a vector, and the name or the vector for the library."""
+    """An encoding: its name in messages ('vector' for a vector), and what the library gets, the name or the
+    vector."""
 
     name: str
     content: bytes
@@ -328,7 +329,7 @@ class Refusal(NamedTuple):
     """A line or a span that is refused. `reason` is one of these:
 
     - 'missing': the font has no character with the code `code`, which is at the index `place`
-    - 'too-long': the line has `place` bytes, or for a str codes, which are more than 65,535
+    - 'too-long': the line has more than 65,535 bytes or, in a str, codes; `place` is their number
     - 'steps': the line takes more than `limit` steps, or the call has taken `call_limit` steps
     - 'outside': the span ends after the end of the text
 
@@ -517,9 +518,9 @@ class PlacedItem(NamedTuple):
     replaces. `length` is 0 for a kern, for the hyphen, and for a ligature that replaces no character of the
     text.
 
-    In a str, `offset` and `length` count characters. Each character of a span belongs to exactly one item:
-    one with several codes to the item of its first code, and one without codes, such as a soft hyphen, to the
-    item before it. At the start of the span, a character without codes belongs to the first item.
+    In a str, `offset` and `length` count characters. Each character of a span belongs to exactly one item. A
+    character with several codes belongs to the item of its first code. A character without codes, such as a
+    soft hyphen, belongs to the item before it or, at the start of the span, to the first item.
     """
 
     kind: int
@@ -554,7 +555,7 @@ class _Characters:
         self._length, self._indices = len(text), [numbers[offset] for offset in offsets[:len(self.codes)]]
 
     def coded(self, span: _Span) -> _Span:
-        """Returns the span of the codes whose characters are in a span."""
+        """Converts `span`, which counts characters, to the span of the codes of these characters."""
         end, length = span.offset + span.length, len(self.codes)
         first = bisect.bisect_left(self._indices, span.offset)
         count = bisect.bisect_left(self._indices, end) - first if end <= self._length else length + 1
@@ -571,7 +572,7 @@ class _Characters:
             item.offset, item.length = start, stop - start
 
     def _after(self, at: int) -> int:
-        """Returns the index of the first character whose first code is the one at an index, or after it."""
+        """Returns the index of the first character whose first code is at `at`, or later in the codes."""
         return self._indices[at] + (self._indices[at] == self._indices[at - 1])
 
 
@@ -934,8 +935,8 @@ class Font:
         return bytes(self._list(ctypes.c_char, 4096, "prepare"))
 
     def prepare(self) -> bytes:
-        """Returns the table of the font at its size, as tfmset_prepare of the C library writes it. `spans`
-        and `span_items` use this table: they don't read the font again."""
+        """Returns the table of the font at its size, as tfmset_prepare of the C library writes it. It is for
+        other programs: `spans` and `span_items` make it themselves at their first call."""
         return self._table
 
     @overload
