@@ -5,7 +5,7 @@ ghost use Rattle.tex_sizes.specs.Lengths.{length_text, sign_of};
 
 use crate::LengthUnit;
 use crate::decimals::{Decimal, decimal_in, push_decimal};
-use crate::units::length_of;
+use crate::units::unit_ratio;
 use std::alloc::AllocError;
 use tfm_words::push_number;
 
@@ -26,7 +26,7 @@ pub fn push_length(
     ensures front { StaysInFront text.old.items text.new.items }
     ensures pushed { OnOk result (text.new.items ≡ text.old.items ++ before.now ++ length_text unit sp) }
 {
-    let Some(ratio) = length_of(unit) else {
+    let Some(ratio) = unit_ratio(unit.name().as_bytes()) else {
         return push_number(text, before, sp);
     };
     let decimal = decimal_in(unit, ratio, sp.unsigned_abs());
