@@ -10,6 +10,7 @@ use Rattle.std.proofs.lemmas.Int.Digits.{digits_value_more}
 use Rattle.std.proofs.lemmas.Str.Parse.{digit_at, tells_all_ascii_digits}
 use Rattle.std.proofs.lemmas.Str.{digit_value_digit}
 use Rattle.std.proofs.lemmas.List.{drop_more}
+use Rattle.std.proofs.lemmas.List.Sums.{prefix_len-le-length}
 use Rattle.tex_sizes.specs.Lengths.{nearest_decimal}
 use Rattle.tex_sizes.specs.Sizes.{nearest_binary}
 
@@ -49,6 +50,13 @@ module _ (digits : List ℕ) (i : ℕ) (all : AllDigits 10 digits) (within : i <
       → min (2 ^ 27) (10 * number + (get_or digits i 0 - 48)) ≡ min (digits_value 10 (take (i + 1) digits)) (2 ^ 27)
   one_more_digit number is =
       omega (arith, digits_value_more 10 digits i within, digit_value_digit (get_or digits i 0) (digit_at digits i all within))
+
+pub digits_within : (text : List ℕ) → digits_len text ≤ length text
+digits_within text = prefix_len-le-length is_ascii_digit text
+
+pub ruleset splits = (digits_within, leading_are_digits)
+
+pub ruleset wholes = (at_least_48, one_more_digit)
 
 -- 10 to a power is positive
 pub tens_positive : (k : ℕ) → 0 < 10 ^ k
@@ -91,6 +99,8 @@ module _ (digits : List ℕ) (i : ℕ) (all : AllDigits 10 digits) (within : i <
       digit_in_front (digits_value 10 (drop (i + 1) digits)) power (get_or digits i 0 - 48) quotient (tens_positive (length (drop (i + 1) digits))) is
       ∙ ap (λ v. 2 ^ 17 * v / (10 * power)) (sym value_in_front)
       ∙ ap (λ p. 2 ^ 17 * digits_value 10 (drop i digits) / p) (sym power_in_front)
+
+pub ruleset fractions = (at_least_48, at_most_57, one_step, nearest, tens_positive)
 
 -- Law: TeX reads an amount in points with five decimals as the same amount.
 read_with_five_decimals : (sp : ℕ) → nearest_binary 100000 (nearest_decimal 100000 sp) ≡ sp

@@ -8,6 +8,7 @@ ghost use Rattle.tex_sizes.specs.Sizes.{digits_of, fraction_value, rest_of};
 pub(crate) const LIMIT: u64 = 0x800_0000;
 
 /// Splits a text after the digits that it begins with.
+#[tactic(auto, using(crate::proofs::DigitLemmas::splits))]
 pub(crate) fn split_digits(text: &[u8]) -> (&[u8], &[u8])
     ensures digits { result.0.now ≡ digits_of text.now }
     ensures rest { result.1.now ≡ rest_of text.now }
@@ -28,6 +29,7 @@ fn digit_count(text: &[u8]) -> usize
 }
 
 /// Returns the number that digits write, or 2^27 if it is larger.
+#[tactic(auto, using(crate::proofs::DigitLemmas::wholes))]
 pub(crate) fn whole_number(digits: &[u8]) -> u64
     requires { AllDigits 10 digits.now }
     ensures { result ≡ min (digits_value 10 digits.now) (2 ^ 27) }
@@ -41,6 +43,7 @@ pub(crate) fn whole_number(digits: &[u8]) -> u64
 
 /// Returns the decimal fraction that digits write, in units of 2^-16, rounded to the nearest. As in TeX,
 /// the digits are read from the last to the first, and each quotient is rounded down.
+#[tactic(auto, using(crate::proofs::DigitLemmas::fractions))]
 pub(crate) fn rounded_fraction(digits: &[u8]) -> u64
     requires { AllDigits 10 digits.now }
     ensures value { result ≡ fraction_value digits.now }
