@@ -1,4 +1,3 @@
-pub mod CountsTextLemmas
 pub mod ListingLemmas
 pub mod PairLemmas
 pub mod PairRows

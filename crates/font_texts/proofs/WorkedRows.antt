@@ -15,10 +15,10 @@ use Rattle.encodings.specs.Tables.{ot1_characters, t1_characters, ly1_characters
 use Rattle.encodings.specs.Codes.{characters_of}
 use Rattle.encodings.specs.Characters.{character_of}
 use Rattle.font_texts.specs.AllListing.{hex_byte}
-use Rattle.font_texts.specs.PairsText.{action_name, action_value, json_action_value, json_symbol, line_end, pair_front, symbol_word}
+use Rattle.font_texts.specs.PairsText.{action_name, action_value, line_end, pair_front, symbol_in}
 use Rattle.font_texts.specs.PairCharacters.{character_cell, character_name, character_word, characters_beside, json_character, json_member, json_value, pair_line_with, symbol_character, symbol_field, value_character, value_field, value_member}
 use Rattle.font_texts.specs.Listing.{length_line}
-use Rattle.font_texts.specs.ListingFormats.{hidden_name, length_in, length_quote, line_of, table_of_lines}
+use Rattle.font_texts.specs.ListingFormats.{hidden_name, length_in, length_quote, line_of, table_of_lines, word_in}
 use Rattle.font_texts.specs.declared.finding.FindingFormat.TheVariants.{Json as FindingJson}
 use Rattle.font_texts.specs.declared.pair.Pair.{Pair}
 use Rattle.font_texts.specs.declared.pairs_format.PairsFormat.TheVariants.{Text, Csv, Json}
@@ -26,85 +26,46 @@ use Rattle.font_texts.specs.declared.pairs_format.PairsFormat.TheVariants.{Text,
 abbrev pair : Symbol → Symbol → Action → Pair
 pair first second action = record { left = first; right = second; action = action }
 
--- ---- text
+-- lines of text with an encoding: V and A; two hyphens, which become an en dash; f and i, whose ligature
+-- is no character of the encoding; both boundaries; a space and a soft hyphen
+in_text :
+    (pair_line_with ScaledPoints (Some Ot1) Text (pair (Char 86) (Char 65) (Kern (negsuc 72818))) ≡ codes "86 65 kern -72819 V A\n")
+    × (pair_line_with ScaledPoints (Some Ot1) Text (pair (Char 45) (Char 45) (Lig 123 false false 0))
+    ≡ codes "45 45 LIG 123 - - " ++ 0xE2 ∷ 0x80 ∷ 0x93 ∷ 10 ∷ [])
+    × (pair_line_with ScaledPoints (Some Ot1) Text (pair (Char 102) (Char 105) (Lig 12 false false 0)) ≡ codes "102 105 LIG 12 f i none\n")
+    × (pair_line_with ScaledPoints (Some T1) Text (pair Left Right (Kern (pos 0))) ≡ codes "left right kern 0 left right\n")
+    × (pair_line_with ScaledPoints (Some Latin1) Text (pair (Char 32) (Char 173) (Kern (pos 1))) ≡ codes "32 173 kern 1 U+0020 U+00AD\n")
+unfolding pair_line_with pair_front line_end characters_beside symbol_in word_in action_name action_value length_in length_quote length_text digits symbol_field value_field character_word character_name encode_utf8 character_of characters_of ot1_characters
+in_text = (refl, refl, refl, refl, refl)
 
--- V and A
-kern_in_text : pair_line_with ScaledPoints (Some Ot1) Text (pair (Char 86) (Char 65) (Kern (negsuc 72818))) ≡ codes "86 65 kern -72819 V A\n"
-unfolding pair_line_with pair_front line_end characters_beside symbol_word action_name action_value length_text digits symbol_field value_field character_word encode_utf8 character_of characters_of ot1_characters
-kern_in_text = refl
+-- CSV: a comma and a double quote; the left boundary, and a code without a character
+in_csv :
+    (pair_line_with ScaledPoints (Some T1) Csv (pair (Char 44) (Char 34) (Kern (pos 1))) ≡ codes "44,34,kern,1,\",\",\"\"\"\",\n")
+    × (pair_line_with ScaledPoints (Some Ly1) Csv (pair Left (Char 0) (Lig 65 true false 0)) ≡ codes "left,0,/LIG,65,,,A\n")
+unfolding pair_line_with pair_front line_end characters_beside symbol_in word_in action_name action_value length_in length_quote length_text digits symbol_character value_character character_cell character_word encode_utf8 character_of characters_of t1_characters ly1_characters
+in_csv = (refl, refl)
 
--- two hyphens, which become an en dash
-ligature_in_text : pair_line_with ScaledPoints (Some Ot1) Text (pair (Char 45) (Char 45) (Lig 123 false false 0))
-    ≡ codes "45 45 LIG 123 - - " ++ 0xE2 ∷ 0x80 ∷ 0x93 ∷ 10 ∷ []
-unfolding pair_line_with pair_front line_end characters_beside symbol_word action_name action_value digits symbol_field value_field character_word encode_utf8 character_of characters_of ot1_characters
-ligature_in_text = refl
+-- JSON: a double quote, a backslash and a control character; a boundary, and a kern
+in_json :
+    (pair_line_with ScaledPoints (Some Latin1) Json (pair (Char 34) (Char 92) (Lig 31 false false 0))
+    ≡ codes "{\"left\":34,\"right\":92,\"action\":\"LIG\",\"value\":31,\"left_character\":\"\\\"\",\"right_character\":\"\\\\\",\"value_character\":\"\\u001f\"}\n")
+    × (pair_line_with ScaledPoints (Some Ot1) Json (pair (Char 65) Right (Kern (pos 1)))
+    ≡ codes "{\"left\":65,\"right\":\"right\",\"action\":\"kern\",\"value\":1,\"left_character\":\"A\",\"right_character\":null}\n")
+unfolding pair_line_with pair_front line_end characters_beside symbol_in word_in action_name action_value length_in length_quote length_text digits symbol_character value_member json_member json_value json_character hex_byte encode_utf8 character_of characters_of ot1_characters
+in_json = (refl, refl)
 
--- f and i, whose ligature is no character of the encoding
-none_in_text : pair_line_with ScaledPoints (Some Ot1) Text (pair (Char 102) (Char 105) (Lig 12 false false 0)) ≡ codes "102 105 LIG 12 f i none\n"
-unfolding pair_line_with pair_front line_end characters_beside symbol_word action_name action_value digits symbol_field value_field character_word encode_utf8 character_of characters_of ot1_characters
-none_in_text = refl
+-- without an encoding; and in points, where a kern is a string in JSON
+of_codes :
+    (pair_line_with ScaledPoints None Text (pair (Char 86) (Char 65) (Kern (negsuc 72818))) ≡ codes "86 65 kern -72819\n")
+    × (pair_line_with Points None Json (pair (Char 86) (Char 65) (Kern (negsuc 72818)))
+    ≡ codes "{\"left\":86,\"right\":65,\"action\":\"kern\",\"value\":\"-1.11113pt\"}\n")
+unfolding pair_line_with pair_front line_end characters_beside symbol_in word_in action_name action_value length_in length_quote length_text decimal_in points_power decimal_text digits
+of_codes = (refl, refl)
 
--- both boundaries
-boundaries_in_text : pair_line_with ScaledPoints (Some T1) Text (pair Left Right (Kern (pos 0))) ≡ codes "left right kern 0 left right\n"
-unfolding pair_line_with pair_front line_end characters_beside symbol_word action_name action_value length_text digits symbol_field value_field
-boundaries_in_text = refl
-
--- a space and a soft hyphen
-named_in_text : pair_line_with ScaledPoints (Some Latin1) Text (pair (Char 32) (Char 173) (Kern (pos 1))) ≡ codes "32 173 kern 1 U+0020 U+00AD\n"
-unfolding pair_line_with pair_front line_end characters_beside symbol_word action_name action_value length_text digits symbol_field value_field character_word character_name character_of characters_of
-named_in_text = refl
-
--- ---- CSV
-
--- a comma and a double quote
-quoted_in_csv : pair_line_with ScaledPoints (Some T1) Csv (pair (Char 44) (Char 34) (Kern (pos 1))) ≡ codes "44,34,kern,1,\",\",\"\"\"\",\n"
-unfolding pair_line_with pair_front line_end characters_beside symbol_word action_name action_value length_text digits symbol_character value_character character_cell character_word encode_utf8 character_of characters_of t1_characters
-quoted_in_csv = refl
-
--- the left boundary, and a code without a character
-empty_in_csv : pair_line_with ScaledPoints (Some Ly1) Csv (pair Left (Char 0) (Lig 65 true false 0)) ≡ codes "left,0,/LIG,65,,,A\n"
-unfolding pair_line_with pair_front line_end characters_beside symbol_word action_name action_value digits symbol_character value_character character_cell character_word encode_utf8 character_of characters_of ly1_characters
-empty_in_csv = refl
-
--- ---- JSON
-
--- a double quote, a backslash and a control character
-escaped_in_json : pair_line_with ScaledPoints (Some Latin1) Json (pair (Char 34) (Char 92) (Lig 31 false false 0))
-    ≡ codes "{\"left\":34,\"right\":92,\"action\":\"LIG\",\"value\":31,\"left_character\":\"\\\"\",\"right_character\":\"\\\\\",\"value_character\":\"\\u001f\"}\n"
-unfolding pair_line_with pair_front line_end characters_beside json_symbol action_name action_value json_action_value digits symbol_character value_member json_member json_value json_character hex_byte character_of characters_of
-escaped_in_json = refl
-
--- a boundary, and a kern
-null_in_json : pair_line_with ScaledPoints (Some Ot1) Json (pair (Char 65) Right (Kern (pos 1)))
-    ≡ codes "{\"left\":65,\"right\":\"right\",\"action\":\"kern\",\"value\":1,\"left_character\":\"A\",\"right_character\":null}\n"
-unfolding pair_line_with pair_front line_end characters_beside json_symbol action_name json_action_value length_in length_quote length_text digits symbol_character value_member json_member json_value json_character encode_utf8 character_of characters_of ot1_characters
-null_in_json = refl
-
--- ---- without an encoding
-
-of_bytes : pair_line_with ScaledPoints None Text (pair (Char 86) (Char 65) (Kern (negsuc 72818))) ≡ codes "86 65 kern -72819\n"
-unfolding pair_line_with pair_front line_end characters_beside symbol_word action_name action_value length_text digits
-of_bytes = refl
-
--- ---- in points
-
-string_in_json : pair_line_with Points None Json (pair (Char 86) (Char 65) (Kern (negsuc 72818)))
-    ≡ codes "{\"left\":86,\"right\":65,\"action\":\"kern\",\"value\":\"-1.11113pt\"}\n"
-unfolding pair_line_with pair_front line_end characters_beside json_symbol action_name json_action_value length_in length_quote length_text decimal_in points_power decimal_text digits
-string_in_json = refl
-
--- ---- listings in JSON
-
--- a kern in points is a string
-kern_in_points : length_line (record { format = FindingJson; unit = Points }) (codes "kern") 7 (negsuc 40959) ≡ codes ",{\"kern\":7,\"value\":\"-0.625pt\"}"
-unfolding line_of hidden_name length_in length_quote length_text decimal_in points_power decimal_text digits
-kern_in_points = refl
-
--- a table with two lines, and one with none
-table_in_json : table_of_lines FindingJson (codes "kerns") (codes ",{},{}") ≡ codes ",\"kerns\":[{},{}]"
-unfolding table_of_lines
-table_in_json = refl
-
-empty_table_in_json : table_of_lines FindingJson (codes "kerns") [] ≡ codes ",\"kerns\":[]"
-unfolding table_of_lines
-empty_table_in_json = refl
+-- listings in JSON: a kern in points is a string; a table with two lines, and one with none
+listed_in_json :
+    (length_line (record { format = FindingJson; unit = Points }) (codes "kern") 7 (negsuc 40959) ≡ codes ",{\"kern\":7,\"value\":\"-0.625pt\"}")
+    × (table_of_lines FindingJson (codes "kerns") (codes ",{},{}") ≡ codes ",\"kerns\":[{},{}]")
+    × (table_of_lines FindingJson (codes "kerns") [] ≡ codes ",\"kerns\":[]")
+unfolding line_of hidden_name length_in length_quote length_text decimal_in points_power decimal_text digits table_of_lines
+listed_in_json = (refl, refl, refl)

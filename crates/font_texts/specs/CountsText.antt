@@ -2,7 +2,6 @@
 -- Public source: the names and their order are those of tftopl.web, section 8; the text is this project's
 -- own.
 use Rattle.std.specs.Prelude.{◌≡◌, ℕ, List, [], ◌∷◌, ◌++◌, codes, decimal, flat_map, Option, Some, None, Result, Ok, Err}
-use Rattle.std.specs.Borrow.{Bor}
 use Rattle.std.specs.Result.{result_unwrap_or}
 use Rattle.tfm_words.specs.declared.numbers.Numbers.{Numbers}
 use Rattle.tfm_words.specs.Counts.{counts_of}
@@ -48,10 +47,6 @@ head_rows c points = count_rows c ++ (codes "design", points) ∷ []
 -- the text of the counts and the design size of a font in which neither has an error
 abbrev pub counts_text_of : List ℕ → List ℕ
 counts_text_of bytes = count_rows_text Text (head_rows (counts_of bytes) (result_unwrap_or (design_size_of bytes) 0))
-
--- the row of a name, given by reference, and a number
-abbrev pub count_row_of : Bor (List ℕ) × ℕ → List ℕ × ℕ
-count_row_of shown = (shown.0.now, shown.1)
 
 -- the font error for the design size, if that has an error
 abbrev pub design_fault : Result ℕ DesignFault → Option FontFault

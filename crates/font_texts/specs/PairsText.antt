@@ -3,7 +3,6 @@
 -- METAFONTbook, Appendix F; JSON is RFC 8259, and CSV is RFC 4180 except that a line ends with a line feed;
 -- the rest is this project's own.
 use Rattle.std.specs.Prelude.{ℕ, Bool, List, [], ◌++◌, codes, decimal, flat_map, replicate, if◌then◌else◌}
-use Rattle.tex_sizes.specs.Lengths.{length_text}
 use Rattle.tex_sizes.specs.declared.length_unit.LengthUnit.{LengthUnit}
 use Rattle.lig_kern.specs.declared.action.Action.{Action}
 use Rattle.lig_kern.specs.declared.action.Action.TheVariants.{Kern, Lig}
@@ -11,23 +10,18 @@ use Rattle.lig_kern.specs.declared.symbol.Symbol.{Symbol}
 use Rattle.lig_kern.specs.declared.symbol.Symbol.TheVariants.{Left, Char, Right}
 use Rattle.tfm_tables.specs.Font.{FontValue}
 use Rattle.font_texts.specs.Pairs.{pairs_of}
-use Rattle.font_texts.specs.ListingFormats.{length_in}
-use Rattle.font_texts.specs.declared.finding.FindingFormat.TheVariants.{Json as JsonFormat}
+use Rattle.font_texts.specs.ListingFormats.{length_in, word_in}
+use Rattle.font_texts.specs.declared.finding.FindingFormat.{FindingFormat}
+use Rattle.font_texts.specs.declared.finding.FindingFormat.TheVariants.{Text as InText, Json as InJson}
 use Rattle.font_texts.specs.declared.pair.Pair.{Pair}
 use Rattle.font_texts.specs.declared.pairs_format.PairsFormat.{PairsFormat}
 use Rattle.font_texts.specs.declared.pairs_format.PairsFormat.TheVariants.{Text, Csv, Json}
 
--- a symbol: the code of a character, or the name of a boundary
-unfoldable pub symbol_word : Symbol → List ℕ
-symbol_word Left = codes "left"
-symbol_word (Char code) = decimal code
-symbol_word Right = codes "right"
-
--- a symbol in JSON: a number, or a string
-unfoldable pub json_symbol : Symbol → List ℕ
-json_symbol Left = codes "\"left\""
-json_symbol (Char code) = decimal code
-json_symbol Right = codes "\"right\""
+-- a symbol: the code of a character, or the name of a boundary, which is a string in JSON
+unfoldable pub symbol_in : FindingFormat → Symbol → List ℕ
+symbol_in format Left = word_in format (codes "left")
+symbol_in format (Char code) = decimal code
+symbol_in format Right = word_in format (codes "right")
 
 -- a slash for a neighbour that is kept
 abbrev pub slash_if : Bool → List ℕ
@@ -39,28 +33,24 @@ unfoldable pub action_name : Action → List ℕ
 action_name (Kern amount) = codes "kern"
 action_name (Lig code keep_left keep_right pass) = slash_if keep_left ++ codes "LIG" ++ slash_if keep_right ++ replicate pass 62
 
--- the value of an action: the amount of a kern in a unit, or the code of a ligature character
-unfoldable pub action_value : LengthUnit → Action → List ℕ
-action_value unit (Kern amount) = length_text unit amount
-action_value unit (Lig code keep_left keep_right pass) = decimal code
-
--- the value of an action in JSON: a number, but a string for a kern in a unit other than sp
-unfoldable pub json_action_value : LengthUnit → Action → List ℕ
-json_action_value unit (Kern amount) = length_in (record { format = JsonFormat; unit = unit }) amount
-json_action_value unit (Lig code keep_left keep_right pass) = decimal code
+-- the value of an action: the amount of a kern in a unit, or the code of a ligature character; in JSON it is a number,
+-- except that a kern in a unit other than sp is a string
+unfoldable pub action_value : FindingFormat → LengthUnit → Action → List ℕ
+action_value format unit (Kern amount) = length_in (record { format = format; unit = unit }) amount
+action_value format unit (Lig code keep_left keep_right pass) = decimal code
 
 -- the four fields of a pair with a separator between neighbours
 abbrev pub pair_fields : LengthUnit → List ℕ → Pair → List ℕ
 pair_fields unit separator pair =
-    symbol_word pair.left ++ separator ++ symbol_word pair.right ++ separator
-    ++ action_name pair.action ++ separator ++ action_value unit pair.action
+    symbol_in InText pair.left ++ separator ++ symbol_in InText pair.right ++ separator
+    ++ action_name pair.action ++ separator ++ action_value InText unit pair.action
 
 -- the same four fields as the members of a JSON object
 abbrev pub pair_members : LengthUnit → Pair → List ℕ
 pair_members unit pair =
-    codes "\"left\":" ++ json_symbol pair.left ++ codes ",\"right\":" ++ json_symbol pair.right
+    codes "\"left\":" ++ symbol_in InJson pair.left ++ codes ",\"right\":" ++ symbol_in InJson pair.right
     ++ codes ",\"action\":\"" ++ action_name pair.action ++ codes "\",\"value\":"
-    ++ json_action_value unit pair.action
+    ++ action_value InJson unit pair.action
 
 -- the line of a pair in a format, up to its end
 unfoldable pub pair_front : LengthUnit → PairsFormat → Pair → List ℕ

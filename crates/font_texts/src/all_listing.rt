@@ -8,7 +8,7 @@ ghost use Rattle.tfm_tables.specs.Table.{entries_of, table_of};
 ghost use Rattle.font_texts.specs.AllListing.{all_listing_of, hex_text, piece_fields, recipe_line, word_line};
 ghost use Rattle.font_texts.specs.ListingFormats.{word_in};
 
-use crate::appending::push_hex;
+use crate::appending::{Pushed, push_hex};
 use crate::counts::push_counts;
 use crate::fields::{pick, push_hidden_name, push_number_field};
 use crate::listing::{push_contents, push_end, push_head};
@@ -32,32 +32,16 @@ pub fn list_all_text(
         × (text.items ≡ all_listing_of layout f)) }
     ensures fault { IfErr result (IsRefusalOf bytes.now) }
 {
-    let (counts, font) = accepted(alloc, bytes, size)?;
-    let words = &bytes[..4 * usize::from(counts.lf())];
-    match text_of(alloc, words, &counts, &font, layout) {
-        Ok(text) => Ok(text),
-        Err(_) => Err(FontFault::OutOfMemory),
-    }
-}
-
-/// Returns the counts in these bytes, and the font, which is read at `size`, or at its design size for
-/// `None`.
-fn accepted(
-    alloc: Global,
-    bytes: &[u8],
-    size: Option<Size>,
-) -> Result<(Counts, FontMetrics), FontFault>
-    ensures counts { IfOk result (λ read. AreCountsOf bytes.now read.0) }
-    ensures reach { IfOk result (λ read. AreCountsOf (take (4 * read.0.lf) bytes.now) read.0) }
-    ensures ok { IfOk result (λ read. IsFontOf bytes.now size read.1) }
-    ensures fault { IfErr result (IsRefusalOf bytes.now) }
-{
     let counts = match Counts::read(bytes) {
         Ok(counts) => counts,
         Err(fault) => return Err(FontFault::Counts(fault)),
     };
     let font = FontMetrics::read(alloc, bytes, size)?;
-    Ok((counts, font))
+    let words = &bytes[..4 * usize::from(counts.lf())];
+    match text_of(alloc, words, &counts, &font, layout) {
+        Ok(text) => Ok(text),
+        Err(_) => Err(FontFault::OutOfMemory),
+    }
 }
 
 /// Returns the full listing of a font. `words` are the bytes of its file, and `counts` are its counts.
@@ -111,12 +95,7 @@ fn recipe_lines(alloc: Global, format: FindingFormat, recipes: &[u8]) -> Result<
 }
 
 #[tactic(auto, using(crate::proofs::ListingLemmas::joined), unfolding(crate::specs::ListingFormats::line_of, crate::specs::AllListing::recipe_line))]
-fn push_recipe(
-    text: &mut Vec<u8>,
-    format: FindingFormat,
-    recipes: &[u8],
-    i: usize,
-) -> Result<(), AllocError>
+fn push_recipe(text: &mut Vec<u8>, format: FindingFormat, recipes: &[u8], i: usize) -> Pushed
     requires { 4 * i + 4 ≤ length recipes.now }
     ensures { OnOk result (text.new.items ≡ text.old.items ++ recipe_line format recipes.now i) }
 {
@@ -126,7 +105,7 @@ fn push_recipe(
 }
 
 #[tactic(auto, using(crate::proofs::ListingLemmas::joined), unfolding(crate::specs::AllListing::piece_fields))]
-fn push_pieces(text: &mut Vec<u8>, format: FindingFormat, recipe: [u8; 4]) -> Result<(), AllocError>
+fn push_pieces(text: &mut Vec<u8>, format: FindingFormat, recipe: [u8; 4]) -> Pushed
     ensures { OnOk result (text.new.items ≡ text.old.items ++ piece_fields format recipe) }
 {
     push_number_field(text, format, b"top", recipe[0])?;
@@ -155,12 +134,7 @@ fn word_lines(
 }
 
 #[tactic(auto, using(crate::proofs::ListingLemmas::joined), unfolding(crate::specs::ListingFormats::line_of, crate::specs::AllListing::word_line))]
-fn push_word_line(
-    text: &mut Vec<u8>,
-    format: FindingFormat,
-    words: &[u8],
-    i: usize,
-) -> Result<(), AllocError>
+fn push_word_line(text: &mut Vec<u8>, format: FindingFormat, words: &[u8], i: usize) -> Pushed
     requires { 4 * i + 4 ≤ length words.now }
     ensures { OnOk result (text.new.items ≡ text.old.items ++ word_line format words.now i) }
 {
@@ -172,7 +146,7 @@ fn push_word_line(
 
 /// Appends the hexadecimal digits of these bytes.
 #[tactic(auto, using(crate::proofs::ListingLemmas::joined), unfolding(crate::specs::ListingFormats::word_in))]
-fn push_digits(text: &mut Vec<u8>, format: FindingFormat, bytes: &[u8]) -> Result<(), AllocError>
+fn push_digits(text: &mut Vec<u8>, format: FindingFormat, bytes: &[u8]) -> Pushed
     ensures { OnOk result (text.new.items ≡ text.old.items ++ word_in format (hex_text bytes.now)) }
 {
     let quote = pick(format, b"", b"\"");

@@ -6,6 +6,9 @@ ghost use Rattle.font_texts.specs.ListingWords.{escaped, escaped_text};
 
 use std::alloc::AllocError;
 
+/// What a function returns that appends to a text. The error means that an allocation failed.
+pub(crate) type Pushed = Result<(), AllocError>;
+
 fn hex_digit(value: u8) -> u8
     requires { value < 16 }
     ensures { result ≡ digit_glyph false value }
@@ -30,7 +33,7 @@ pub(crate) fn capital_digit(value: u8) -> u8
 }
 
 #[tactic(auto, unfolding(crate::specs::ListingWords::escaped))]
-fn push_escaped(text: &mut Vec<u8>, byte: u8) -> Result<(), AllocError>
+fn push_escaped(text: &mut Vec<u8>, byte: u8) -> Pushed
     ensures { OnOk result (text.new.items ≡ text.old.items ++ escaped byte) }
 {
     if matches!(byte, 32..=126) && byte != b'\\' {
@@ -51,7 +54,7 @@ pub fn push_escaped_text(text: &mut Vec<u8>, bytes: &[u8]) -> Result<(), AllocEr
 }
 
 #[tactic(auto, unfolding(crate::specs::JsonText::json_escaped))]
-fn push_json_escaped(text: &mut Vec<u8>, byte: u8) -> Result<(), AllocError>
+fn push_json_escaped(text: &mut Vec<u8>, byte: u8) -> Pushed
     ensures { OnOk result (text.new.items ≡ text.old.items ++ json_escaped byte) }
 {
     if !matches!(byte, 32..=126) || byte == b'\\' || byte == b'"' {
@@ -72,14 +75,14 @@ pub fn push_json_text(text: &mut Vec<u8>, bytes: &[u8]) -> Result<(), AllocError
 }
 
 #[tactic(auto, unfolding(crate::specs::AllListing::hex_byte))]
-fn push_hex_byte(text: &mut Vec<u8>, byte: u8) -> Result<(), AllocError>
+fn push_hex_byte(text: &mut Vec<u8>, byte: u8) -> Pushed
     ensures { OnOk result (text.new.items ≡ text.old.items ++ hex_byte byte) }
 {
     text.extend_from_slice(&[hex_digit(byte / 16), hex_digit(byte % 16)])
 }
 
 /// Appends bytes, each as two hexadecimal digits in lower case, the higher digit first.
-pub fn push_hex(text: &mut Vec<u8>, bytes: &[u8]) -> Result<(), AllocError>
+pub fn push_hex(text: &mut Vec<u8>, bytes: &[u8]) -> Pushed
     ensures { OnOk result (text.new.items ≡ text.old.items ++ hex_text bytes.now) }
 {
     for byte in bytes {

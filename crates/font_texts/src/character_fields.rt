@@ -3,10 +3,9 @@ ghost use Rattle.std.specs.Prelude.{◌≡◌, ◌++◌, OnOk, true};
 ghost use Rattle.std.specs.Char.{encode_utf8};
 ghost use Rattle.font_texts.specs.PairCharacters.{character_cell, character_name, character_word, csv_field, is_named as is_named_in, json_character, json_escape, json_member, json_value};
 
-use crate::appending::{capital_digit, push_hex};
-use std::alloc::AllocError;
+use crate::appending::{Pushed, capital_digit, push_hex};
 
-fn push_utf8(text: &mut Vec<u8>, character: char) -> Result<(), AllocError>
+fn push_utf8(text: &mut Vec<u8>, character: char) -> Pushed
     ensures { OnOk result (text.new.items ≡ text.old.items ++ encode_utf8 character) }
 {
     let mut bytes = [0; 4];
@@ -23,7 +22,7 @@ fn is_named(number: u8) -> bool
 
 /// Appends the name of the character with this number, such as `U+00A0`.
 #[tactic(auto, unfolding(crate::specs::PairCharacters::character_name))]
-fn push_name(text: &mut Vec<u8>, number: u8) -> Result<(), AllocError>
+fn push_name(text: &mut Vec<u8>, number: u8) -> Pushed
     ensures { OnOk result (text.new.items ≡ text.old.items ++ character_name number) }
 {
     text.extend_from_slice(b"U+00")?;
@@ -32,7 +31,7 @@ fn push_name(text: &mut Vec<u8>, number: u8) -> Result<(), AllocError>
 
 /// Appends a character as a field of a line of text.
 #[tactic(auto, using(crate::proofs::PairLemmas::words))]
-pub(crate) fn push_word(text: &mut Vec<u8>, character: char) -> Result<(), AllocError>
+pub(crate) fn push_word(text: &mut Vec<u8>, character: char) -> Pushed
     ensures { OnOk result (text.new.items ≡ text.old.items ++ character_word character) }
 {
     match u8::try_from(u32::from(character)) {
@@ -42,7 +41,7 @@ pub(crate) fn push_word(text: &mut Vec<u8>, character: char) -> Result<(), Alloc
 }
 
 /// Appends a comma and a field of CSV, which is empty for `None`.
-pub(crate) fn push_cell(text: &mut Vec<u8>, character: Option<char>) -> Result<(), AllocError>
+pub(crate) fn push_cell(text: &mut Vec<u8>, character: Option<char>) -> Pushed
     ensures { OnOk result (text.new.items ≡ text.old.items ++ csv_field character) }
 {
     text.extend_from_slice(b",")?;
@@ -54,7 +53,7 @@ pub(crate) fn push_cell(text: &mut Vec<u8>, character: Option<char>) -> Result<(
 
 /// Appends a character as a field of CSV, in quotes where it needs them.
 #[tactic(auto, unfolding(crate::specs::PairCharacters::character_cell))]
-fn push_quoted(text: &mut Vec<u8>, character: char) -> Result<(), AllocError>
+fn push_quoted(text: &mut Vec<u8>, character: char) -> Pushed
     ensures { OnOk result (text.new.items ≡ text.old.items ++ character_cell character) }
 {
     match character {
@@ -66,11 +65,7 @@ fn push_quoted(text: &mut Vec<u8>, character: char) -> Result<(), AllocError>
 
 /// Appends a comma and the member of a JSON object for the character of this field.
 #[tactic(auto, using(crate::proofs::ListingLemmas::joined), unfolding(crate::specs::PairCharacters::json_member))]
-pub(crate) fn push_json_member(
-    text: &mut Vec<u8>,
-    field: &[u8],
-    character: Option<char>,
-) -> Result<(), AllocError>
+pub(crate) fn push_json_member(text: &mut Vec<u8>, field: &[u8], character: Option<char>) -> Pushed
     ensures { OnOk result (text.new.items ≡ text.old.items ++ json_member field.now character) }
 {
     text.extend_from_slice(b",\"")?;
@@ -81,7 +76,7 @@ pub(crate) fn push_json_member(
 
 /// Appends a character as a JSON string, or `null`.
 #[tactic(auto, unfolding(crate::specs::PairCharacters::json_value))]
-fn push_json_value(text: &mut Vec<u8>, character: Option<char>) -> Result<(), AllocError>
+fn push_json_value(text: &mut Vec<u8>, character: Option<char>) -> Pushed
     ensures { OnOk result (text.new.items ≡ text.old.items ++ json_value character) }
 {
     match character {
@@ -96,7 +91,7 @@ fn push_json_value(text: &mut Vec<u8>, character: Option<char>) -> Result<(), Al
 
 /// Appends a character of a JSON string.
 #[tactic(auto, unfolding(crate::specs::PairCharacters::json_character))]
-fn push_json_character(text: &mut Vec<u8>, character: char) -> Result<(), AllocError>
+fn push_json_character(text: &mut Vec<u8>, character: char) -> Pushed
     ensures { OnOk result (text.new.items ≡ text.old.items ++ json_character character) }
 {
     match character {
@@ -108,7 +103,7 @@ fn push_json_character(text: &mut Vec<u8>, character: char) -> Result<(), AllocE
 }
 
 /// Appends a character below U+0100 by its number, such as `\u001f`.
-fn push_escape(text: &mut Vec<u8>, number: u8) -> Result<(), AllocError>
+fn push_escape(text: &mut Vec<u8>, number: u8) -> Pushed
     ensures { OnOk result (text.new.items ≡ text.old.items ++ json_escape number) }
 {
     text.extend_from_slice(b"\\u00")?;

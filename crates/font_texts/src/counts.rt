@@ -1,8 +1,9 @@
-ghost use Rattle.std.specs.Prelude.{◌≡◌, ◌++◌, ◌∷◌, [], map, length, None, IfOk, IfErr, OnOk};
-ghost use Rattle.font_texts.specs.CountsText.{IsHeadRefusalOf, count_rows, counts_text_of, head_rows, head_fault_of, count_row_of, count_rows_text};
+ghost use Rattle.std.specs.Prelude.{◌≡◌, ◌++◌, None, IfOk, IfErr, OnOk};
+ghost use Rattle.font_texts.specs.CountsText.{IsHeadRefusalOf, count_rows, counts_text_of, head_rows, head_fault_of, count_rows_text};
 ghost use Rattle.font_texts.specs.declared.finding.FindingFormat.TheVariants.{Text};
 
 use crate::FindingFormat;
+use crate::appending::Pushed;
 use crate::rows::push_number_entry;
 use std::alloc::{AllocError, Global};
 use tfm_tables::FontFault;
@@ -37,49 +38,21 @@ fn text_of(alloc: Global, counts: &Counts, design: Size) -> Result<Vec<u8>, Allo
     Ok(text)
 }
 
-/// Returns the names and the values of the twelve counts, in the order of the file.
-#[tactic(auto, unfolding(crate::specs::CountsText::count_rows))]
-fn rows_of(counts: &Counts) -> [(&'static str, u16); 12]
-    ensures { map count_row_of result ≡ count_rows counts.now }
-{
-    [
-        ("lf", counts.lf()),
-        ("lh", counts.lh()),
-        ("bc", counts.bc()),
-        ("ec", counts.ec()),
-        ("nw", counts.nw()),
-        ("nh", counts.nh()),
-        ("nd", counts.nd()),
-        ("ni", counts.ni()),
-        ("nl", counts.nl()),
-        ("nk", counts.nk()),
-        ("ne", counts.ne()),
-        ("np", counts.np()),
-    ]
-}
-
-/// Appends an entry for each of the twelve counts.
-pub fn push_counts(
-    text: &mut Vec<u8>,
-    format: FindingFormat,
-    counts: &Counts,
-) -> Result<(), AllocError>
+/// Appends an entry for each of the twelve counts, in the order of the file.
+#[tactic(auto, using(crate::proofs::ListingLemmas::joined), unfolding(crate::specs::CountsText::count_rows))]
+pub fn push_counts(text: &mut Vec<u8>, format: FindingFormat, counts: &Counts) -> Pushed
     ensures { OnOk result (text.new.items ≡ text.old.items ++ count_rows_text format (count_rows counts.now)) }
 {
-    push_rows(text, format, &rows_of(counts))
-}
-
-/// Appends an entry for each name and its number.
-#[tactic(auto, using(crate::proofs::CountsTextLemmas::row_more))]
-fn push_rows(
-    text: &mut Vec<u8>,
-    format: FindingFormat,
-    rows: &[(&str, u16)],
-) -> Result<(), AllocError>
-    ensures { OnOk result (text.new.items ≡ text.old.items ++ count_rows_text format (map count_row_of rows.now)) }
-{
-    for (name, number) in rows {
-        push_number_entry(text, format, name.as_bytes(), *number)?;
-    }
-    Ok(())
+    push_number_entry(text, format, b"lf", counts.lf())?;
+    push_number_entry(text, format, b"lh", counts.lh())?;
+    push_number_entry(text, format, b"bc", counts.bc())?;
+    push_number_entry(text, format, b"ec", counts.ec())?;
+    push_number_entry(text, format, b"nw", counts.nw())?;
+    push_number_entry(text, format, b"nh", counts.nh())?;
+    push_number_entry(text, format, b"nd", counts.nd())?;
+    push_number_entry(text, format, b"ni", counts.ni())?;
+    push_number_entry(text, format, b"nl", counts.nl())?;
+    push_number_entry(text, format, b"nk", counts.nk())?;
+    push_number_entry(text, format, b"ne", counts.ne())?;
+    push_number_entry(text, format, b"np", counts.np())
 }

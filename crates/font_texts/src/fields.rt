@@ -3,9 +3,9 @@ ghost use Rattle.std.specs.Prelude.{◌≡◌, ◌++◌, OnOk};
 ghost use Rattle.font_texts.specs.ListingFields.{length_field};
 ghost use Rattle.font_texts.specs.ListingFormats.{field_name, hidden_name, in_format, length_in, length_quote as quote_of, name_in, word_in};
 
+use crate::appending::Pushed;
 use crate::{FindingFormat, ListLayout};
 use itoa::Integer;
-use std::alloc::AllocError;
 use tex_sizes::{LengthUnit, push_length};
 use tfm_words::push_number;
 
@@ -21,12 +21,7 @@ pub fn pick<'a>(format: FindingFormat, text: &'a [u8], json: &'a [u8]) -> &'a [u
 
 /// Appends `before`, a name, and what follows it.
 #[tactic(auto, using(crate::proofs::ListingLemmas::joined))]
-pub fn push_name(
-    text: &mut Vec<u8>,
-    format: FindingFormat,
-    before: &[u8],
-    name: &[u8],
-) -> Result<(), AllocError>
+pub fn push_name(text: &mut Vec<u8>, format: FindingFormat, before: &[u8], name: &[u8]) -> Pushed
     ensures { OnOk result (text.new.items ≡ text.old.items ++ (before.now ++ name_in format name.now)) }
 {
     text.extend_from_slice(before)?;
@@ -36,11 +31,7 @@ pub fn push_name(
 
 /// Appends the name of a field.
 #[tactic(auto, unfolding(crate::specs::ListingFormats::field_name))]
-pub fn push_field_name(
-    text: &mut Vec<u8>,
-    format: FindingFormat,
-    name: &[u8],
-) -> Result<(), AllocError>
+pub fn push_field_name(text: &mut Vec<u8>, format: FindingFormat, name: &[u8]) -> Pushed
     ensures { OnOk result (text.new.items ≡ text.old.items ++ field_name format name.now) }
 {
     push_name(text, format, pick(format, b" ", b",\""), name)
@@ -48,11 +39,7 @@ pub fn push_field_name(
 
 /// Appends the name of a field that text doesn't have.
 #[tactic(auto, unfolding(crate::specs::ListingFormats::hidden_name))]
-pub fn push_hidden_name(
-    text: &mut Vec<u8>,
-    format: FindingFormat,
-    name: &[u8],
-) -> Result<(), AllocError>
+pub fn push_hidden_name(text: &mut Vec<u8>, format: FindingFormat, name: &[u8]) -> Pushed
     ensures { OnOk result (text.new.items ≡ text.old.items ++ hidden_name format name.now) }
 {
     match format {
@@ -63,7 +50,7 @@ pub fn push_hidden_name(
 
 /// Appends a name that is a value.
 #[tactic(auto, unfolding(crate::specs::ListingFormats::word_in))]
-pub fn push_word(text: &mut Vec<u8>, format: FindingFormat, word: &[u8]) -> Result<(), AllocError>
+pub fn push_word(text: &mut Vec<u8>, format: FindingFormat, word: &[u8]) -> Pushed
     ensures { OnOk result (text.new.items ≡ text.old.items ++ word_in format word.now) }
 {
     match format {
@@ -89,7 +76,7 @@ fn length_quote(layout: ListLayout) -> &'static [u8]
 
 /// Appends a length of so many sp.
 #[tactic(auto, using(crate::proofs::ListingLemmas::joined), unfolding(crate::specs::ListingFormats::length_in))]
-pub fn push_length_in(text: &mut Vec<u8>, layout: ListLayout, sp: i64) -> Result<(), AllocError>
+pub fn push_length_in(text: &mut Vec<u8>, layout: ListLayout, sp: i64) -> Pushed
     ensures { OnOk result (text.new.items ≡ text.old.items ++ length_in layout sp) }
 {
     let quote = length_quote(layout);
@@ -99,12 +86,7 @@ pub fn push_length_in(text: &mut Vec<u8>, layout: ListLayout, sp: i64) -> Result
 
 /// Appends a field with a length of so many sp.
 #[tactic(auto, using(crate::proofs::ListingLemmas::joined))]
-pub fn push_length_field(
-    text: &mut Vec<u8>,
-    layout: ListLayout,
-    name: &[u8],
-    sp: i64,
-) -> Result<(), AllocError>
+pub fn push_length_field(text: &mut Vec<u8>, layout: ListLayout, name: &[u8], sp: i64) -> Pushed
     ensures { OnOk result (text.new.items ≡ text.old.items ++ length_field layout name.now sp) }
 {
     push_field_name(text, layout.format, name)?;
@@ -118,7 +100,7 @@ pub fn push_number_field<I: Integer>(
     format: FindingFormat,
     name: &[u8],
     number: I,
-) -> Result<(), AllocError>
+) -> Pushed
     ensures { OnOk result (text.new.items ≡ text.old.items ++ (field_name format name.now ++ I.text number)) }
 {
     push_field_name(text, format, name)?;

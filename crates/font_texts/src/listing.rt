@@ -5,6 +5,7 @@ ghost use Rattle.tfm_tables.specs.Character.{exists};
 ghost use Rattle.tfm_tables.specs.Table.{entries_of};
 ghost use Rattle.font_texts.specs.Listing.{boundary_entries, char_line, char_lines, contents_of, header_entries, kern_lines, listing_end as end_of, listing_head as head_of, listing_of, param_layout as layout_of, param_lines, size_entries, step_lines};
 
+use crate::appending::Pushed;
 use crate::fields::pick;
 use crate::rows::{
     push_char_line, push_flag_where, push_length_entry, push_length_line, push_number_entry,
@@ -59,7 +60,7 @@ fn text_of(alloc: Global, font: &FontMetrics, layout: ListLayout) -> Result<Vec<
 
 /// Appends what a listing begins with.
 #[tactic(auto, unfolding(crate::specs::Listing::listing_head))]
-pub fn push_head(text: &mut Vec<u8>, layout: ListLayout) -> Result<(), AllocError>
+pub fn push_head(text: &mut Vec<u8>, layout: ListLayout) -> Pushed
     ensures { OnOk result (text.new.items ≡ text.old.items ++ head_of layout) }
 {
     match layout.format {
@@ -73,7 +74,7 @@ pub fn push_head(text: &mut Vec<u8>, layout: ListLayout) -> Result<(), AllocErro
 }
 
 /// Appends the end of a listing.
-pub fn push_end(text: &mut Vec<u8>, format: FindingFormat) -> Result<(), AllocError>
+pub fn push_end(text: &mut Vec<u8>, format: FindingFormat) -> Pushed
     ensures { OnOk result (text.new.items ≡ text.old.items ++ end_of format) }
 {
     text.extend_from_slice(pick(format, b"", b"}\n"))
@@ -86,7 +87,7 @@ pub fn push_contents(
     text: &mut Vec<u8>,
     font: &FontMetrics,
     layout: ListLayout,
-) -> Result<(), AllocError>
+) -> Pushed
     ensures { OnOk result (text.new.items ≡ text.old.items ++ contents_of layout font.now) }
 {
     push_sizes(text, font, layout)?;
@@ -103,7 +104,7 @@ pub fn push_contents(
 }
 
 #[tactic(auto, using(crate::proofs::ListingLemmas::joined), unfolding(crate::specs::Listing::size_entries))]
-fn push_sizes(text: &mut Vec<u8>, font: &FontMetrics, layout: ListLayout) -> Result<(), AllocError>
+fn push_sizes(text: &mut Vec<u8>, font: &FontMetrics, layout: ListLayout) -> Pushed
     ensures { OnOk result (text.new.items ≡ text.old.items ++ size_entries layout font.now) }
 {
     push_number_entry(text, layout.format, b"checksum", font.check_sum())?;
@@ -112,11 +113,7 @@ fn push_sizes(text: &mut Vec<u8>, font: &FontMetrics, layout: ListLayout) -> Res
 }
 
 #[tactic(auto, using(crate::proofs::ListingLemmas::joined), unfolding(crate::specs::Listing::header_entries))]
-fn push_header(
-    text: &mut Vec<u8>,
-    font: &FontMetrics,
-    format: FindingFormat,
-) -> Result<(), AllocError>
+fn push_header(text: &mut Vec<u8>, font: &FontMetrics, format: FindingFormat) -> Pushed
     ensures { OnOk result (text.new.items ≡ text.old.items ++ header_entries format font.now) }
 {
     push_text_where(text, format, b"coding", font.coding())?;
@@ -126,11 +123,7 @@ fn push_header(
 }
 
 #[tactic(auto, using(crate::proofs::ListingLemmas::joined), unfolding(crate::specs::Listing::boundary_entries))]
-fn push_boundaries(
-    text: &mut Vec<u8>,
-    font: &FontMetrics,
-    format: FindingFormat,
-) -> Result<(), AllocError>
+fn push_boundaries(text: &mut Vec<u8>, font: &FontMetrics, format: FindingFormat) -> Pushed
     ensures { OnOk result (text.new.items ≡ text.old.items ++ boundary_entries format font.now) }
 {
     push_number_or_none(text, format, b"right", font.right_boundary())?;
@@ -138,12 +131,7 @@ fn push_boundaries(
 }
 
 #[tactic(auto, unfolding(crate::specs::Listing::char_line))]
-fn push_char_where(
-    text: &mut Vec<u8>,
-    font: &FontMetrics,
-    code: u8,
-    layout: ListLayout,
-) -> Result<(), AllocError>
+fn push_char_where(text: &mut Vec<u8>, font: &FontMetrics, code: u8, layout: ListLayout) -> Pushed
     ensures { OnOk result (text.new.items ≡ text.old.items
         ++ (if exists font.now.words code then char_line layout font.now code else [])) }
 {

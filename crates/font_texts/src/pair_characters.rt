@@ -2,20 +2,16 @@
 ghost use Rattle.std.specs.Prelude.{◌≡◌, ◌++◌, OnOk};
 ghost use Rattle.font_texts.specs.PairCharacters.{characters_beside, code_word, csv_fields, json_members, symbol_character as character_of_symbol, symbol_field, text_fields, value_character as character_of_value, value_field, value_member};
 
+use crate::appending::Pushed;
 use crate::character_fields::{push_cell, push_json_member, push_word};
 use crate::{Pair, PairsFormat, PairsLayout};
 use encodings::{Encoding, character_at};
 use lig_kern::{Action, Symbol};
-use std::alloc::AllocError;
 
 /// Appends the characters of a pair, and before each of them what separates it from the field before; without an
 /// encoding, nothing.
 #[tactic(auto, unfolding(crate::specs::PairCharacters::characters_beside))]
-pub(crate) fn push_characters(
-    text: &mut Vec<u8>,
-    pair: &Pair,
-    layout: PairsLayout,
-) -> Result<(), AllocError>
+pub(crate) fn push_characters(text: &mut Vec<u8>, pair: &Pair, layout: PairsLayout) -> Pushed
     ensures { OnOk result (text.new.items ≡ text.old.items
         ++ characters_beside layout.encoding layout.format pair.now) }
 {
@@ -30,7 +26,7 @@ pub(crate) fn push_characters(
 }
 
 #[tactic(auto, using(crate::proofs::ListingLemmas::joined))]
-fn push_fields(text: &mut Vec<u8>, pair: &Pair, encoding: Encoding) -> Result<(), AllocError>
+fn push_fields(text: &mut Vec<u8>, pair: &Pair, encoding: Encoding) -> Pushed
     ensures { OnOk result (text.new.items ≡ text.old.items ++ text_fields encoding.entry pair.now) }
 {
     text.extend_from_slice(b" ")?;
@@ -41,7 +37,7 @@ fn push_fields(text: &mut Vec<u8>, pair: &Pair, encoding: Encoding) -> Result<()
 }
 
 #[tactic(auto, using(crate::proofs::ListingLemmas::joined))]
-fn push_cells(text: &mut Vec<u8>, pair: &Pair, encoding: Encoding) -> Result<(), AllocError>
+fn push_cells(text: &mut Vec<u8>, pair: &Pair, encoding: Encoding) -> Pushed
     ensures { OnOk result (text.new.items ≡ text.old.items ++ csv_fields encoding.entry pair.now) }
 {
     push_cell(text, symbol_character(encoding, pair.left))?;
@@ -50,7 +46,7 @@ fn push_cells(text: &mut Vec<u8>, pair: &Pair, encoding: Encoding) -> Result<(),
 }
 
 #[tactic(auto, using(crate::proofs::ListingLemmas::joined))]
-fn push_members(text: &mut Vec<u8>, pair: &Pair, encoding: Encoding) -> Result<(), AllocError>
+fn push_members(text: &mut Vec<u8>, pair: &Pair, encoding: Encoding) -> Pushed
     ensures { OnOk result (text.new.items ≡ text.old.items ++ json_members encoding.entry pair.now) }
 {
     push_json_member(text, b"left", symbol_character(encoding, pair.left))?;
@@ -81,7 +77,7 @@ fn value_character(encoding: Encoding, action: Action) -> Option<char>
 }
 
 #[tactic(auto, unfolding(crate::specs::PairCharacters::symbol_field))]
-fn push_symbol(text: &mut Vec<u8>, encoding: Encoding, symbol: Symbol) -> Result<(), AllocError>
+fn push_symbol(text: &mut Vec<u8>, encoding: Encoding, symbol: Symbol) -> Pushed
     ensures { OnOk result (text.new.items ≡ text.old.items ++ symbol_field encoding.entry symbol) }
 {
     match symbol {
@@ -92,7 +88,7 @@ fn push_symbol(text: &mut Vec<u8>, encoding: Encoding, symbol: Symbol) -> Result
 }
 
 #[tactic(auto, unfolding(crate::specs::PairCharacters::value_field))]
-fn push_value(text: &mut Vec<u8>, encoding: Encoding, action: Action) -> Result<(), AllocError>
+fn push_value(text: &mut Vec<u8>, encoding: Encoding, action: Action) -> Pushed
     ensures { OnOk result (text.new.items ≡ text.old.items ++ value_field encoding.entry action) }
 {
     match action {
@@ -105,7 +101,7 @@ fn push_value(text: &mut Vec<u8>, encoding: Encoding, action: Action) -> Result<
 }
 
 /// Appends the character of a code, or `none`.
-fn push_code(text: &mut Vec<u8>, encoding: Encoding, code: u8) -> Result<(), AllocError>
+fn push_code(text: &mut Vec<u8>, encoding: Encoding, code: u8) -> Pushed
     ensures { OnOk result (text.new.items ≡ text.old.items ++ code_word encoding.entry code) }
 {
     match character_at(encoding, code) {
@@ -116,11 +112,7 @@ fn push_code(text: &mut Vec<u8>, encoding: Encoding, code: u8) -> Result<(), All
 
 /// Appends the member of the character that a ligature operation inserts.
 #[tactic(auto, unfolding(crate::specs::PairCharacters::value_member))]
-fn push_value_member(
-    text: &mut Vec<u8>,
-    encoding: Encoding,
-    action: Action,
-) -> Result<(), AllocError>
+fn push_value_member(text: &mut Vec<u8>, encoding: Encoding, action: Action) -> Pushed
     ensures { OnOk result (text.new.items ≡ text.old.items ++ value_member encoding.entry action) }
 {
     match action {

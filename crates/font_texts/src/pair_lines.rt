@@ -1,15 +1,16 @@
 //! Makes the text of the pairs of a font.
-ghost use Rattle.std.specs.Prelude.{◌≡◌, ◌++◌, codes, flat_map, replicate, IfOk, OnOk};
+ghost use Rattle.std.specs.Prelude.{◌≡◌, ◌++◌, codes, flat_map, IfOk, OnOk};
 ghost use Rattle.font_texts.specs.PairCharacters.{pair_line_with, pairs_head_with, pairs_text_with};
-ghost use Rattle.font_texts.specs.PairsText.{action_name, action_value, json_action_value, json_symbol, line_end as end_of, pair_fields, pair_front, pair_members, slash_if, symbol_word};
+ghost use Rattle.font_texts.specs.PairsText.{action_name, action_value, line_end as end_of, pair_fields, pair_front, pair_members, slash_if, symbol_in};
 
-use crate::fields::push_length_in;
+use crate::appending::Pushed;
+use crate::fields::{push_length_in, push_word};
 use crate::pair_characters::push_characters;
 use crate::pairing::pairs;
 use crate::{FindingFormat, ListLayout, Pair, PairsFormat, PairsLayout};
 use lig_kern::{Action, Symbol};
 use std::alloc::{AllocError, Global};
-use tex_sizes::{LengthUnit, push_length};
+use tex_sizes::LengthUnit;
 use tfm_tables::Font;
 use tfm_words::push_number;
 
@@ -46,7 +47,7 @@ fn head(layout: PairsLayout) -> &'static [u8]
     }
 }
 
-fn push_lines(text: &mut Vec<u8>, pairs: &[Pair], layout: PairsLayout) -> Result<(), AllocError>
+fn push_lines(text: &mut Vec<u8>, pairs: &[Pair], layout: PairsLayout) -> Pushed
     ensures { OnOk result (text.new.items ≡ text.old.items
         ++ flat_map (pair_line_with layout.unit layout.encoding layout.format) pairs.now) }
 {
@@ -57,7 +58,7 @@ fn push_lines(text: &mut Vec<u8>, pairs: &[Pair], layout: PairsLayout) -> Result
 }
 
 #[tactic(auto, using(crate::proofs::ListingLemmas::joined), unfolding(crate::specs::PairCharacters::pair_line_with))]
-fn push_line(text: &mut Vec<u8>, pair: &Pair, layout: PairsLayout) -> Result<(), AllocError>
+fn push_line(text: &mut Vec<u8>, pair: &Pair, layout: PairsLayout) -> Pushed
     ensures { OnOk result (text.new.items ≡ text.old.items
         ++ pair_line_with layout.unit layout.encoding layout.format pair.now) }
 {
@@ -78,7 +79,7 @@ fn line_end(format: PairsFormat) -> &'static [u8]
 
 /// Appends the line of a pair up to the end of its four fields.
 #[tactic(auto, unfolding(crate::specs::PairsText::pair_front))]
-fn push_front(text: &mut Vec<u8>, pair: &Pair, layout: PairsLayout) -> Result<(), AllocError>
+fn push_front(text: &mut Vec<u8>, pair: &Pair, layout: PairsLayout) -> Pushed
     ensures { OnOk result (text.new.items ≡ text.old.items ++ pair_front layout.unit layout.format pair.now) }
 {
     match layout.format {
@@ -89,62 +90,46 @@ fn push_front(text: &mut Vec<u8>, pair: &Pair, layout: PairsLayout) -> Result<()
 }
 
 #[tactic(auto, using(crate::proofs::ListingLemmas::joined))]
-fn push_fields(
-    text: &mut Vec<u8>,
-    pair: &Pair,
-    separator: &[u8],
-    unit: LengthUnit,
-) -> Result<(), AllocError>
+fn push_fields(text: &mut Vec<u8>, pair: &Pair, separator: &[u8], unit: LengthUnit) -> Pushed
     ensures { OnOk result (text.new.items ≡ text.old.items ++ pair_fields unit separator.now pair.now) }
 {
-    push_symbol(text, pair.left)?;
+    push_symbol(text, FindingFormat::Text, pair.left)?;
     text.extend_from_slice(separator)?;
-    push_symbol(text, pair.right)?;
+    push_symbol(text, FindingFormat::Text, pair.right)?;
     text.extend_from_slice(separator)?;
     push_name(text, pair.action)?;
     text.extend_from_slice(separator)?;
-    push_value(text, pair.action, unit)
+    push_value(text, pair.action, FindingFormat::Text, unit)
 }
 
 /// Appends a JSON object without its closing brace.
 #[tactic(auto, using(crate::proofs::ListingLemmas::joined))]
-fn push_object(text: &mut Vec<u8>, pair: &Pair, unit: LengthUnit) -> Result<(), AllocError>
+fn push_object(text: &mut Vec<u8>, pair: &Pair, unit: LengthUnit) -> Pushed
     ensures { OnOk result (text.new.items ≡ text.old.items ++ codes "{" ++ pair_members unit pair.now) }
 {
     text.extend_from_slice(b"{\"left\":")?;
-    push_json_symbol(text, pair.left)?;
+    push_symbol(text, FindingFormat::Json, pair.left)?;
     text.extend_from_slice(b",\"right\":")?;
-    push_json_symbol(text, pair.right)?;
+    push_symbol(text, FindingFormat::Json, pair.right)?;
     text.extend_from_slice(b",\"action\":\"")?;
     push_name(text, pair.action)?;
     text.extend_from_slice(b"\",\"value\":")?;
-    push_json_action(text, pair.action, unit)
+    push_value(text, pair.action, FindingFormat::Json, unit)
 }
 
-#[tactic(auto, unfolding(crate::specs::PairsText::symbol_word))]
-fn push_symbol(text: &mut Vec<u8>, symbol: Symbol) -> Result<(), AllocError>
-    ensures { OnOk result (text.new.items ≡ text.old.items ++ symbol_word symbol) }
+#[tactic(auto, unfolding(crate::specs::PairsText::symbol_in))]
+fn push_symbol(text: &mut Vec<u8>, format: FindingFormat, symbol: Symbol) -> Pushed
+    ensures { OnOk result (text.new.items ≡ text.old.items ++ symbol_in format symbol) }
 {
     match symbol {
-        Symbol::Left => text.extend_from_slice(b"left"),
+        Symbol::Left => push_word(text, format, b"left"),
         Symbol::Char(code) => push_number(text, b"", code),
-        Symbol::Right => text.extend_from_slice(b"right"),
-    }
-}
-
-#[tactic(auto, unfolding(crate::specs::PairsText::json_symbol))]
-fn push_json_symbol(text: &mut Vec<u8>, symbol: Symbol) -> Result<(), AllocError>
-    ensures { OnOk result (text.new.items ≡ text.old.items ++ json_symbol symbol) }
-{
-    match symbol {
-        Symbol::Left => text.extend_from_slice(b"\"left\""),
-        Symbol::Char(code) => push_number(text, b"", code),
-        Symbol::Right => text.extend_from_slice(b"\"right\""),
+        Symbol::Right => push_word(text, format, b"right"),
     }
 }
 
 #[tactic(auto, unfolding(crate::specs::PairsText::action_name))]
-fn push_name(text: &mut Vec<u8>, action: Action) -> Result<(), AllocError>
+fn push_name(text: &mut Vec<u8>, action: Action) -> Pushed
     ensures { OnOk result (text.new.items ≡ text.old.items ++ action_name action) }
 {
     match action {
@@ -158,7 +143,7 @@ fn push_name(text: &mut Vec<u8>, action: Action) -> Result<(), AllocError>
             text.extend_from_slice(slash_where(keep_left))?;
             text.extend_from_slice(b"LIG")?;
             text.extend_from_slice(slash_where(keep_right))?;
-            push_passes(text, pass)
+            text.resize(text.len() + usize::from(pass), b'>')
         }
     }
 }
@@ -169,34 +154,11 @@ fn slash_where(kept: bool) -> &'static [u8]
     if kept { b"/" } else { b"" }
 }
 
-#[tactic(auto, using(std::proofs::lemmas::Grind::replicate_next))]
-fn push_passes(text: &mut Vec<u8>, pass: u8) -> Result<(), AllocError>
-    ensures { OnOk result (text.new.items ≡ text.old.items ++ replicate pass 62) }
-{
-    for _ in 0..pass {
-        text.extend_from_slice(b">")?;
-    }
-    Ok(())
-}
-
 #[tactic(auto, using(crate::proofs::ListingLemmas::signed), unfolding(crate::specs::PairsText::action_value))]
-fn push_value(text: &mut Vec<u8>, action: Action, unit: LengthUnit) -> Result<(), AllocError>
-    ensures { OnOk result (text.new.items ≡ text.old.items ++ action_value unit action) }
+fn push_value(text: &mut Vec<u8>, action: Action, format: FindingFormat, unit: LengthUnit) -> Pushed
+    ensures { OnOk result (text.new.items ≡ text.old.items ++ action_value format unit action) }
 {
-    match action {
-        Action::Kern(amount) => push_length(text, b"", i64::from(amount), unit),
-        Action::Lig { code, .. } => push_number(text, b"", code),
-    }
-}
-
-#[tactic(auto, using(crate::proofs::ListingLemmas::signed), unfolding(crate::specs::PairsText::json_action_value))]
-fn push_json_action(text: &mut Vec<u8>, action: Action, unit: LengthUnit) -> Result<(), AllocError>
-    ensures { OnOk result (text.new.items ≡ text.old.items ++ json_action_value unit action) }
-{
-    let layout = ListLayout {
-        format: FindingFormat::Json,
-        unit,
-    };
+    let layout = ListLayout { format, unit };
     match action {
         Action::Kern(amount) => push_length_in(text, layout, i64::from(amount)),
         Action::Lig { code, .. } => push_number(text, b"", code),

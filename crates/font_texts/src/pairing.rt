@@ -5,6 +5,7 @@ ghost use Rattle.tfm_tables.specs.Character.{exists};
 ghost use Rattle.font_texts.specs.Pairs.{characters, left_symbols, pair_with, pairs_of, right_symbols};
 
 use crate::Pair;
+use crate::appending::Pushed;
 use lig_kern::{Symbol, first_match};
 use std::alloc::{AllocError, Global};
 use tfm_tables::Font;
@@ -28,12 +29,7 @@ pub fn pairs(alloc: Global, font: &Font) -> Result<Vec<Pair>, AllocError>
 }
 
 /// Appends the pairs with this symbol on the left and one of `rights` on the right.
-fn push_pairs_after(
-    pairs: &mut Vec<Pair>,
-    font: &Font,
-    left: Symbol,
-    rights: &[Symbol],
-) -> Result<(), AllocError>
+fn push_pairs_after(pairs: &mut Vec<Pair>, font: &Font, left: Symbol, rights: &[Symbol]) -> Pushed
     ensures { OnOk result (pairs.new.items ≡ pairs.old.items
         ++ flat_map (λ right. pair_with left right (action_between font.now left right)) rights.now) }
 {
@@ -44,12 +40,7 @@ fn push_pairs_after(
 }
 
 /// Appends this pair, if it has an action.
-fn push_pair(
-    pairs: &mut Vec<Pair>,
-    font: &Font,
-    left: Symbol,
-    right: Symbol,
-) -> Result<(), AllocError>
+fn push_pair(pairs: &mut Vec<Pair>, font: &Font, left: Symbol, right: Symbol) -> Pushed
     ensures { OnOk result (pairs.new.items ≡ pairs.old.items
         ++ pair_with left right (action_between font.now left right)) }
 {
@@ -87,7 +78,7 @@ fn rights(alloc: Global, font: &Font) -> Result<Vec<Symbol>, AllocError>
 
 /// Appends the existing characters in the order of their codes.
 #[tactic(auto, using(crate::proofs::ListingLemmas::more))]
-fn push_characters(symbols: &mut Vec<Symbol>, font: &Font) -> Result<(), AllocError>
+fn push_characters(symbols: &mut Vec<Symbol>, font: &Font) -> Pushed
     ensures { OnOk result (symbols.new.items ≡ symbols.old.items ++ characters font.now.words) }
 {
     for code in 0..256u16 {
@@ -96,7 +87,7 @@ fn push_characters(symbols: &mut Vec<Symbol>, font: &Font) -> Result<(), AllocEr
     Ok(())
 }
 
-fn push_where_exists(symbols: &mut Vec<Symbol>, font: &Font, code: u8) -> Result<(), AllocError>
+fn push_where_exists(symbols: &mut Vec<Symbol>, font: &Font, code: u8) -> Pushed
     ensures { OnOk result (symbols.new.items ≡ symbols.old.items
         ++ (if exists font.now.words code then Symbol.Char code ∷ [] else [])) }
 {

@@ -1,5 +1,5 @@
 //! Appends the entries and the lines of a listing.
-ghost use Rattle.std.specs.Prelude.{◌≡◌, ◌<◌, ◌≤◌, ◌++◌, codes, drop, OnOk, [], option_map};
+ghost use Rattle.std.specs.Prelude.{◌≡◌, ◌<◌, ◌≤◌, ◌++◌, codes, OnOk, option_map};
 ghost use Rattle.std.specs.Option.{option_map_or};
 ghost use Rattle.tfm_words.specs.declared.table.Table.TheVariants.{Kern};
 ghost use Rattle.tfm_tables.specs.Acceptance.{kern_index_of};
@@ -8,33 +8,21 @@ ghost use Rattle.font_texts.specs.Listing.{flag_where, length_entry, length_line
 ghost use Rattle.font_texts.specs.ListingFields.{action_fields, char_fields, measure_fields, operation_name, step_fields, tag_text, tag_with_remainder};
 ghost use Rattle.font_texts.specs.ListingFormats.{entry, entry_start, hidden_name, in_format, line_end, line_of, line_start, string_in, table_of_lines, word_in};
 
-use crate::appending::{push_escaped_text, push_json_text};
+use crate::appending::{Pushed, push_escaped_text, push_json_text};
 use crate::fields::{
     pick, push_field_name, push_hidden_name, push_length_field, push_length_in, push_name,
     push_number_field, push_word,
 };
 use crate::{FindingFormat, ListLayout};
 use itoa::Integer;
-use std::alloc::AllocError;
 use tfm_tables::{FontMetrics, Metrics, Step, Tag};
 use tfm_words::push_number;
 
 /// Appends what precedes the value of an entry.
-fn push_entry_start(
-    text: &mut Vec<u8>,
-    format: FindingFormat,
-    name: &[u8],
-) -> Result<(), AllocError>
+fn push_entry_start(text: &mut Vec<u8>, format: FindingFormat, name: &[u8]) -> Pushed
     ensures { OnOk result (text.new.items ≡ text.old.items ++ entry_start format name.now) }
 {
     push_name(text, format, pick(format, b"", b",\""), name)
-}
-
-/// Appends the end of an entry.
-fn push_entry_end(text: &mut Vec<u8>, format: FindingFormat) -> Result<(), AllocError>
-    ensures { OnOk result (text.new.items ≡ text.old.items ++ in_format format (codes "\n") []) }
-{
-    text.extend_from_slice(pick(format, b"\n", b""))
 }
 
 /// Appends an entry with a number.
@@ -44,42 +32,32 @@ pub fn push_number_entry<I: Integer>(
     format: FindingFormat,
     name: &[u8],
     number: I,
-) -> Result<(), AllocError>
+) -> Pushed
     ensures { OnOk result (text.new.items ≡ text.old.items ++ entry format name.now (I.text number)) }
 {
     push_entry_start(text, format, name)?;
     push_number(text, b"", number)?;
-    push_entry_end(text, format)
+    text.extend_from_slice(pick(format, b"\n", b""))
 }
 
 /// Appends an entry with a length of so many sp.
 #[tactic(auto, using(crate::proofs::ListingLemmas::joined), unfolding(crate::specs::ListingFormats::entry))]
-pub fn push_length_entry(
-    text: &mut Vec<u8>,
-    layout: ListLayout,
-    name: &[u8],
-    sp: i64,
-) -> Result<(), AllocError>
+pub fn push_length_entry(text: &mut Vec<u8>, layout: ListLayout, name: &[u8], sp: i64) -> Pushed
     ensures { OnOk result (text.new.items ≡ text.old.items ++ length_entry layout name.now sp) }
 {
     push_entry_start(text, layout.format, name)?;
     push_length_in(text, layout, sp)?;
-    push_entry_end(text, layout.format)
+    text.extend_from_slice(pick(layout.format, b"\n", b""))
 }
 
 /// Appends an entry with this value.
 #[tactic(auto, using(crate::proofs::ListingLemmas::joined), unfolding(crate::specs::ListingFormats::entry))]
-fn push_entry(
-    text: &mut Vec<u8>,
-    format: FindingFormat,
-    name: &[u8],
-    value: &[u8],
-) -> Result<(), AllocError>
+fn push_entry(text: &mut Vec<u8>, format: FindingFormat, name: &[u8], value: &[u8]) -> Pushed
     ensures { OnOk result (text.new.items ≡ text.old.items ++ entry format name.now value.now) }
 {
     push_entry_start(text, format, name)?;
     text.extend_from_slice(value)?;
-    push_entry_end(text, format)
+    text.extend_from_slice(pick(format, b"\n", b""))
 }
 
 /// Appends an entry with a number, or with `none`, in JSON `null`, if there is no number.
@@ -88,7 +66,7 @@ pub fn push_number_or_none<I: Integer>(
     format: FindingFormat,
     name: &[u8],
     number: Option<I>,
-) -> Result<(), AllocError>
+) -> Pushed
     ensures { OnOk result (text.new.items ≡ text.old.items
         ++ entry format name.now (option_map_or I.text number (in_format format (codes "none") (codes "null")))) }
 {
@@ -100,7 +78,7 @@ pub fn push_number_or_none<I: Integer>(
 
 /// Appends a text of the header.
 #[tactic(auto, unfolding(crate::specs::ListingFormats::string_in))]
-fn push_string(text: &mut Vec<u8>, format: FindingFormat, bytes: &[u8]) -> Result<(), AllocError>
+fn push_string(text: &mut Vec<u8>, format: FindingFormat, bytes: &[u8]) -> Pushed
     ensures { OnOk result (text.new.items ≡ text.old.items ++ string_in format bytes.now) }
 {
     match format {
@@ -113,36 +91,23 @@ fn push_string(text: &mut Vec<u8>, format: FindingFormat, bytes: &[u8]) -> Resul
     }
 }
 
-/// Appends an entry with a text of the header.
-#[tactic(auto, using(crate::proofs::ListingLemmas::joined), unfolding(crate::specs::ListingFormats::entry))]
-fn push_text_entry(
-    text: &mut Vec<u8>,
-    format: FindingFormat,
-    name: &[u8],
-    bytes: &[u8],
-) -> Result<(), AllocError>
-    ensures { OnOk result (text.new.items ≡ text.old.items ++ entry format name.now (string_in format bytes.now)) }
-{
-    push_entry_start(text, format, name)?;
-    push_string(text, format, bytes)?;
-    push_entry_end(text, format)
-}
-
 /// Appends an entry with a text of the header, or nothing if there is no text.
-#[tactic(auto, unfolding(crate::specs::Listing::text_where))]
+#[tactic(auto, using(crate::proofs::ListingLemmas::joined), unfolding(crate::specs::Listing::text_where, crate::specs::ListingFormats::entry))]
 pub fn push_text_where(
     text: &mut Vec<u8>,
     format: FindingFormat,
     name: &[u8],
     bytes: Option<&[u8]>,
-) -> Result<(), AllocError>
+) -> Pushed
     ensures { OnOk result (text.new.items ≡ text.old.items
         ++ text_where format name.now (option_map (λ shown. shown.now) bytes.entry)) }
 {
-    match bytes {
-        Some(bytes) => push_text_entry(text, format, name, bytes),
-        None => Ok(()),
-    }
+    let Some(bytes) = bytes else {
+        return Ok(());
+    };
+    push_entry_start(text, format, name)?;
+    push_string(text, format, bytes)?;
+    text.extend_from_slice(pick(format, b"\n", b""))
 }
 
 /// Appends an entry with a flag, or nothing if there is no flag.
@@ -152,7 +117,7 @@ pub fn push_flag_where(
     format: FindingFormat,
     name: &[u8],
     flag: Option<bool>,
-) -> Result<(), AllocError>
+) -> Pushed
     ensures { OnOk result (text.new.items ≡ text.old.items ++ flag_where format name.now flag) }
 {
     match flag {
@@ -169,7 +134,7 @@ pub fn push_number_where(
     format: FindingFormat,
     name: &[u8],
     number: Option<u8>,
-) -> Result<(), AllocError>
+) -> Pushed
     ensures { OnOk result (text.new.items ≡ text.old.items ++ number_where format name.now number) }
 {
     match number {
@@ -180,12 +145,7 @@ pub fn push_number_where(
 
 /// Appends these lines or, in JSON, a member with this name and a list of them.
 #[tactic(auto, using(crate::proofs::ListingLemmas::joined), unfolding(crate::specs::ListingFormats::table_of_lines))]
-pub fn push_table(
-    text: &mut Vec<u8>,
-    format: FindingFormat,
-    name: &[u8],
-    lines: &[u8],
-) -> Result<(), AllocError>
+pub fn push_table(text: &mut Vec<u8>, format: FindingFormat, name: &[u8], lines: &[u8]) -> Pushed
     ensures { OnOk result (text.new.items ≡ text.old.items ++ table_of_lines format name.now lines.now) }
 {
     match format {
@@ -193,19 +153,11 @@ pub fn push_table(
         FindingFormat::Json => {
             push_name(text, format, b",\"", name)?;
             text.extend_from_slice(b"[")?;
-            text.extend_from_slice(after_first(lines))?;
+            if let Some((_, rest)) = lines.split_first() {
+                text.extend_from_slice(rest)?;
+            }
             text.extend_from_slice(b"]")
         }
-    }
-}
-
-/// Returns the bytes after the first one.
-fn after_first(bytes: &[u8]) -> &[u8]
-    ensures { result.now ≡ drop 1 bytes.now }
-{
-    match bytes.split_first() {
-        Some((_, rest)) => rest,
-        None => bytes,
     }
 }
 
@@ -216,7 +168,7 @@ pub fn push_line_start<I: Integer>(
     format: FindingFormat,
     name: &[u8],
     number: I,
-) -> Result<(), AllocError>
+) -> Pushed
     ensures { OnOk result (text.new.items ≡ text.old.items ++ (line_start format name.now ++ I.text number)) }
 {
     push_name(text, format, pick(format, b"", b",{\""), name)?;
@@ -224,7 +176,7 @@ pub fn push_line_start<I: Integer>(
 }
 
 /// Appends the end of a line.
-pub fn push_line_end(text: &mut Vec<u8>, format: FindingFormat) -> Result<(), AllocError>
+pub fn push_line_end(text: &mut Vec<u8>, format: FindingFormat) -> Pushed
     ensures { OnOk result (text.new.items ≡ text.old.items ++ line_end format) }
 {
     text.extend_from_slice(pick(format, b"\n", b"}"))
@@ -238,7 +190,7 @@ pub fn push_length_line(
     name: &[u8],
     number: usize,
     sp: i32,
-) -> Result<(), AllocError>
+) -> Pushed
     ensures { OnOk result (text.new.items ≡ text.old.items ++ length_line layout name.now number sp) }
 {
     push_line_start(text, layout.format, name, number)?;
@@ -248,12 +200,7 @@ pub fn push_length_line(
 }
 
 #[tactic(auto, using(crate::proofs::ListingLemmas::joined))]
-fn push_tag_with(
-    text: &mut Vec<u8>,
-    format: FindingFormat,
-    name: &[u8],
-    remainder: u8,
-) -> Result<(), AllocError>
+fn push_tag_with(text: &mut Vec<u8>, format: FindingFormat, name: &[u8], remainder: u8) -> Pushed
     ensures { OnOk result (text.new.items ≡ text.old.items ++ tag_with_remainder format name.now remainder) }
 {
     push_word(text, format, name)?;
@@ -262,7 +209,7 @@ fn push_tag_with(
 }
 
 #[tactic(auto, unfolding(crate::specs::ListingFields::tag_text))]
-fn push_tag(text: &mut Vec<u8>, format: FindingFormat, tag: Tag) -> Result<(), AllocError>
+fn push_tag(text: &mut Vec<u8>, format: FindingFormat, tag: Tag) -> Pushed
     ensures { OnOk result (text.new.items ≡ text.old.items ++ tag_text format tag) }
 {
     match tag {
@@ -274,7 +221,7 @@ fn push_tag(text: &mut Vec<u8>, format: FindingFormat, tag: Tag) -> Result<(), A
 }
 
 #[tactic(auto, using(crate::proofs::ListingLemmas::signed), unfolding(crate::specs::ListingFields::measure_fields))]
-fn push_measures(text: &mut Vec<u8>, layout: ListLayout, metrics: Metrics) -> Result<(), AllocError>
+fn push_measures(text: &mut Vec<u8>, layout: ListLayout, metrics: Metrics) -> Pushed
     ensures { OnOk result (text.new.items ≡ text.old.items ++ measure_fields layout metrics) }
 {
     push_length_field(text, layout, b"width", i64::from(metrics.width))?;
@@ -291,7 +238,7 @@ pub fn push_char_line(
     code: u8,
     metrics: Metrics,
     tag: Tag,
-) -> Result<(), AllocError>
+) -> Pushed
     ensures { OnOk result (text.new.items ≡ text.old.items
         ++ line_of layout.format (codes "char") code (char_fields layout metrics tag)) }
 {
@@ -326,7 +273,7 @@ fn push_action_with<I: Integer>(
     action: &[u8],
     name: &[u8],
     number: I,
-) -> Result<(), AllocError>
+) -> Pushed
     ensures { OnOk result (text.new.items ≡ text.old.items
         ++ (hidden_name format (codes "action") ++ word_in format action.now ++ hidden_name format name.now ++ I.text number)) }
 {
@@ -337,12 +284,7 @@ fn push_action_with<I: Integer>(
 }
 
 #[tactic(auto, using(crate::proofs::ListingLemmas::signed), unfolding(crate::specs::ListingFields::action_fields))]
-fn push_action(
-    text: &mut Vec<u8>,
-    layout: ListLayout,
-    font: &FontMetrics,
-    step: Step,
-) -> Result<(), AllocError>
+fn push_action(text: &mut Vec<u8>, layout: ListLayout, font: &FontMetrics, step: Step) -> Pushed
     requires { step.skip ≤ 128 → 128 ≤ step.op → kern_index_of step < entries_of font.now.words Kern }
     ensures { OnOk result (text.new.items ≡ text.old.items ++ action_fields layout font.now step) }
 {
@@ -369,7 +311,7 @@ pub fn push_step_line(
     font: &FontMetrics,
     i: usize,
     step: Step,
-) -> Result<(), AllocError>
+) -> Pushed
     requires { step.skip ≤ 128 → 128 ≤ step.op → kern_index_of step < entries_of font.now.words Kern }
     ensures { OnOk result (text.new.items ≡ text.old.items
         ++ line_of layout.format (codes "step") i (step_fields layout font.now step)) }
