@@ -34,29 +34,24 @@ circle : code_warning font 66 ≡ Some (Circle 66)
 unfolding code_warning code_rows info_of is_in_circle any_from larger_of counts_of entry_at table_of char_info_of exists is_coded
 circle = refl
 
--- op code 4
-unlisted : first_fault (step_rows 7 (record { skip = 128; next = 65; op = 4; remainder = 66 })) ≡ Some (Operation 7 4)
+-- op code 4, and LIG/>
+op_codes :
+    (first_fault (step_rows 7 (record { skip = 128; next = 65; op = 4; remainder = 66 })) ≡ Some (Operation 7 4))
+    × (first_fault (step_rows 7 (record { skip = 128; next = 65; op = 5; remainder = 66 })) ≡ None)
 unfolding step_rows
-unlisted = refl
-
--- LIG/>
-listed : first_fault (step_rows 7 (record { skip = 128; next = 65; op = 5; remainder = 66 })) ≡ None
-unfolding step_rows
-listed = refl
+op_codes = (refl, refl)
 
 in_words : warning_text (Endless 65 66) ≡ codes "program never ends: 65 66"
 unfolding warning_text digits
 in_words = refl
 
--- a name with a double quote, a backslash and a byte that isn't ASCII
-refused_in_json : verdict_text Json (97 ∷ 34 ∷ 92 ∷ 195 ∷ [], Refused (Counts (Truncated 24)))
-    ≡ codes "{\"font\":\"a\\\"\\\\x5c\\\\xc3\",\"finding\":\"refused\",\"error\":1,\"words\":\"truncated, 24 bytes needed\"}\n"
+-- a name with a double quote, a backslash and a byte that isn't ASCII; and a font that isn't read
+in_json :
+    (verdict_text Json (97 ∷ 34 ∷ 92 ∷ 195 ∷ [], Refused (Counts (Truncated 24)))
+    ≡ codes "{\"font\":\"a\\\"\\\\x5c\\\\xc3\",\"finding\":\"refused\",\"error\":1,\"words\":\"truncated, 24 bytes needed\"}\n")
+    × (verdict_text Json (codes "no", NotRead) ≡ codes "{\"font\":\"no\",\"finding\":\"not read\"}\n")
 unfolding json_line json_escaped escaped fault_number count_fault_number font_fault_text count_fault_text digits
-refused_in_json = refl
-
-unread_in_json : verdict_text Json (codes "no", NotRead) ≡ codes "{\"font\":\"no\",\"finding\":\"not read\"}\n"
-unfolding json_line json_escaped escaped
-unread_in_json = refl
+in_json = (refl, refl)
 
 -- the summary in JSON of two fonts that aren't read
 counted_in_json : summary_line Json (tally_of ((codes "a", NotRead) ∷ (codes "b", NotRead) ∷ [])) ≡ codes "{\"fonts\":2,\"accepted\":0,\"refused\":0,\"unread\":2}\n"

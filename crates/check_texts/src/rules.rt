@@ -16,27 +16,19 @@ pub(crate) fn code_warning(tables: &Tables<'_>, code: u8) -> Option<Warning>
     ensures { result ≡ code_warning_of tables.now code }
 {
     let [_, _, tag, remainder] = tables.info(code);
+    let (larger, recipe) = (remainder, remainder);
     let (is_listed, font) = (tag % 4 == 2, tables.font());
-    if is_listed && !tables.is_coded(remainder) {
-        return Some(Warning::LargerOutside {
-            code,
-            larger: remainder,
-        });
+    if is_listed && !tables.is_coded(larger) {
+        return Some(Warning::LargerOutside { code, larger });
     }
     if tables.is_in_circle(code) {
         return Some(Warning::Circle(code));
     }
-    if is_listed && font.exists(code) && !font.exists(remainder) {
-        return Some(Warning::LargerMissing {
-            code,
-            larger: remainder,
-        });
+    if is_listed && font.exists(code) && !font.exists(larger) {
+        return Some(Warning::LargerMissing { code, larger });
     }
-    if tag % 4 == 3 && usize::from(remainder) >= tables.recipes() {
-        return Some(Warning::RecipeMissing {
-            code,
-            recipe: remainder,
-        });
+    if tag % 4 == 3 && usize::from(recipe) >= tables.recipes() {
+        return Some(Warning::RecipeMissing { code, recipe });
     }
     None
 }

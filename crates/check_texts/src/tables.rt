@@ -69,12 +69,13 @@ impl<'a> Tables<'a> {
     pub fn info(&self, code: u8) -> [u8; 4]
         ensures { result ≡ info_of self.now code }
     {
-        let (number, first) = (u16::from(code), self.counts.bc());
-        if first <= number && number <= self.counts.ec() {
-            self.entry(Table::CharInfo, usize::from(number - first))
-        } else {
-            [0; 4]
+        if !self.is_coded(code) {
+            return [0; 4];
         }
+        self.entry(
+            Table::CharInfo,
+            usize::from(u16::from(code) - self.counts.bc()),
+        )
     }
 
     /// Returns the larger character of a code, if there is a code and it has one.

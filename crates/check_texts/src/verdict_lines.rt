@@ -1,5 +1,5 @@
 ghost use Rattle.std.specs.Prelude.{◌≡◌, ◌++◌, flat_map, IfOk, OnOk};
-ghost use Rattle.check_texts.specs.Verdicts.{count_words, finding as finding_of, json_accepted, json_finding, json_line as json_line_of, json_verdict, text_line as text_line_of, verdict_text as verdict_text_of, warning_in, warnings_noun, warnings_text};
+ghost use Rattle.check_texts.specs.Verdicts.{count_words, finding as finding_of, json_accepted, json_finding, json_line as json_line_of, json_verdict, text_line as text_line_of, verdict_text as verdict_text_of, warning_in, warnings_text};
 
 use crate::verdict::first_refusal;
 use crate::{Verdict, Warning};
@@ -84,16 +84,9 @@ fn push_count(alloc: Global, text: &mut Vec<u8>, count: usize) -> Result<(), All
     if count == 0 {
         return text.extend_from_slice(b"accepted");
     }
-    let noun = noun_of(count);
+    let noun = if count == 1 { " warning" } else { " warnings" };
     let words = format!(in alloc; "accepted, {count}{noun}")?;
     text.extend_from_slice(words.as_bytes())
-}
-
-/// Returns the noun for this number of warnings.
-fn noun_of(count: usize) -> &'static str
-    ensures { result.now ≡ warnings_noun count }
-{
-    if count == 1 { " warning" } else { " warnings" }
 }
 
 /// Appends the value of the member `finding`, and the members after it.
@@ -166,14 +159,9 @@ fn push_warning(
 ) -> Result<(), AllocError>
     ensures { OnOk result (text.new.items ≡ text.old.items ++ warning_in format warning) }
 {
-    match format {
-        FindingFormat::Text => {
-            let line = format!(in alloc; "\n  {warning}")?;
-            text.extend_from_slice(line.as_bytes())
-        }
-        FindingFormat::Json => {
-            let element = format!(in alloc; ",\"{warning}\"")?;
-            text.extend_from_slice(element.as_bytes())
-        }
-    }
+    let shown = match format {
+        FindingFormat::Text => format!(in alloc; "\n  {warning}")?,
+        FindingFormat::Json => format!(in alloc; ",\"{warning}\"")?,
+    };
+    text.extend_from_slice(shown.as_bytes())
 }
