@@ -248,11 +248,11 @@ records and end lines as `tfmset set`. The records of one FILE are printed in
 order; those of several FILEs are interleaved as they are produced.
 
 Use `set` for all-or-nothing output in file order: it prints nothing until all
-FILEs are set, and only a failed write can cut its output short. Use `stream`
-for output as it is produced, and for inputs of any size: it keeps the lines
-that are being set, but not the whole output. If `stream` fails, every complete
-line that it has printed is valid. With both commands, if the lines of a FILE
-could not all be read and set, its end line states the reason.
+FILEs are set. Only a failed write or a signal can then cut its output short.
+Use `stream` for output as it is produced, and for inputs of any size: it keeps
+the lines that are being set, but not the whole output. If `stream` fails,
+every complete line that it has printed is valid. With both commands, if the
+lines of a FILE could not all be read and set, its end line states the reason.
 
 Lines, records, --size, --limit, --missing, --crlf, --encoding and --record are
 as `tfmset set --help` describes them.
