@@ -1,7 +1,7 @@
 -- The layout of the table of a prepared font: words of four bytes, the highest byte first. A header of nine
 -- words, 256 widths, 256 states, the instructions, and the kerns.
 -- This project's own; the contents are those of the font (tftopl.web, sections 8 to 13).
-use Rattle.std.specs.Prelude.{◌≡◌, ℕ, ◌<◌, ◌≤◌, ◌+◌, ◌*◌, length, ℤ, pos, negsuc, List, [], ◌∷◌, Option, IfSome, if◌then◌else◌}
+use Rattle.std.specs.Prelude.{◌≡◌, ℕ, ◌<◌, ◌≤◌, ◌+◌, ◌*◌, length, ℤ, pos, negsuc, int_lt, nat_abs, List, [], ◌∷◌, Option, IfSome, if◌then◌else◌}
 use Rattle.std.specs.Option.{option_map_or}
 use Rattle.tfm_words.specs.declared.table.Table.TheVariants.{LigKern, Kern}
 use Rattle.tfm_words.specs.Word.{word_at, value_of}
@@ -84,8 +84,15 @@ pub record IsPreparedFrom (font : FontValue) (bytes : List ℕ) : Type 0 where
 
 -- these bytes have the header of a table of this version, and are no shorter than the table
 pub record IsWhole (bytes : List ℕ) : Type 0 where
+  pub steps : ℕ
+  pub kerns : ℕ
   pub magic : number_at bytes 0 ≡ negsuc 145471922
   pub version : number_at bytes 1 ≡ pos 1
-  pub total : ℕ
-  pub is_total : number_at bytes 2 ≡ pos total
-  pub long : total ≤ length bytes
+  pub total : number_at bytes 2 ≡ pos (4 * (521 + steps + kerns))
+  pub is_steps : number_at bytes 3 ≡ pos steps
+  pub is_kerns : number_at bytes 4 ≡ pos kerns
+  pub long : 4 * (521 + steps + kerns) ≤ length bytes
+
+-- the size in the header of a table, in sp, or 0 if the header has a negative number instead
+unfoldable pub size_in : List ℕ → ℕ
+size_in bytes = if int_lt (number_at bytes 8) (pos 0) then 0 else nat_abs (number_at bytes 8)

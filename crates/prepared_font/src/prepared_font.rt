@@ -1,5 +1,5 @@
 //! A table that was opened.
-ghost use Rattle.std.specs.Prelude.{◌≡◌, ◌+◌, ◌*◌, ◌^◌, ◌<◌, ◌≤◌, ℕ, length, IfSome, Some};
+ghost use Rattle.std.specs.Prelude.{◌≡◌, ◌+◌, ◌*◌, ◌^◌, ◌<◌, ◌≤◌, ℕ, length, IfSome, MatchOption, Some};
 ghost use Rattle.std.specs.Option.{option_and_then};
 ghost use Rattle.std.specs.List.{slice_get};
 ghost use Rattle.tfm_words.specs.declared.table.Table.TheVariants.{Kern, LigKern};
@@ -12,7 +12,7 @@ ghost use Rattle.tfm_tables.specs.Program.{address_between, address_of, program_
 ghost use Rattle.tfm_tables.specs.Acceptance.{kern_index_of};
 ghost use Rattle.lig_kern.specs.Matching.{action_between, action_of, match_of};
 ghost use Rattle.lig_kern.specs.Rewriting.{character_width};
-ghost use Rattle.prepared_font.specs.Layout.{IsPreparedFrom, IsWhole, number_at};
+ghost use Rattle.prepared_font.specs.Layout.{IsPreparedFrom, IsWhole, number_at, size_in};
 
 use crate::layout::{
     KERNS, LEFT, LENGTH, MAGIC, NO_CHARACTER, PROGRAM, RIGHT, SIZE, SPACE, STATES, STEPS, VERSION,
@@ -57,7 +57,8 @@ impl<'a> PreparedFont<'a> {
     /// don't begin with the header of a table of this version, and for a table whose end is missing. The
     /// remainder of the table isn't checked.
     pub fn open(bytes: &'a [u8]) -> Option<PreparedFont<'a>>
-        ensures whole { IfSome result (λ prepared. (prepared ≡ bytes.now) × IsWhole bytes.now) }
+        ensures whole { MatchOption result (IsWhole bytes.now → ⊥)
+            (λ prepared. (prepared ≡ bytes.now) × IsWhole bytes.now) }
         ensures opened { (font : FontValue) → IsPreparedFrom font bytes.now → result ≡ Some bytes.now }
     {
         if bytes.len() < 4 * PROGRAM {
@@ -115,8 +116,10 @@ impl<'a> PreparedFont<'a> {
     }
 
     /// Returns the size that the font was read at, in sp; 0 if the table has a negative number instead.
+    #[tactic(auto, unfolding(crate::specs::Layout::size_in))]
     pub fn size(&self) -> u32
-        ensures { (font : FontValue) → IsPreparedFrom font self.now → result ≡ font.size }
+        ensures stated { result ≡ size_in self.now }
+        ensures font { (font : FontValue) → IsPreparedFrom font self.now → result ≡ font.size }
     {
         u32::try_from(self.number(SIZE)).unwrap_or(0)
     }

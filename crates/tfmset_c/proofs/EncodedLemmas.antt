@@ -1,13 +1,11 @@
 -- The codes of a text while they are written.
-use Rattle.std.proofs.Common.{◌≡◌, ℕ, zero, suc, ◌+◌, ◌-◌, ◌*◌, ◌^◌, ◌<◌, ◌≤◌, Bool, true, false, List, [], ◌∷◌, ◌++◌, length, map, take, drop, min, Some, None, arith, refl, ap, sym, ◌∙◌, append_assoc, set, subst}
-use Rattle.std.specs.Prelude.{codes as bytes_of, Option, IfSome, MatchOption, if◌then◌else◌}
+use Rattle.std.proofs.Common.{◌≡◌, ℕ, zero, suc, ◌+◌, ◌-◌, ◌*◌, ◌^◌, ◌<◌, ◌≤◌, Bool, true, false, List, [], ◌∷◌, ◌++◌, length, map, take, min, Some, None, arith, refl, ap, sym, ◌∙◌, set, subst}
+use Rattle.std.specs.Prelude.{Option, if◌then◌else◌}
 use Rattle.std.specs.List.{range_with_len}
-use Rattle.std.specs.Option.{option_map}
 use Rattle.std.specs.Str.Lossy.{utf8_valid_len}
-use Rattle.std.specs.Str.{chars, is_utf8, IsUtf8}
-use lib.Utf8.{encode}
+use Rattle.std.specs.Str.{is_utf8, IsUtf8}
 use Rattle.std.proofs.lemmas.Grind.{take-set_at}
-use Rattle.std.proofs.lemmas.List.{drop-set-lt, length-map}
+use Rattle.std.proofs.lemmas.List.{length-map}
 use Rattle.std.proofs.lemmas.List.FromFn.{length-map-range_with_len, map-range_with_len_more}
 use Rattle.std.proofs.lemmas.Str.{IsUtf8-from_is_utf8}
 use Rattle.std.specs.Borrow.{Bor}
@@ -18,37 +16,14 @@ use Rattle.encodings.specs.declared.encoding.Encoding.{Encoding}
 use Rattle.encodings.specs.declared.encoding.Encoding.TheVariants.{Vector}
 use Rattle.encodings.specs.declared.places.Place.{Place}
 use Rattle.encodings.specs.Lines.{fault_in, places_of}
-use Rattle.encodings.specs.Names.{encoding_named}
 use Rattle.encodings.specs.Texts.{codes_at, offsets_at, text_codes, uncoded_at}
-use Rattle.encodings.proofs.NameLemmas.{no_encoding, other, other_name}
 use Rattle.encodings.proofs.TextLemmas.{text_few}
 use Rattle.caller_arrays.specs.Arrays.{ArePut, HasRoom, IsFilled, IsOverlaid, IsPartly, held}
 use Rattle.tfmset_c.specs.Encoded.{AreCodesTold, AreFilled, HaveRoom, IsCounted, IsEncodingTold, IsNoEncoding, TextCodes, codes_told, encoding_named_told, fault_told, offsets_for, offsets_from, report_of, uncoded_told}
 use Rattle.tfmset_c.specs.declared.encode.TfmsetEncoded.{TfmsetEncoded}
 use Rattle.tfmset_c.specs.declared.encode.TfmsetUncoded.{TfmsetUncoded}
-use Rattle.tfmset_c.specs.Records.{or_bytes}
-use Rattle.caller_arrays.proofs.ArrayLemmas.{all_counted, all_put, nothing_put, put_many, put_past, whole_put}
-
--- ---- names
-
-pub no_name : (name : List ℕ) → ¬ (IsUtf8 name) → encoding_named_told name ≡ None
-unfolding encoding_named_told is_utf8 chars encode
-no_name name bad = rw (other_name name (bytes_of "bytes") refl bad, no_encoding name bad) refl
-
--- a name other than `bytes`
-pub other_told : (name text : List ℕ) (o : Option Encoding) → text ≡ name → (text ≡ bytes_of "bytes" → ⊥) → o ≡ encoding_named text → encoding_named_told name ≡ option_map Some o
-unfolding encoding_named_told
-other_told name text o is differ named = rw (sym is, other text (bytes_of "bytes") differ, sym named) refl
-
--- the name `bytes`
-pub bytes_named : encoding_named_told (bytes_of "bytes") ≡ Some None
-unfolding encoding_named_told
-bytes_named = refl
-
-pub bytes_told : (name text : List ℕ) → text ≡ name → text ≡ bytes_of "bytes" → encoding_named_told name ≡ Some None
-bytes_told name text is bytes = ap encoding_named_told (sym is ∙ bytes) ∙ bytes_named
-
-pub ruleset names = (no_name, other_told, bytes_told)
+use Rattle.caller_arrays.proofs.ArrayLemmas.{all_counted, all_put, nothing_put, put_part, put_past, whole_put}
+use borrow.Rule.Slice.PartMut.{put_mid}
 
 -- ---- names and vectors
 
@@ -68,29 +43,6 @@ named_stated bytes o encoding told some (unnamed, faulty) = cc
 
 pub vector_stated : (bytes : List ℕ) → fault_line bytes ≡ None → IsNoEncoding bytes → ⊥
 vector_stated bytes sound (unnamed, faulty) = cc (rw sound at faulty)
-
--- bytes, or the name of the encoding of bytes
-pub none_given : (bytes : List ℕ) → length bytes ≡ 0 → IsEncodingTold (or_bytes bytes) None
-none_given [] empty = rw bytes_named refl
-none_given (byte ∷ bytes) empty = absurd (omega (arith, empty))
-
-pub none_stated : (bytes : List ℕ) → length bytes ≡ 0 → IsNoEncoding (or_bytes bytes) → ⊥
-none_stated [] empty (unnamed, faulty) = cc (bytes_named, unnamed)
-none_stated (byte ∷ bytes) empty neither = omega (arith, empty)
-
-given_same : (bytes : List ℕ) → (length bytes ≡ 0 → ⊥) → or_bytes bytes ≡ bytes
-given_same [] some = absurd (some refl)
-given_same (byte ∷ bytes) some = refl
-
-pub given_told : (bytes : List ℕ) (o : Option (Option Encoding)) → (length bytes ≡ 0 → ⊥) → MatchOption o (IsNoEncoding bytes) (IsEncodingTold bytes)
-    → MatchOption o (IsNoEncoding (or_bytes bytes)) (IsEncodingTold (or_bytes bytes))
-given_told bytes o some is = rw (given_same bytes some) is
-
-pub given_stated : (bytes : List ℕ) (o : Option (Option Encoding)) → (length bytes ≡ 0 → ⊥) → IfSome o (λ _. IsNoEncoding bytes → ⊥)
-    → IfSome o (λ _. IsNoEncoding (or_bytes bytes) → ⊥)
-given_stated bytes o some is = rw (given_same bytes some) is
-
-pub ruleset given = (none_given, none_stated, given_told, given_stated)
 
 pub ruleset stated = (of_name, of_vector, of_neither, named_stated, vector_stated)
 
@@ -116,32 +68,26 @@ same_from offset before [] = refl
 same_from offset before (code ∷ codes) =
     ap (λ l. (offset + 0 * before) ∷ l) (same_from offset (before + 1) codes) ∙ ap (λ k. k ∷ map (λ _. offset) codes) (let e : offset + 0 * before ≡ offset = omega arith in e)
 
--- one offset more is set
-pub offset_set : (first step at index next : ℕ) (before now after : List ℕ) → at + index < length now → after ≡ set now (at + index) (first + step * index)
-    → take (at + index) now ≡ take at before ++ offsets_from first step index → next ≡ index + 1 → take (at + next) after ≡ take at before ++ offsets_from first step next
-offset_set first step at index next before now after within is so_far more =
-    rw (more, is) (ap (λ n. take n (set now (at + index) (first + step * index))) (let e : at + (index + 1) ≡ at + index + 1 = omega arith in e)
-    ∙ take-set_at now (at + index) (at + index + 1) (first + step * index) refl within
-    ∙ ap (λ l. l ++ (first + step * index) ∷ []) so_far
-    ∙ append_assoc (take at before) (offsets_from first step index) ((first + step * index) ∷ [])
-    ∙ ap (λ l. take at before ++ l) (sym (map-range_with_len_more (λ k. first + step * k) 0 index index (let e : 0 + index ≡ index = omega arith in e))))
+-- one offset more is written
+pub offset_more : (first step index : ℕ) (now : List ℕ) → index < length now → take index now ≡ offsets_from first step index
+    → take (index + 1) (set now index (first + step * index)) ≡ offsets_from first step (index + 1)
+offset_more first step index now within so_far =
+    take-set_at now index (index + 1) (first + step * index) refl within ∙ ap (λ l. l ++ (first + step * index) ∷ []) so_far
+    ∙ sym (map-range_with_len_more (λ k. first + step * k) 0 index index (omega arith))
 
-pub offset_kept : (at index count new : ℕ) (now after : List ℕ) → index < count → after ≡ set now (at + index) new → drop (at + count) after ≡ drop (at + count) now
-offset_kept at index count new now after before is = ap (drop (at + count)) is ∙ drop-set-lt (at + count) now (at + index) new (omega (arith, before))
-
--- offsets that were set one after the other are put
-pub offsets_done : (first step index count at next : ℕ) (now after : List ℕ) → next ≡ min (at + count) (2 ^ 64 - 1) → index ≡ count → length after ≡ length now
-    → take (at + index) after ≡ take at now ++ offsets_from first step index → drop (at + count) after ≡ drop (at + count) now → ArePut (offsets_from first step count) at next now after
-offsets_done first step index count at next now after is all same front back =
+-- offsets that were written to their place are put
+pub offsets_written : (first step count at next k : ℕ) (now after made : List ℕ) → next ≡ min (at + count) (2 ^ 64 - 1) → after ≡ put_mid at k now made
+    → made ≡ offsets_from first step k → k ≡ count → at + count ≤ length now → length after ≡ length now → ArePut (offsets_from first step count) at next now after
+offsets_written first step count at next k now after made is where_put are all fits same =
     let long : length (offsets_from first step count) ≡ count = length-map-range_with_len (λ k. first + step * k) 0 count in
-    put_many (offsets_from first step count) now after at next (rw long is) same (λ _. rw long (rw all at front)) (λ _. rw long back)
+    put_part (offsets_from first step count) now after made at next k (rw long is) where_put (rw all at are) (rw long all) (rw long fits) same
 
 pub offsets_past : (first step count at next : ℕ) (now : List ℕ) → next ≡ min (at + count) (2 ^ 64 - 1) → length now < at + count → ArePut (offsets_from first step count) at next now now
 offsets_past first step count at next now is past =
     let long : length (offsets_from first step count) ≡ count = length-map-range_with_len (λ k. first + step * k) 0 count in
     put_past (offsets_from first step count) now now at next (rw long is) (rw long past) refl
 
-pub ruleset placing = (offsets_done, offsets_past)
+pub ruleset placing = (offsets_written, offsets_past)
 
 -- a character that has codes comes next
 pub coded_next : (encoding : Encoding) (place : Place) (places rest : List Place) (made : List ℕ) → places ≡ place ∷ rest → text_codes encoding place.character ≡ Some made

@@ -1,5 +1,5 @@
 -- The lines of a text are told one after the other.
-use Rattle.std.proofs.Common.{◌≡◌, ◌≢◌, ℕ, ◌+◌, ◌-◌, ◌==◌, Bool, true, false, List, [], ◌∷◌, ◌++◌, length, map, flat_map, Option, Some, None, arith, refl, ap, sym, ◌∙◌, length-append, ◌⊎◌, inl, inr}
+use Rattle.std.proofs.Common.{◌≡◌, ◌≢◌, ℕ, ◌+◌, ◌-◌, ◌==◌, Bool, true, false, List, [], ◌∷◌, ◌++◌, length, map, flat_map, Option, None, arith, refl, ap, sym, ◌∙◌, length-append, ◌⊎◌, inl, inr}
 use Rattle.std.proofs.lemmas.Bool.Decides.{nat_tests}
 use Rattle.std.proofs.lemmas.List.{length-map, map-append}
 use Rattle.std.proofs.lemmas.List.Sums.{sum_by-cons}
@@ -18,10 +18,9 @@ use Rattle.line_records.specs.declared.result.LineResult.{LineResult}
 use Rattle.line_records.specs.declared.result.LineResult.TheVariants.{Refused as RefusedResult}
 use Rattle.line_records.specs.Results.{IsOf, IsResult, line_result}
 use Rattle.line_records.proofs.OutcomeLemmas.{bytes_result}
-use Rattle.tfm_tables.specs.Acceptance.{font_fault_of}
 use Rattle.tfmset_c.specs.Filling.{AreUnderWay, count_in, wanted}
 use Rattle.tfmset_c.specs.Options.{IsReadAs, IsSetWith, call_limit_of, lines_at, outcome_within, outcomes_at, outcomes_within, result_within, steps_in, steps_of, terms_at}
-use Rattle.tfmset_c.specs.Reading.{IsAnswer}
+use Rattle.tfmset_c.specs.Reading.{IsAnswerFor}
 use Rattle.tfmset_c.specs.Records.{AreRecordsTold, form_told, record_within, records_told}
 use Rattle.tfmset_c.specs.Texts.{item_told, items_in, items_told, line_told, lines_told}
 use Rattle.tfmset_c.specs.declared.lines.TfmsetCounts.{TfmsetCounts}
@@ -184,14 +183,14 @@ pub records_called : (bytes text : List ℕ) (options : TfmsetOptions) (settings
 records_called bytes text options settings terms encoding asked form answer count_before count before records read set is told =
     rw (terms_are bytes options settings terms read set, read.call_limit, read.crlf, is) at told
 
--- the code of a call whose arguments are in range, and whose font is accepted
-pub answered : (OutOfRange : Type 0) (font : List ℕ) (answer : ℕ) → (OutOfRange → ⊥) → font_fault_of font ≡ None
-    → (answer ≡ 0) ⊎ ((answer ≡ 2) ⊎ (answer ≡ 3)) → IsAnswer OutOfRange font answer
-answered OutOfRange font answer within accepted one = record {
+-- the code of a call whose arguments are in range, and whose font is one
+pub answered : (OutOfRange IsFont : Type 0) (answer : ℕ) → (OutOfRange → ⊥) → IsFont → (answer ≡ 0) ⊎ ((answer ≡ 2) ⊎ (answer ≡ 3))
+    → IsAnswerFor OutOfRange IsFont answer
+answered OutOfRange IsFont answer within font one = record {
   code = grind (arith, one);
   range = (λ four. absurd (grind (arith, one, four)), λ out. absurd (within out));
   refused = λ refused. absurd (grind (arith, one, refused));
-  accepted = λ _. accepted;
+  accepted = λ _. font;
 }
 
 -- neither of two arguments is out of range

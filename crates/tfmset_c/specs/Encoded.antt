@@ -25,7 +25,8 @@ IsNoEncoding bytes = (encoding_named_told bytes ≡ None) × IsSome (fault_line 
 -- the encoding that bytes state: that of the name, or else one that is made of the characters of the vector
 abbrev pub IsNamedOrMade : Option (Option Encoding) → List ℕ → Option Encoding → Type 0
 IsNamedOrMade (Some named) bytes encoding = encoding ≡ named
-IsNamedOrMade None bytes encoding = (fault_line bytes ≡ None) × ((made : Encoding) × (encoding ≡ Some made) × IsMadeOf (characters_of bytes) made)
+IsNamedOrMade None bytes encoding =
+    (fault_line bytes ≡ None) × ((made : Encoding) × (encoding ≡ Some made) × IsMadeOf (characters_of bytes) made)
 
 abbrev pub IsEncodingTold : List ℕ → Option Encoding → Type 0
 IsEncodingTold bytes = IsNamedOrMade (encoding_named_told bytes) bytes
@@ -66,15 +67,20 @@ offsets_for (suc length) offsets = offsets
 -- all of these have room
 abbrev pub HaveRoom : TextCodes → ℕ → ℕ → ℕ → Type 0
 HaveRoom told codes offsets uncoded =
-    HasRoom (length told.codes) codes × HasRoom (length (offsets_for offsets told.offsets)) offsets × HasRoom (length told.uncoded) uncoded
+    HasRoom (length told.codes) codes × HasRoom (length (offsets_for offsets told.offsets)) offsets
+    × HasRoom (length told.uncoded) uncoded
 
 -- the effect of a call that encodes a text: after 0 and 3 the numbers are reported, after 0 the arrays have the codes,
 -- their offsets and the characters without codes, and after 3 some have no room
-pub record AreCodesTold (told : TextCodes) (answer : ℕ) (report : TfmsetEncoded) (codes_before codes offsets_before offsets : List ℕ) (uncoded_before uncoded : List TfmsetUncoded) : Type 0 where
-  pub counted : (answer ≡ 0) ⊎ (answer ≡ 3) → report ≡ report_of (held (length told.codes)) (held (length told.uncoded)) 0
+pub record AreCodesTold (told : TextCodes) (answer : ℕ) (report : TfmsetEncoded)
+    (codes_before codes offsets_before offsets : List ℕ) (uncoded_before uncoded : List TfmsetUncoded) : Type 0 where
+  pub counted : (answer ≡ 0) ⊎ (answer ≡ 3)
+      → report ≡ report_of (held (length told.codes)) (held (length told.uncoded)) 0
   pub room : answer ≡ 0 → HaveRoom told (length codes_before) (length offsets_before) (length uncoded_before)
   pub no_room : answer ≡ 3 → HaveRoom told (length codes_before) (length offsets_before) (length uncoded_before) → ⊥
-  pub written : answer ≡ 0 → IsOverlaid told.codes codes_before codes × IsOverlaid (offsets_for (length offsets_before) told.offsets) offsets_before offsets × IsOverlaid told.uncoded uncoded_before uncoded
+  pub written : answer ≡ 0 → IsOverlaid told.codes codes_before codes
+      × IsOverlaid (offsets_for (length offsets_before) told.offsets) offsets_before offsets
+      × IsOverlaid told.uncoded uncoded_before uncoded
 
 -- 5 exactly for a text that isn't UTF-8, with the offset, and otherwise 0 or 3
 abbrev pub IsFaultTold : Option ℕ → ℕ → TfmsetEncoded → Type 0
@@ -94,7 +100,8 @@ pub record IsCounted (told : TextCodes) (report : TfmsetEncoded) (placed : ℕ) 
   pub uncoded : report.uncoded ≡ held (length told.uncoded)
 
 -- all elements are written, if they have room, and these are their numbers
-pub record AreFilled (told : TextCodes) (report : TfmsetEncoded) (placed : ℕ) (codes_before codes offsets_before offsets : List ℕ) (uncoded_before uncoded : List TfmsetUncoded) : Type 0 where
+pub record AreFilled (told : TextCodes) (report : TfmsetEncoded) (placed : ℕ)
+    (codes_before codes offsets_before offsets : List ℕ) (uncoded_before uncoded : List TfmsetUncoded) : Type 0 where
   pub codes_in : IsFilled told.codes report.count codes_before codes
   pub offsets_in : IsFilled told.offsets placed offsets_before offsets
   pub uncoded_in : IsFilled told.uncoded report.uncoded uncoded_before uncoded

@@ -22,7 +22,8 @@ use Rattle.tfmset_c.specs.declared.options.TfmsetOptions.{TfmsetOptions}
 
 -- an option is out of range
 abbrev pub IsOutOfRange : TfmsetOptions → Type 0
-IsOutOfRange options = IsNoSize options.size ⊎ ((16777216 < options.limit) ⊎ ((1 < options.policy) ⊎ (1 < options.crlf)))
+IsOutOfRange options =
+    IsNoSize options.size ⊎ ((16777216 < options.limit) ⊎ ((1 < options.policy) ⊎ (1 < options.crlf)))
 
 -- the limit that a number states: 0 is 1,048,576
 unfoldable pub limit_of : ℕ → ℕ
@@ -81,7 +82,8 @@ outcome_within terms left line = if left == 0 then Refused (Steps 0) else outcom
 
 -- the same of a line of bytes or in UTF-8
 unfoldable pub result_within : TermsValue → Option Encoding → Bool → ℕ → List ℕ → Result Setting TextRefusal
-result_within terms encoding first left line = if left == 0 then Err (Line (Steps 0)) else line_result terms encoding first line
+result_within terms encoding first left line =
+    if left == 0 then Err (Line (Steps 0)) else line_result terms encoding first line
 
 -- the results of lines, in order: each line takes its steps from those that are left for the call
 unfoldable pub outcomes_within : TermsValue → ℕ → List (List ℕ) → List Outcome
@@ -99,4 +101,5 @@ lines_at options text = lines_in (options.crlf == 1) text
 
 -- the results of the lines of a text with the font in these bytes and these options
 unfoldable pub outcomes_at : List ℕ → TfmsetOptions → List ℕ → List Outcome
-outcomes_at bytes options text = outcomes_within (terms_at bytes options) (call_limit_of options.call_limit) (lines_at options text)
+outcomes_at bytes options text =
+    outcomes_within (terms_at bytes options) (call_limit_of options.call_limit) (lines_at options text)

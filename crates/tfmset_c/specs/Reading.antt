@@ -1,6 +1,6 @@
 -- The font that a call reads, at the size that C passes.
 -- This project's own; which fonts are accepted is defined in Acceptance of `tfm_tables`.
-use Rattle.std.specs.Prelude.{◌≡◌, ℕ, ◌<◌, ◌≤◌, ◌==◌, ◌⊎◌, ◌↔◌, List, Option, Some, None, IsSome, Result, Ok, Err, if◌then◌else◌}
+use Rattle.std.specs.Prelude.{◌≡◌, ℕ, ◌<◌, ◌≤◌, ◌==◌, ◌⊎◌, ◌↔◌, List, Option, Some, None, Result, Ok, Err, if◌then◌else◌}
 use Rattle.tfm_words.specs.declared.design.DesignFault.{DesignFault}
 use Rattle.tfm_words.specs.DesignSize.{design_size_of}
 use Rattle.tfm_tables.specs.Acceptance.{font_fault_of, words_of}
@@ -44,10 +44,14 @@ abbrev pub denial_number : Denial → ℕ
 denial_number Memory = 2
 denial_number (Refused _) = 1
 
--- the code that a call returns, by its font: 4 exactly if an argument is out of range, 1 only if the font is refused,
--- and 0, 2 and 3, the only others, only if it is accepted
-pub record IsAnswer (OutOfRange : Type 0) (font : List ℕ) (answer : ℕ) : Type 0 where
+-- the code that a call returns: 4 exactly if an argument is out of range, 1 only if the bytes of the font are
+-- none, and 0, 2 and 3, the only others, only if they are one
+pub record IsAnswerFor (OutOfRange IsFont : Type 0) (answer : ℕ) : Type 0 where
   pub code : answer ≤ 4
   pub range : (answer ≡ 4) ↔ OutOfRange
-  pub refused : answer ≡ 1 → IsSome (font_fault_of font)
-  pub accepted : (answer ≡ 0) ⊎ ((answer ≡ 2) ⊎ (answer ≡ 3)) → font_fault_of font ≡ None
+  pub refused : answer ≡ 1 → IsFont → ⊥
+  pub accepted : (answer ≡ 0) ⊎ ((answer ≡ 2) ⊎ (answer ≡ 3)) → IsFont
+
+-- the code of a call that reads a TFM file
+abbrev pub IsAnswer : Type 0 → List ℕ → ℕ → Type 0
+IsAnswer OutOfRange font = IsAnswerFor OutOfRange (font_fault_of font ≡ None)

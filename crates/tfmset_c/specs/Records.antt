@@ -1,8 +1,7 @@
 -- The records of the lines of a text, as C gets them.
 -- This project's own; the text of a record is defined in Record of `set_line`, and what it says in Results of
 -- `line_records`.
-use Rattle.std.specs.Prelude.{◌≡◌, ℕ, Bool, false, Option, Some, None, ◌+◌, ◌-◌, ◌<◌, ◌==◌, ◌&&◌, ◌⊎◌, nat_lt, List, [], ◌∷◌, ◌++◌, codes, length, if◌then◌else◌}
-use Rattle.std.specs.Option.{option_and_then}
+use Rattle.std.specs.Prelude.{◌≡◌, ℕ, Bool, false, Option, ◌+◌, ◌-◌, ◌<◌, ◌==◌, ◌⊎◌, List, [], ◌∷◌, ◌++◌, codes, length, if◌then◌else◌}
 use Rattle.caller_arrays.specs.Arrays.{HasEffect, HasRoom, IsOverlaid, held}
 use Rattle.encodings.specs.declared.encoding.Encoding.{Encoding}
 use Rattle.set_line.specs.declared.version.Version.{Version}
@@ -24,20 +23,20 @@ IsNoVersion version = (version < 1) ⊎ (3 < version)
 
 -- how the lines of a text are read and recorded, with this encoding
 abbrev pub form_told : Option Encoding → TfmsetForm → Form
-form_told encoding form = record { encoding = encoding; version = version_of form.version; source = form.source; first = form.first }
+form_told encoding form =
+    record { encoding = encoding; version = version_of form.version; source = form.source; first = form.first }
 
 -- the bytes that state an encoding; if there are none, the name of that of bytes
-abbrev pub or_bytes : List ℕ → List ℕ
-or_bytes [] = codes "bytes"
-or_bytes (byte ∷ bytes) = byte ∷ bytes
+unfoldable pub or_bytes : List ℕ → List ℕ
+or_bytes bytes = if length bytes == 0 then codes "bytes" else bytes
 
 -- the record of a line of which this many steps are left for the call
 abbrev pub record_within : TermsValue → Form → ℕ → Bool → ℕ → List ℕ → List ℕ
 record_within terms form place first left line =
     text_record form.source place (result_text form.version (result_within terms form.encoding first left line)) form.version
 
--- the records of lines; the first one has this line number, `first` states whether it is the first line of its text, and
--- this many steps are left for the call
+-- the records of lines; the first one has this line number, `first` states whether it is the first line of its
+-- text, and this many steps are left for the call
 unfoldable pub records_told : TermsValue → Form → ℕ → Bool → ℕ → List (List ℕ) → List ℕ
 records_told terms form place first left [] = []
 records_told terms form place first left (line ∷ lines) =

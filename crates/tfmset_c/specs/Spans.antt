@@ -27,7 +27,8 @@ is_in_range span = nat_le span.edges 3 && nat_le span.hyphen 256
 
 -- an argument of a call that sets spans is out of range
 abbrev pub IsNoCall : TfmsetOptions → List TfmsetSpan → Type 0
-IsNoCall options spans = IsOutOfRange options ⊎ ((options.policy ≢ 0) ⊎ ((options.crlf ≢ 0) ⊎ (list_all is_in_range spans ≡ false)))
+IsNoCall options spans =
+    IsOutOfRange options ⊎ ((options.policy ≢ 0) ⊎ ((options.crlf ≢ 0) ⊎ (list_all is_in_range spans ≡ false)))
 
 -- a span: the first bit of the edges is the left one, the second bit is the right one, and 256 is no hyphen
 unfoldable pub span_of : TfmsetSpan → Span
@@ -68,7 +69,8 @@ unfoldable pub spans_told : SpanTerms → ℕ → ℕ → List TfmsetSpan → Li
 spans_told terms left before [] = []
 spans_told terms left before (span ∷ spans) =
     span_within terms left (held before) span
-    ∷ spans_told terms (left - (span_within terms left (held before) span).steps) (before + (span_within terms left (held before) span).count) spans
+    ∷ spans_told terms (left - (span_within terms left (held before) span).steps)
+    (before + (span_within terms left (held before) span).count) spans
 
 -- ---- the items
 
@@ -85,7 +87,8 @@ placed_told one = record {
 -- the items of a span with this result; a refused one has none
 unfoldable pub span_items : SpanTerms → TfmsetSpan → TfmsetLine → List TfmsetPlaced
 span_items terms span line =
-    if line.refusal == 0 then option_map_or (map placed_told) (places_of terms.font terms.text (span_of span) line.steps) [] else []
+    if line.refusal == 0 then option_map_or (map placed_told) (places_of terms.font terms.text (span_of span) line.steps) []
+    else []
 
 -- the items of spans with these results, in order
 unfoldable pub items_told : SpanTerms → List TfmsetSpan → List TfmsetLine → List TfmsetPlaced

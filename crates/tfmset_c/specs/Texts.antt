@@ -38,7 +38,8 @@ line_told first (Refused (Steps limit)) = refused_with first 3 0 limit 0
 -- the results of lines; this many items precede the items of the first line
 unfoldable pub lines_told : ℕ → List Outcome → List TfmsetLine
 lines_told before [] = []
-lines_told before (outcome ∷ outcomes) = line_told (held before) outcome ∷ lines_told (before + length (items_in outcome)) outcomes
+lines_told before (outcome ∷ outcomes) =
+    line_told (held before) outcome ∷ lines_told (before + length (items_in outcome)) outcomes
 
 -- the items of all lines, in order
 unfoldable pub items_told : List Outcome → List TfmsetItem

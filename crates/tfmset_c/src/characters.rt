@@ -16,7 +16,7 @@ use tfm_words::{Counts, Table, word_at};
 
 /// The dimensions of a character, in sp, its tag and its extensible recipe.
 #[repr(C)]
-#[derive(Clone, Copy, Debug, PartialEq, Eq)]
+#[derive(Clone, Copy, Debug, Default, PartialEq, Eq)]
 pub struct TfmsetCharacter {
     /// 1 if the font has the character. Otherwise 0, and all other fields are 0.
     pub exists: u32,
@@ -90,19 +90,7 @@ fn character(font: &FontMetrics, words: &[u8], counts: &Counts, code: u8) -> Tfm
     requires words { font.now.words ≡ words.now }
     ensures { result ≡ character_at font.now code }
 {
-    let nothing = TfmsetCharacter {
-        exists: 0,
-        width: 0,
-        height: 0,
-        depth: 0,
-        italic: 0,
-        tag: 0,
-        remainder: 0,
-        top: 0,
-        middle: 0,
-        bottom: 0,
-        repeated: 0,
-    };
+    let nothing = TfmsetCharacter::default();
     let Some(metrics) = font.metrics(code) else {
         return nothing;
     };

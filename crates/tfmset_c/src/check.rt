@@ -3,21 +3,14 @@ ghost use Rattle.std.specs.Prelude.{◌≡◌, ◌≢◌, ◌≤◌, ◌⊎◌, 
 ghost use Rattle.std.specs.Option.{option_map};
 ghost use Rattle.tfm_tables.specs.Acceptance.{font_fault_of};
 ghost use Rattle.caller_arrays.specs.Arrays.{IsListed};
-ghost use Rattle.tfmset_c.specs.Faults.{
-  count_fault_told,
-  count_number,
-  fault_text_of,
-  fault_told,
-  part_number,
-  table_number,
-};
+ghost use Rattle.tfmset_c.specs.Faults.{count_fault_told, fault_text_of, fault_told};
 
 use crate::reading::{Denial, MEMORY, read_metrics};
 use caller_arrays::{DONE, report};
 use font_texts::Numbered;
 use std::alloc::{AllocError, Global};
-use tfm_tables::{FontFault, Part};
-use tfm_words::{Count, CountFault, Table};
+use tfm_tables::FontFault;
+use tfm_words::CountFault;
 
 /// The first error of a font.
 #[repr(C)]
@@ -33,27 +26,6 @@ pub struct TfmsetFault {
     /// numbered in the order of the file, and parts in the order of the checks, each starting at 0. Otherwise
     /// 0.
     pub named: u32,
-}
-
-/// Returns the number of a count.
-fn count_named(count: Count) -> u32
-    ensures { result ≡ count_number count }
-{
-    count as u32
-}
-
-/// Returns the number of a table.
-fn table_named(table: Table) -> u32
-    ensures { result ≡ table_number table }
-{
-    table as u32
-}
-
-/// Returns the number of a part of an instruction.
-fn part_named(part: Part) -> u32
-    ensures { result ≡ part_number part }
-{
-    part as u32
 }
 
 fn fault(number: u32, named: u32, place: usize) -> TfmsetFault
@@ -73,10 +45,10 @@ fn count_fault_for_c(first: CountFault) -> TfmsetFault
 {
     match first {
         CountFault::Truncated { need } => fault(if need == 24 { 1 } else { 8 }, 0, need),
-        CountFault::CountRange(count) => fault(2, count_named(count), 0),
+        CountFault::CountRange(count) => fault(2, count as u32, 0),
         CountFault::CharRange => fault(3, 0, 0),
         CountFault::HeaderShort => fault(4, 0, 0),
-        CountFault::EmptyTable(table) => fault(5, table_named(table), 0),
+        CountFault::EmptyTable(table) => fault(5, table as u32, 0),
         CountFault::TooManyRecipes => fault(6, 0, 0),
         CountFault::LengthEquation => fault(7, 0, 0),
     }
@@ -90,11 +62,11 @@ fn fault_for_c(first: FontFault) -> TfmsetFault
     match first {
         FontFault::Counts(counts) => count_fault_for_c(counts),
         FontFault::Design(_) => fault(9, 0, 0),
-        FontFault::CharIndex { code, table } => fault(10, table_named(table), usize::from(code)),
+        FontFault::CharIndex { code, table } => fault(10, table as u32, usize::from(code)),
         FontFault::LigStart(code) => fault(11, 0, usize::from(code)),
-        FontFault::FirstNotZero(table) => fault(12, table_named(table), 0),
-        FontFault::FixWordRange { table, index } => fault(13, table_named(table), index),
-        FontFault::Step { index, part } => fault(14, part_named(part), index),
+        FontFault::FirstNotZero(table) => fault(12, table as u32, 0),
+        FontFault::FixWordRange { table, index } => fault(13, table as u32, index),
+        FontFault::Step { index, part } => fault(14, part as u32, index),
         FontFault::OutOfMemory => fault(0, 0, 0),
     }
 }

@@ -26,7 +26,7 @@ pub struct TfmsetUncoded {
 
 /// The result of a text in UTF-8.
 #[repr(C)]
-#[derive(Clone, Copy, Debug, PartialEq, Eq)]
+#[derive(Clone, Copy, Debug, Default, PartialEq, Eq)]
 pub struct TfmsetEncoded {
     /// Codes 0 and 3: the number of codes. Otherwise 0.
     pub count: usize,
@@ -38,15 +38,15 @@ pub struct TfmsetEncoded {
 
 /// Returns the encoding of this name: `None` within `Some` is that of bytes, each of which is a code. Returns
 /// `None` if no encoding has this name.
-#[tactic(auto, using(crate::proofs::EncodedLemmas::names))]
+#[tactic(auto, using(encodings::proofs::NameLemmas::no_encoding), unfolding(crate::specs::Encoded::encoding_named_told))]
 fn named_encoding(name: &[u8]) -> Option<Option<Encoding<'static>>>
     ensures { result ≡ encoding_named_told name.now }
 {
-    match str::from_utf8(name) {
-        Ok("bytes") => Some(None),
-        Ok(name) => Some(Some(Encoding::from_name(name)?)),
-        Err(_) => None,
+    if name == b"bytes".as_slice() {
+        return Some(None);
     }
+    let name = str::from_utf8(name).ok()?;
+    Some(Some(Encoding::from_name(name)?))
 }
 
 /// Returns the encoding that these bytes state: that of a name, or of a vector, which is then put into `vector`.
@@ -78,6 +78,16 @@ fn uncoded_for_c(place: Place) -> TfmsetUncoded
     }
 }
 
+/// Writes offsets that begin with `first` and grow by `step` into an array.
+fn write_offsets(offsets: &mut [usize], first: usize, step: usize)
+    requires { first + step * length offsets.old < 2 ^ 64 }
+    ensures { offsets.new ≡ offsets_from first step (length offsets.old) }
+{
+    for index in 0..offsets.len() {
+        offsets[index] = first + step * index;
+    }
+}
+
 /// Writes `count` offsets that begin with `first` and grow by `step`, starting at index `at`, if the array has room for
 /// all of them. Returns the index after them, at most 2^64 - 1.
 #[tactic(auto, using(crate::proofs::EncodedLemmas::placing))]
@@ -86,9 +96,7 @@ fn put_offsets(offsets: &mut [usize], at: usize, first: usize, step: usize, coun
     ensures { ArePut (offsets_from first step count) at result offsets.old offsets.new }
 {
     if at <= offsets.len() && count <= offsets.len() - at {
-        for index in 0..count {
-            offsets[at + index] = first + step * index;
-        }
+        write_offsets(&mut offsets[at..at + count], first, step);
     }
     at.saturating_add(count)
 }
@@ -110,11 +118,7 @@ fn fill_codes(
     ensures fault { result.0.offset ≡ 0 }
 {
     let mut places = places;
-    let mut counts = TfmsetEncoded {
-        count: 0,
-        uncoded: 0,
-        offset: 0,
-    };
+    let mut counts = TfmsetEncoded::default();
     let mut placed = 0;
     loop {
         let (first, kept) = places.take_kept(encoding);
@@ -144,10 +148,12 @@ fn fill(
     uncoded: &mut [TfmsetUncoded],
 ) -> Result<(TfmsetEncoded, usize), usize>
     ensures sound { IfOk result (λ _. fault_told encoding.entry text.now ≡ None) }
-    ensures ok { IfOk result (λ filled. AreFilled (codes_told encoding.entry text.now) filled.0 filled.1 codes.old codes.new offsets.old offsets.new uncoded.old uncoded.new) }
+    ensures ok { IfOk result (λ filled. AreFilled (codes_told encoding.entry text.now) filled.0 filled.1
+        codes.old codes.new offsets.old offsets.new uncoded.old uncoded.new) }
     ensures few { IfOk result (λ filled. filled.0.count + filled.0.uncoded ≤ length text.now) }
     ensures fault { IfErr result (λ offset. fault_told encoding.entry text.now ≡ Some offset) }
-    ensures kept { IfErr result (λ _. (codes.new ≡ codes.old) × (offsets.new ≡ offsets.old) × (uncoded.new ≡ uncoded.old)) }
+    ensures kept { IfErr result (λ _. (codes.new ≡ codes.old) × (offsets.new ≡ offsets.old)
+        × (uncoded.new ≡ uncoded.old)) }
 {
     let Some(encoding) = encoding else {
         let counts = TfmsetEncoded {
@@ -185,40 +191,6 @@ fn have_room(
         && has_room(counts.uncoded, uncoded.len())
 }
 
-/// Writes what becomes of a text into the arrays, as `fill` does. Returns the code of the call, and its report.
-fn encoded(
-    encoding: Option<Encoding>,
-    text: &[u8],
-    codes: &mut [u8],
-    offsets: &mut [usize],
-    uncoded: &mut [TfmsetUncoded],
-) -> (u32, TfmsetEncoded)
-    ensures answers { (result.0 ≡ 0) ⊎ ((3 ≤ result.0) × (result.0 ≤ 5)) }
-    ensures stated { result.0 ≡ 4 → ⊥ }
-    ensures told { AreCodesTold (codes_told encoding.entry text.now) result.0 result.1 codes.old codes.new offsets.old offsets.new uncoded.old uncoded.new }
-    ensures fault { IsFaultTold (fault_told encoding.entry text.now) result.0 result.1 }
-    ensures few { (result.0 ≡ 0) ⊎ (result.0 ≡ 3) → result.1.count + result.1.uncoded ≤ length text.now }
-    ensures kept { result.0 ≡ 5 → (codes.new ≡ codes.old) × (offsets.new ≡ offsets.old) × (uncoded.new ≡ uncoded.old) }
-{
-    match fill(encoding, text, codes, offsets, uncoded) {
-        Ok((counts, placed)) => {
-            if have_room(counts, placed, codes, offsets, uncoded) {
-                (DONE, counts)
-            } else {
-                (NO_ROOM, counts)
-            }
-        }
-        Err(offset) => {
-            let report = TfmsetEncoded {
-                count: 0,
-                uncoded: 0,
-                offset,
-            };
-            (NOT_UTF8, report)
-        }
-    }
-}
-
 /// Turns a text in UTF-8 into the codes of a font, and writes them into the front of `codes`. `encoding` is the
 /// name of the font's encoding: `bytes`, `ot1`, `t1`, `ly1` or `latin1`; with `bytes` the text is copied. If it
 /// isn't a name, it is an encoding vector: the contents of a file `.enc`. Line feeds are kept, and a byte order mark
@@ -244,17 +216,32 @@ pub extern "C" fn tfmset_encode(
     ensures answers { (result ≡ 0) ⊎ ((3 ≤ result) × (result ≤ 5)) }
     ensures range { (result ≡ 4) ↔ IsNoEncoding encoding.now }
     ensures told { (result ≡ 4) ⊎ ((told : Option EncodingValue) × IsEncodingTold encoding.now told
-        × AreCodesTold (codes_told told text.now) result report.new codes.old codes.new offsets.old offsets.new uncoded.old uncoded.new
+        × AreCodesTold (codes_told told text.now) result report.new codes.old codes.new
+        offsets.old offsets.new uncoded.old uncoded.new
         × IsFaultTold (fault_told told text.now) result report.new) }
     ensures few { (result ≡ 0) ⊎ (result ≡ 3) → report.new.count + report.new.uncoded ≤ length text.now }
-    ensures kept { (result ≡ 4) ⊎ (result ≡ 5) → (codes.new ≡ codes.old) × (offsets.new ≡ offsets.old) × (uncoded.new ≡ uncoded.old) }
+    ensures kept { (result ≡ 4) ⊎ (result ≡ 5) → (codes.new ≡ codes.old) × (offsets.new ≡ offsets.old)
+        × (uncoded.new ≡ uncoded.old) }
     ensures unknown { result ≡ 4 → report.new ≡ report.old }
 {
     let mut vector = None;
     let Some(encoding) = encoding_of(encoding, &mut vector) else {
         return RANGE;
     };
-    let (code, made) = encoded(encoding, text, codes, offsets, uncoded);
-    *report = made;
-    code
+    match fill(encoding, text, codes, offsets, uncoded) {
+        Ok((counts, placed)) => {
+            *report = counts;
+            if have_room(counts, placed, codes, offsets, uncoded) {
+                return DONE;
+            }
+            NO_ROOM
+        }
+        Err(offset) => {
+            *report = TfmsetEncoded {
+                offset,
+                ..TfmsetEncoded::default()
+            };
+            NOT_UTF8
+        }
+    }
 }

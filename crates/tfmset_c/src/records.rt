@@ -1,5 +1,5 @@
 //! `tfmset_records`: writes the records of the lines of a text into an array of the caller.
-ghost use Rattle.std.specs.Prelude.{◌≡◌, ◌≤◌, ◌<◌, ◌+◌, ◌++◌, ◌^◌, ◌⊎◌, Option, true, IfOk, IfSome, OnOk, length, MatchOption};
+ghost use Rattle.std.specs.Prelude.{◌≡◌, ◌≤◌, ◌<◌, ◌+◌, ◌++◌, ◌^◌, ◌⊎◌, Option, true, IfOk, OnOk, length, MatchOption};
 ghost use Rattle.encodings.specs.declared.encoding.Encoding.{Encoding as EncodingValue};
 ghost use Rattle.line_records.specs.Cells.{style_of};
 ghost use Rattle.line_records.specs.Results.{IsResult};
@@ -86,16 +86,12 @@ fn form_of<'a>(encoding: Option<Encoding<'a>>, form: &TfmsetForm) -> Option<Form
     })
 }
 
-/// Returns the encoding that these bytes state, as [`encoding_of`] does. No bytes state that of bytes.
-#[tactic(auto, using(crate::proofs::EncodedLemmas::given))]
-fn given_encoding<'a>(bytes: &[u8], vector: &'a mut Option<Vector>) -> Option<Option<Encoding<'a>>>
-    ensures told { MatchOption result (IsNoEncoding (or_bytes bytes.now)) (IsEncodingTold (or_bytes bytes.now)) }
-    ensures stated { IfSome result (λ _. IsNoEncoding (or_bytes bytes.now) → ⊥) }
+/// Returns the bytes that state an encoding: if there are none, the name of that of bytes.
+#[tactic(auto, unfolding(crate::specs::Records::or_bytes))]
+fn or_bytes(bytes: &[u8]) -> &[u8]
+    ensures { result.now ≡ or_bytes bytes.now }
 {
-    if bytes.is_empty() {
-        return Some(None);
-    }
-    encoding_of(bytes, vector)
+    if bytes.is_empty() { b"bytes" } else { bytes }
 }
 
 /// Returns a writer for the lines of a text, which is prepared if the text is long enough.
@@ -221,8 +217,8 @@ fn write_records(
 /// `records` are unchanged; 1 if the font is refused; 2 if an allocation fails; 3 if `records` is too short,
 /// where `count` is the number of bytes needed, or 2^64 - 1 if it is larger; 4 if an option or the record format is
 /// out of range, if `encoding` is neither a name nor a vector, or if the sum of `form.first` and the length of the
-/// text is 2^64 or more. After 1 and 4 nothing is changed. After 2 `count` is unchanged. After 2 and 3 the contents of `records` are
-/// unspecified.
+/// text is 2^64 or more. After 1 and 4 nothing is changed. After 2 `count` is unchanged. After 2 and 3 the contents
+/// of `records` are unspecified.
 #[unsafe(no_mangle)]
 pub extern "C" fn tfmset_records(
     alloc: Global,
@@ -234,7 +230,6 @@ pub extern "C" fn tfmset_records(
     records: &mut [u8],
     count: &mut usize,
 ) -> u32
-    ensures answers { result ≤ 4 }
     ensures font { IsAnswer (IsOutOfRange options.now ⊎ (IsNoEncoding (or_bytes encoding.now)
         ⊎ (IsNoVersion form.now.version ⊎ (2 ^ 64 ≤ form.now.first + length text.now)))) font.now result }
     ensures told { (result ≡ 4) ⊎ ((told : Option EncodingValue) × IsEncodingTold (or_bytes encoding.now) told
@@ -247,7 +242,7 @@ pub extern "C" fn tfmset_records(
         return RANGE;
     };
     let mut vector = None;
-    let Some(encoding) = given_encoding(encoding, &mut vector) else {
+    let Some(encoding) = encoding_of(or_bytes(encoding), &mut vector) else {
         return RANGE;
     };
     let Some(read) = form_of(encoding, form) else {

@@ -154,7 +154,8 @@ fn run(
     counts: &mut TfmsetCounts,
 ) -> u32
     ensures font { IsAnswer (IsOutOfRange call.entry.options.now) call.entry.font.now result }
-    ensures told { AreTold call.entry.with_items (lines_told 0 (outcomes_at call.entry.font.now call.entry.options.now call.entry.text.now))
+    ensures told { AreTold call.entry.with_items
+        (lines_told 0 (outcomes_at call.entry.font.now call.entry.options.now call.entry.text.now))
         (items_told (outcomes_at call.entry.font.now call.entry.options.now call.entry.text.now)) result
         counts.old counts.new lines.old lines.new items.old items.new }
 {

@@ -4,7 +4,8 @@ ghost use Rattle.caller_arrays.specs.Arrays.{ArePut};
 ghost use Rattle.prepared_font.specs.Layout.{IsPreparedFrom};
 ghost use Rattle.tfm_tables.specs.Font.{FontValue};
 ghost use Rattle.tfmset_c.specs.Filling.{AreFilled, AreTold, wanted};
-ghost use Rattle.tfmset_c.specs.Prepared.{IsAnswerFor, IsGiven, IsNoFont, IsOpenFor};
+ghost use Rattle.tfmset_c.specs.Prepared.{IsFont, IsGiven, IsNoFont, IsOpenFor, IsOtherSize};
+ghost use Rattle.tfmset_c.specs.Reading.{IsAnswerFor};
 ghost use Rattle.tfmset_c.specs.Spans.{IsNoCall, items_at, items_told, job_terms, placed_told, span_items, span_within, spans_at, spans_told};
 
 use crate::filling::tell;
@@ -49,7 +50,8 @@ struct Kept {
 
 /// Opens the font in these bytes: a table, or a TFM file, whose table is written to `made`. `size` is in sp; 0 is the
 /// design size of a TFM file, or the size of a table. The error is the code that the call returns: 1 if the bytes are
-/// no font; 2 if an allocation fails; 4 if a table has another size.
+/// neither an accepted TFM file nor have the header of a table; 2 if an allocation fails; 4 if the table has another
+/// size in its header.
 pub fn open_font<'a>(
     alloc: Global,
     bytes: &'a [u8],
@@ -161,9 +163,10 @@ fn run(
     items: &mut [TfmsetPlaced],
     counts: &mut TfmsetCounts,
 ) -> u32
-    ensures answers { result ≤ 4 }
-    ensures font { IsAnswerFor (IsNoCall call.entry.options.now call.entry.spans.now) call.entry.options.now.size call.entry.font.now result }
-    ensures told { (value : FontValue) → IsGiven call.entry.font.now call.entry.options.now.size value → AreTold call.entry.with_items
+    ensures font { IsAnswerFor (IsNoCall call.entry.options.now call.entry.spans.now
+        ⊎ IsOtherSize call.entry.options.now.size call.entry.font.now) (IsFont call.entry.font.now) result }
+    ensures told { (value : FontValue) → IsGiven call.entry.font.now call.entry.options.now.size value
+        → AreTold call.entry.with_items
         (spans_at value call.entry.options.now call.entry.text.now call.entry.spans.now)
         (items_at value call.entry.options.now call.entry.text.now call.entry.spans.now)
         result counts.old counts.new lines.old lines.new items.old items.new }
@@ -191,11 +194,13 @@ fn run(
     }
 }
 
-/// Sets spans of a text, each as one run. `font` is a TFM file, or a table that `tfmset_prepare` wrote. Returns: 0 after
-/// success, where `lines` has a result for each span, in order, `counts` has the numbers of results and of their items,
-/// and the other elements are unchanged; 1 if the bytes are no font; 2 if an allocation fails; 3 if `lines` is too short,
-/// where `counts` is as after 0; 4 if an option or a span is out of range, or the size isn't that of the table. After 1
-/// and 4 nothing is changed. After 2 `counts` is unchanged. After 2 and 3 the contents of the array are unspecified.
+/// Sets spans of a text, each as one run. `font` is a TFM file, or a table that `tfmset_prepare` wrote. Returns: 0
+/// after success, where `lines` has a result for each span, in order, `counts` has the numbers of results and of
+/// their items, and the other elements are unchanged; 1 if the bytes are neither an accepted TFM file nor have the
+/// header of a table; 2 if an allocation fails; 3 if `lines` is too short, where `counts` is as after 0; 4 if an option
+/// or a span is out of range, or if the bytes have the header of a table, and the size is neither 0 nor the one in the
+/// header. After 1 and 4 nothing is changed. After 2 `counts` is unchanged. After 2 and 3 the contents of the array are
+/// unspecified.
 #[unsafe(no_mangle)]
 pub extern "C" fn tfmset_spans(
     alloc: Global,
@@ -206,8 +211,8 @@ pub extern "C" fn tfmset_spans(
     lines: &mut [TfmsetLine],
     counts: &mut TfmsetCounts,
 ) -> u32
-    ensures answers { result ≤ 4 }
-    ensures font { IsAnswerFor (IsNoCall options.now spans.now) options.now.size font.now result }
+    ensures font { IsAnswerFor (IsNoCall options.now spans.now ⊎ IsOtherSize options.now.size font.now)
+        (IsFont font.now) result }
     ensures told { (value : FontValue) → IsGiven font.now options.now.size value → AreTold false
         (spans_at value options.now text.now spans.now) (items_at value options.now text.now spans.now)
         result counts.old counts.new lines.old lines.new [] [] }
@@ -237,8 +242,8 @@ pub extern "C" fn tfmset_span_items(
     items: &mut [TfmsetPlaced],
     counts: &mut TfmsetCounts,
 ) -> u32
-    ensures answers { result ≤ 4 }
-    ensures font { IsAnswerFor (IsNoCall options.now spans.now) options.now.size font.now result }
+    ensures font { IsAnswerFor (IsNoCall options.now spans.now ⊎ IsOtherSize options.now.size font.now)
+        (IsFont font.now) result }
     ensures told { (value : FontValue) → IsGiven font.now options.now.size value → AreTold true
         (spans_at value options.now text.now spans.now) (items_at value options.now text.now spans.now)
         result counts.old counts.new lines.old lines.new items.old items.new }

@@ -1,29 +1,17 @@
 use Rattle.std.proofs.Common.{◌≡◌, Some, None, arith, ◌∙◌}
 use Rattle.tfmset_c.specs.Reading.{font_at}
-use Rattle.tfmset_c.proofs.FontLemmas.{file_opens, no_file, other_size, table_opens}
+use Rattle.tfmset_c.proofs.FontLemmas.{file_opens, table_opens}
 use Rattle.tfmset_c.proofs.spanning.open_font.Goals.{else-size-ne0-via-then-size-ne0+else-size, else-size-ne0-via-else-size-ne0}
 use Rattle.tfmset_c.proofs.spanning.open_font.Goals as goal
-
-pub returns-then-size-clause-code : goal.returns-then-size-clause-code
-returns-then-size-clause-code c =
-    other_size c.args.bytes.now c.args.size c.size.result (λ k. omega (arith, c.type_inv.bytes k)) c.in-Some.ensures.whole.1
-    (λ font is. c.size.ensures font (rw c.in-Some.ensures.whole.0 is)) c.if-size-ne0.true c.if-size.true
 
 pub returns-in-Some-clause-ok : goal.returns-in-Some-clause-ok
 returns-in-Some-clause-ok c =
     rw c.in-Some.ensures.whole.0
     (table_opens c.args.bytes.now c.args.size (λ k. omega (arith, c.type_inv.bytes k)) c.in-Some.ensures.whole.1
     (elim c.else-size-ne0.branch [
-      | else-size-ne0-via-then-size-ne0+else-size w ↦ λ font is other.
-          other.1 (w.if-size.false ∙ w.size.ensures font (rw c.in-Some.ensures.whole.0 is))
-      | else-size-ne0-via-else-size-ne0 w ↦ λ font is other. other.0 w.if-size-ne0.false
+      | else-size-ne0-via-then-size-ne0+else-size w ↦ λ other. other.1.1 (rw c.in-Some.ensures.whole.0 at (w.if-size.false ∙ w.size.ensures.stated))
+      | else-size-ne0-via-else-size-ne0 w ↦ λ other. other.1.0 w.if-size-ne0.false
     ]))
-
-pub returns-in-Err-clause-code : goal.returns-in-Err-clause-code
-returns-in-Err-clause-code c =
-    no_file c.args.bytes.now c.args.size c.code.result c.in-Err.denial
-    (λ font is. let opened : c.open.result ≡ Some c.args.bytes.now = c.open.ensures.opened font is in let none : c.open.result ≡ None = c.in_default.is in absurd (cc))
-    c.in-Err.ensures.denied c.code.ensures
 
 pub unreachable-requires : goal.unreachable-requires
 unreachable-requires c =
@@ -33,6 +21,6 @@ unreachable-requires c =
 pub returns-clause-ok : goal.returns-clause-ok
 returns-clause-ok c =
     rw (c.in-Some-open.ensures.whole.0, c.deref.ensures.value)
-    (file_opens c.args.bytes.now c.in-Ok.table.items c.args.size
+    (file_opens c.args.bytes.now c.in-Ok.table.items c.args.size c.in_default.ensures.whole
     (λ font is. let opened : c.open.result ≡ Some c.args.bytes.now = c.open.ensures.opened font is in let none : c.open.result ≡ None = c.in_default.is in absurd (cc))
     c.in-Ok.ensures.accepted c.in-Ok.ensures.ok)
