@@ -5,10 +5,10 @@ use Rattle.std.specs.Int.{int_max}
 use Rattle.std.specs.List.{count_by}
 use Rattle.std.specs.Option.{option_and_then, option_map}
 use Rattle.std.proofs.Math.IntN.{+ℤ_idr}
+use Rattle.std.proofs.lemmas.Int.{to_z-of_z}
 use Rattle.std.proofs.lemmas.List.{map-append, take_more}
 use Rattle.std.proofs.lemmas.List.Sums.{fold-append, sum_by-append}
-use Rattle.tex_sizes.specs.Lengths.{length_text}
-use Rattle.tex_sizes.specs.declared.length_unit.LengthUnit.{LengthUnit}
+use Rattle.tfm_words.proofs.AppendingLemmas.{front_at_once, front_of_append, front_through}
 use Rattle.tfm_tables.specs.Character.{exists}
 use Rattle.tfm_tables.specs.Font.{FontValue}
 use Rattle.tfm_tables.specs.Measure.{parameter_of}
@@ -27,7 +27,7 @@ use Rattle.set_line.specs.declared.policy.Policy.TheVariants.{Refuse, Skip}
 use Rattle.set_line.specs.Pieces.{is_space}
 use Rattle.set_line.specs.Width.{total_width}
 use Rattle.line_records.specs.Additions.{Addition, after, alone, boundary_by, byte_added, cut_added, ending_of, set_from, skip_by, step_by, with_cut}
-use Rattle.line_records.specs.Boxes.{BoxValue, box_record, box_text, heights_text, is_glue, largest}
+use Rattle.line_records.specs.Boxes.{box_record, is_glue, largest}
 use Rattle.line_records.proofs.AddingLemmas.{total_width-append}
 
 pub next_largest : (f : ℕ → ℤ) (codes : List ℕ) (i d : ℕ) (so_far : ℤ) → i < length codes → so_far ≡ largest (map f (take i codes))
@@ -39,11 +39,7 @@ next_largest f codes i d so_far within is =
 
 -- ---- texts
 
-pub box_pushed : (unit : LengthUnit) (box : BoxValue) (before a b after : List ℕ) → a ≡ before ++ codes " " ++ length_text unit box.width
-    → b ≡ a ++ heights_text unit box.height box.depth → after ≡ b ++ codes " " ++ decimal box.spaces → after ≡ before ++ box_text unit box
-unfolding box_text
-box_pushed unit box before a b after width heights spaces =
-    spaces ∙ ap (λ xs. xs ++ codes " " ++ decimal box.spaces) (heights ∙ ap (λ xs. xs ++ heights_text unit box.height box.depth) width) ∙ simp append_assoc
+pub ruleset boxes = (front_at_once, front_of_append, front_through, to_z-of_z, append_assoc)
 
 pub record_pushed : {T E : Type 0} (r : Result T E) (source place : ℕ) (text before a b c d after : List ℕ) → a ≡ before ++ [] ++ decimal source
     → b ≡ a ++ codes ":" ++ decimal place → c ≡ b ++ codes " box" → d ≡ c ++ text → after ≡ (if is_ok r then d ++ codes "\n" else d)

@@ -5,6 +5,7 @@ use Rattle.std.specs.Bool.{then_some}
 use mir.Val.{bool_byte}
 use Rattle.std.specs.List.{count_by, list_any}
 use Rattle.std.specs.Option.{is_none, option_and_then, option_map, option_map_or}
+use Rattle.std.proofs.Math.Bool.{or-false, or-true}
 use Rattle.std.proofs.Math.Seq.{drop-append_seam, take-length}
 use Rattle.std.proofs.lemmas.Grind.{flat_map-append}
 use Rattle.std.proofs.lemmas.List.Folds.{list_any_at}
@@ -93,21 +94,13 @@ pub refused_there : (policy : Policy) (font : FontValue) (codes : List ℕ) (at 
     → has_refused policy font codes ≡ true
 refused_there policy font codes at code within here is = list_any_at (is_refused policy font) codes at 0 within (ap (is_refused policy font) (sym here) ∙ is)
 
-pub or_false : (b : Bool) → b || false ≡ b
-or_false true = refl
-or_false false = refl
-
-or_true : (b : Bool) → b || true ≡ true
-or_true true = refl
-or_true false = refl
-
 -- a part alone is refused as its codes and the character after them are
 alone_refused : (policy : Policy) (font : FontValue) (codes : List ℕ) → refused_before policy font codes None ≡ has_refused policy font codes
-alone_refused Refuse font codes = or_false (has_refused Refuse font codes)
-alone_refused Skip font codes = or_false (has_refused Skip font codes)
+alone_refused Refuse font codes = or-false (has_refused Refuse font codes)
+alone_refused Skip font codes = or-false (has_refused Skip font codes)
 
 pub codes_refused : (policy : Policy) (font : FontValue) (codes : List ℕ) → list_any (refused_in policy font) (only_part codes) ≡ has_refused policy font codes
-codes_refused policy font codes = or_false (refused_before policy font codes None) ∙ alone_refused policy font codes
+codes_refused policy font codes = or-false (refused_before policy font codes None) ∙ alone_refused policy font codes
 
 -- the portions of codes alone
 pub alone_portions : (font : FontValue) (codes : List ℕ) → line_portions font (only_part codes) ≡ portions_of font codes
@@ -137,7 +130,7 @@ module _ (terms : TermsValue) (format : RecordFormat) (used gaps : ℕ) (all ite
   unfolding set_after
   part_set uncoded is =
       ap (λ o. if refused_before terms.policy terms.font part.codes o || false then None else onward terms.font terms.limit (setting used all) (portions_before terms.font part.codes o ++ [])) is
-      ∙ ap (λ (b : Bool). if b then None else onward terms.font terms.limit (setting used all) (portions_before terms.font part.codes uncoded ++ [])) (or_false (refused_before terms.policy terms.font part.codes uncoded))
+      ∙ ap (λ (b : Bool). if b then None else onward terms.font terms.limit (setting used all) (portions_before terms.font part.codes uncoded ++ [])) (or-false (refused_before terms.policy terms.font part.codes uncoded))
       ∙ ap (λ ps. if refused_before terms.policy terms.font part.codes uncoded then None else onward terms.font terms.limit (setting used all) ps) (append-nil (portions_before terms.font part.codes uncoded))
 
   -- with what decides whether it is refused
@@ -228,7 +221,7 @@ module _ (terms : TermsValue) (format : RecordFormat) (used gaps : ℕ) (all ite
       → set_after terms (setting used all) (part ∷ []) ≡ None
   part_refused uncoded character at some policy =
       let there : refused_before terms.policy terms.font part.codes (Some character) ≡ true =
-      ap (λ p. has_refused terms.policy terms.font part.codes || (refuses p && true)) policy ∙ or_true (has_refused terms.policy terms.font part.codes) in
+      ap (λ p. has_refused terms.policy terms.font part.codes || (refuses p && true)) policy ∙ or-true (has_refused terms.policy terms.font part.codes) in
       set_if (Some character) true (sym at ∙ some) there
 
 -- ---- the parts after it

@@ -1,8 +1,9 @@
 -- The result of a line, from the setting of its numbers.
-use Rattle.std.proofs.Common.{◌≡◌, ℕ, ◌+◌, ◌-◌, ◌<◌, ◌≤◌, ◌||◌, arith, lt-ltb, Bool, true, false, List, [], ◌∷◌, ◌++◌, length, map, flat_map, take, Option, Some, None, refl, ap, sym, ◌∙◌}
+use Rattle.std.proofs.Common.{◌≡◌, ℕ, ◌+◌, ◌-◌, ◌<◌, ◌≤◌, ◌||◌, arith, lt-ltb, Bool, true, false, List, [], ◌∷◌, ◌++◌, length, map, flat_map, take, Option, Some, None, refl, ap, sym, subst, ◌∙◌}
 use Rattle.std.specs.Prelude.{Result, Ok, Err, cond, filter, nat_eq, not, ◌&&◌, if◌then◌else◌}
 use Rattle.std.specs.List.{find, list_all, list_any}
 use Rattle.std.specs.Option.{is_none, option_map, option_map_or, option_or}
+use Rattle.std.proofs.Math.Bool.{or-false}
 use Rattle.std.proofs.lemmas.Bool.{and_parts, eqb-true, le-ltb}
 use Rattle.std.proofs.lemmas.Option.{none-some}
 use Rattle.std.proofs.lemmas.List.Folds.{list_any-append}
@@ -19,6 +20,7 @@ use Rattle.set_line.specs.Answer.{has_refused, is_refused, outcome_of, refusal_o
 use Rattle.set_line.specs.Onward.{onward, setting}
 use Rattle.set_line.specs.Pieces.{is_neither, portions_of}
 use Rattle.set_line.specs.declared.version.Version.{Version}
+use Rattle.set_line.specs.declared.outcome.Outcome.{Outcome}
 use Rattle.set_line.specs.declared.outcome.Outcome.TheVariants.{Refused}
 use Rattle.set_line.specs.Record.{text_record, text_result}
 use Rattle.set_line.specs.Record.TextResult.{refused, set}
@@ -39,7 +41,7 @@ use Rattle.line_records.specs.Kept.{IsKept, IsKeptResult, IsTried, as_box, refus
 use Rattle.line_records.specs.Results.{only_part, is_refusal, is_refused as is_result_refused, line_portions, line_result, missing_at, missing_code_in, parts_in, refusal_in, result_record, result_text, set_within, uncoded_in, utf8_refusal}
 use Rattle.line_records.specs.declared.keeping.Kept.{Kept}
 use Rattle.line_records.specs.declared.measuring.Extent.{Extent}
-use Rattle.line_records.proofs.KeptLemmas.{alone_portions, codes_refused, or_false}
+use Rattle.line_records.proofs.KeptLemmas.{alone_portions, codes_refused}
 use Rattle.line_records.proofs.RefusalLemmas.{element, long, missing_here, not_utf8, refusal_left}
 
 -- ---- the numbers of a line in UTF-8 that are refused
@@ -52,8 +54,8 @@ refused_number policy font number =
 -- a code in front of parts
 in_front : (policy : Policy) (font : FontValue) (code : ℕ) (parts : List PartValue)
     → list_any (refused_in policy font) (with_code code parts) ≡ is_refused policy font code || list_any (refused_in policy font) parts
-in_front Refuse font code [] = or_false _ ∙ or_false _
-in_front Skip font code [] = or_false _ ∙ or_false _
+in_front Refuse font code [] = or-false _ ∙ or-false _
+in_front Skip font code [] = or-false _ ∙ or-false _
 in_front policy font code (part ∷ parts) = by (is_refused policy font code)
   where
     by : (b : Bool) → ((b || has_refused policy font part.codes) || (refuses policy && not (is_none (uncoded_after part)))) || list_any (refused_in policy font) parts
@@ -103,7 +105,7 @@ unfolding refused_number
 refused_apart font character codes = by (is_apart character)
   where
     by : (b : Bool) → list_any (refused_number Refuse font) (cond b (break_number ∷ codes ++ break_number ∷ []) codes) ≡ list_any (refused_number Refuse font) codes
-    by true = list_any-append (refused_number Refuse font) codes (break_number ∷ []) ∙ or_false (list_any (refused_number Refuse font) codes)
+    by true = list_any-append (refused_number Refuse font) codes (break_number ∷ []) ∙ or-false (list_any (refused_number Refuse font) codes)
     by false = refl
 
 -- a character without codes isn't the soft hyphen
@@ -233,9 +235,6 @@ module _ (terms : TermsValue) (encoding : Option Encoding) (first : Bool) (line 
 
 -- ---- what was tried
 
-not_none : {A : Type 0} (a : A) → Some a ≡ None → ⊥
-not_none a is = cc
-
 module _ (terms : TermsValue) (first : Bool) (line : List ℕ) (format : RecordFormat) (texts : List ℕ) where
   -- a line of bytes
   pub tried_bytes : (kept : Option Kept) → length line ≤ 65535 → IsKept format (set_after terms (setting 0 []) (only_part line)) texts kept
@@ -267,13 +266,13 @@ module _ (terms : TermsValue) (first : Bool) (line : List ℕ) (format : RecordF
   -- a line that is too long
   pub tried_long : (encoding : Option Encoding) → 65535 < length line → IsTried terms encoding first line format texts None
   unfolding refusal_in refusal_of
-  tried_long None many = λ none. absurd (not_none _ (rw (lt-ltb 65535 (length line) many) at none))
-  tried_long (Some encoding) many = λ none. absurd (not_none _ (long terms encoding first line many ∙ none))
+  tried_long None many = λ none. absurd (none-some _ (sym (rw (lt-ltb 65535 (length line) many) at none)))
+  tried_long (Some encoding) many = λ none. absurd (none-some _ (sym (long terms encoding first line many ∙ none)))
 
   -- one that isn't UTF-8
   pub tried_other : (encoding : Encoding) (offset : ℕ) → length line ≤ 65535 → fault_in line ≡ Some offset → IsTried terms (Some encoding) first line format texts None
   unfolding refusal_in
-  tried_other encoding offset short is = λ none. absurd (not_none _ (not_utf8 terms encoding first line offset short is ∙ none))
+  tried_other encoding offset short is = λ none. absurd (none-some _ (sym (not_utf8 terms encoding first line offset short is ∙ none)))
 
 -- the numbers of a line without gaps are its codes
 pub all_codes : (numbers : List ℕ) → has_gaps numbers ≡ false → filter is_code numbers ≡ numbers
@@ -341,35 +340,31 @@ pub ruleset records = (recorded, box_recorded, set_not_refused, refused_recorded
 
 -- ---- laws
 
+-- a relation between results and outcomes holds for each line of bytes if it holds for each refusal and each setting
+pub of_bytes : (terms : TermsValue) (first : Bool) (line : List ℕ) (P : Result Setting TextRefusal → Outcome → Type 0)
+    → ((refusal : LineRefusal) → P (Err (Line refusal)) (Refused refusal)) → ((made : Setting) → P (Ok made) (set_as made))
+    → P (line_result terms None first line) (outcome_of terms line)
+unfolding line_result refusal_in outcome_of
+of_bytes terms first line P is_refused_by is_set_by = by (refusal_of terms line)
+  where
+    within : (o : Option Setting) → P (option_map_or Ok o (Err (Line (Steps terms.limit)))) (option_map_or set_as o (Refused (Steps terms.limit)))
+    within None = is_refused_by (Steps terms.limit)
+    within (Some made) = is_set_by made
+
+    by : (o : Option LineRefusal) → P (option_map_or Err (option_map Line o) (set_within terms (only_part line))) (option_map_or Refused o (set_or_refused terms line))
+    by (Some refusal) = is_refused_by refusal
+    by None =
+        subst (λ ps. P (option_map_or Ok (setting_of_portions terms.font terms.limit ps) (Err (Line (Steps terms.limit)))) (set_or_refused terms line))
+        (sym (alone_portions terms.font line)) (within (setting_of_portions terms.font terms.limit (portions_of terms.font line)))
+
 -- Law: a line of bytes has the record of its outcome
 pub text_of_bytes : (terms : TermsValue) (first : Bool) (line : List ℕ) (version : Version) → result_text version (line_result terms None first line) ≡ text_result version (outcome_of terms line)
-unfolding line_result refusal_in outcome_of text_result
-text_of_bytes terms first line version = by (refusal_of terms line)
-  where
-    by : (o : Option LineRefusal) → result_text version (option_map_or Err (option_map Line o) (set_within terms (only_part line))) ≡ text_result version (option_map_or Refused o (set_or_refused terms line))
-    by (Some refusal) = refl
-    by None =
-        ap (λ ps. result_text version (option_map_or Ok (setting_of_portions terms.font terms.limit ps) (Err (Line (Steps terms.limit))))) (alone_portions terms.font line)
-        ∙ within (setting_of_portions terms.font terms.limit (portions_of terms.font line))
-      where
-        within : (o : Option Setting) → result_text version (option_map_or Ok o (Err (Line (Steps terms.limit)))) ≡ text_result version (option_map_or set_as o (Refused (Steps terms.limit)))
-        within None = refl
-        within (Some setting) = refl
+unfolding text_result
+text_of_bytes terms first line version = of_bytes terms first line (λ result outcome. result_text version result ≡ text_result version outcome) (λ _. refl) (λ _. refl)
 
 -- Law: it is refused if its outcome is a refusal
 pub refused_bytes : (terms : TermsValue) (first : Bool) (line : List ℕ) → is_result_refused (line_result terms None first line) ≡ is_refusal (outcome_of terms line)
-unfolding line_result refusal_in outcome_of
-refused_bytes terms first line = by (refusal_of terms line)
-  where
-    by : (o : Option LineRefusal) → is_result_refused (option_map_or Err (option_map Line o) (set_within terms (only_part line))) ≡ is_refusal (option_map_or Refused o (set_or_refused terms line))
-    by (Some refusal) = refl
-    by None =
-        ap (λ ps. is_result_refused (option_map_or Ok (setting_of_portions terms.font terms.limit ps) (Err (Line (Steps terms.limit))))) (alone_portions terms.font line)
-        ∙ within (setting_of_portions terms.font terms.limit (portions_of terms.font line))
-      where
-        within : (o : Option Setting) → is_result_refused (option_map_or Ok o (Err (Line (Steps terms.limit)))) ≡ is_refusal (option_map_or set_as o (Refused (Steps terms.limit)))
-        within None = refl
-        within (Some setting) = refl
+refused_bytes terms first line = of_bytes terms first line (λ result outcome. is_result_refused result ≡ is_refusal outcome) (λ _. refl) (λ _. refl)
 
 -- Law: a line that is too long is refused for this, with any encoding
 pub long_result : (terms : TermsValue) (encoding : Option Encoding) (first : Bool) (line : List ℕ) → 65535 < length line

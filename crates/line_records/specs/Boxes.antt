@@ -75,14 +75,11 @@ abbrev pub item_text : RecordFormat → Item → List ℕ
 item_text (Items version) = text_in version
 item_text (Box unit) = code_in
 
--- a height and a depth in a unit
-unfoldable pub heights_text : LengthUnit → ℤ → ℤ → List ℕ
-heights_text unit height depth = codes " " ++ length_text unit height ++ codes " " ++ length_text unit depth
-
 -- the text of a box: its width, height and depth in a unit, and the number of its spaces
 unfoldable pub box_text : LengthUnit → BoxValue → List ℕ
 box_text unit box =
-    codes " " ++ length_text unit box.width ++ heights_text unit box.height box.depth ++ codes " " ++ decimal box.spaces
+    codes " " ++ length_text unit box.width ++ codes " " ++ length_text unit box.height
+    ++ codes " " ++ length_text unit box.depth ++ codes " " ++ decimal box.spaces
 
 -- the record of a box with this text
 abbrev pub box_record : ℕ → ℕ → List ℕ → List ℕ

@@ -2,7 +2,7 @@
 ghost use Rattle.std.specs.Prelude.{◌≡◌, ◌++◌, OnErr, OnOk, map};
 ghost use Rattle.std.specs.Int.{int_max};
 ghost use Rattle.tfm_words.specs.Appending.{StaysInFront};
-ghost use Rattle.line_records.specs.Boxes.{box_record, box_text, depth_of, height_of, heights_text, largest};
+ghost use Rattle.line_records.specs.Boxes.{box_record, box_text, depth_of, height_of, largest};
 ghost use Rattle.line_records.specs.Kept.{as_box};
 
 use crate::keeping::Kept;
@@ -63,20 +63,9 @@ pub(crate) fn measure(font: &Font, codes: &[u8]) -> Extent
     extent
 }
 
-/// Appends the height and the depth of a box in this unit.
-#[tactic(auto, using(tfm_words::proofs::AppendingLemmas::fronts), unfolding(crate::specs::Boxes::heights_text))]
-fn push_heights(text: &mut Vec<u8>, unit: LengthUnit, extent: Extent) -> Result<(), AllocError>
-    ensures front { StaysInFront text.old.items text.new.items }
-    ensures pushed { OnOk result (text.new.items
-        ≡ text.old.items ++ heights_text unit extent.height extent.depth) }
-{
-    push_length(text, b" ", i64::from(extent.height), unit)?;
-    push_length(text, b" ", i64::from(extent.depth), unit)
-}
-
 /// Appends the dimensions of the box of a line in this unit, and its number of spaces. After an error some of the
 /// bytes may have been appended.
-#[tactic(auto, using(tfm_words::proofs::AppendingLemmas::fronts))]
+#[tactic(auto, using(crate::proofs::BoxLemmas::boxes), unfolding(crate::specs::Boxes::box_text))]
 fn push_box(
     text: &mut Vec<u8>,
     unit: LengthUnit,
@@ -87,7 +76,8 @@ fn push_box(
     ensures pushed { OnOk result (text.new.items ≡ text.old.items ++ box_text unit (as_box kept extent)) }
 {
     push_length(text, b" ", kept.sums.width, unit)?;
-    push_heights(text, unit, extent)?;
+    push_length(text, b" ", i64::from(extent.height), unit)?;
+    push_length(text, b" ", i64::from(extent.depth), unit)?;
     push_number(text, b" ", kept.spaces)
 }
 
