@@ -6,7 +6,7 @@ use Rattle.std.specs.Fmt.{digits}
 use Rattle.font_texts.specs.FaultWords.{count_fault_number, fault_number}
 use Rattle.font_texts.specs.JsonText.{json_escaped}
 use Rattle.font_texts.specs.ListingWords.{escaped}
-use Rattle.font_texts.specs.declared.finding.FindingFormat.TheVariants.{Json}
+use Rattle.font_texts.specs.declared.output_format.OutputFormat.TheVariants.{Json}
 use Rattle.tfm_tables.specs.FaultTexts.{font_fault_text}
 use Rattle.tfm_tables.specs.declared.fault.FontFault.TheVariants.{Counts}
 use Rattle.tfm_words.specs.CountFaults.{first_fault}

@@ -1,8 +1,8 @@
 -- The numbers of fonts that `check` counts, and the line of `--summary`.
 -- Public source: JSON is RFC 8259; the rest is this project's own.
 use Rattle.std.specs.Prelude.{ℕ, ◌==◌, ◌^◌, ◌-◌, ◌||◌, not, cond, List, ◌++◌, codes, count_by, decimal, length, min}
-use Rattle.font_texts.specs.declared.finding.FindingFormat.{FindingFormat}
-use Rattle.font_texts.specs.declared.finding.FindingFormat.TheVariants.{Text, Json}
+use Rattle.font_texts.specs.declared.output_format.OutputFormat.{OutputFormat}
+use Rattle.font_texts.specs.declared.output_format.OutputFormat.TheVariants.{Text, Json}
 use Rattle.check_texts.specs.declared.tally.Tally.{Tally}
 use Rattle.check_texts.specs.Verdicts.{Row, is_accepted, is_plain, is_unread}
 
@@ -31,7 +31,7 @@ fonts_noun count = cond (count == 1) (codes "font") (codes "fonts")
 
 -- the line of `--summary` in a format: the number of fonts, and how many of them are accepted, are refused and weren't
 -- read
-abbrev pub summary_line : FindingFormat → Tally → List ℕ
+abbrev pub summary_line : OutputFormat → Tally → List ℕ
 summary_line Text tally =
     decimal tally.fonts
     ++ (codes " "

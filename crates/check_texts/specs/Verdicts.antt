@@ -7,8 +7,8 @@ use Rattle.std.specs.List.{find}
 use Rattle.std.specs.Option.{is_none}
 use Rattle.tfm_tables.specs.Acceptance.{font_fault_of}
 use Rattle.tfm_tables.specs.FaultTexts.{font_fault_text}
-use Rattle.font_texts.specs.declared.finding.FindingFormat.{FindingFormat}
-use Rattle.font_texts.specs.declared.finding.FindingFormat.TheVariants.{Text, Json}
+use Rattle.font_texts.specs.declared.output_format.OutputFormat.{OutputFormat}
+use Rattle.font_texts.specs.declared.output_format.OutputFormat.TheVariants.{Text, Json}
 use Rattle.font_texts.specs.FaultWords.{fault_number, fault_words}
 use Rattle.font_texts.specs.JsonText.{json_text}
 use Rattle.font_texts.specs.ListingWords.{escaped_text}
@@ -51,7 +51,7 @@ is_unread _ = false
 -- ---- its text
 
 -- a warning after the finding of its font: on a line of its own, or as a further JSON string
-abbrev pub warning_in : FindingFormat → Warning → List ℕ
+abbrev pub warning_in : OutputFormat → Warning → List ℕ
 warning_in Text warning = codes "\n  " ++ warning_text warning
 warning_in Json warning = codes ",\"" ++ (warning_text warning ++ codes "\"")
 
@@ -116,6 +116,6 @@ unfoldable pub json_line : Row → List ℕ
 json_line row = codes "{\"font\":\"" ++ json_text row.0 ++ codes "\",\"finding\":" ++ json_finding row.1 ++ codes "}\n"
 
 -- the text of a font in a format
-abbrev pub verdict_text : FindingFormat → Row → List ℕ
+abbrev pub verdict_text : OutputFormat → Row → List ℕ
 verdict_text Text row = text_line row
 verdict_text Json row = json_line row

@@ -4,7 +4,7 @@ ghost use Rattle.check_texts.specs.Tallies.{counted, fonts_noun, summary_end as 
 ghost use Rattle.check_texts.specs.Verdicts.{Row};
 
 use crate::Verdict;
-use font_texts::FindingFormat;
+use font_texts::OutputFormat;
 use std::alloc::{AllocError, Global};
 
 /// The numbers of fonts that were checked. They saturate at 2^64 - 1.
@@ -77,11 +77,7 @@ fn summary_end(alloc: Global, unread: u64) -> Result<String, AllocError>
 }
 
 /// Returns the line of `--summary` in a format. Fails if an allocation fails.
-pub fn summary_line(
-    alloc: Global,
-    format: FindingFormat,
-    tally: Tally,
-) -> Result<String, AllocError>
+pub fn summary_line(alloc: Global, format: OutputFormat, tally: Tally) -> Result<String, AllocError>
     ensures { IfOk result (λ line. string_bytes line ≡ summary_line_of format tally) }
 {
     let Tally {
@@ -92,12 +88,12 @@ pub fn summary_line(
         ..
     } = tally;
     match format {
-        FindingFormat::Text => {
+        OutputFormat::Text => {
             let noun = noun_of(fonts);
             let end = summary_end(alloc, unread)?;
             format!(in alloc; "{fonts} {noun}: {accepted} accepted, {refused}{end}")
         }
-        FindingFormat::Json => {
+        OutputFormat::Json => {
             format!(in alloc;
                 "{{\"fonts\":{fonts},\"accepted\":{accepted},\"refused\":{refused},\"unread\":{unread}}}\n"
             )

@@ -3,22 +3,22 @@ ghost use Rattle.check_texts.specs.Verdicts.{count_words, finding as finding_of,
 
 use crate::verdict::first_refusal;
 use crate::{Verdict, Warning};
-use font_texts::{FindingFormat, Numbered, number_of, push_escaped_text, push_json_text};
+use font_texts::{Numbered, OutputFormat, number_of, push_escaped_text, push_json_text};
 use std::alloc::{AllocError, Global};
 
 /// Returns the text of a font with this name and this verdict in a format. The name may be any bytes; it is escaped as
 /// in a listing. Fails if an allocation fails.
 pub fn verdict_text(
     alloc: Global,
-    format: FindingFormat,
+    format: OutputFormat,
     name: &[u8],
     verdict: &Verdict,
 ) -> Result<Vec<u8>, AllocError>
     ensures { IfOk result (λ text. text.items ≡ verdict_text_of format (name.now, verdict.now)) }
 {
     match format {
-        FindingFormat::Text => text_line(alloc, name, verdict),
-        FindingFormat::Json => json_line(alloc, name, verdict),
+        OutputFormat::Text => text_line(alloc, name, verdict),
+        OutputFormat::Json => json_line(alloc, name, verdict),
     }
 }
 
@@ -74,7 +74,7 @@ fn push_accepted(alloc: Global, text: &mut Vec<u8>, warnings: &[Warning]) -> Res
         return text.extend_from_slice(words.as_bytes());
     }
     push_count(alloc, text, warnings.len())?;
-    push_warnings(alloc, text, FindingFormat::Text, warnings)
+    push_warnings(alloc, text, OutputFormat::Text, warnings)
 }
 
 /// Appends that a font is accepted with this number of warnings.
@@ -121,7 +121,7 @@ fn push_json_accepted(
     };
     let member = format!(in alloc; ",\"warnings\":[\"{first}\"")?;
     text.extend_from_slice(member.as_bytes())?;
-    push_warnings(alloc, text, FindingFormat::Json, rest)?;
+    push_warnings(alloc, text, OutputFormat::Json, rest)?;
     text.extend_from_slice(b"]")
 }
 
@@ -139,7 +139,7 @@ fn json_word(reason: Option<Warning>) -> &'static [u8]
 fn push_warnings(
     alloc: Global,
     text: &mut Vec<u8>,
-    format: FindingFormat,
+    format: OutputFormat,
     warnings: &[Warning],
 ) -> Result<(), AllocError>
     ensures { OnOk result (text.new.items ≡ text.old.items ++ flat_map (warning_in format) warnings.now) }
@@ -154,14 +154,14 @@ fn push_warnings(
 fn push_warning(
     alloc: Global,
     text: &mut Vec<u8>,
-    format: FindingFormat,
+    format: OutputFormat,
     warning: Warning,
 ) -> Result<(), AllocError>
     ensures { OnOk result (text.new.items ≡ text.old.items ++ warning_in format warning) }
 {
     let shown = match format {
-        FindingFormat::Text => format!(in alloc; "\n  {warning}")?,
-        FindingFormat::Json => format!(in alloc; ",\"{warning}\"")?,
+        OutputFormat::Text => format!(in alloc; "\n  {warning}")?,
+        OutputFormat::Json => format!(in alloc; ",\"{warning}\"")?,
     };
     text.extend_from_slice(shown.as_bytes())
 }

@@ -17,8 +17,8 @@ use Rattle.line_records.specs.declared.record_format.RecordFormat.TheVariants.{I
 use Rattle.tex_sizes.specs.Lengths.{unit_named}
 use Rattle.tex_sizes.specs.Sizes.{is_plain, size_of}
 use Rattle.tex_sizes.specs.declared.length_unit.LengthUnit.{LengthUnit}
-use Rattle.font_texts.specs.declared.finding.FindingFormat.{FindingFormat}
-use Rattle.font_texts.specs.declared.finding.FindingFormat.TheVariants.{Text as TextFinding, Json as JsonFinding}
+use Rattle.font_texts.specs.declared.output_format.OutputFormat.{OutputFormat}
+use Rattle.font_texts.specs.declared.output_format.OutputFormat.TheVariants.{Text as TextOutput, Json as JsonOutput}
 use Rattle.font_texts.specs.declared.list_layout.ListLayout.{ListLayout}
 use Rattle.font_texts.specs.declared.pairs_format.PairsFormat.{PairsFormat}
 use Rattle.font_texts.specs.declared.pairs_layout.PairsLayout.{PairsLayout}
@@ -110,9 +110,9 @@ format_word Csv = codes "csv"
 format_word JsonFormat = codes "json"
 
 -- the value of `--format` for a format of findings or of a listing
-abbrev pub finding_format_word : FindingFormat → Text
-finding_format_word TextFinding = codes "text"
-finding_format_word JsonFinding = codes "json"
+abbrev pub output_format_word : OutputFormat → Text
+output_format_word TextOutput = codes "text"
+output_format_word JsonOutput = codes "json"
 
 -- a flag is set if its value is `true`, and isn't set if its value is `false` or it has none
 abbrev pub IsFlag : Option Text → Bool → Type 0
@@ -180,7 +180,7 @@ module _ (rows : List Row) where
   -- the format of the output of `list`, and the unit of its dimensions
   abbrev pub IsListLayout : ListLayout → Type 0
   IsListLayout layout =
-      (first_of (codes "format") rows ≡ Some (finding_format_word layout.format))
+      (first_of (codes "format") rows ≡ Some (output_format_word layout.format))
       × IsUnit layout.unit
 
   -- the values of `list`: the font, its size, whether that has no unit, the layout, and whether `--all` and
@@ -207,7 +207,7 @@ module _ (rows : List Row) where
   abbrev pub IsCheckLayout : CheckLayout → Type 0
   IsCheckLayout layout =
       IsSize layout.size
-      × (first_of (codes "format") rows ≡ Some (finding_format_word layout.format))
+      × (first_of (codes "format") rows ≡ Some (output_format_word layout.format))
       × IsFlag (one_of (codes "strict") rows) layout.strict
       × IsFlag (one_of (codes "quiet") rows) layout.quiet
       × IsFlag (one_of (codes "summary") rows) layout.summary

@@ -3,7 +3,7 @@
 ghost use Rattle.std.specs.Prelude.{◌≡◌, [], map, IfErr, IfOk, Some, codes, option_and_then, option_map, unwrap_or};
 ghost use Rattle.clap.specs.Words.{all_of, first_of, found_of, kind_of, one_of, rows_of, subcommand_rows_of};
 ghost use Rattle.command_line.specs.Commands.{AllChoices, IsCommandOf, tfmset_app};
-ghost use Rattle.command_line.specs.Asked.{AreJobs, Asks, AsksFor, Finds, encoding_stated, format_word, has_no_block, has_plain_size, IsAskedBy, IsAskedOf, IsAskedWith, IsBlock, IsChecking, IsEncoding, IsFlag, IsLayout, IsListing, IsListLayout, IsNumberIn, IsPairing, IsPairsLayout, IsPlan, IsRefusedBy, IsRefusedWith, IsSetting, IsSize, IsUnit, IsVerbose, is_path, kind_of_values, kind_without_request, misstates_encoding, misstates_size, policy_word, texts, vector_in, vector_named, format_stated, misplaces_unit, version_named, finding_format_word, has_no_font as has_no_font_in, IsCheckLayout};
+ghost use Rattle.command_line.specs.Asked.{AreJobs, Asks, AsksFor, Finds, encoding_stated, format_word, has_no_block, has_plain_size, IsAskedBy, IsAskedOf, IsAskedWith, IsBlock, IsChecking, IsEncoding, IsFlag, IsLayout, IsListing, IsListLayout, IsNumberIn, IsPairing, IsPairsLayout, IsPlan, IsRefusedBy, IsRefusedWith, IsSetting, IsSize, IsUnit, IsVerbose, is_path, kind_of_values, kind_without_request, misstates_encoding, misstates_size, policy_word, texts, vector_in, vector_named, format_stated, misplaces_unit, version_named, output_format_word, has_no_font as has_no_font_in, IsCheckLayout};
 
 use crate::commands::{alone, tfmset_command};
 use crate::help::{ENCODING_ERROR, FONT_ERROR, SIZE_ERROR, UNIT_ERROR};
@@ -13,7 +13,7 @@ use crate::request::{
 use clap::error::ErrorKind;
 use clap::{ArgMatches, Command, Error};
 use encodings::Encoding;
-use font_texts::{FindingFormat, ListLayout, PairsFormat, PairsLayout};
+use font_texts::{ListLayout, OutputFormat, PairsFormat, PairsLayout};
 use line_records::RecordFormat;
 use run_plan::{Block, Capacity, Plan, Workers};
 use set_line::{Limit, Policy, Version};
@@ -231,7 +231,7 @@ fn asked_list_layout(matches: &ArgMatches<'_>) -> Option<ListLayout>
     ensures { Finds (IsListLayout (rows_of (found_of matches.now))) result }
 {
     Some(ListLayout {
-        format: asked_finding_format(matches)?,
+        format: asked_output_format(matches)?,
         unit: asked_unit(matches)?,
     })
 }
@@ -298,7 +298,7 @@ fn asked_check_layout(matches: &ArgMatches<'_>) -> Option<CheckLayout>
 {
     Some(CheckLayout {
         size: asked_size(matches)?,
-        format: asked_finding_format(matches)?,
+        format: asked_output_format(matches)?,
         strict: flag(matches, "strict"),
         quiet: flag(matches, "quiet"),
         summary: flag(matches, "summary"),
@@ -306,13 +306,13 @@ fn asked_check_layout(matches: &ArgMatches<'_>) -> Option<CheckLayout>
     })
 }
 
-fn asked_finding_format(matches: &ArgMatches<'_>) -> Option<FindingFormat>
+fn asked_output_format(matches: &ArgMatches<'_>) -> Option<OutputFormat>
     ensures { Finds (λ format. first_of (codes "format") (rows_of (found_of matches.now))
-        ≡ Some (finding_format_word format)) result }
+        ≡ Some (output_format_word format)) result }
 {
     match text(matches, "format")? {
-        "text" => Some(FindingFormat::Text),
-        "json" => Some(FindingFormat::Json),
+        "text" => Some(OutputFormat::Text),
+        "json" => Some(OutputFormat::Json),
         _ => None,
     }
 }

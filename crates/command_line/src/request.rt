@@ -1,6 +1,6 @@
 //! The requests that arguments can state.
 use encodings::Encoding;
-use font_texts::{FindingFormat, ListLayout, PairsLayout};
+use font_texts::{ListLayout, OutputFormat, PairsLayout};
 use line_records::RecordFormat;
 use run_plan::Plan;
 use set_line::{Limit, Policy};
@@ -119,7 +119,7 @@ pub struct CheckLayout {
     /// The size of all fonts, in sp; `None` means the design size of each font.
     pub size: Option<Size>,
     /// The format of the output.
-    pub format: FindingFormat,
+    pub format: OutputFormat,
     /// Whether the warnings of accepted fonts are printed.
     pub strict: bool,
     /// Whether the lines of accepted fonts are left out.

@@ -24,7 +24,7 @@ use Rattle.font_texts.specs.Laws.{IsAccepted, ListingTellsFont, ListingTellsWord
 use Rattle.tex_sizes.specs.Lengths.{length_text}
 use Rattle.tex_sizes.specs.declared.length_unit.LengthUnit.{LengthUnit}
 use Rattle.tex_sizes.specs.declared.length_unit.LengthUnit.TheVariants.{ScaledPoints}
-use Rattle.font_texts.specs.declared.finding.FindingFormat.TheVariants.{Text}
+use Rattle.font_texts.specs.declared.output_format.OutputFormat.TheVariants.{Text}
 use Rattle.font_texts.specs.Listing.{boundary_entries, char_lines, contents_of, header_entries, kern_lines, length_entry, listing_head, param_lines, size_entries, step_lines}
 use Rattle.font_texts.specs.ListingFormats.{entry, hidden_name, length_in, length_quote, line_of, table_of_lines, word_in}
 use Rattle.font_texts.proofs.TextLemmas.{hex_equal, length-hex_text, numbers_equal, rows_equal, words_equal}

@@ -19,7 +19,7 @@ use Rattle.font_texts.specs.PairsText.{action_name, action_value, line_end, pair
 use Rattle.font_texts.specs.PairCharacters.{character_cell, character_name, character_word, characters_beside, json_character, json_member, json_value, pair_line_with, symbol_character, symbol_field, value_character, value_field, value_member}
 use Rattle.font_texts.specs.Listing.{length_line}
 use Rattle.font_texts.specs.ListingFormats.{hidden_name, length_in, length_quote, line_of, table_of_lines, word_in}
-use Rattle.font_texts.specs.declared.finding.FindingFormat.TheVariants.{Json as FindingJson}
+use Rattle.font_texts.specs.declared.output_format.OutputFormat.TheVariants.{Json as FindingJson}
 use Rattle.font_texts.specs.declared.pair.Pair.{Pair}
 use Rattle.font_texts.specs.declared.pairs_format.PairsFormat.TheVariants.{Text, Csv, Json}
 

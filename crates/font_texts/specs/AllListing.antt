@@ -14,7 +14,7 @@ use Rattle.font_texts.specs.CountsText.{count_rows, count_rows_text}
 use Rattle.font_texts.specs.Listing.{contents_of, listing_end, listing_head}
 use Rattle.font_texts.specs.ListingFields.{number_field}
 use Rattle.font_texts.specs.ListingFormats.{hidden_name, line_of, table_of_lines, word_in}
-use Rattle.font_texts.specs.declared.finding.FindingFormat.{FindingFormat}
+use Rattle.font_texts.specs.declared.output_format.OutputFormat.{OutputFormat}
 use Rattle.font_texts.specs.declared.list_layout.ListLayout.{ListLayout}
 
 -- a byte as two hexadecimal digits, the higher digit first
@@ -27,7 +27,7 @@ hex_text bytes = flat_map hex_byte bytes
 
 -- the fields for the four pieces of an extensible recipe: the top, the middle, the bottom, and the piece that
 -- is repeated
-unfoldable pub piece_fields : FindingFormat → List ℕ → List ℕ
+unfoldable pub piece_fields : OutputFormat → List ℕ → List ℕ
 piece_fields format recipe =
     number_field format (codes "top") (slice_index recipe 0)
     ++ number_field format (codes "mid") (slice_index recipe 1)
@@ -35,21 +35,21 @@ piece_fields format recipe =
     ++ number_field format (codes "rep") (slice_index recipe 3)
 
 -- the line of extensible recipe i, from 0
-unfoldable pub recipe_line : FindingFormat → List ℕ → ℕ → List ℕ
+unfoldable pub recipe_line : OutputFormat → List ℕ → ℕ → List ℕ
 recipe_line format recipes i = line_of format (codes "recipe") i (piece_fields format (word_at recipes i))
 
 -- the line of word i, from 0
-unfoldable pub word_line : FindingFormat → List ℕ → ℕ → List ℕ
+unfoldable pub word_line : OutputFormat → List ℕ → ℕ → List ℕ
 word_line format words i =
     line_of format (codes "word") i (hidden_name format (codes "bytes") ++ word_in format (hex_text (word_at words i)))
 
 -- the lines of the extensible recipes, from 0
-unfoldable pub recipe_lines : FindingFormat → FontValue → List ℕ
+unfoldable pub recipe_lines : OutputFormat → FontValue → List ℕ
 recipe_lines format font =
     flat_map (recipe_line format (table_of font.words Exten)) (range_with_len 0 (entries_of font.words Exten))
 
 -- the lines of the lf words of the file, from 0, in hexadecimal and without interpretation
-unfoldable pub word_lines : FindingFormat → FontValue → List ℕ
+unfoldable pub word_lines : OutputFormat → FontValue → List ℕ
 word_lines format font = flat_map (word_line format font.words) (range_with_len 0 (counts_of font.words).lf)
 
 -- the full listing of a font

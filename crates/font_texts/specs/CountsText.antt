@@ -11,8 +11,8 @@ use Rattle.tfm_words.specs.declared.count_fault.CountFault.{CountFault}
 use Rattle.tfm_words.specs.declared.design.DesignFault.{DesignFault}
 use Rattle.tfm_tables.specs.declared.fault.FontFault.{FontFault}
 use Rattle.tfm_tables.specs.declared.fault.FontFault.TheVariants.{Counts, Design, OutOfMemory}
-use Rattle.font_texts.specs.declared.finding.FindingFormat.{FindingFormat}
-use Rattle.font_texts.specs.declared.finding.FindingFormat.TheVariants.{Text}
+use Rattle.font_texts.specs.declared.output_format.OutputFormat.{OutputFormat}
+use Rattle.font_texts.specs.declared.output_format.OutputFormat.TheVariants.{Text}
 use Rattle.font_texts.specs.ListingFormats.{entry}
 
 -- each count with its name, in the order of the file
@@ -33,11 +33,11 @@ count_rows c =
     ∷ []
 
 -- the text of a row: an entry of a listing, which is the name, a space, the number in decimal and a line feed
-abbrev pub count_row_text : FindingFormat → List ℕ × ℕ → List ℕ
+abbrev pub count_row_text : OutputFormat → List ℕ × ℕ → List ℕ
 count_row_text format row = entry format row.0 (decimal row.1)
 
 -- the text of rows, one after the other
-abbrev pub count_rows_text : FindingFormat → List (List ℕ × ℕ) → List ℕ
+abbrev pub count_rows_text : OutputFormat → List (List ℕ × ℕ) → List ℕ
 count_rows_text format rows = flat_map (count_row_text format) rows
 
 -- the rows of the twelve counts and of the design size, in scaled points (sp)

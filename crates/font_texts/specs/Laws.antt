@@ -5,7 +5,7 @@ use Rattle.tex_sizes.specs.declared.length_unit.LengthUnit.{LengthUnit}
 use Rattle.tex_sizes.specs.declared.length_unit.LengthUnit.TheVariants.{ScaledPoints}
 use Rattle.tfm_tables.specs.Font.{FontValue, IsFontOf}
 use Rattle.font_texts.specs.AllListing.{all_listing_of}
-use Rattle.font_texts.specs.declared.finding.FindingFormat.TheVariants.{Text}
+use Rattle.font_texts.specs.declared.output_format.OutputFormat.TheVariants.{Text}
 use Rattle.font_texts.specs.declared.list_layout.ListLayout.{ListLayout}
 
 -- this font is contained in some file that is accepted, and is read at some size

@@ -15,7 +15,7 @@ use Rattle.tfm_tables.specs.Character.{exists, char_info_of, measures_of, remain
 use Rattle.tfm_tables.specs.Measure.{kern_at, parameter_of}
 use Rattle.tfm_tables.specs.Program.{program_of, right_code_of, start_of, step_at}
 use Rattle.tfm_tables.specs.Font.{FontValue}
-use Rattle.font_texts.specs.declared.finding.FindingFormat.{FindingFormat}
+use Rattle.font_texts.specs.declared.output_format.OutputFormat.{OutputFormat}
 use Rattle.font_texts.specs.declared.list_layout.ListLayout.{ListLayout}
 use Rattle.font_texts.specs.ListingFields.{char_fields, step_fields}
 use Rattle.font_texts.specs.ListingFormats.{entry, flag_in, hidden_name, in_format, length_in, line_of, number_or_none, string_in, table_of_lines}
@@ -27,7 +27,7 @@ abbrev pub length_entry : ListLayout → List ℕ → ℤ → List ℕ
 length_entry layout name sp = entry layout.format name (length_in layout sp)
 
 -- the entry of this value, or nothing if there is no value
-abbrev pub entry_where : FindingFormat → List ℕ → Option (List ℕ) → List ℕ
+abbrev pub entry_where : OutputFormat → List ℕ → Option (List ℕ) → List ℕ
 entry_where format name value = option_map_or (entry format name) value []
 
 -- the check sum, the design size, and the size that the font is read at
@@ -38,19 +38,19 @@ size_entries layout font =
     ++ length_entry layout (codes "size") (pos font.size)
 
 -- a text of the header, if the header contains it
-unfoldable pub text_where : FindingFormat → List ℕ → Option (List ℕ) → List ℕ
+unfoldable pub text_where : OutputFormat → List ℕ → Option (List ℕ) → List ℕ
 text_where format name text = entry_where format name (option_map (string_in format) text)
 
 -- a flag of the header, if the header contains it
-unfoldable pub flag_where : FindingFormat → List ℕ → Option Bool → List ℕ
+unfoldable pub flag_where : OutputFormat → List ℕ → Option Bool → List ℕ
 flag_where format name flag = entry_where format name (option_map (flag_in format) flag)
 
 -- a number of the header, if the header contains it
-unfoldable pub number_where : FindingFormat → List ℕ → Option ℕ → List ℕ
+unfoldable pub number_where : OutputFormat → List ℕ → Option ℕ → List ℕ
 number_where format name number = entry_where format name (option_map decimal number)
 
 -- those header entries that a header may be too short to contain: coding scheme, family, seven-bit flag and face
-unfoldable pub header_entries : FindingFormat → FontValue → List ℕ
+unfoldable pub header_entries : OutputFormat → FontValue → List ℕ
 header_entries format font =
     text_where format (codes "coding") (coding_of font.words)
     ++ text_where format (codes "family") (family_of font.words)
@@ -58,7 +58,7 @@ header_entries format font =
     ++ number_where format (codes "face") (face_of font.words)
 
 -- the code of the right boundary character, and the starting address of the left boundary's program
-unfoldable pub boundary_entries : FindingFormat → FontValue → List ℕ
+unfoldable pub boundary_entries : OutputFormat → FontValue → List ℕ
 boundary_entries format font =
     entry format (codes "right") (number_or_none format (right_code_of (program_of font.words)))
     ++ entry format (codes "left") (number_or_none format (start_of font.words Boundary))
@@ -130,7 +130,7 @@ unfoldable pub listing_head : ListLayout → List ℕ
 listing_head layout = in_format layout.format [] (codes "{\"unit\":\"" ++ unit_name layout.unit ++ codes "\"")
 
 -- the end of a listing
-abbrev pub listing_end : FindingFormat → List ℕ
+abbrev pub listing_end : OutputFormat → List ℕ
 listing_end format = in_format format [] (codes "}\n")
 
 -- the listing of a font

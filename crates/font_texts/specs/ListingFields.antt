@@ -11,12 +11,12 @@ use Rattle.tfm_tables.specs.Acceptance.{kern_index_of}
 use Rattle.tfm_tables.specs.Font.{FontValue}
 use Rattle.tfm_tables.specs.Measure.{kern_at}
 use Rattle.tfm_tables.specs.Program.{target_of}
-use Rattle.font_texts.specs.declared.finding.FindingFormat.{FindingFormat}
+use Rattle.font_texts.specs.declared.output_format.OutputFormat.{OutputFormat}
 use Rattle.font_texts.specs.declared.list_layout.ListLayout.{ListLayout}
 use Rattle.font_texts.specs.ListingFormats.{field_name, hidden_name, length_in, word_in}
 
 -- a field with a number
-abbrev pub number_field : FindingFormat → List ℕ → ℕ → List ℕ
+abbrev pub number_field : OutputFormat → List ℕ → ℕ → List ℕ
 number_field format name number = field_name format name ++ decimal number
 
 -- a field with a length
@@ -32,11 +32,11 @@ measure_fields layout metrics =
     ++ length_field layout (codes "italic") metrics.italic
 
 -- the name of a tag, and its remainder
-abbrev pub tag_with_remainder : FindingFormat → List ℕ → ℕ → List ℕ
+abbrev pub tag_with_remainder : OutputFormat → List ℕ → ℕ → List ℕ
 tag_with_remainder format name remainder = word_in format name ++ hidden_name format (codes "remainder") ++ decimal remainder
 
 -- a tag: its name, and its remainder if it has one
-unfoldable pub tag_text : FindingFormat → Tag → List ℕ
+unfoldable pub tag_text : OutputFormat → Tag → List ℕ
 tag_text format Plain = word_in format (codes "none")
 tag_text format (Lig remainder) = tag_with_remainder format (codes "lig") remainder
 tag_text format (ListOf remainder) = tag_with_remainder format (codes "list") remainder
@@ -65,7 +65,7 @@ unfoldable pub operation_name : ℕ → List ℕ
 operation_name op = option_map_or (λ row. row.1) (find (λ row. row.0 == op) operation_names) (codes "LIG")
 
 -- the name of an action and a number: an address, the index of a kern, or a code
-abbrev pub action_with : FindingFormat → List ℕ → List ℕ → ℕ → List ℕ
+abbrev pub action_with : OutputFormat → List ℕ → List ℕ → ℕ → List ℕ
 action_with format action name number =
     hidden_name format (codes "action") ++ word_in format action ++ hidden_name format name ++ decimal number
 

@@ -11,14 +11,14 @@ use Rattle.lig_kern.specs.declared.symbol.Symbol.TheVariants.{Left, Char, Right}
 use Rattle.tfm_tables.specs.Font.{FontValue}
 use Rattle.font_texts.specs.Pairs.{pairs_of}
 use Rattle.font_texts.specs.ListingFormats.{length_in, word_in}
-use Rattle.font_texts.specs.declared.finding.FindingFormat.{FindingFormat}
-use Rattle.font_texts.specs.declared.finding.FindingFormat.TheVariants.{Text as InText, Json as InJson}
+use Rattle.font_texts.specs.declared.output_format.OutputFormat.{OutputFormat}
+use Rattle.font_texts.specs.declared.output_format.OutputFormat.TheVariants.{Text as InText, Json as InJson}
 use Rattle.font_texts.specs.declared.pair.Pair.{Pair}
 use Rattle.font_texts.specs.declared.pairs_format.PairsFormat.{PairsFormat}
 use Rattle.font_texts.specs.declared.pairs_format.PairsFormat.TheVariants.{Text, Csv, Json}
 
 -- a symbol: the code of a character, or the name of a boundary, which is a string in JSON
-unfoldable pub symbol_in : FindingFormat → Symbol → List ℕ
+unfoldable pub symbol_in : OutputFormat → Symbol → List ℕ
 symbol_in format Left = word_in format (codes "left")
 symbol_in format (Char code) = decimal code
 symbol_in format Right = word_in format (codes "right")
@@ -35,7 +35,7 @@ action_name (Lig code keep_left keep_right pass) = slash_if keep_left ++ codes "
 
 -- the value of an action: the amount of a kern in a unit, or the code of a ligature character; in JSON it is a number,
 -- except that a kern in a unit other than sp is a string
-unfoldable pub action_value : FindingFormat → LengthUnit → Action → List ℕ
+unfoldable pub action_value : OutputFormat → LengthUnit → Action → List ℕ
 action_value format unit (Kern amount) = length_in (record { format = format; unit = unit }) amount
 action_value format unit (Lig code keep_left keep_right pass) = decimal code
 

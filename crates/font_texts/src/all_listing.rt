@@ -1,5 +1,5 @@
 //! The full listing of a font: its counts, listing, extensible recipes, and each of its lf words.
-ghost use Rattle.std.specs.Prelude.{◌≡◌, ◌+◌, ◌*◌, ◌/◌, ◌<◌, ◌≤◌, ◌++◌, flat_map, length, take, IfOk, IfErr, OnOk};
+ghost use Rattle.std.specs.Prelude.{◌≡◌, ◌+◌, ◌*◌, ◌/◌, ◌<◌, ◌≤◌, ◌++◌, flat_map, length, IfOk, IfErr, OnOk};
 ghost use Rattle.std.specs.List.{range_with_len};
 ghost use Rattle.tfm_words.specs.Counts.{AreCountsOf};
 ghost use Rattle.tfm_words.specs.declared.table.Table.TheVariants.{Exten};
@@ -13,7 +13,7 @@ use crate::counts::push_counts;
 use crate::fields::{pick, push_hidden_name, push_number_field};
 use crate::listing::{push_contents, push_end, push_head};
 use crate::rows::{push_line_end, push_line_start, push_table};
-use crate::{FindingFormat, ListLayout};
+use crate::{ListLayout, OutputFormat};
 use std::alloc::{AllocError, Global};
 use tfm_tables::{FontFault, FontMetrics};
 use tfm_words::{Counts, Size, Table, word_at};
@@ -83,7 +83,7 @@ fn recipes_of<'a>(words: &'a [u8], counts: &Counts) -> &'a [u8]
 
 /// Returns the lines of the extensible recipes in these bytes.
 #[tactic(auto, using(crate::proofs::ListingLemmas::more))]
-fn recipe_lines(alloc: Global, format: FindingFormat, recipes: &[u8]) -> Result<Vec<u8>, AllocError>
+fn recipe_lines(alloc: Global, format: OutputFormat, recipes: &[u8]) -> Result<Vec<u8>, AllocError>
     ensures { IfOk result (λ lines. lines.items
         ≡ flat_map (recipe_line format recipes.now) (range_with_len 0 (length recipes.now / 4))) }
 {
@@ -95,7 +95,7 @@ fn recipe_lines(alloc: Global, format: FindingFormat, recipes: &[u8]) -> Result<
 }
 
 #[tactic(auto, using(crate::proofs::ListingLemmas::joined), unfolding(crate::specs::ListingFormats::line_of, crate::specs::AllListing::recipe_line))]
-fn push_recipe(text: &mut Vec<u8>, format: FindingFormat, recipes: &[u8], i: usize) -> Pushed
+fn push_recipe(text: &mut Vec<u8>, format: OutputFormat, recipes: &[u8], i: usize) -> Pushed
     requires { 4 * i + 4 ≤ length recipes.now }
     ensures { OnOk result (text.new.items ≡ text.old.items ++ recipe_line format recipes.now i) }
 {
@@ -105,7 +105,7 @@ fn push_recipe(text: &mut Vec<u8>, format: FindingFormat, recipes: &[u8], i: usi
 }
 
 #[tactic(auto, using(crate::proofs::ListingLemmas::joined), unfolding(crate::specs::AllListing::piece_fields))]
-fn push_pieces(text: &mut Vec<u8>, format: FindingFormat, recipe: [u8; 4]) -> Pushed
+fn push_pieces(text: &mut Vec<u8>, format: OutputFormat, recipe: [u8; 4]) -> Pushed
     ensures { OnOk result (text.new.items ≡ text.old.items ++ piece_fields format recipe) }
 {
     push_number_field(text, format, b"top", recipe[0])?;
@@ -118,7 +118,7 @@ fn push_pieces(text: &mut Vec<u8>, format: FindingFormat, recipe: [u8; 4]) -> Pu
 #[tactic(auto, using(crate::proofs::ListingLemmas::more))]
 fn word_lines(
     alloc: Global,
-    format: FindingFormat,
+    format: OutputFormat,
     words: &[u8],
     count: usize,
 ) -> Result<Vec<u8>, AllocError>
@@ -134,7 +134,7 @@ fn word_lines(
 }
 
 #[tactic(auto, using(crate::proofs::ListingLemmas::joined), unfolding(crate::specs::ListingFormats::line_of, crate::specs::AllListing::word_line))]
-fn push_word_line(text: &mut Vec<u8>, format: FindingFormat, words: &[u8], i: usize) -> Pushed
+fn push_word_line(text: &mut Vec<u8>, format: OutputFormat, words: &[u8], i: usize) -> Pushed
     requires { 4 * i + 4 ≤ length words.now }
     ensures { OnOk result (text.new.items ≡ text.old.items ++ word_line format words.now i) }
 {
@@ -146,7 +146,7 @@ fn push_word_line(text: &mut Vec<u8>, format: FindingFormat, words: &[u8], i: us
 
 /// Appends the hexadecimal digits of these bytes.
 #[tactic(auto, using(crate::proofs::ListingLemmas::joined), unfolding(crate::specs::ListingFormats::word_in))]
-fn push_digits(text: &mut Vec<u8>, format: FindingFormat, bytes: &[u8]) -> Pushed
+fn push_digits(text: &mut Vec<u8>, format: OutputFormat, bytes: &[u8]) -> Pushed
     ensures { OnOk result (text.new.items ≡ text.old.items ++ word_in format (hex_text bytes.now)) }
 {
     let quote = pick(format, b"", b"\"");

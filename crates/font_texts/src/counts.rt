@@ -1,8 +1,8 @@
 ghost use Rattle.std.specs.Prelude.{◌≡◌, ◌++◌, None, IfOk, IfErr, OnOk};
 ghost use Rattle.font_texts.specs.CountsText.{IsHeadRefusalOf, count_rows, counts_text_of, head_rows, head_fault_of, count_rows_text};
-ghost use Rattle.font_texts.specs.declared.finding.FindingFormat.TheVariants.{Text};
+ghost use Rattle.font_texts.specs.declared.output_format.OutputFormat.TheVariants.{Text};
 
-use crate::FindingFormat;
+use crate::OutputFormat;
 use crate::appending::Pushed;
 use crate::rows::push_number_entry;
 use std::alloc::{AllocError, Global};
@@ -33,14 +33,14 @@ fn text_of(alloc: Global, counts: &Counts, design: Size) -> Result<Vec<u8>, Allo
     ensures { IfOk result (λ text. text.items ≡ count_rows_text Text (head_rows counts.now design)) }
 {
     let mut text = Vec::with_capacity(alloc, TEXT_ROOM)?;
-    push_counts(&mut text, FindingFormat::Text, counts)?;
-    push_number_entry(&mut text, FindingFormat::Text, b"design", design.get())?;
+    push_counts(&mut text, OutputFormat::Text, counts)?;
+    push_number_entry(&mut text, OutputFormat::Text, b"design", design.get())?;
     Ok(text)
 }
 
 /// Appends an entry for each of the twelve counts, in the order of the file.
 #[tactic(auto, using(crate::proofs::ListingLemmas::joined), unfolding(crate::specs::CountsText::count_rows))]
-pub fn push_counts(text: &mut Vec<u8>, format: FindingFormat, counts: &Counts) -> Pushed
+pub fn push_counts(text: &mut Vec<u8>, format: OutputFormat, counts: &Counts) -> Pushed
     ensures { OnOk result (text.new.items ≡ text.old.items ++ count_rows_text format (count_rows counts.now)) }
 {
     push_number_entry(text, format, b"lf", counts.lf())?;

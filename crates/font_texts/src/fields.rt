@@ -4,24 +4,24 @@ ghost use Rattle.font_texts.specs.ListingFields.{length_field};
 ghost use Rattle.font_texts.specs.ListingFormats.{field_name, hidden_name, in_format, length_in, length_quote as quote_of, name_in, word_in};
 
 use crate::appending::Pushed;
-use crate::{FindingFormat, ListLayout};
+use crate::{ListLayout, OutputFormat};
 use itoa::Integer;
 use tex_sizes::{LengthUnit, push_length};
 use tfm_words::push_number;
 
 /// Returns the first of these in text, and the second one in JSON.
-pub fn pick<'a>(format: FindingFormat, text: &'a [u8], json: &'a [u8]) -> &'a [u8]
+pub fn pick<'a>(format: OutputFormat, text: &'a [u8], json: &'a [u8]) -> &'a [u8]
     ensures { result.now ≡ in_format format text.now json.now }
 {
     match format {
-        FindingFormat::Text => text,
-        FindingFormat::Json => json,
+        OutputFormat::Text => text,
+        OutputFormat::Json => json,
     }
 }
 
 /// Appends `before`, a name, and what follows it.
 #[tactic(auto, using(crate::proofs::ListingLemmas::joined))]
-pub fn push_name(text: &mut Vec<u8>, format: FindingFormat, before: &[u8], name: &[u8]) -> Pushed
+pub fn push_name(text: &mut Vec<u8>, format: OutputFormat, before: &[u8], name: &[u8]) -> Pushed
     ensures { OnOk result (text.new.items ≡ text.old.items ++ (before.now ++ name_in format name.now)) }
 {
     text.extend_from_slice(before)?;
@@ -31,7 +31,7 @@ pub fn push_name(text: &mut Vec<u8>, format: FindingFormat, before: &[u8], name:
 
 /// Appends the name of a field.
 #[tactic(auto, unfolding(crate::specs::ListingFormats::field_name))]
-pub fn push_field_name(text: &mut Vec<u8>, format: FindingFormat, name: &[u8]) -> Pushed
+pub fn push_field_name(text: &mut Vec<u8>, format: OutputFormat, name: &[u8]) -> Pushed
     ensures { OnOk result (text.new.items ≡ text.old.items ++ field_name format name.now) }
 {
     push_name(text, format, pick(format, b" ", b",\""), name)
@@ -39,23 +39,23 @@ pub fn push_field_name(text: &mut Vec<u8>, format: FindingFormat, name: &[u8]) -
 
 /// Appends the name of a field that text doesn't have.
 #[tactic(auto, unfolding(crate::specs::ListingFormats::hidden_name))]
-pub fn push_hidden_name(text: &mut Vec<u8>, format: FindingFormat, name: &[u8]) -> Pushed
+pub fn push_hidden_name(text: &mut Vec<u8>, format: OutputFormat, name: &[u8]) -> Pushed
     ensures { OnOk result (text.new.items ≡ text.old.items ++ hidden_name format name.now) }
 {
     match format {
-        FindingFormat::Text => text.extend_from_slice(b" "),
-        FindingFormat::Json => push_name(text, format, b",\"", name),
+        OutputFormat::Text => text.extend_from_slice(b" "),
+        OutputFormat::Json => push_name(text, format, b",\"", name),
     }
 }
 
 /// Appends a name that is a value.
 #[tactic(auto, unfolding(crate::specs::ListingFormats::word_in))]
-pub fn push_word(text: &mut Vec<u8>, format: FindingFormat, word: &[u8]) -> Pushed
+pub fn push_word(text: &mut Vec<u8>, format: OutputFormat, word: &[u8]) -> Pushed
     ensures { OnOk result (text.new.items ≡ text.old.items ++ word_in format word.now) }
 {
     match format {
-        FindingFormat::Text => text.extend_from_slice(word),
-        FindingFormat::Json => {
+        OutputFormat::Text => text.extend_from_slice(word),
+        OutputFormat::Json => {
             text.extend_from_slice(b"\"")?;
             text.extend_from_slice(word)?;
             text.extend_from_slice(b"\"")
@@ -69,8 +69,8 @@ fn length_quote(layout: ListLayout) -> &'static [u8]
     ensures { result.now ≡ quote_of layout.format layout.unit }
 {
     match (layout.format, layout.unit) {
-        (FindingFormat::Text, _) | (FindingFormat::Json, LengthUnit::ScaledPoints) => b"",
-        (FindingFormat::Json, _) => b"\"",
+        (OutputFormat::Text, _) | (OutputFormat::Json, LengthUnit::ScaledPoints) => b"",
+        (OutputFormat::Json, _) => b"\"",
     }
 }
 
@@ -97,7 +97,7 @@ pub fn push_length_field(text: &mut Vec<u8>, layout: ListLayout, name: &[u8], sp
 #[tactic(auto, using(crate::proofs::ListingLemmas::joined))]
 pub fn push_number_field<I: Integer>(
     text: &mut Vec<u8>,
-    format: FindingFormat,
+    format: OutputFormat,
     name: &[u8],
     number: I,
 ) -> Pushed

@@ -1,8 +1,6 @@
 ghost use Rattle.std.specs.Prelude.{◌≡◌, ◌<◌, ◌++◌, [], IfOk, IfErr, OnOk, if◌then◌else◌};
-ghost use Rattle.tfm_words.specs.declared.table.Table.TheVariants.{Kern, LigKern};
 ghost use Rattle.tfm_tables.specs.Font.{FontValue, IsFontOf, IsRefusalOf};
 ghost use Rattle.tfm_tables.specs.Character.{exists};
-ghost use Rattle.tfm_tables.specs.Table.{entries_of};
 ghost use Rattle.font_texts.specs.Listing.{boundary_entries, char_line, char_lines, contents_of, header_entries, kern_lines, listing_end as end_of, listing_head as head_of, listing_of, param_layout as layout_of, param_lines, size_entries, step_lines};
 
 use crate::appending::Pushed;
@@ -11,7 +9,7 @@ use crate::rows::{
     push_char_line, push_flag_where, push_length_entry, push_length_line, push_number_entry,
     push_number_or_none, push_number_where, push_step_line, push_table, push_text_where,
 };
-use crate::{FindingFormat, ListLayout};
+use crate::{ListLayout, OutputFormat};
 use std::alloc::{AllocError, Global};
 use tex_sizes::LengthUnit;
 use tfm_tables::{Font, FontFault, FontMetrics, LeftSide};
@@ -64,8 +62,8 @@ pub fn push_head(text: &mut Vec<u8>, layout: ListLayout) -> Pushed
     ensures { OnOk result (text.new.items ≡ text.old.items ++ head_of layout) }
 {
     match layout.format {
-        FindingFormat::Text => Ok(()),
-        FindingFormat::Json => {
+        OutputFormat::Text => Ok(()),
+        OutputFormat::Json => {
             text.extend_from_slice(b"{\"unit\":\"")?;
             text.extend_from_slice(layout.unit.name().as_bytes())?;
             text.extend_from_slice(b"\"")
@@ -74,7 +72,7 @@ pub fn push_head(text: &mut Vec<u8>, layout: ListLayout) -> Pushed
 }
 
 /// Appends the end of a listing.
-pub fn push_end(text: &mut Vec<u8>, format: FindingFormat) -> Pushed
+pub fn push_end(text: &mut Vec<u8>, format: OutputFormat) -> Pushed
     ensures { OnOk result (text.new.items ≡ text.old.items ++ end_of format) }
 {
     text.extend_from_slice(pick(format, b"", b"}\n"))
@@ -113,7 +111,7 @@ fn push_sizes(text: &mut Vec<u8>, font: &FontMetrics, layout: ListLayout) -> Pus
 }
 
 #[tactic(auto, using(crate::proofs::ListingLemmas::joined), unfolding(crate::specs::Listing::header_entries))]
-fn push_header(text: &mut Vec<u8>, font: &FontMetrics, format: FindingFormat) -> Pushed
+fn push_header(text: &mut Vec<u8>, font: &FontMetrics, format: OutputFormat) -> Pushed
     ensures { OnOk result (text.new.items ≡ text.old.items ++ header_entries format font.now) }
 {
     push_text_where(text, format, b"coding", font.coding())?;
@@ -123,7 +121,7 @@ fn push_header(text: &mut Vec<u8>, font: &FontMetrics, format: FindingFormat) ->
 }
 
 #[tactic(auto, using(crate::proofs::ListingLemmas::joined), unfolding(crate::specs::Listing::boundary_entries))]
-fn push_boundaries(text: &mut Vec<u8>, font: &FontMetrics, format: FindingFormat) -> Pushed
+fn push_boundaries(text: &mut Vec<u8>, font: &FontMetrics, format: OutputFormat) -> Pushed
     ensures { OnOk result (text.new.items ≡ text.old.items ++ boundary_entries format font.now) }
 {
     push_number_or_none(text, format, b"right", font.right_boundary())?;

@@ -7,7 +7,7 @@ use crate::appending::Pushed;
 use crate::fields::{push_length_in, push_word};
 use crate::pair_characters::push_characters;
 use crate::pairing::pairs;
-use crate::{FindingFormat, ListLayout, Pair, PairsFormat, PairsLayout};
+use crate::{ListLayout, OutputFormat, Pair, PairsFormat, PairsLayout};
 use lig_kern::{Action, Symbol};
 use std::alloc::{AllocError, Global};
 use tex_sizes::LengthUnit;
@@ -93,13 +93,13 @@ fn push_front(text: &mut Vec<u8>, pair: &Pair, layout: PairsLayout) -> Pushed
 fn push_fields(text: &mut Vec<u8>, pair: &Pair, separator: &[u8], unit: LengthUnit) -> Pushed
     ensures { OnOk result (text.new.items ≡ text.old.items ++ pair_fields unit separator.now pair.now) }
 {
-    push_symbol(text, FindingFormat::Text, pair.left)?;
+    push_symbol(text, OutputFormat::Text, pair.left)?;
     text.extend_from_slice(separator)?;
-    push_symbol(text, FindingFormat::Text, pair.right)?;
+    push_symbol(text, OutputFormat::Text, pair.right)?;
     text.extend_from_slice(separator)?;
     push_name(text, pair.action)?;
     text.extend_from_slice(separator)?;
-    push_value(text, pair.action, FindingFormat::Text, unit)
+    push_value(text, pair.action, OutputFormat::Text, unit)
 }
 
 /// Appends a JSON object without its closing brace.
@@ -108,17 +108,17 @@ fn push_object(text: &mut Vec<u8>, pair: &Pair, unit: LengthUnit) -> Pushed
     ensures { OnOk result (text.new.items ≡ text.old.items ++ codes "{" ++ pair_members unit pair.now) }
 {
     text.extend_from_slice(b"{\"left\":")?;
-    push_symbol(text, FindingFormat::Json, pair.left)?;
+    push_symbol(text, OutputFormat::Json, pair.left)?;
     text.extend_from_slice(b",\"right\":")?;
-    push_symbol(text, FindingFormat::Json, pair.right)?;
+    push_symbol(text, OutputFormat::Json, pair.right)?;
     text.extend_from_slice(b",\"action\":\"")?;
     push_name(text, pair.action)?;
     text.extend_from_slice(b"\",\"value\":")?;
-    push_value(text, pair.action, FindingFormat::Json, unit)
+    push_value(text, pair.action, OutputFormat::Json, unit)
 }
 
 #[tactic(auto, unfolding(crate::specs::PairsText::symbol_in))]
-fn push_symbol(text: &mut Vec<u8>, format: FindingFormat, symbol: Symbol) -> Pushed
+fn push_symbol(text: &mut Vec<u8>, format: OutputFormat, symbol: Symbol) -> Pushed
     ensures { OnOk result (text.new.items ≡ text.old.items ++ symbol_in format symbol) }
 {
     match symbol {
@@ -155,7 +155,7 @@ fn slash_where(kept: bool) -> &'static [u8]
 }
 
 #[tactic(auto, using(crate::proofs::ListingLemmas::signed), unfolding(crate::specs::PairsText::action_value))]
-fn push_value(text: &mut Vec<u8>, action: Action, format: FindingFormat, unit: LengthUnit) -> Pushed
+fn push_value(text: &mut Vec<u8>, action: Action, format: OutputFormat, unit: LengthUnit) -> Pushed
     ensures { OnOk result (text.new.items ≡ text.old.items ++ action_value format unit action) }
 {
     let layout = ListLayout { format, unit };

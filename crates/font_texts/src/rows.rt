@@ -13,13 +13,13 @@ use crate::fields::{
     pick, push_field_name, push_hidden_name, push_length_field, push_length_in, push_name,
     push_number_field, push_word,
 };
-use crate::{FindingFormat, ListLayout};
+use crate::{ListLayout, OutputFormat};
 use itoa::Integer;
 use tfm_tables::{FontMetrics, Metrics, Step, Tag};
 use tfm_words::push_number;
 
 /// Appends what precedes the value of an entry.
-fn push_entry_start(text: &mut Vec<u8>, format: FindingFormat, name: &[u8]) -> Pushed
+fn push_entry_start(text: &mut Vec<u8>, format: OutputFormat, name: &[u8]) -> Pushed
     ensures { OnOk result (text.new.items ≡ text.old.items ++ entry_start format name.now) }
 {
     push_name(text, format, pick(format, b"", b",\""), name)
@@ -29,7 +29,7 @@ fn push_entry_start(text: &mut Vec<u8>, format: FindingFormat, name: &[u8]) -> P
 #[tactic(auto, using(crate::proofs::ListingLemmas::joined), unfolding(crate::specs::ListingFormats::entry))]
 pub fn push_number_entry<I: Integer>(
     text: &mut Vec<u8>,
-    format: FindingFormat,
+    format: OutputFormat,
     name: &[u8],
     number: I,
 ) -> Pushed
@@ -52,7 +52,7 @@ pub fn push_length_entry(text: &mut Vec<u8>, layout: ListLayout, name: &[u8], sp
 
 /// Appends an entry with this value.
 #[tactic(auto, using(crate::proofs::ListingLemmas::joined), unfolding(crate::specs::ListingFormats::entry))]
-fn push_entry(text: &mut Vec<u8>, format: FindingFormat, name: &[u8], value: &[u8]) -> Pushed
+fn push_entry(text: &mut Vec<u8>, format: OutputFormat, name: &[u8], value: &[u8]) -> Pushed
     ensures { OnOk result (text.new.items ≡ text.old.items ++ entry format name.now value.now) }
 {
     push_entry_start(text, format, name)?;
@@ -63,7 +63,7 @@ fn push_entry(text: &mut Vec<u8>, format: FindingFormat, name: &[u8], value: &[u
 /// Appends an entry with a number, or with `none`, in JSON `null`, if there is no number.
 pub fn push_number_or_none<I: Integer>(
     text: &mut Vec<u8>,
-    format: FindingFormat,
+    format: OutputFormat,
     name: &[u8],
     number: Option<I>,
 ) -> Pushed
@@ -78,12 +78,12 @@ pub fn push_number_or_none<I: Integer>(
 
 /// Appends a text of the header.
 #[tactic(auto, unfolding(crate::specs::ListingFormats::string_in))]
-fn push_string(text: &mut Vec<u8>, format: FindingFormat, bytes: &[u8]) -> Pushed
+fn push_string(text: &mut Vec<u8>, format: OutputFormat, bytes: &[u8]) -> Pushed
     ensures { OnOk result (text.new.items ≡ text.old.items ++ string_in format bytes.now) }
 {
     match format {
-        FindingFormat::Text => push_escaped_text(text, bytes),
-        FindingFormat::Json => {
+        OutputFormat::Text => push_escaped_text(text, bytes),
+        OutputFormat::Json => {
             text.extend_from_slice(b"\"")?;
             push_json_text(text, bytes)?;
             text.extend_from_slice(b"\"")
@@ -95,7 +95,7 @@ fn push_string(text: &mut Vec<u8>, format: FindingFormat, bytes: &[u8]) -> Pushe
 #[tactic(auto, using(crate::proofs::ListingLemmas::joined), unfolding(crate::specs::Listing::text_where, crate::specs::ListingFormats::entry))]
 pub fn push_text_where(
     text: &mut Vec<u8>,
-    format: FindingFormat,
+    format: OutputFormat,
     name: &[u8],
     bytes: Option<&[u8]>,
 ) -> Pushed
@@ -114,7 +114,7 @@ pub fn push_text_where(
 #[tactic(auto, unfolding(crate::specs::Listing::flag_where))]
 pub fn push_flag_where(
     text: &mut Vec<u8>,
-    format: FindingFormat,
+    format: OutputFormat,
     name: &[u8],
     flag: Option<bool>,
 ) -> Pushed
@@ -131,7 +131,7 @@ pub fn push_flag_where(
 #[tactic(auto, unfolding(crate::specs::Listing::number_where))]
 pub fn push_number_where(
     text: &mut Vec<u8>,
-    format: FindingFormat,
+    format: OutputFormat,
     name: &[u8],
     number: Option<u8>,
 ) -> Pushed
@@ -145,12 +145,12 @@ pub fn push_number_where(
 
 /// Appends these lines or, in JSON, a member with this name and a list of them.
 #[tactic(auto, using(crate::proofs::ListingLemmas::joined), unfolding(crate::specs::ListingFormats::table_of_lines))]
-pub fn push_table(text: &mut Vec<u8>, format: FindingFormat, name: &[u8], lines: &[u8]) -> Pushed
+pub fn push_table(text: &mut Vec<u8>, format: OutputFormat, name: &[u8], lines: &[u8]) -> Pushed
     ensures { OnOk result (text.new.items ≡ text.old.items ++ table_of_lines format name.now lines.now) }
 {
     match format {
-        FindingFormat::Text => text.extend_from_slice(lines),
-        FindingFormat::Json => {
+        OutputFormat::Text => text.extend_from_slice(lines),
+        OutputFormat::Json => {
             push_name(text, format, b",\"", name)?;
             text.extend_from_slice(b"[")?;
             if let Some((_, rest)) = lines.split_first() {
@@ -165,7 +165,7 @@ pub fn push_table(text: &mut Vec<u8>, format: FindingFormat, name: &[u8], lines:
 #[tactic(auto, using(crate::proofs::ListingLemmas::joined))]
 pub fn push_line_start<I: Integer>(
     text: &mut Vec<u8>,
-    format: FindingFormat,
+    format: OutputFormat,
     name: &[u8],
     number: I,
 ) -> Pushed
@@ -176,7 +176,7 @@ pub fn push_line_start<I: Integer>(
 }
 
 /// Appends the end of a line.
-pub fn push_line_end(text: &mut Vec<u8>, format: FindingFormat) -> Pushed
+pub fn push_line_end(text: &mut Vec<u8>, format: OutputFormat) -> Pushed
     ensures { OnOk result (text.new.items ≡ text.old.items ++ line_end format) }
 {
     text.extend_from_slice(pick(format, b"\n", b"}"))
@@ -200,7 +200,7 @@ pub fn push_length_line(
 }
 
 #[tactic(auto, using(crate::proofs::ListingLemmas::joined))]
-fn push_tag_with(text: &mut Vec<u8>, format: FindingFormat, name: &[u8], remainder: u8) -> Pushed
+fn push_tag_with(text: &mut Vec<u8>, format: OutputFormat, name: &[u8], remainder: u8) -> Pushed
     ensures { OnOk result (text.new.items ≡ text.old.items ++ tag_with_remainder format name.now remainder) }
 {
     push_word(text, format, name)?;
@@ -209,7 +209,7 @@ fn push_tag_with(text: &mut Vec<u8>, format: FindingFormat, name: &[u8], remaind
 }
 
 #[tactic(auto, unfolding(crate::specs::ListingFields::tag_text))]
-fn push_tag(text: &mut Vec<u8>, format: FindingFormat, tag: Tag) -> Pushed
+fn push_tag(text: &mut Vec<u8>, format: OutputFormat, tag: Tag) -> Pushed
     ensures { OnOk result (text.new.items ≡ text.old.items ++ tag_text format tag) }
 {
     match tag {
@@ -269,7 +269,7 @@ fn name_of(op: u8) -> &'static [u8]
 #[tactic(auto, using(crate::proofs::ListingLemmas::joined))]
 fn push_action_with<I: Integer>(
     text: &mut Vec<u8>,
-    format: FindingFormat,
+    format: OutputFormat,
     action: &[u8],
     name: &[u8],
     number: I,

@@ -19,7 +19,7 @@ use crate::files::opening::Opens;
 use crate::files::reading::font_bytes;
 use crate::files::vectors::encoding_of;
 use command_line::{Listing, Pairing};
-use font_texts::{FindingFormat, ListLayout, PairsLayout};
+use font_texts::{ListLayout, OutputFormat, PairsLayout};
 use run_texts::{ToolFault, write_text};
 use std::alloc::Global;
 use std::io::{Read, Write};
@@ -50,7 +50,7 @@ pub fn list_text<W: Write>(alloc: Global, font: &Font, out: &mut W) -> Result<()
     ensures fault { IfErr result (λ fault. (fault ≡ ToolFault.OutOfMemory) ⊎ (fault ≡ ToolFault.Write)) }
 {
     let layout = ListLayout {
-        format: FindingFormat::Text,
+        format: OutputFormat::Text,
         unit: LengthUnit::ScaledPoints,
     };
     let text = font_texts::list_text(alloc, font, layout)?;

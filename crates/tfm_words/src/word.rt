@@ -7,7 +7,6 @@ pub fn word_at(bytes: &[u8], i: usize) -> [u8; 4]
     requires { 4 * i + 4 ≤ length bytes.now }
     ensures { result ≡ word_of bytes.now i }
 {
-    let mut word = [0; 4];
-    word.copy_from_slice(&bytes[4 * i..4 * i + 4]);
-    word
+    let at = 4 * i;
+    [bytes[at], bytes[at + 1], bytes[at + 2], bytes[at + 3]]
 }

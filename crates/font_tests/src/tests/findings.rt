@@ -1,7 +1,7 @@
 //! Findings of `check`, and the texts of errors.
 use super::faulty::BELOW_ONE;
 use check_texts::{Verdict, verdict_text};
-use font_texts::FindingFormat;
+use font_texts::OutputFormat;
 use std::process::Abort;
 use std::test::Fail;
 use test_support::fonts::files::NO_CHARACTERS;
@@ -40,7 +40,7 @@ fn checks<R: Abort + AllocGlobal>(
     for size in [None, Size::new(1), Size::new(134_217_727)] {
         let verdict = Verdict::check(rt.alloc(), bytes, size, false)?;
         assert!(rt; is_for(&verdict, fault), "{line}");
-        let text = verdict_text(rt.alloc(), FindingFormat::Text, name.as_bytes(), &verdict)?;
+        let text = verdict_text(rt.alloc(), OutputFormat::Text, name.as_bytes(), &verdict)?;
         assert!(rt; text.as_slice() == line.as_bytes(), "{line}");
     }
     Ok(())
@@ -93,7 +93,7 @@ fn has_words<R: Abort + AllocGlobal>(
     verdict: &Verdict,
     words: [&str; 2],
 ) -> Result<(), Fail> {
-    let text = verdict_text(rt.alloc(), FindingFormat::Text, b"x", verdict)?;
+    let text = verdict_text(rt.alloc(), OutputFormat::Text, b"x", verdict)?;
     let [before, words] = words;
     let wanted = format!(in rt.alloc(); "x: {before}{words}\n")?;
     assert!(rt; text.as_slice() == wanted.as_bytes(), "{words}");

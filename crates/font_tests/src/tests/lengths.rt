@@ -1,7 +1,7 @@
 //! Fonts of which a part is long are read and listed whole.
 use super::faults::fault_of;
 use check_texts::Verdict;
-use font_texts::{FindingFormat, ListLayout, list_all_text};
+use font_texts::{ListLayout, OutputFormat, list_all_text};
 use std::process::Abort;
 use std::test::Fail;
 use test_support::fonts::lengths::{LONG, Lengths, amount_of};
@@ -102,7 +102,7 @@ fn is_listed<R: Abort + AllocGlobal>(
     let verdict = Verdict::check(rt.alloc(), file, None, false)?;
     assert!(rt; verdict.is_plain(), "{case}");
     let layout = ListLayout {
-        format: FindingFormat::Text,
+        format: OutputFormat::Text,
         unit: LengthUnit::ScaledPoints,
     };
     let text = String::from_utf8(list_all_text(rt.alloc(), file, None, layout)?)?;

@@ -1,7 +1,7 @@
 //! Listings as whole texts, the texts of counts, and the names of operations.
 use super::faulty::BELOW_ONE;
 use super::samples::{Change, FULL, changed};
-use font_texts::FindingFormat::{Json, Text};
+use font_texts::OutputFormat::{Json, Text};
 use font_texts::{ListLayout, counts_text, list_all_text, list_file_text, list_text};
 use std::alloc::Global;
 use std::test::Fail;
