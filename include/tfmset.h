@@ -21,8 +21,7 @@
  *
  * Lists: a function whose last argument is `count` writes a list to an array. After TFMSET_DONE the list is
  * at the front of the array, and `*count` is its length. After TFMSET_NO_ROOM `*count` is the length that is
- * needed. Everything else is unchanged, except that TFMSET_NO_ROOM and TFMSET_OUT_OF_MEMORY leave unspecified
- * contents in the array of tfmset_records.
+ * needed. Everything else is unchanged, but the contents of the array of tfmset_records are unspecified then.
  *
  * Pointers: each pointer that is followed by a length may be null if the length is 0. No other pointer may be
  * null. Each pointer must be aligned for its type. Memory that a function writes to must not overlap any
