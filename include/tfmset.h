@@ -9,9 +9,9 @@
  *         printf("%ld\n", (long)characters['a'].width);
  *
  * Font: `font` points to the contents of a TFM file. tfmset_spans and tfmset_span_items also take a table
- * that tfmset_prepare wrote. The bytes may be arbitrary: TFMSET_FONT_REFUSED reports that they aren't a valid
- * font. Each call reads a TFM file again. The library keeps nothing between two calls: there is no handle,
- * and nothing has to be freed.
+ * that tfmset_prepare wrote. The bytes may be arbitrary: TFMSET_FONT_REFUSED reports an invalid TFM file, but
+ * not every change of a table. Each call reads a TFM file again. The library keeps nothing between two calls:
+ * there is no handle, and nothing has to be freed.
  *
  * Size: `size` is from 1 to 134,217,727 scaled points, or 0 for the design size of the font. All dimensions
  * are in scaled points, of which 65,536 are one point.
@@ -21,7 +21,7 @@
  *
  * Lists: a function whose last argument is `count` writes a list to an array. After TFMSET_DONE the list is
  * at the front of the array, and `*count` is its length. After TFMSET_NO_ROOM `*count` is the length that is
- * needed. Everything else is unchanged, but the contents of the array of tfmset_records are unspecified then.
+ * needed, and the array is unchanged, except that of tfmset_records, whose contents are unspecified.
  *
  * Pointers: each pointer that is followed by a length may be null if the length is 0. No other pointer may be
  * null. Each pointer must be aligned for its type. Memory that a function writes to must not overlap any
@@ -83,7 +83,7 @@ uint32_t tfmset_version(void);
  * TFMSET_OUT_OF_RANGE if the text isn't a size from 1 to 134,217,727 scaled points. */
 uint32_t tfmset_size(const uint8_t *text, size_t text_length, uint32_t *size);
 
-/* An uncoded character: one that has no codes in an encoding. `offset` is the offset in the text at which it
+/* An uncoded character: one that an encoding can't represent. `offset` is the offset in the text at which it
  * begins, and `character` is its number in Unicode. */
 struct tfmset_uncoded {
     size_t offset;
@@ -92,9 +92,9 @@ struct tfmset_uncoded {
 
 /* The result of tfmset_encode, which is unchanged after TFMSET_OUT_OF_RANGE. */
 struct tfmset_encoded {
-    /* After TFMSET_DONE and TFMSET_NO_ROOM: the numbers of codes and of uncoded characters. Otherwise 0. */
+    /* The numbers of codes and of uncoded characters. After TFMSET_NOT_UTF8: 0. */
     size_t count, uncoded;
-    /* After TFMSET_NOT_UTF8: the offset of the first byte that isn't part of a character. Otherwise 0. */
+    /* The offset of the first byte that isn't part of a character; 0 if the text is UTF-8. */
     size_t offset;
 };
 
@@ -187,7 +187,7 @@ struct tfmset_character {
 };
 
 /* Reports the character with each of the 256 codes, in order. A font may have a character with code 32,
- * although byte 32 of a line is a space. */
+ * although a byte with the value 32 in a line is a space. */
 uint32_t tfmset_characters(const uint8_t *font, size_t font_length, uint32_t size,
                            struct tfmset_character *characters, size_t characters_length, size_t *count);
 
@@ -263,7 +263,7 @@ struct tfmset_item {
 #define TFMSET_SET 0u
 /* The line has a missing character, and the policy is TFMSET_REFUSE. */
 #define TFMSET_MISSING 1u
-/* The line has more than 65,535 bytes, and perhaps a missing character, too. */
+/* The line has more than 65,535 bytes. This is reported even if it has a missing character, too. */
 #define TFMSET_TOO_LONG 2u
 /* The line takes more than `limit` steps, or the call has taken `call_limit` steps. */
 #define TFMSET_TOO_MANY_STEPS 3u

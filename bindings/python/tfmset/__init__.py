@@ -114,7 +114,7 @@ class Item(ctypes.Structure):
 
 
 class EncodingError(ValueError):
-    """Raised for a character that has no codes in an encoding.
+    """Raised for an uncoded character (see `encode`), and for a lone surrogate.
 
     `encoding` is the name of the encoding, or 'vector' for an encoding vector. `place` is the index in the
     text of the character, and `character` is the character itself.
