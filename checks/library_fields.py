@@ -439,7 +439,7 @@ class Codes(LinesCase):
         words, found = {"≤": "<=", "≢": "!=", "≡": "==", "×": "and", "⊎": "or"}, {}
         (most,) = re.findall(r"^  pub code : (answer ≤ \d)$", read("crates/tfmset_c/specs/Reading.antt"), re.M)
         form = (r'extern "C" fn tfmset_(\w+)\([^{]*?\) -> u32\s+(?:ensures answers \{ (.*?) \}\n\s+)?'
-                r'(ensures font \{ IsAnswer )?')
+                r'(ensures font \{ IsAnswer(?:For)? )?')
         for name, clause, is_answer in re.findall(form, sources):
             if not clause and not is_answer:
                 continue

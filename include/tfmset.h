@@ -65,7 +65,7 @@ extern "C" {
 /* An array is too short. The last argument contains the lengths that are needed. */
 #define TFMSET_NO_ROOM 3u
 /* A number is out of its range, a text isn't a size, `encoding` is neither a name nor an encoding vector, or
- * `size` isn't that of the table. Nothing has changed. */
+ * the option `size` is neither 0 nor the size of the table. Nothing has changed. */
 #define TFMSET_OUT_OF_RANGE 4u
 /* tfmset_encode: the text isn't UTF-8. */
 #define TFMSET_NOT_UTF8 5u
@@ -79,7 +79,7 @@ uint32_t tfmset_version(void);
  * "12pt", "10.95pt" or "4mm", or a whole number of scaled points, such as "655360". The units are pt, in, pc,
  * cm, mm, bp, dd, cc and sp, in lower case. The fraction follows a point or a comma. The size is rounded as
  * TeX rounds a dimension. With sp the digits after the point are ignored, as in TeX. Signs and spaces aren't
- * allowed, except for a plus sign before a number of sp without a unit. Returns TFMSET_DONE, or
+ * allowed, except that a number without a unit may begin with a plus sign. Returns TFMSET_DONE, or
  * TFMSET_OUT_OF_RANGE if the text isn't a size from 1 to 134,217,727 scaled points. */
 uint32_t tfmset_size(const uint8_t *text, size_t text_length, uint32_t *size);
 
@@ -132,7 +132,7 @@ struct tfmset_fault {
      *     4    the header is too short
      *     5    a table that needs an entry is empty; `named`: the table
      *     6    there are more than 256 extensible recipes
-     *     7    the length of the file isn't the sum of the lengths of its parts
+     *     7    the first count, lf, isn't the sum of the lengths of the parts of the file
      *     8    the file has fewer bytes than its first count requires; `place`: the number needed
      *     9    the design size is negative, or is below one point
      *     10   an index of a character is beyond the end of its table; `place`: the code; `named`: the table
@@ -239,7 +239,7 @@ uint32_t tfmset_header_text(const uint8_t *font, size_t font_length, uint32_t wh
 struct tfmset_options {
     /* Once the lines of a call have taken this many steps together, each further line is refused with
      * TFMSET_TOO_MANY_STEPS. A line that takes more than `limit` steps counts as `limit` steps. A call
-     * therefore takes at most `call_limit` plus `limit` steps. The default, 0, is 2^64 - 1. */
+     * therefore takes at most `call_limit` plus `limit` steps. 0 stands for the default, 2^64 - 1. */
     uint64_t call_limit;
     /* `size` is that of the font. `limit` is the largest number of steps of a line; 0 is the default. */
     uint32_t size, limit;
@@ -248,7 +248,7 @@ struct tfmset_options {
     uint32_t policy, crlf;
 };
 
-/* The kinds of items. */
+/* The kinds of items. A ligature is a TFMSET_CHARACTER. */
 #define TFMSET_CHARACTER 0u
 #define TFMSET_KERN 1u
 #define TFMSET_SPACE 2u

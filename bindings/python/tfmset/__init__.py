@@ -159,7 +159,8 @@ def _utf8(text: object, encoding: _Stated) -> bytes:
 @functools.lru_cache(maxsize=8)
 def _is_vector(content: bytes) -> bool:
     """Returns whether these bytes are an encoding vector. The library takes short bytes, such as b't1', for
-    the name of an encoding. A vector is longer: its 256 names have at least two characters each."""
+    the name of an encoding. A vector is longer: it has 256 names, each of a slash and at least one
+    character."""
     return len(content) > 512 and _library.tfmset_encode(
         content, len(content), b"", 0, None, 0, None, 0, None, 0, ctypes.byref(_Encoded())) == _DONE
 
@@ -190,7 +191,7 @@ def _skips(missing: str) -> bool:
 
 def _encoded(text: str, encoding: _Stated, skips: bool, with_offsets: bool = False) -> Tuple[bytes, Any]:
     """Returns the codes of a text and, with `with_offsets`, an array with the offset in UTF-8 of the
-    character of each code. Raises EncodingError for a character without codes, unless `skips`."""
+    character of each code. Raises EncodingError for an uncoded character, unless `skips`."""
     name, content = encoding.content, _utf8(text, encoding)
     length, encoded, room, code = len(content), _Encoded(), 16, _NO_ROOM
     # A character has at most as many codes as bytes, and therefore these two arrays are always long enough.
@@ -572,7 +573,7 @@ class _Characters:
             item.offset, item.length = start, stop - start
 
     def _after(self, at: int) -> int:
-        """Returns the index of the first character whose first code is at `at`, or later in the codes."""
+        """Returns the index of the first character whose first code has the index `at` or a larger one."""
         return self._indices[at] + (self._indices[at] == self._indices[at - 1])
 
 
