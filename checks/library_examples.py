@@ -49,15 +49,15 @@ def kerns_table():
 class Examples(LibraryCase):
     """The examples in four languages"""
 
-    def test_ten_lines_in_c(self):
-        out = self.built("examples/library/ten_lines.c", "cc", "-std=c99")
+    def test_line_width_in_c(self):
+        out = self.built("examples/library/line_width.c", "cc", "-std=c99")
         width = widths_of(b"office ox")[0] / 65536
         self.same("output", f"{width:.2f} points\n", self.output(out, given=DEMO))
 
     def test_calls_of_the_readme(self):
-        """The call in C is that of ten_lines.c, and the one in Python prints the same width."""
+        """The call in C is that of line_width.c, and the one in Python prints the same width."""
         (call,), (program,) = blocks("README.md", "c"), blocks("README.md", "python")
-        written = [line.strip() for line in read("examples/library/ten_lines.c").splitlines()]
+        written = [line.strip() for line in read("examples/library/line_width.c").splitlines()]
         lines = call.splitlines()[1:]
         at = written.index(lines[0])
         self.same("C", lines, written[at:at + len(lines)])
@@ -125,10 +125,10 @@ class Examples(LibraryCase):
         self.same("output", f"{len(widths)} lines, the widest is {widest + 1}: {widths[widest]}\n",
                   self.output(out, DEMO, TEXT))
 
-    def test_ten_lines_and_kerns_in_python(self):
+    def test_set_lines_and_kerns_in_python(self):
         ox = widths_of(b"office ox", "--size", str(12 * 65536))[0]
-        self.same("ten_lines.py", f"{ox / 65536:.2f} points, 8 items\nrefused: missing, byte 7 is 65\n",
-                  self.output(sys.executable, "examples/library/ten_lines.py"))
+        self.same("set_lines.py", f"{ox / 65536:.2f} points, 8 items\nrefused: missing, byte 7 is 65\n",
+                  self.output(sys.executable, "examples/library/set_lines.py"))
         self.same("kerns.py", kerns_table(), self.output(sys.executable, "examples/library/kerns.py", DEMO))
 
     def test_setter_in_rust(self):
@@ -162,7 +162,7 @@ class Page(LibraryCase):
         self.same(command, (0, wanted or "", ""), bash(command, self.room, env=self.env))
 
     def test_first_examples_are_the_files(self):
-        for language, name in (("c", "ten_lines.c"), ("python", "ten_lines.py")):
+        for language, name in (("c", "line_width.c"), ("python", "set_lines.py")):
             self.same(name, read("examples/library/" + name), blocks(PAGE, language)[0])
 
     def test_head_of_the_header(self):

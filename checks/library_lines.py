@@ -28,7 +28,7 @@ CASES = table("library_lines")
 CHUNK = 30  # jobs of one test
 MOST_FONTS = 300
 # Programs that call the library, their arguments, and the file that is their standard input.
-IN_C = (("examples/library/ten_lines.c", (), DEMO), ("examples/library/widths.c", (DEMO, "box"), DEMO),
+IN_C = (("examples/library/line_width.c", (), DEMO), ("examples/library/widths.c", (DEMO, "box"), DEMO),
         ("examples/library/paragraph.c", (DEMO, "160"), "examples/demo.txt"),
         ("examples/library/words.c", (DEMO,), "examples/demo.txt"),
         ("examples/library/stranger.c", (path_of("endless_3"),), "examples/demo.txt"),

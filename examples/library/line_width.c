@@ -1,6 +1,6 @@
 /* Prints the width of one line.
  *
- * usage: ten_lines < FONT */
+ * usage: line_width < FONT */
 #include <stdio.h>
 #include <tfmset.h>
 
