@@ -34,8 +34,8 @@
  * the child process after a fork of a process that has several threads.
  *
  * Time: the lig/kern program of a font, which makes ligatures and kerns, may never end. It is therefore run
- * for a limited number of steps. A step is one kern, one ligature operation, or one move to the next
- * character. struct tfmset_options has the limits. Choose small ones for fonts from untrusted sources.
+ * for a limited number of steps. A step is one kern, one ligature operation or, without either, one move to
+ * the next character or boundary. struct tfmset_options has limits. Choose small ones for fonts of strangers.
  *
  * Text: the bytes of a line are codes of the font, and byte 32 is a space. tfmset_encode turns a text in
  * UTF-8 into codes. tfmset_records also takes a text in UTF-8.
@@ -65,7 +65,7 @@ extern "C" {
 /* An array is too short. The last argument contains the lengths that are needed. */
 #define TFMSET_NO_ROOM 3u
 /* A number is out of its range, a text isn't a size, `encoding` is neither a name nor an encoding vector, or
- * the option `size` is neither 0 nor the size of the table. Nothing has changed. */
+ * the option `size` is neither 0 nor that of the font of the table. Nothing has changed. */
 #define TFMSET_OUT_OF_RANGE 4u
 /* tfmset_encode: the text isn't UTF-8. */
 #define TFMSET_NOT_UTF8 5u
@@ -139,8 +139,8 @@ struct tfmset_fault {
      *     11   the address of a character's instructions is beyond the last instruction; `place`: the code
      *     12   entry 0 of a table isn't zero; `named`: the table
      *     13   a table entry is too large; `place`: its index, from 0 (in table 9 from 1); `named`: the table
-     *     14   an instruction refers to something that doesn't exist; `place`: its address, from 0; `named`:
-     *          0 restart (an indirect start), 1 next, 2 ligature, 3 kern, 4 skip
+     *     14   an instruction refers to something that doesn't exist; `place`: its address, from 0; `named`,
+     *          what is wrong: 0 restart (an indirect start), 1 next character, 2 ligature, 3 kern, 4 skip
      * Counts: 0 lf, 1 lh, 2 bc, 3 ec, 4 nw, 5 nh, 6 nd, 7 ni, 8 nl, 9 nk, 10 ne, 11 np. Tables: 0 header,
      * 1 char_info, 2 width, 3 height, 4 depth, 5 italic, 6 lig_kern, 7 kern, 8 exten, 9 param. */
     size_t place;
@@ -361,7 +361,7 @@ struct tfmset_span {
  * their items. After TFMSET_NO_ROOM the contents of `lines` are unspecified. Spans differ from lines:
  *
  * - A span with a missing character is always refused. `place` is the offset of the character in the text or,
- *   if the hyphen is missing, the offset of the end of the span.
+ *   if the font lacks the hyphen's code, the offset of the end of the span.
  * - A span that ends after the end of the text is refused with TFMSET_OUTSIDE, even if there are other
  *   reasons, unless the call has taken `call_limit` steps.
  * - TFMSET_OUT_OF_RANGE is also returned if `policy` or `crlf` isn't 0, if `edges` or `hyphen` of a span is

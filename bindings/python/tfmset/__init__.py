@@ -116,8 +116,9 @@ class Item(ctypes.Structure):
 class EncodingError(ValueError):
     """Raised for an uncoded character (see `encode`), and for a lone surrogate.
 
-    `encoding` is the name of the encoding, or 'vector' for an encoding vector. `place` is the index in the
-    text of the character, and `character` is the character itself.
+    `encoding` is the name of the encoding, or 'vector' for an encoding vector. `place` is the index of the
+    character in the text (with `crlf=True`, a carriage return and its line feed count as one), and
+    `character` is the character itself.
 
     >>> encode("5 €", "t1")
     Traceback (most recent call last):
@@ -234,8 +235,8 @@ class FontRefused(ValueError):
     """Raised for a font that is refused. Has the first error of the font (docs/ERRORS.md in the sources).
 
     `number` is the number of the rule that the font breaks, from 1 to 14. `named` is the name of the count,
-    of the table or of the part of an instruction that is wrong, or an empty str. `str` returns the text that
-    the program prints. `place` is 0, except with these values of `number`:
+    of the table or of the part of an instruction that is wrong, or an empty str. `str(error)` is the text
+    that the program prints. `place` is 0, except with these values of `number`:
 
     - 1 and 8: the number of bytes that are needed
     - 10 and 11: a character code
@@ -282,7 +283,8 @@ class Metrics(NamedTuple):
 
     - tag 0: the character has no tag; `remainder` is 0
     - tag 1: the character has instructions in the lig/kern program, and `remainder` is the address of one. If
-      this is an indirect start (docs/LIGATURES.md in the sources), its program begins at another one.
+      that is an indirect start (docs/LIGATURES.md in the sources), the character's program begins at another
+      instruction.
     - tag 2: `remainder` is the code of the next larger character
     - tag 3: `remainder` is the number of its extensible recipe, and `recipe` has the pieces
 
@@ -428,8 +430,8 @@ class Line(NamedTuple):
     """A line that is set.
 
     `width` is its width in sp. `steps` is the number of steps that it took: kerns, ligature operations, and
-    moves from a character to the next. `packed` has the items as bytes, three 32-bit numbers for each:
-    `struct.iter_unpack("IIi", line.packed)` or `numpy.frombuffer(line.packed, "u4,u4,i4")` reads them.
+    other moves to the next character or boundary. `packed` has the items as bytes, three 32-bit numbers for
+    each: `struct.iter_unpack("IIi", line.packed)` or `numpy.frombuffer(line.packed, "u4,u4,i4")` reads them.
     """
 
     width: int
