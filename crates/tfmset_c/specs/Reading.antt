@@ -44,8 +44,8 @@ abbrev pub denial_number : Denial → ℕ
 denial_number Memory = 2
 denial_number (Refused _) = 1
 
--- the code that a call returns: 4 exactly if an argument is out of range, 1 only if the bytes of the font are
--- none, and 0, 2 and 3, the only others, only if they are one
+-- the code that a call returns: 4 exactly if an argument is out of range, 1 only if the bytes aren't a font, and
+-- 0, 2 and 3, the only others, only if they are one
 pub record IsAnswerFor (OutOfRange IsFont : Type 0) (answer : ℕ) : Type 0 where
   pub code : answer ≤ 4
   pub range : (answer ≡ 4) ↔ OutOfRange
