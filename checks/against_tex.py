@@ -90,11 +90,12 @@ def items_of_box(box):
     return scaled_points(re.match(r"\\hbox\(.*\)x(-?[\d.]+)$", box[0]).group(1)), items
 
 
-def box_of_box(box):
-    """The width, height and depth of a box, as TeX prints them, and the number of its spaces."""
+def box_of_box(box, skipped):
+    """The width, height and depth of a box, as TeX prints them, the number of its spaces, and that of the bytes that TeX
+    left out of it."""
     height, depth, width = re.match(r"\\hbox\((.*)\+(.*)\)x(.*)$", box[0]).groups()
     spaces = sum(line.startswith(".\\glue ") for line in box)
-    return f"box {width}pt {height}pt {depth}pt {spaces}"
+    return f"box {width}pt {height}pt {depth}pt {spaces} {skipped}"
 
 
 def items_of_record(record):
@@ -266,7 +267,8 @@ class Boxes(Case):
     def compare(self, name, content, seed, size, most, limit):
         """Compares all lines for a font, and returns the number of ligatures."""
         self.file("f.tfm", content)
-        lines = list(random_lines(Font(content), seed, most))
+        font = Font(content)
+        lines = list(random_lines(font, seed, most))
         records = self.records(size, lines, limit)
         boxed = self.records(size, lines, limit, "--record", "box", "--unit", "pt")
         kept = [row for row in zip(lines, records, boxed) if " refused steps " not in row[1]]
@@ -276,7 +278,8 @@ class Boxes(Case):
         self.same(f"{name}: boxes", len(kept), len(boxes))
         for (line, record, boxed), box in zip(kept, boxes):
             self.same(f"{name}: {line!r}", items_of_box(box), items_of_record(record))
-            self.same(f"{name}: the box of {line!r}", box_of_box(box), boxed.split(" ", 1)[1])
+            skipped = sum(code != 32 and code not in font.codes for code in line)
+            self.same(f"{name}: the box of {line!r}", box_of_box(box, skipped), boxed.split(" ", 1)[1])
         return sum(" (ligature " in line for box in boxes for line in box)
 
     @rows((f"fonts {first + 1} to {first + GROUP}", range(first, first + GROUP))

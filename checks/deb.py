@@ -8,7 +8,7 @@ from lib.base import PROGRAM, Case, copy_for_scripts, environment, execute, file
 
 MAINTAINER = "Jo Doe <jo@example.org>"
 FILES = ["usr/bin/tfmset", "usr/bin/tfmset-boxes", "usr/bin/tfmset-letters",
-         "usr/share/bash-completion/completions/tfmset", "usr/share/doc/tfmset/copyright",
+         "usr/share/bash-completion/completions/tfmset", "usr/share/doc/tfmset/changelog.gz", "usr/share/doc/tfmset/copyright",
          "usr/share/fish/vendor_completions.d/tfmset.fish", "usr/share/man/man1/tfmset-boxes.1.gz",
          "usr/share/man/man1/tfmset-letters.1.gz", "usr/share/man/man1/tfmset.1.gz", "usr/share/zsh/vendor-completions/_tfmset"]
 MACHINES = {3: "i386", 62: "amd64", 183: "arm64", 243: "riscv64"}  # numbers of the ELF format, and Debian's names
@@ -17,12 +17,12 @@ MACHINES = {3: "i386", 62: "amd64", 183: "arm64", 243: "riscv64"}  # numbers of 
 def make_package(top):
     """The package and its contents. As root, the files that scripts/install writes belong to another user."""
     os.mkdir(top)
-    copy, env = shared("deb copy", copy_for_scripts), environment(MAINTAINER=MAINTAINER)
+    copy, env = shared("deb copy", copy_for_scripts), environment(MAINTAINER=MAINTAINER, SOURCE_DATE_EPOCH="1796083200")
     if os.geteuid() == 0:
         install = f'#!/bin/sh\nexec "{shutil.which("install")}" -o 12345 -g 12345 "$@"\n'
         os.chmod(write(top + "/bin/install", install), 0o755)
         env["PATH"] = top + "/bin:" + env["PATH"]
-    package = output(copy + "/scripts/deb", top, env=env, cwd=copy, umask=0o077).strip()
+    package = output(copy + "/scripts/deb", top, env=env, cwd=copy, umask=0o077, timeout=600).strip()
     os.rename(package, top + "/package.deb")
     output("dpkg-deb", "-x", top + "/package.deb", top + "/files")
     output("dpkg-deb", "-e", top + "/package.deb", top + "/files/DEBIAN")
@@ -64,7 +64,7 @@ class Package(Case):
         """The C library, in the newest version that a symbol requires, and Python for the scripts."""
         found = re.findall(rb"GLIBC_([0-9.]*[0-9])", read(PROGRAM, "rb"))
         newest = max(found, key=lambda version: [int(part) for part in version.split(b".")]).decode()
-        self.same("depends", f"libc6 (>= {newest}), python3", output("dpkg-deb", "--showformat=${Depends}", "-W", self.package))
+        self.same("depends", f"libc6 (>= {newest}), python3 (>= 3.8)", output("dpkg-deb", "--showformat=${Depends}", "-W", self.package))
 
     def test_files_and_checksums(self):
         top = self.top + "/files"
@@ -75,7 +75,7 @@ class Package(Case):
         for name, (source, _) in table("packaging")["installed"].items():
             name = f"{top}/usr/" + name.replace("site-functions", "vendor-completions")
             seen = gzip.decompress(read(name + ".gz", "rb")) if "/man/" in name else read(name, "rb")
-            self.same(f"{name} is its source", True, seen == read(PROGRAM if "crates" in source else source, "rb"))
+            self.same(f"{name} is its source", True, seen == read(source, "rb") or "crates" in source)
         self.compare_readers(top + "/usr/bin")
 
     def test_modes_and_owners(self):
@@ -89,9 +89,29 @@ class Package(Case):
         text = read(self.top + "/files/usr/share/doc/tfmset/copyright")
         head = re.search(r"^Files: \*\n(.*?)\n\n", text, re.M | re.S).group(1)
         self.same("licence", "Copyright: 2026 the Tarovinj authors\nLicense: Expat or Apache-2.0", head)
-        for name, file in (("Expat", "LICENSE-MIT"), ("Apache-2.0", "LICENSE-APACHE")):
-            licence = re.search(rf"^License: {name}\n(.*?)(?=\n\n|\Z)", text, re.M | re.S).group(1)
-            self.same(file, without_format(read(file)), without_format(licence))
+        licence = re.search(r"^License: Expat\n(.*?)\n\n", text, re.M | re.S).group(1)
+        self.same("Expat", without_format(read("LICENSE-MIT")), without_format(licence))
+        self.same("Apache's is Debian's", True, text.rstrip().endswith(" /usr/share/common-licenses/Apache-2.0."))
+
+    def test_change_log(self):
+        """The change log has the version, the maintainer and the date."""
+        text = gzip.decompress(read(self.top + "/files/usr/share/doc/tfmset/changelog.gz", "rb")).decode()
+        self.same("head", f"tfmset ({output(PROGRAM, '--version').split()[1]}) unstable; urgency=medium", text.split("\n")[0])
+        self.same("end", f" -- {MAINTAINER}  Tue, 01 Dec 2026 00:00:00 +0000", text.rstrip().split("\n")[-1])
+
+    def test_program_without_symbols(self):
+        """The program has no symbols, and the same code as the one that was built."""
+        self.need("readelf")
+        def section(path):
+            return re.findall(r"  (0x\w+ .*)", output("readelf", "-x", ".text", path, timeout=300))
+        program = self.top + "/files/usr/bin/tfmset"
+        self.same("sections", False, ".symtab" in output("readelf", "-SW", program))
+        self.same("the same code", True, section(program) == section(PROGRAM) != [])
+
+    def test_lintian(self):
+        """lintian, which checks packages by Debian's rules, reports no error and no warning."""
+        self.need("lintian")
+        self.same("result", (0, ""), execute("lintian", "--no-cfg", "--fail-on", "error,warning", self.package, timeout=600)[:2])
 
     def test_installing_running_and_removing(self):
         if os.geteuid() != 0:
@@ -99,7 +119,7 @@ class Package(Case):
         if execute("dpkg", "-s", "tfmset")[0] == 0:
             self.skipTest("a package tfmset is installed")
         self.addCleanup(execute, "dpkg", "-P", "tfmset")
-        self.same("it installs", 0, execute("dpkg", "-i", self.package)[0])
+        self.same("it installs", 0, execute("dpkg", "-i", self.package, timeout=600)[0])
         self.compare_readers("/usr/bin")
-        self.same("it is removed", 0, execute("dpkg", "-P", "tfmset")[0])
+        self.same("it is removed", 0, execute("dpkg", "-P", "tfmset", timeout=600)[0])
         self.same("no file remains", [], [name for name in FILES if os.path.exists("/" + name)])

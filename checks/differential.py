@@ -7,6 +7,7 @@ and `--seed SEED` repeats a round that failed. A failure becomes a case of check
 import itertools
 import os
 import random
+import re
 import time
 
 from lib import slow
@@ -48,6 +49,9 @@ class Round:
 
     def compare(self, wanted, *words, given=b"", in_order=True):
         status, out, err = execute(PROGRAM, *words, given=given, cwd=self.test.room)
+        if words[0] == "stream":
+            # Random bytes may be UTF-8 or end with a carriage return: program_cases tests what is said of them.
+            err = "".join(line for line in err.splitlines(True) if not re.match(r"tfmset: .*: line \d+ ", line))
         if not in_order:
             # The lines of several sources may be interleaved.
             head, lines = (1, out.splitlines(True)) if out.startswith("records 2") else (0, out.splitlines(True))
@@ -67,8 +71,9 @@ class Round:
         wrong = {name: slow.font_error(font) for name, font in zip("ABC", self.fonts)}
         lines = ["not read" if name == "no" else f"refused: {wrong[name]}" if wrong[name] else "accepted" for name in names]
         status = 4 if "no" in names else int(any(wrong[name] for name in names))
+        cause = "tfmset: no: No such file or directory (os error 2)\n"
         self.compare((status, "".join(f"{name}: {line}\n" for name, line in zip(names, lines)),
-                      "tfmset: some font was not read\n" if status == 4 else ""), "check", *names)
+                      cause * names.count("no") + "tfmset: some font was not read\n" if status == 4 else ""), "check", *names)
 
     def options(self):
         """Random options of `set`, `each` and `stream`: the arguments, the size, the policy and the record format."""

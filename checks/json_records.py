@@ -255,28 +255,54 @@ class Lines(Case):
             self.same(line, False, valid(json.loads(line)))
 
 
+def name_text(value):
+    """The name of a font as text prints it."""
+    name = value["font"].encode() if "font" in value else bytes.fromhex(value["font_hex"])
+    return "".join(chr(byte) if 32 <= byte < 127 and byte != 92 else f"\\x{byte:02x}" for byte in name)
+
+
 def finding_text(value):
     """The line of text for an object of `check`."""
     if "fonts" in value:
         return "{fonts} fonts: {accepted} accepted, {refused} refused, {unread} not read".format(**value)
     words = f": {value['error']} {value['words']}" if "error" in value else ""
-    return f"{value['font']}: {value['finding']}{words}"
+    return f"{name_text(value)}: {value['finding']}{words}"
+
+
+def is_utf8(name):
+    """Whether bytes are UTF-8."""
+    try:
+        return name.decode() is not None
+    except UnicodeDecodeError:
+        return False
+
+
+def in_json(value):
+    """An object as a line of JSON, in which control characters are escaped by their numbers."""
+    short = {"b": 8, "t": 9, "n": 10, "f": 12, "r": 13}
+    return re.sub(r'\\([\\"bfnrt]|u[0-9a-f]{4})', lambda found: f"\\u{short[found[1]]:04x}" if found[1] in short else found[0],
+                  json.dumps(value, ensure_ascii=False, separators=(",", ":")))
 
 
 class Findings(Case):
     """JSON of `check` next to its text"""
 
     def test(self):
-        """Names with each byte, and fonts that are cut: each line of JSON is that of text, and conforms to the schema."""
-        names = [b"x%cy" % byte for byte in range(1, 256)] + [b"cut%d" % length for length in range(0, 60, 5)]
+        """Names with each byte and with characters of each length, and fonts that are cut: each line of JSON is that of
+        text, and conforms to the schema. A name that is UTF-8 is a plain string."""
+        characters = "\x80éÿĀ߿ࠀ中\uFFFF\U00010000😀\U0010FFFF"
+        names = [*(b"x%cy" % byte for byte in range(1, 256)), *(f"x{one}".encode() for one in characters), b"\xc3", b"\xe4\xb8",
+                 b"\xed\xa0\x80", b"\xc0\xaf", b"\xf4\x90\x80\x80", *(b"cut%d" % length for length in range(0, 60, 5))]
         for name in names[-12:]:
             self.file(name.decode(), sample("plain")[:int(name[3:])])
         self.file("font", sample("plain"))
         text, seen = (execute(PROGRAM, "check", "--files-from", "-", "--null", "--summary", "--format", form, "font",
-                              given=b"\0".join(names), cwd=self.room)[1].splitlines() for form in ("text", "json"))
+                              given=b"\0".join(names), cwd=self.room)[1].split("\n")[:-1] for form in ("text", "json"))
         values = [json.loads(line) for line in seen]
         self.same("lines", text, [finding_text(value) for value in values])
-        self.same("again", seen, [json.dumps(value, separators=(",", ":")) for value in values])
+        self.same("again", seen, [in_json(value) for value in values])
+        self.same("names", [name.decode() if is_utf8(name) else name.hex() for name in names],
+                  [value["font" if is_utf8(name) else "font_hex"] for name, value in zip(names, values[1:])])
         self.none([value for value in values if not is_valid(value, FINDINGS)], len(values), len(names) + 2)
 
     def test_each_bound_of_the_schema(self):

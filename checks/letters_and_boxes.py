@@ -11,7 +11,7 @@ import sys
 
 from lib.base import DEMO, PROGRAM, Case, bash, environment, execute, output, read, rows, table
 from lib.docs import commands
-from lib.tfm import sample
+from lib.tfm import make, sample
 
 CASES = table("letters_and_boxes")
 FORMATS = "12", "json"
@@ -81,7 +81,7 @@ class Programs(Readers):
         given = self.records(version)
         self.file("records", given)
         for names, text in ([], given), (["records"], ""), (["-"], given):
-            self.same("letters", (1, CASES["readable"], ""), self.call("letters", *names, given=text))
+            self.same("letters", (1, CASES["readable"], ""), self.call("letters", "--encoding=ot1", *names, given=text))
             status, out, err = self.call("boxes", DEMO, *names, given=text)
             self.same("boxes", (1, CASES["labels"], ""), (status, re.findall("<text[^>]*>([^<]*)<", out), err))
 
@@ -99,6 +99,46 @@ class Programs(Readers):
         bash(recipe, self.room, env=environment(tmp=tmp))
         self.same("the picture is the recipe's", True, read(f"{tmp}/boxes.svg") == read("examples/boxes.svg"))
         self.assertIn("](examples/boxes.svg)", read("README.md"))
+
+    def test_letters_need_an_encoding(self):
+        """Without --encoding, no code has a letter in either program. --no-amounts leaves out the amounts of kerns."""
+        given = "1:1 set 900983 c14=550502 k-16384 c120=347340 k19660\n"
+        self.same("letters", "1:1 13.75 [14]{-0.25}[120]{0.30}\n", self.answer("letters", given=given))
+        self.same("labels", ["14", "120"], [text for _, _, text in self.drawing("--no-amounts", DEMO, given=given)[2]])
+
+    def drawing(self, *arguments, given):
+        """The width of a picture; the left and top end, width and height of each rectangle before the key; the middle, the
+        baseline and the text of each label."""
+        out = self.answer("boxes", *arguments, given=given)
+        number = r"(-?[\d.]+)"
+        boxes = re.findall(rf'<rect x="{number}" y="{number}" width="{number}" height="{number}" fill="#', out.split("<path")[0])
+        labels = re.findall(rf'<text x="{number}" y="{number}" text-anchor="middle"(?: fill="[^"]*")?>([^<]*)<', out)
+        return (int(re.search(r'<svg [^>]*? width="(\d+)"', out)[1]), [tuple(map(float, box)) for box in boxes],
+                [(float(middle), float(base), text) for middle, base, text in labels])
+
+    def test_flat_characters(self):
+        """In a font whose characters reach below the baseline only, the bars of a space and of a skipped byte reach from the
+        baseline to the top of the row, which is below its name."""
+        font = self.file("flat.tfm", make([(1, 1, 0, 0)], (0, 1 << 20), depths=(0, 3 << 20)))
+        _, boxes, _ = self.drawing(font, given="1:1 set 655360 c97=655360 s0 m65\n")
+        self.same("boxes", [(12, 38, 160, 480), (172, 33, 0, 5), (171, 28, 2, 10)], boxes)
+
+    def test_labels_beside_each_other(self):
+        """Labels that have no room beside each other are in several lines, and the next row is below them."""
+        kerned = " ".join(f"k{-1000 - step}" for step in range(5))
+        _, _, labels = self.drawing(DEMO, given=f"1:1 set 334233 c111=334233 {kerned}\n1:2 set 334233 c111=334233\n")
+        for at, (middle, base, text) in enumerate(labels):
+            self.same(f"labels over {text!r}", [], [other for other in labels[:at] if other[1] == base and
+                                                    abs(other[0] - middle) < 3 * (len(text) + len(other[2]))])
+        self.same("lines of labels in the first row", 5, len({base for _, base, _ in labels[:-1]}))
+        self.same("the next row is below", True, labels[-1][1] > max(base for _, base, _ in labels[:-1]) + 40)
+
+    def test_scale(self):
+        """The option --scale is the number of pixels of a point; a line may then be wider than 760 pixels."""
+        given = "1:1 set 900983 c14=550502 k-16384 c120=347340 k19660\n"
+        for scale, width in ((2, 784), (100, 24 + round(900983 / 655.36))):
+            seen, boxes, _ = self.drawing("--scale", str(scale), DEMO, given=given)
+            self.same(f"widths at {scale}", (width, round(550502 / 65536 * scale, 2)), (seen, boxes[0][2]))
 
     @rows((" ".join(row["arguments"]), row) for row in CASES["pictures"])
     def test_picture(self, row):

@@ -1,4 +1,4 @@
-"""The examples of the library in C, C++, Python and Rust, the page docs/LIBRARY.md, and the calls of README.md.
+"""The examples of the library in C, C++, Python and Rust, and the page docs/LIBRARY.md.
 
 The expected output of each example is computed from the records and listings of the program. The commands of
 the page are run, its functions in C, also with sanitizers, and its sessions in Python. Its first examples have
@@ -54,17 +54,6 @@ class Examples(LibraryCase):
         width = widths_of(b"office ox")[0] / 65536
         self.same("output", f"{width:.2f} points\n", self.output(out, given=DEMO))
 
-    def test_calls_of_the_readme(self):
-        """The call in C is that of line_width.c, and the one in Python prints the same width."""
-        (call,), (program,) = blocks("README.md", "c"), blocks("README.md", "python")
-        written = [line.strip() for line in read("examples/library/line_width.c").splitlines()]
-        lines = call.splitlines()[1:]
-        at = written.index(lines[0])
-        self.same("C", lines, written[at:at + len(lines)])
-        (printed,) = re.findall(r"prints `([^`]*)`:\n\n```python\n", read("README.md"))
-        self.same("Python", printed + "\n", self.output(sys.executable, self.file("width.py", program)))
-        self.same("width", f"{widths_of(b'office ox')[0] / 65536:.2f} points", printed)
-
     def test_paragraph_in_c(self):
         """The text is broken where the next word doesn't fit, and each line has its width."""
         out = self.built("examples/library/paragraph.c", "cc", "-std=c99")
@@ -97,8 +86,37 @@ class Examples(LibraryCase):
         widths = widths_of("the office\nstaff o-\nffered fifty\nwaffles".encode())
         self.same("widths", [f"{width / 65536:.2f}" for width in widths], [line[1] for line in lines])
         for bad in ("5 €".encode(), b"\xff"):
-            self.same("refused", (1, "", "the text can't be encoded\n"),
+            self.same("refused", (1, "", "paragraph: the text can't be encoded\n"),
                       execute(out, DEMO, "50", "ot1", given=bad, env=self.env))
+
+    def test_no_break_spaces_in_a_paragraph_in_c(self):
+        """With an encoding, a no-break space is as wide as a space, and no line ends there."""
+        out = self.built("examples/library/paragraph.c", "cc", "-std=c99")
+        given = self.file("text", "the of\u00a0fice\u00a0staff o\\-ff\u00a0\u00a0the \u00a0reef\u00a0".encode())
+        lines = [line.rsplit("  ", 1) for line in self.output(out, DEMO, "65", "ot1", given=given).splitlines()]
+        self.same("texts", ["the", "of\u00a0fice\u00a0staff o-", "ff\u00a0the\u00a0reef"], [line[0] for line in lines])
+        widths = widths_of("".join(text + "\n" for text, _ in lines).encode(), "--encoding", "ot1")
+        self.same("widths", [f"{width / 65536:.2f}" for width in widths], [line[1] for line in lines])
+
+    def test_marks_that_fill_a_paragraph_in_c(self):
+        """With more marks than there is room for, the program says so, and writes nothing beyond its arrays."""
+        sanitizer = sanitizers("address,undefined") or self.lack("-fsanitize=address")
+        out = self.built("examples/library/paragraph.c", "cc", "-std=c99", "-g", *sanitizer)
+        full, word = "the text has too many words and marks \\-", "a word has more than 64 marks \\-"
+        for text, message in ((("a" + "\\-" * 64 + " ") * 1017, full), ("a" + "\\-" * 65, word)):
+            self.same(message, (1, "", f"paragraph: {message}\n"),
+                      execute(out, DEMO, "160", given=text.encode(), env=self.env))
+        most = ("a" + "\\-" * 64 + " ") * 1016 + "a " * 8
+        self.same("all spans", (0, 1024), (lambda seen: (seen[0], seen[1].count("a")))(
+            execute(out, DEMO, "160", given=most.encode(), env=self.env)))
+
+    @rows((name, name, *words) for name, *words in (("paragraph", "100"), ("words",)))
+    def test_fonts_that_fail_in_c(self, name, *words):
+        """A missing font, a broken one and missing arguments are reported."""
+        out = self.built(f"examples/library/{name}.c", "cc", "-std=c99")
+        for font, message in (([], "usage: "), (["none"], "the font can't be opened"), (["README.md"], "the font is refused")):
+            status, said, err = execute(out, *font, *(font and words), cwd=ROOT, env=self.env)
+            self.same(message, (1, "", True), (status, said, err.startswith(f"{name}: {message}")))
 
     def test_font_of_a_stranger_in_c(self):
         """A broken font is refused with its error, and an endless program takes no more than both limits."""
@@ -116,6 +134,9 @@ class Examples(LibraryCase):
         lines = [line.split() for line in self.output(out, DEMO, given=TEXT).splitlines()]
         widths = [f"{width / 65536:.2f}" for width in widths_of("\n".join(words).encode())]
         self.same("words", [*zip(widths, words)], [(line[0], "".join(line[1:])) for line in lines])
+        given = self.file("text", "x" * 1024 + " " + "x" * 1025)
+        lines = [line.split(maxsplit=1)[1] for line in self.output(out, DEMO, given=given).splitlines()]
+        self.same("long words", [" ".join("x" * 1024), "more than 1024 items"], lines)
 
     def test_threads_in_cpp(self):
         self.need("c++")

@@ -3,7 +3,7 @@
 scripts/commands.toml has to agree with the help of the program and of each subcommand, and with the error
 messages of the parser; the files that scripts/command_pages writes have to be up to date. The examples of the man
 pages are run. scripts/install is run in a copy, in which a short script replaces ./tfmset, so that nothing is built.
-./tfmset is run in a repository of four crates, with a short script in place of rt.
+./tfmset is run in a repository of five crates, with short scripts in place of rt and of the toolchain's commands.
 """
 import functools
 import os
@@ -16,6 +16,7 @@ import signal
 import subprocess
 import sys
 import time
+import types
 
 from lib.base import (DEMO, EXAMPLES, PROGRAM, ROOT, Case, bash, copy_for_scripts, environment, execute, files, output, read,
                       rows, script, table)
@@ -239,6 +240,19 @@ class Install(Case):
         self.same("the program", (0, wanted, ""), seen)
         self.compare_readers(top + "/bin")
 
+    def test_uninstalls(self):
+        """The installed files are removed, without a build, and no others; removing them again does nothing."""
+        prefix, installed = self.room + "/top", sorted(CASES["installed"])
+        self.install(prefix)
+        self.file("top/bin/other", "")
+        removed = [f"removed {prefix}/{name}\n" for name in installed]
+        os.remove(self.room + "/a copy/tfmset")
+        call = self.room + "/a copy/scripts/install", "--uninstall", prefix
+        status, out, err = execute(*call)
+        self.same("result", (0, removed, ""), (status, sorted(out.splitlines(keepends=True)), err))
+        self.same("files", ["bin/other"], files(prefix))
+        self.same("again", (0, "", ""), execute(*call))
+
     def test_a_file_in_the_way(self):
         """If a directory can't be made, the exit status is 1, and only the files that were installed are named."""
         self.file("top/share", "")
@@ -286,7 +300,7 @@ chmod +x "$6"
         self.room = self.room + "/with a space"
         os.mkdir(self.room)
         os.mkdir(self.room + "/scripts")
-        for name in ("tfmset", "HANDLES", "scripts/prove", "scripts/seconds.txt"):
+        for name in ("tfmset", "HANDLES", "scripts/prove", "scripts/seconds.txt", "scripts/try"):
             shutil.copy(f"{ROOT}/{name}", f"{self.room}/{name}")
         self.file("crates.txt", self.crates)
         for name, script in (("rt", self.rt), ("kit/bin/rattle", self.rattle), ("kit/bin/rattle-link", self.linker)):
@@ -296,11 +310,11 @@ chmod +x "$6"
         for name in ("specs", "proofs"):
             self.file(f"crates/base/{name}/Lib.antt", "")
 
-    def call(self, wanted, builds, path=None):
+    def call(self, wanted, builds, path=None, words=("a b", "c")):
         """Compares the exit status and the output of ./tfmset, and whether rt was called. Returns standard error."""
         self.file("calls", "")
         env = environment(PATH=path or self.room + "/bin:" + os.environ["PATH"])
-        status, out, err = execute(self.room + "/tfmset", "a b", "c", given=b"given", cwd="/", env=env)
+        status, out, err = execute(self.room + "/tfmset", *words, given=b"given", cwd="/", env=env)
         self.same("result, and calls of rt", (*wanted, builds), (status, out, read(self.room + "/calls") != ""))
         return err
 
@@ -319,6 +333,29 @@ chmod +x "$6"
         self.file("edit", "")
         self.call((3, "given 2 a b c\n"), True)
         self.call((3, "given 2 a b c\n"), True)
+
+    def test_a_change_of_another_crate(self):
+        """After a change of a crate that the program doesn't need, nothing is built, and only one call looks for rt."""
+        self.call((3, "given 2 a b c\n"), True)
+        self.file("crates/other/src/main.rt", "fn")
+        self.call((3, "given 2 a b c\n"), False)
+        self.call((3, "given 2 a b c\n"), False, self.tools())
+
+    def test_try_with_a_fresh_program(self):
+        """--try runs a program that is newer than its sources, and tries none that is older."""
+        self.call((3, "given 2 a b c\n"), True)
+        tried = "--try", "a b", "c"
+        self.assertIn("proved program", self.call((3, "given 2 a b c\n"), False, self.tools(), tried))
+        self.file("crates/base/src/main.rt", "fn")
+        self.assertIn("--try needs rt", self.call((127, ""), False, self.tools(), tried))
+
+    def test_links(self):
+        """./tfmset finds its repository through symbolic links, and from its own directory."""
+        self.call((3, "given 2 a b c\n"), True)
+        os.symlink(self.room + "/tfmset", self.room + "/link")
+        os.symlink("../link", self.room + "/bin/second")
+        for directory, name in ((self.room, "./tfmset"), (self.room, "./link"), ("/", self.room + "/bin/second")):
+            self.same(name, (3, " 1 a\n"), execute(name, "a", cwd=directory)[:2])
 
     def start(self):
         """Starts ./tfmset, and waits until it builds, or waits for another call that does."""
@@ -371,17 +408,63 @@ chmod +x "$6"
         self.file("fail", "")
         self.assertIn("\n29\n30\nno proof of ", self.call((70, ""), True))
 
-    def test_without_rt(self):
+    def tools(self):
+        """A directory with all tools that ./tfmset needs, except rt."""
         tools = self.other_room()
-        for name in "bash sh dirname readlink find cat env rm mkdir sleep touch chmod flock".split():
+        for name in "sh dirname readlink find cat env rm mkdir sleep touch chmod flock".split():
             os.symlink(shutil.which(name), f"{tools}/{name}")
         os.symlink(sys.executable, tools + "/python3")
-        self.assertIn("needs rt", self.call((127, ""), False, tools))
+        return tools
+
+    def test_without_rt(self):
+        self.assertIn("needs rt", self.call((127, ""), False, self.tools()))
+
+    def test_processes(self):
+        """Crates that are proved at a time share the processors, all but the first have one; one that is alone has all."""
+        prove = script("scripts/prove")
+        prove.Proof = lambda name, command, jobs, nice: types.SimpleNamespace(name=name, jobs=jobs)
+        prove.command = lambda *_: []
+        build = prove.Build.__new__(prove.Build)
+        build.crates, build.kit = prove.Crates("tfmset"), ""
+        crates = list(build.crates.below)
+        for processors, gigabytes, left, running, wanted in (
+                (4, 20, crates, [], [2, 1, 1]), (4, 12, crates, [], [3, 1]), (2, 20, crates, [], [1, 1]),
+                (1, 20, crates, [], [1]), (4, 5, crates, [], [4]), (4, 20, ["tfmset"], [], [4]),
+                (4, 20, crates, [4], [4, 1, 1])):
+            prove.PROCESSORS, prove.read = processors, lambda _, free=gigabytes: f"MemAvailable: {free << 20} kB\n"
+            build.left, build.running = left, [types.SimpleNamespace(name=crates[0], jobs=jobs) for jobs in running]
+            build.start_more()
+            self.same(f"processes with {processors} processors, {gigabytes} GB, {len(left)} crates and {running} before",
+                      wanted, [proof.jobs for proof in build.running])
+
+    def test_seconds(self):
+        """scripts/seconds.txt has each crate of the program and of the library, and is what scripts/prove writes."""
+        prove = script("scripts/prove")
+        names = {name for top in prove.TOPS for name in prove.Crates(top).below}
+        self.same("crates", sorted(names), sorted(re.findall(r"(?m)^(\w+) \d+$", read("scripts/seconds.txt"))))
+        self.file("crates.txt", read("crates.txt"))
+        for log in ("tfmset/out/seconds.txt", "tfmset_c/out/seconds.txt"):
+            self.file("crates/" + log, "run_plan 10 1 9\ntfm_words 100 3 40\n")
+        self.same("result", (0, "", ""), execute(self.room + "/scripts/prove", "--seconds"))
+        wanted = re.sub(r"(?m)^(run_plan|tfm_words) .*", lambda it: it[1] + (" 10" if it[1] == "run_plan" else " 80"),
+                        read("scripts/seconds.txt"))
+        self.same("file", wanted, read(self.room + "/scripts/seconds.txt"))
+
+
+class Try(Case):
+    """./tfmset --try"""
 
     def test_try(self):
-        """--try runs the program unproved: it gets copies of the files, and standard input, and ends with the program's status."""
+        """The program is run unproved: it gets copies of the files, and standard input, and its status is the exit status."""
         self.need("rt")
-        wanted = execute(PROGRAM, "stream", DEMO, given=b"office AV\nox\n")
-        status, out, err = execute(ROOT + "/tfmset", "--try", "stream", DEMO, given=b"office AV\nox\n", timeout=900)
-        self.same("result", wanted[:2], (status, out))
+        for name in ("tfmset", "crates.txt", "scripts/prove", "scripts/seconds.txt", "scripts/try"):
+            self.file(name, read(name))
+            shutil.copymode(f"{ROOT}/{name}", f"{self.room}/{name}")
+        shutil.copytree(ROOT + "/crates", self.room + "/crates", ignore=shutil.ignore_patterns("out", "must-fail"))
+        given = {"given": b"office AV\nox\n", "cwd": self.room}
+        self.file("a font.tfm", read(DEMO, "rb"))
+        wanted = execute(PROGRAM, "stream", "--size=12pt", DEMO, **given)
+        status, out, err = execute("./tfmset", "--try", "stream", "--size=12pt", "a font.tfm", **given, timeout=900)
+        self.same("result", (*wanted[:2], True), (status, out, wanted[1].count("\n") == 3))
+        self.same("messages", 1, len(err.splitlines()))
         self.assertIn("nothing is proved", err)

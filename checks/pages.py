@@ -7,8 +7,11 @@ them into "$tmp". A ```c or ```python block is saved under the name in the comme
 blocks after it can use it. PREFIX is set.
 A command whose tool is missing is skipped.
 
-All of this is done in the locale C.UTF-8, and for docs/RECIPES.md in de_DE.UTF-8, too, in which numbers have a comma. If
-that isn't installed, it is compiled into a temporary directory, which LOCPATH names.
+Of README.md and docs/TUTORIAL.md, every block is run: a command without an output below it has to be one that prepares
+something, and each program in C or Python has to be used by a later command.
+
+All of this is done in the locale C.UTF-8, and for README.md, docs/TUTORIAL.md and docs/RECIPES.md in de_DE.UTF-8, too, in
+which numbers have a comma. If that isn't installed, it is compiled into a temporary directory, which LOCPATH names.
 """
 import os
 import re
@@ -17,12 +20,13 @@ import unittest
 
 from lib.base import EXAMPLES, PROGRAM, ROOT, Case, bash, execute, files, has, output, read, rows, shared, table, write
 from lib.clib import LibraryCase
-from lib.docs import blocks, commands, font_errors, record_of, text_of, worked_examples
+from lib.docs import commands, font_errors, record_of, text_of, worked_examples
 from lib.tfm import path_of, sample, samples
 
 WEIGHT = 7
 RULES = table("pages")
 NEEDS = RULES["needs"]
+COMPLETE = RULES["complete"]
 RUN = RULES["pages"] + [page for page in RULES["perhaps"] if list(commands(read(page)))]
 LIBRARY = "library for C"
 SAMPLES = "crates/test_support/src/fonts"
@@ -39,6 +43,21 @@ def parts(text):
             yield from (("command", *command) for command in commands(cut))
 
 
+def unrun(text):
+    """The blocks of a page that no test runs, or whose output isn't compared."""
+    found, later = [], ""
+    for kind, first, second in reversed([*parts(text)]):
+        if kind == "command":
+            later += first
+            if second is None and not re.match(f"{RULES['not_run']}|{RULES['silent']}", first):
+                found.append(first.strip())
+        elif first is None:
+            found.append("a program without a name")
+        elif not re.search(rf"(?<![\w/]){re.escape(first)}(?!\w)", later):
+            found.append(f"{first} isn't used")
+    return found[::-1]
+
+
 class Commands(LibraryCase):
     """The commands of the pages"""
 
@@ -50,13 +69,14 @@ class Commands(LibraryCase):
             self.lacks, self.prefix = {LIBRARY}, ""
 
     @rows((f"{page} in {name}", page, name) for page, name in (
-        *((page, "C.UTF-8") for page in RUN), ("docs/RECIPES.md", "de_DE.UTF-8")))
+        *((page, "C.UTF-8") for page in RUN), *((page, "de_DE.UTF-8") for page in (*COMPLETE, "docs/RECIPES.md"))))
     def test(self, page, name):
         self.link_repository()
         in_locale = self.locale(name)
         count, missing, sources = 0, set(), {}
         tmp = self.other_room()
-        env = {**os.environ, **in_locale, "tmp": tmp, "TMPDIR": tmp, "PREFIX": self.prefix}
+        env = {**getattr(self, "env", os.environ), **in_locale, "tmp": tmp, "TMPDIR": tmp, "PREFIX": self.prefix,
+               "PATH": f"{self.room}:{os.environ['PATH']}"}
         self.before = self.files()
         for kind, first, second in parts(read(page)):
             if kind == "source":
@@ -110,6 +130,19 @@ class Commands(LibraryCase):
             self.before |= left
 
 
+class Blocks(Case):
+    """The blocks of the pages of which all are run"""
+
+    def test_every_block_is_run(self):
+        for page in COMPLETE:
+            self.same(page, [], unrun(read(page)))
+
+    def test_blocks_that_are_not_run_are_found(self):
+        text = ("```sh\ntmp=a\n```\n\n```sh\nls\n```\n\nb\n\n```sh\nls c\n```\n\n```text\nc\n```\n\n"
+                "```python\n# d.py\n```\n\n```c\nint e;\n```\n\n```sh\npython3 dd.py\n```\n\n```text\n```\n")
+        self.same("found", ["ls", "d.py isn't used", "a program without a name"], unrun(text))
+
+
 class Tables(Case):
     """The tables of the pages"""
 
@@ -128,12 +161,6 @@ class Tables(Case):
             self.same(message, (3, "", f"tfmset: font refused: {message}\n"),
                       execute(PROGRAM, "list", "-", given=data))
         self.none([], len(found), 18)
-
-    def test_record_of_the_readme(self):
-        """The first command of README prints the record and the end line that the page explains."""
-        self.link_repository()
-        command, explained = next(commands(read("README.md")))[0], blocks("README.md", "text")[0].splitlines()
-        self.same("output", explained[:1] + explained[-1:], bash(command, self.room)[1].splitlines())
 
     def test_sizes(self):
         lines = re.findall(r"^\|((?: [\d.]+ \|)+)$", read("docs/RECIPES.md"), re.M)

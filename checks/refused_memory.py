@@ -10,7 +10,7 @@ and writes that transfer only a few bytes, or are interrupted, change nothing.
 
 Openings, writes, and allocations that the C library makes for a new thread fail one at a time, and writes to a
 closed pipe from one on. On a full device the exit status stays 5 if an allocation fails. A batch whose last source
-never ends has to end, too.
+never ends has to end, too, and so has one whose sources are silent, if a thread can't be started.
 """
 import errno
 import itertools
@@ -28,6 +28,8 @@ ENOUGH = 12  # executions that nothing affects, after which no more are made
 MOST = 2000  # requests; no command makes so many
 CASES = table("refused_memory")
 MESSAGES = CASES["messages"]
+REPORTING = ("stream", "pairs", "check")
+CAUSE = re.compile(r"tfmset: .*: .* \(os error \d+\)\n")
 
 
 class Wrong(Exception):
@@ -113,9 +115,21 @@ def ends_of(command, got, allowed):
     return len(whys) == len(found), whys, abandoned
 
 
+def parts_of(command, err):
+    """The causes of errors on standard error, which these commands print without --verbose, and the other lines."""
+    lines = err.splitlines(True)
+    causes = [line for line in lines if command.kind in REPORTING and CAUSE.fullmatch(line)]
+    return causes, "".join(line for line in lines if line not in causes)
+
+
 def judge(command, got, what, on, error):
     """Raises Wrong if an execution in which something failed doesn't end as it has to."""
-    want, plain, is_right = command.want, got[:3], False
+    causes, message = parts_of(command, got.err)
+    if what in ("read", "open", "write") and got.status in (4, 5) and command.kind in REPORTING and not any(
+            os.strerror(error) in cause for cause in causes):
+        raise Wrong(f"no cause on standard error: {got.err!r}")
+    got, want = got._replace(err=message), command.want._replace(err=parts_of(command, command.want.err)[1])
+    plain, is_right = got[:3], False
     same = plain == want[:3]
     batch = command.kind in ("set", "each", "stream") and want.out != ""
     if not isinstance(got.status, int) or got.status < 0:
@@ -316,7 +330,7 @@ class Failures(Case):
                 got = run(command, "memory", number, out=full)
             untouched += not got.told
             allowed = [MESSAGES[name] for name in ("output", "memory", "thread")[:3 if got.told else 1]]
-            self.same(f"number {number}", (5, True), (got.status, got.err in allowed))
+            self.same(f"number {number}", (5, True), (got.status, parts_of(command, got.err)[1] in allowed))
 
 
     @rows((f"{words.split()[0]}, {what}", words, what, numbers)
@@ -337,6 +351,20 @@ class Failures(Case):
             got = run(command, what, number, what == "memory", errno.EAGAIN)
             told = got.err in (MESSAGES["thread"], MESSAGES["memory"])
             self.assertEqual((5, True), (got.status, told), number)
+
+    # Mutant of `feed` in set_run: the thread of a source doesn't wait for the start of the batch.
+    @rows((kind, kind) for kind in ("set", "each", "stream"))
+    def test_silent(self, kind):
+        """All sources are a pipe without data, and the thread of a source, or the first of a worker, can't be started."""
+        silent, count = os.path.join(self.room, "silent"), 8
+        os.mkfifo(silent)
+        self.addCleanup(os.close, os.open(silent, os.O_RDWR))
+        words = [f"font.tfm 100 {silent}"] * count if kind == "each" else ["font.tfm", *[silent] * count]
+        command = Command(" ".join([kind, *words]), 0, "c")
+        command.seconds = 20
+        for number in range(1, count + 2):
+            got = run(command, "thread", number, False, errno.EAGAIN)
+            self.assertEqual((5, "", MESSAGES["thread"]), got[:3], number)
 
 
 class Judgement(Case):
@@ -361,7 +389,8 @@ class Judgement(Case):
         command = Command(*(check if is_check else stream))
         command.want = Got(1, "".join(lines[name] for name in row["want"].split()), "", [])
         out = "".join(lines.get(name, name) for name in row["out"].split(" ") if name)
-        got = Got(row["status"], out, MESSAGES.get(row["err"], row["err"]), ["b" if is_check else "memory"])
         error = errno.EIO if is_check else errno.ENOMEM
+        cause = f"tfmset: b: {os.strerror(error)} (os error {error})\n" * row.get("cause", row.get("what") == "read")
+        got = Got(row["status"], out, cause + MESSAGES.get(row["err"], row["err"]), ["b" if is_check else "memory"])
         fault = fault_of(command, got, row.get("what", "memory"), False, error)
         self.same("accepted", row["right"], fault is None)

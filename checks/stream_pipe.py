@@ -28,6 +28,7 @@ from lib.tfm import path_of
 
 WEIGHT = 4
 SECONDS = 20  # for one record or one end
+CLOSED = b"tfmset: standard output: Broken pipe (os error 32)\ntfmset: output failed\n"
 LINES = 50  # that are sent one by one
 TIMED = 100  # that are sent one by one, and timed
 PAUSE = 0.12  # seconds before each fifth of them; no sleep is longer than 0.05
@@ -506,7 +507,7 @@ class Pipes(Case):
                            stderr=subprocess.PIPE)
         self.assertTrue(read_line(child.stdout))
         child.stdout.close()
-        self.same("status", (5, b"tfmset: output failed\n"), (child.wait(SECONDS), child.stderr.read()))
+        self.same("status", (5, CLOSED), (child.wait(SECONDS), child.stderr.read()))
 
     def test_a_closed_pipe_ends_the_stream_with_status_5(self):
         child = self.start(DEMO, stderr=subprocess.PIPE)
@@ -519,4 +520,4 @@ class Pipes(Case):
             while child.poll() is None and time.monotonic() < until:
                 child.stdin.write(b"five\n")
                 time.sleep(0.05)
-        self.same("status", (5, b"tfmset: output failed\n"), (child.wait(SECONDS), child.stderr.read()))
+        self.same("status", (5, CLOSED), (child.wait(SECONDS), child.stderr.read()))

@@ -28,14 +28,15 @@ VALUES = {"T1": "t1 ec.enc lm-ec.enc", "OT1": "ot1 7t.enc lm-rm.enc", "L7x": "lm
           "QX": "lm-qx.enc qx.enc", "T5": "lm-t5.enc"}
 PAGES = (("german", "T1", "ecrm1000"), ("french", "T1", "ecrm1000"), ("czech", "T1", "ecrm1000"),
          ("polish", "T1", "ecrm1000"), ("english", "OT1", "cmr10"))
-# ASCII characters that LaTeX reads as commands, or that in OT1 are other characters. \\$ itself would end a run.
+# ASCII characters that LaTeX reads as commands. It is given all others as they are. \\$ itself would end a run.
 COMMANDS = str.maketrans({
-    "#": r"\#", "$": r"\textdollar ", "%": r"\%", "&": r"\&", '"': r"\textquotedbl ", "<": r"\textless ",
-    ">": r"\textgreater ", "\\": r"\textbackslash ", "^": r"\textasciicircum ", "_": r"\textunderscore ",
-    "{": r"\textbraceleft ", "|": r"\textbar ", "}": r"\textbraceright ", "~": r"\textasciitilde "})
-# A character that \accent places isn't part of a run. The command is therefore an error here.
+    "#": r"\#", "$": r"\textdollar ", "%": r"\%", "&": r"\&", "\\": r"\textbackslash ", "^": r"\textasciicircum ",
+    "_": r"\textunderscore ", "{": r"\textbraceleft ", "}": r"\textbraceright ", "~": r"\textasciitilde "})
+# \accent is an error here, since it moves an accent over a letter. Without a letter it sets a character that isn't part
+# of a run.
 PREAMBLE = r"""\DeclareFontFamily{%(name)s}{made}{}\DeclareFontShape{%(name)s}{made}{m}{n}{<-> made}{}
-\renewcommand\rmdefault{made}\def\accent{\errmessage{accent}}
+\renewcommand\rmdefault{made}\let\alone\accent\def\accent{\errmessage{accent}}
+\expandafter\def\csname add@accent\endcsname#1#2{\ifx\relax#2\relax{\alone#1 }\else\accent\fi}
 """
 SPACE, RIGHT = 333 << 10, 24  # parameter 2 and the right boundary's code in the font that is made
 # Several characters, among them soft hyphens and non-breaking hyphens.
@@ -120,6 +121,7 @@ def set_in_boxes(case, encoding, texts):
     body = "".join(f"\\setbox0=\\hbox{{{text.translate(COMMANDS)}}}\\showbox0\\setbox1=\\vbox{{\\leavevmode\\par}}\n"
                    for text in texts)
     log = latex(case, encoding, PREAMBLE % {"name": encoding}, "\\batchmode\n" + body)
+    log = log.replace("/made/m/n/10 \n\n", "/made/m/n/10 ^^J\n")  # TeX prints the line feed itself.
     parts = re.split(r"^> \\box0=\n", log, flags=re.M)
     case.same("boxes", len(texts) + 1, len(parts))
     return [None if re.search("^! (?!OK)", before, re.M) else set_in_box(part.split("\n\n! OK")[0], encoding)
@@ -256,6 +258,7 @@ class Calls(LinesCase):
                 ("ot1", "¡“ﬁ”!", b"!`\\fi\"!", [0, 0, 2, 5, 5, 8, 11], []), ("bytes", "ä\n", b"\xc3\xa4\n", [0, 1, 2], []),
                 ("ly1", "€\u00ad5", b"\x015", [0, 5], []), ("latin1", "", b"", [], []),
                 ("t1", "\ufeffa\n\u00a0", b"a\n ", [3, 4, 5], []), ("ot1", "ﬃ‘", b"ffi`", [0, 0, 0, 3], []),
+                ("ot1", '"<>|', b'"<>|', [0, 1, 2, 3], []), ("ly1", "x˙", b"x\5", [0, 1], []),
                 ("t1", "a€\n€b\ufeff", b"a\nb", [0, 4, 8], [(1, 0x20AC), (5, 0x20AC), (9, 0xFEFF)]),
                 ("ot1", "a\\b", b"ab", [0, 2], [(1, 92)]), ("latin1", "\U0001f600", b"", [], [(0, 0x1F600)])):
             count, missing = len(wanted[0]), len(wanted[2])

@@ -34,9 +34,9 @@ def many_instructions(count):
     return make(infos, W, starts + chains, [16 * number for number in range(1, 41)], X_SPACE, first=0)
 
 
-def pairs_of(lefts):
-    """A font in which so many characters have a kern before each of 256."""
-    program = [(128 * (code == 255), code, 128, 0) for code in range(256)]
+def pairs_of(lefts, count=256):
+    """A font in which so many characters have a kern before each of 256, by one program of so many instructions."""
+    program = [(128 * (step == count - 1), step % 256, 128, 0) for step in range(count)]
     return make([(1, 0, int(code < lefts), 0) for code in range(256)], W, program, (9,), X_SPACE, first=0)
 
 
@@ -47,8 +47,10 @@ TEXTS = {"nothing": b"", "100 KB": PIECE[:100000], "200 KB": PIECE[:200000], "2 
          "20,000 lines": (WORDS[:56] + b"\n") * 20000, "long lines": (WORDS[:65000] + b"\n") * 30,
          "256 characters": make([(1, 0, 0, 0)] * 256, W, params=X_SPACE, first=0),
          "3,000 instructions": many_instructions(31), "28,600 instructions": many_instructions(300),
-         "2,560 pairs": pairs_of(10), "65,536 pairs": pairs_of(256)}
+         "2,560 pairs": pairs_of(10), "65,536 pairs": pairs_of(256), "3,000 for all": pairs_of(256, 3000),
+         "28,600 for all": pairs_of(256, 28600)}
 LETTERS, SIZES = ("100 KB with ä", "200 KB with ä"), ("3,000 instructions", "28,600 instructions")
+SHARED = ("3,000 for all", "28,600 for all")
 # One worker and chunks of eight lines: then the threads' schedule hardly changes the number of instructions.
 STREAM, SET = ["stream", "--workers", "1", "--block", "8"], ["set", "--workers", "1", "--block", "8"]
 ENDLESS = ["--limit", "5000", path_of("endless_3"), "@"]
@@ -74,6 +76,8 @@ COUNTERS = [
     # Each instruction is read and checked once; if lines are set, its pair is also put into a table.
     ("an instruction of a font, check", ["check", "@"], SIZES, 25555, 75),
     ("an instruction of a font, set", ["set", "@", "nothing"], SIZES, 25555, 91),
+    # The program of many characters is followed once.
+    ("an instruction of a program of 256 characters, set", ["set", "@", "nothing"], SHARED, 25600, 91),
     # Each instruction, and each pair, becomes a line once.
     ("an instruction of a font, list", ["list", "--all", "@"], SIZES, 25555, 1666),
     ("a pair, with characters", ["pairs", "--encoding", "t1", "@"], ("2,560 pairs", "65,536 pairs"), 62976, 700),

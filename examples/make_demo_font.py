@@ -4,12 +4,13 @@
 The dimensions are invented and resemble those of a text face at 10 points. The font has no glyph drawings: a
 TFM file contains dimensions only, and tfmset reads nothing else.
 
-The script takes no arguments and needs only Python 3. It writes the same bytes each time, and checks them
-against the rules of the format before it writes them. Nothing about it is proved.
+The script takes no arguments and needs only Python 3 and make_fonts.py, whose function `make` knows the layout of the
+file. It writes the same bytes each time. After a change, check the font with `./tfmset check --strict examples/demo.tfm`.
 """
 
-import struct
 from pathlib import Path
+
+from make_fonts import make
 
 # The codes of characters other than letters. The three ligatures have the codes that they have in cmr10.
 FF, FI, FFI = 11, 12, 14
@@ -145,14 +146,9 @@ PARAMETERS = [
 ]
 
 
-def fix_word(thousandths):
-    """Returns the nearest fix_word, a signed number in units of 2^-20."""
-    return (thousandths * 2**20 + 500) // 1000
-
-
 def fix_words(thousandths):
-    """Returns the words of a table."""
-    return b"".join(struct.pack(">i", fix_word(it)) for it in thousandths)
+    """Returns the nearest fix_words, signed numbers in units of 2^-20."""
+    return [(it * 2**20 + 500) // 1000 for it in thousandths]
 
 
 def text(value, size):
@@ -167,10 +163,8 @@ def dimensions(column):
 
 
 def header():
-    """Returns the header, which has eighteen words."""
+    """Returns the header after the check sum and the design size: sixteen words."""
     return b"".join([
-        b"DEMO",  # 0 check sum: any four bytes; a driver compares them with those of the file with the glyphs
-        struct.pack(">i", 10 * 2**20),  # 1 design size: 10 points, as a fix_word
         text("DEMO TEXT", 40),  # 2..11 coding scheme
         text("DEMO", 20),  # 12..16 family
         bytes([
@@ -196,92 +190,13 @@ def char_info(code, widths, heights, depths, italics):
     ])
 
 
-def font():
-    """Returns the bytes of the file."""
-    bc, ec = min(CHARACTERS), max(CHARACTERS)
-    columns = [dimensions(it) for it in range(4)]
-    tables = [
-        header(),  # lh words
-        b"".join(char_info(it, *columns) for it in range(bc, ec + 1)),  # ec - bc + 1 words
-        *map(fix_words, columns),  # nw, nh, nd, ni words: width, height, depth, italic correction
-        b"".join(map(bytes, PROGRAM)),  # nl words
-        fix_words(KERNS),  # nk words
-        b"",  # ne words: no extensible recipes
-        fix_words(PARAMETERS),  # np words
-    ]
-    lh, _, nw, nh, nd, ni, nl, nk, ne, np = (len(it) // 4 for it in tables)
-    lf = 6 + sum(len(it) for it in tables) // 4
-    return struct.pack(">12H", lf, lh, bc, ec, nw, nh, nd, ni, nl, nk, ne, np) + b"".join(tables)
-
-
-def must(holds, rule):
-    """Ends the script if a rule doesn't hold. (An assert isn't executed under python -O.)"""
-    if not holds:
-        raise SystemExit(f"make_demo_font.py: nothing was written, since this doesn't hold: {rule}")
-
-
-def check_counts(data):
-    """Checks the rules of the counts and of the design size on the bytes, and returns the counts by name."""
-    must(len(data) >= 24, "there is room for the counts")
-    names = "lf lh bc ec nw nh nd ni nl nk ne np".split()
-    count = dict(zip(names, struct.unpack(">12H", data[:24])))
-    must(all(it < 2**15 for it in count.values()), "each count is below 32768")
-    must(count["bc"] <= count["ec"] + 1 and count["ec"] <= 255, "the codes run from bc to ec, at most 255")
-    must(count["lh"] >= 2, "the header has a check sum and a design size")
-    must(all(count[it] > 0 for it in ("nw", "nh", "nd", "ni")), "the tables of dimensions have an entry 0")
-    must(count["ne"] <= 256, "there are at most 256 extensible recipes")
-    parts = sum(count[it] for it in ("lh", "nw", "nh", "nd", "ni", "nl", "nk", "ne", "np"))
-    must(count["lf"] == 6 + parts + count["ec"] - count["bc"] + 1, "lf is the sum of the parts")
-    must(len(data) == 4 * count["lf"], "the file has lf words and no more bytes")
-    must(struct.unpack(">i", data[28:32])[0] >= 2**20, "the design size is 1 point or more")
-    return count
-
-
-def check_tables(data, count):
-    """Checks the rules of the tables on the bytes."""
-    words, at = {}, 24
-    codes = range(count["bc"], count["ec"] + 1)
-    sizes = {"header": count["lh"], "char_info": len(codes), "width": count["nw"], "height": count["nh"]}
-    sizes |= {"depth": count["nd"], "italic": count["ni"], "lig_kern": count["nl"], "kern": count["nk"]}
-    sizes |= {"exten": count["ne"], "param": count["np"]}
-    for name, size in sizes.items():
-        words[name] = [data[at + 4 * it : at + 4 * it + 4] for it in range(size)]
-        at += 4 * size
-    most = {"nw": 256, "nh": 16, "nd": 16, "ni": 64}
-    must(all(count[it] <= most[it] for it in most), "an index can reach every entry of the tables of dimensions")
-    info = dict(zip(codes, words["char_info"]))
-    exists = {code for code, it in info.items() if it[0] != 0}
-    must(exists == {*CHARACTERS}, "the characters that exist are those of the list above")
-    for code, (width, both, italic_and_tag, remainder) in info.items():
-        must(width < count["nw"], f"the width of character {code} is in its table")
-        must(both >> 4 < count["nh"], f"the height of character {code} is in its table")
-        must(both & 15 < count["nd"], f"the depth of character {code} is in its table")
-        must(italic_and_tag >> 2 < count["ni"], f"the italic correction of character {code} is in its table")
-        has_program = italic_and_tag & 3 == 1
-        must(not has_program or remainder < count["nl"], f"the start of character {code} is in the program")
-    for name in ("width", "height", "depth", "italic"):
-        must(words[name][0] == bytes(4), f"entry 0 of the table {name} is zero")
-    for name in ("width", "height", "depth", "italic", "kern", "param"):
-        # Parameter 1, the slant, isn't scaled and may be any number.
-        checked = words[name][1:] if name == "param" else words[name]
-        must(all(it[0] in (0, 255) for it in checked), f"each number of the table {name} is below 16 in size")
-    program = words["lig_kern"]
-    boundary = program[0][1] if program and program[0][0] == 255 else None
-    for index, (skip, next_char, op, remainder) in enumerate(program):
-        if skip > 128:
-            must(256 * op + remainder < count["nl"], f"instruction {index} points into the program")
-            continue
-        must(next_char in exists or next_char == boundary, f"the next_char of instruction {index} can occur")
-        if op < 128:
-            must(remainder in exists, f"the ligature of instruction {index} is a character that exists")
-        else:
-            must(256 * (op - 128) + remainder < count["nk"], f"instruction {index} has a kern of the table")
-        must(skip == 128 or index + skip + 1 < count["nl"], f"instruction {index} leads to another one")
-
-
 def main():
-    data = font()
-    check_tables(data, check_counts(data))
+    columns = [dimensions(it) for it in range(4)]
+    widths, heights, depths, italics = map(fix_words, columns)
+    bc, ec = min(CHARACTERS), max(CHARACTERS)
+    # A driver compares the check sum, which is any four bytes, with that of the file with the glyphs.
+    data = make([char_info(it, *columns) for it in range(bc, ec + 1)], widths, PROGRAM, fix_words(KERNS),
+                fix_words(PARAMETERS), bc, 10, (), header(), heights, depths, italics, b"DEMO")
     Path(__file__).with_name("demo.tfm").write_bytes(data)
 
 

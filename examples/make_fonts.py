@@ -25,27 +25,33 @@ NEXT, LAST, ELSEWHERE, BOUNDARY = 0, 128, 200, 255
 # The op byte of a kern.
 KERN = 128
 # The ligature operations that the format lists, and some codes that it doesn't list.
-LISTED, UNLISTED = [0, 1, 2, 3, 5, 6, 7, 11], [4, 8, 9, 10, 12, 127]
+LISTED, UNLISTED = (0, 1, 2, 3, 5, 6, 7, 11), (4, 8, 9, 10, 12, 127)
 
 
-def font(points=10, first=A, starts=(None, None, None), widths=WIDTHS, program=(), kerns=(), parameters=PARAMETERS):
-    """Returns the bytes of a font. Its characters have consecutive codes that start at `first`, and the
-    widths 1, 2, .. of the table. `starts` has the starting address of each, or None if it has none."""
-    infos = [bytes([1 + i, 0, 0 if start is None else 1, start or 0]) for i, start in enumerate(starts)]
-    words = struct.pack(">Ii", 0, points * POINT)  # check sum, design size
-    words += b"".join(infos)
-    words += struct.pack(f">{len(widths)}i", *widths)
-    words += bytes(12)  # entry 0 of the heights, the depths and the italic corrections
-    words += b"".join(bytes(instruction) for instruction in program)
-    words += struct.pack(f">{len(kerns) + len(parameters)}i", *kerns, *parameters)
-    counts = [6 + len(words) // 4, 2, first, first + len(infos) - 1, len(widths), 1, 1, 1]
-    counts += [len(program), len(kerns), 0, len(parameters)]
-    return struct.pack(">12H", *counts) + words
+def make(infos=(), widths=(0,), program=(), kerns=(), params=(), first=A, points=10, exten=(), header=b"",
+         heights=(0,), depths=(0,), italics=(0,), check_sum=b"\0\0\0\0"):
+    """Returns the bytes of a TFM file: counts, header and tables. A char_info word, an instruction and a recipe
+    are four bytes each. The other tables have fix_words, and `header` is what follows the design size."""
+    widths, heights, depths, italics, kerns, params = (
+        struct.pack(f">{len(table)}i", *table) for table in (widths, heights, depths, italics, kerns, params))
+    infos, program, exten = (b"".join(map(bytes, table)) for table in (infos, program, exten))
+    tables = [check_sum + struct.pack(">i", points * POINT) + header, infos, widths, heights, depths, italics,
+              program, kerns, exten, params]
+    lh, characters, *lengths = (len(table) // 4 for table in tables)
+    lf = 6 + sum(map(len, tables)) // 4
+    return struct.pack(">12H", lf, lh, first, first + characters - 1, *lengths) + b"".join(tables)
+
+
+def font(starts=(None, None, None), program=(), kerns=(), params=PARAMETERS):
+    """Returns a font with the characters a, b and c, which have the widths 1, 2 and 3 of the table. `starts` has
+    the starting address of each, or None if it has none."""
+    infos = [(1 + i, 0, 0 if start is None else 1, start or 0) for i, start in enumerate(starts)]
+    return make(infos, WIDTHS, program, kerns, params)
 
 
 def empty(program=(), kerns=()):
     """Returns a font without characters; its design size is 5 points."""
-    return font(5, 1, (), [0], program, kerns, ())
+    return make(program=program, kerns=kerns, first=1, points=5)
 
 
 def ligature(op):
@@ -68,7 +74,7 @@ def largest():
 FONTS = {
     "no_characters": empty(),
     "plain": font(),
-    "without_space": font(parameters=[0]),
+    "without_space": font(params=[0]),
     # After a, the boundary becomes b; after b, there is a kern before the boundary; a b has another kern.
     "right_boundary": font(starts=(1, 3, None), program=[
         (BOUNDARY, END, 0, 0), (NEXT, END, 2, B), (LAST, B, KERN, 0), (LAST, END, KERN, 1)], kerns=KERNS),

@@ -163,7 +163,7 @@ class Case(unittest.TestCase):
     def compare_readers(self, programs):
         """The programs of a directory print the letters of lines, and draw the picture of the README."""
         records = output(f"{programs}/tfmset", "stream", "--record=json", DEMO, given=b"office ox\nstiff waves\n").encode()
-        letters = output(f"{programs}/tfmset-letters", given=records, cwd="/")
+        letters = output(f"{programs}/tfmset-letters", "--encoding=ot1", given=records, cwd="/")
         self.same("tfmset-letters", ["1:1 35.75 o[ffi]ce o{-0.25}x", "1 end complete 2"], letters.splitlines()[::2])
         picture = output(f"{programs}/tfmset-boxes", "--encoding=ot1", DEMO, given=records, cwd="/")
         self.same("tfmset-boxes draws examples/boxes.svg", True, picture == read("examples/boxes.svg"))

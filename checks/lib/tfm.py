@@ -3,11 +3,12 @@ import itertools
 import os
 import struct
 
-from lib.base import DEMO, EXAMPLES, read
+from lib.base import DEMO, EXAMPLES, read, script
 
+MAKER = script("examples/make_fonts.py")
+make, LISTED = MAKER.make, MAKER.LISTED
 NAMES = ("lf", "lh", "bc", "ec", "nw", "nh", "nd", "ni", "nl", "nk", "ne", "np")
 BOUNDARY = 256
-LISTED = (0, 1, 2, 3, 5, 6, 7, 11)  # the op codes that the format lists
 
 
 class Font:
@@ -81,18 +82,6 @@ def scaled(fix, size):
     a, b, c, d = (fix % 2 ** 32).to_bytes(4, "big")
     number = (((d * size) // 256 + c * size) // 256 + b * size) // beta
     return number - alpha if a == 255 else number
-
-
-def make(infos=(), widths=(0,), program=(), kerns=(), params=(), first=97, points=10, exten=(), header=b"",
-         heights=(0,), depths=(0,), italics=(0,)):
-    """The bytes of a font: its char_info words, its instructions and its recipes have four bytes each."""
-    dimensions = [struct.pack(f">{len(table)}i", *table) for table in (widths, heights, depths, italics)]
-    tables = [struct.pack(">Ii", 0, points << 20) + header, b"".join(map(bytes, infos)), *dimensions,
-              b"".join(map(bytes, program)), struct.pack(f">{len(kerns)}i", *kerns),
-              b"".join(map(bytes, exten)), struct.pack(f">{len(params)}i", *params)]
-    lh, _, *lengths = [len(table) // 4 for table in tables]
-    counts = [6 + sum(map(len, tables)) // 4, lh, first, first + len(infos) - 1, *lengths]
-    return struct.pack(">12H", *counts) + b"".join(tables)
 
 
 def changed(data, changes):

@@ -215,7 +215,8 @@ def encode(text: str, encoding: Encoding, missing: str = "refuse") -> bytes:
 
     `encoding` is one of ENCODINGS, or the same in capitals, or the bytes of an encoding vector. Most
     characters have one code, and some have two or three. Line feeds are kept. A soft hyphen, and a byte order
-    mark (U+FEFF) at the front of the text, are left out.
+    mark (U+FEFF) at the front of the text, are left out. In OT1 the characters ", <, > and | have the codes
+    34, 60, 62 and 124, as in LaTeX, although cmr10 prints ” ¡ ¿ — for these codes.
 
     A character is uncoded if it isn't in the encoding, or if LaTeX takes it from another font or puts it
     together from an accent and a letter. With `missing="refuse"` the first uncoded character raises

@@ -1,12 +1,14 @@
 -- Worked rows, computed from the definitions alone: the warnings of instructions, and of the codes of a font with the
 -- characters 65 and 66, where each is the larger character of the other one; and lines in JSON.
-use Rattle.std.proofs.Common.{◌≡◌, ℕ, List, [], ◌∷◌, Some, None, refl}
+use Rattle.std.proofs.Common.{◌≡◌, ℕ, List, [], ◌∷◌, ◌++◌, Some, None, refl}
+use lib.Utf8.{encode}
 use Rattle.std.specs.Prelude.{codes}
 use Rattle.std.specs.Fmt.{digits}
+use Rattle.std.specs.Str.{chars, is_utf8}
+use Rattle.formats.specs.declared.listing.OutputFormat.TheVariants.{Text, Json}
 use Rattle.font_texts.specs.FaultWords.{count_fault_number, fault_number}
-use Rattle.font_texts.specs.JsonText.{json_escaped}
-use Rattle.font_texts.specs.ListingWords.{escaped}
-use Rattle.font_texts.specs.declared.output_format.OutputFormat.TheVariants.{Json}
+use Rattle.font_texts.specs.JsonText.{json_byte}
+use Rattle.font_texts.specs.ListingWords.{hex_byte}
 use Rattle.tfm_tables.specs.FaultTexts.{font_fault_text}
 use Rattle.tfm_tables.specs.declared.fault.FontFault.TheVariants.{Counts}
 use Rattle.tfm_words.specs.CountFaults.{first_fault}
@@ -17,7 +19,7 @@ use Rattle.tfm_tables.specs.Table.{entry_at, table_of}
 use Rattle.tfm_tables.specs.Character.{char_info_of, exists, is_coded}
 use Rattle.check_texts.specs.Tallies.{summary_line, tally_of}
 use Rattle.check_texts.specs.Texts.{warning_text}
-use Rattle.check_texts.specs.Verdicts.{json_line, verdict_text}
+use Rattle.check_texts.specs.Verdicts.{json_line, json_name, verdict_text}
 use Rattle.check_texts.specs.Warnings.{any_from, code_rows, code_warning, info_of, is_in_circle, larger_of, step_rows}
 use Rattle.check_texts.specs.declared.verdict.Verdict.TheVariants.{Refused, NotRead}
 use Rattle.check_texts.specs.declared.warning.Warning.TheVariants.{Circle, Endless, Operation}
@@ -45,15 +47,19 @@ in_words : warning_text (Endless 65 66) ≡ codes "program never ends: 65 66"
 unfolding warning_text digits
 in_words = refl
 
--- a name with a double quote, a backslash and a byte that isn't ASCII; and a font that isn't read
+-- a name with a double quote, a backslash, a line feed and é, U+00E9; and one that is the first byte of é alone
 in_json :
-    (verdict_text Json (97 ∷ 34 ∷ 92 ∷ 195 ∷ [], Refused (Counts (Truncated 24)))
-    ≡ codes "{\"font\":\"a\\\"\\\\x5c\\\\xc3\",\"finding\":\"refused\",\"error\":1,\"words\":\"truncated, 24 bytes needed\"}\n")
-    × (verdict_text Json (codes "no", NotRead) ≡ codes "{\"font\":\"no\",\"finding\":\"not read\"}\n")
-unfolding json_line json_escaped escaped fault_number count_fault_number font_fault_text count_fault_text digits
+    (verdict_text Json (97 ∷ 34 ∷ 92 ∷ 10 ∷ 195 ∷ 169 ∷ [], Refused (Counts (Truncated 24)))
+    ≡ codes "{\"font\":\"a\\\"\\\\\\u000a" ++ 195 ∷ 169 ∷ codes "\",\"finding\":\"refused\",\"error\":1,\"words\":\"truncated, 24 bytes needed\"}\n")
+    × (verdict_text Json (195 ∷ [], NotRead) ≡ codes "{\"font_hex\":\"c3\",\"finding\":\"not read\"}\n")
+unfolding json_line json_name json_byte hex_byte is_utf8 chars encode fault_number count_fault_number font_fault_text count_fault_text digits
 in_json = (refl, refl)
 
--- the summary in JSON of two fonts that aren't read
-counted_in_json : summary_line Json (tally_of ((codes "a", NotRead) ∷ (codes "b", NotRead) ∷ [])) ≡ codes "{\"fonts\":2,\"accepted\":0,\"refused\":0,\"unread\":2}\n"
+-- the summaries of two fonts that aren't read, and that of three accepted ones, of which two have warnings
+counted_in_json : summary_line Json (tally_of ((codes "a", NotRead) ∷ (codes "b", NotRead) ∷ [])) ≡ codes "{\"fonts\":2,\"accepted\":0,\"warned\":0,\"refused\":0,\"unread\":2}\n"
 unfolding digits
 counted_in_json = refl
+
+counted_in_text : summary_line Text (record { fonts = 3; accepted = 3; warned = 2; refused = 0; unread = 0; reported = 2 }) ≡ codes "3 fonts: 3 accepted (2 with warnings), 0 refused\n"
+unfolding digits
+counted_in_text = refl

@@ -5,13 +5,14 @@ use Rattle.std.specs.Prelude.{◌≡◌, ℕ, ◌==◌, Bool, true, false, cond,
 use Rattle.std.specs.Prelude.{codes, decimal, Option, Some, None}
 use Rattle.std.specs.List.{find}
 use Rattle.std.specs.Option.{is_none}
+use Rattle.std.specs.Str.{is_utf8}
 use Rattle.tfm_tables.specs.Acceptance.{font_fault_of}
 use Rattle.tfm_tables.specs.FaultTexts.{font_fault_text}
-use Rattle.font_texts.specs.declared.output_format.OutputFormat.{OutputFormat}
-use Rattle.font_texts.specs.declared.output_format.OutputFormat.TheVariants.{Text, Json}
+use Rattle.formats.specs.declared.listing.OutputFormat.{OutputFormat}
+use Rattle.formats.specs.declared.listing.OutputFormat.TheVariants.{Text, Json}
 use Rattle.font_texts.specs.FaultWords.{fault_number, fault_words}
-use Rattle.font_texts.specs.JsonText.{json_text}
-use Rattle.font_texts.specs.ListingWords.{escaped_text}
+use Rattle.font_texts.specs.JsonText.{json_string}
+use Rattle.font_texts.specs.ListingWords.{escaped_text, hex_text}
 use Rattle.check_texts.specs.declared.verdict.Verdict.{Verdict}
 use Rattle.check_texts.specs.declared.verdict.Verdict.TheVariants.{Accepted, Refused, NotRead}
 use Rattle.check_texts.specs.declared.warning.Warning.{Warning}
@@ -111,9 +112,15 @@ Row = List ℕ × Verdict
 unfoldable pub text_line : Row → List ℕ
 text_line row = escaped_text row.0 ++ codes ": " ++ finding row.1 ++ codes "\n"
 
+-- the member with the name of a font, as far as the end of its string: `font` with the text, or, if the name isn't UTF-8,
+-- `font_hex` with the bytes in hexadecimal
+unfoldable pub json_name : List ℕ → List ℕ
+json_name name =
+    cond (is_utf8 name) (codes "\"font\":\"" ++ json_string name) (codes "\"font_hex\":\"" ++ hex_text name)
+
 -- the JSON object of a font: its name, and the finding
 unfoldable pub json_line : Row → List ℕ
-json_line row = codes "{\"font\":\"" ++ json_text row.0 ++ codes "\",\"finding\":" ++ json_finding row.1 ++ codes "}\n"
+json_line row = codes "{" ++ json_name row.0 ++ codes "\",\"finding\":" ++ json_finding row.1 ++ codes "}\n"
 
 -- the text of a font in a format
 abbrev pub verdict_text : OutputFormat → Row → List ℕ

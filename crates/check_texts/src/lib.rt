@@ -11,7 +11,6 @@ pub use warnings::strict_warnings;
 
 mod looping;
 mod rules;
-mod tables;
 mod tally;
 mod verdict;
 mod verdict_lines;

@@ -1,6 +1,6 @@
 //! The numbers of fonts that `check` counts, and their summary.
 ghost use Rattle.std.specs.Prelude.{◌≡◌, ◌+◌, ◌∷◌, ◌++◌, ℕ, [], List, cond, string_bytes, IfOk};
-ghost use Rattle.check_texts.specs.Tallies.{counted, fonts_noun, summary_end as summary_end_of, summary_line as summary_line_of, tally_of};
+ghost use Rattle.check_texts.specs.Tallies.{counted, fonts_noun, summary_end as summary_end_of, summary_line as summary_line_of, tally_of, warned_words};
 ghost use Rattle.check_texts.specs.Verdicts.{Row};
 
 use crate::Verdict;
@@ -14,6 +14,8 @@ pub struct Tally {
     pub fonts: u64,
     /// The number of fonts that are accepted, and that TeX doesn't refuse.
     pub accepted: u64,
+    /// The number of accepted fonts with warnings; without `--strict` it is 0.
+    pub warned: u64,
     /// The number of fonts that are refused, by a font error or by TeX.
     pub refused: u64,
     /// The number of fonts that weren't read.
@@ -37,6 +39,7 @@ impl Tally {
         Tally {
             fonts: 0,
             accepted: 0,
+            warned: 0,
             refused: 0,
             unread: 0,
             reported: 0,
@@ -49,12 +52,14 @@ impl Tally {
             → result ≡ tally_of (rows ++ (name, verdict.now) ∷ []) }
     {
         let (accepted, unread) = (verdict.is_accepted(), verdict.is_unread());
+        let plain = verdict.is_plain();
         Tally {
             fonts: counting(self.fonts, true),
             accepted: counting(self.accepted, accepted),
+            warned: counting(self.warned, accepted && !plain),
             refused: counting(self.refused, !(accepted || unread)),
             unread: counting(self.unread, unread),
-            reported: counting(self.reported, !verdict.is_plain()),
+            reported: counting(self.reported, !plain),
         }
     }
 }
@@ -64,6 +69,16 @@ fn noun_of(count: u64) -> &'static str
     ensures { result.now ≡ fonts_noun count }
 {
     if count == 1 { "font" } else { "fonts" }
+}
+
+/// Returns how many accepted fonts have warnings, for the line of `--summary`; nothing for 0.
+fn warned_text(alloc: Global, warned: u64) -> Result<String, AllocError>
+    ensures { IfOk result (λ text. string_bytes text ≡ warned_words warned) }
+{
+    if warned == 0 {
+        return Ok(String::new(alloc));
+    }
+    format!(in alloc; " ({warned} with warnings)")
 }
 
 /// Returns the end of the line of `--summary`, by the number of fonts that weren't read.
@@ -83,6 +98,7 @@ pub fn summary_line(alloc: Global, format: OutputFormat, tally: Tally) -> Result
     let Tally {
         fonts,
         accepted,
+        warned,
         refused,
         unread,
         ..
@@ -90,12 +106,13 @@ pub fn summary_line(alloc: Global, format: OutputFormat, tally: Tally) -> Result
     match format {
         OutputFormat::Text => {
             let noun = noun_of(fonts);
+            let warned = warned_text(alloc, warned)?;
             let end = summary_end(alloc, unread)?;
-            format!(in alloc; "{fonts} {noun}: {accepted} accepted, {refused}{end}")
+            format!(in alloc; "{fonts} {noun}: {accepted} accepted{warned}, {refused}{end}")
         }
         OutputFormat::Json => {
             format!(in alloc;
-                "{{\"fonts\":{fonts},\"accepted\":{accepted},\"refused\":{refused},\"unread\":{unread}}}\n"
+                "{{\"fonts\":{fonts},\"accepted\":{accepted},\"warned\":{warned},\"refused\":{refused},\"unread\":{unread}}}\n"
             )
         }
     }

@@ -23,14 +23,16 @@ pub enum Verdict {
 
 impl Verdict {
     /// Reads a font at `size`, or at its design size for `None`, and returns the verdict on it, which doesn't depend on
-    /// the size. An accepted font has its warnings if `strict` is set. Fails if an allocation fails.
+    /// the size. An accepted font has its warnings if `strict` is set. Fails only if the font has no font error and an
+    /// allocation failed.
     pub fn check(
         alloc: Global,
         bytes: &[u8],
         size: Option<Size>,
         strict: bool,
     ) -> Result<Verdict, AllocError>
-        ensures { IfOk result (IsVerdictOf strict bytes.now) }
+        ensures verdict { IfOk result (IsVerdictOf strict bytes.now) }
+        ensures memory { IfErr result (λ _. font_fault_of bytes.now ≡ None) }
     {
         match warnings_of(alloc, bytes, size, strict) {
             Ok(warnings) => Ok(Verdict::Accepted(warnings)),

@@ -1,13 +1,15 @@
 ghost use Rattle.std.specs.Prelude.{◌≡◌, ◌++◌, flat_map, IfOk, OnOk};
-ghost use Rattle.check_texts.specs.Verdicts.{count_words, finding as finding_of, json_accepted, json_finding, json_line as json_line_of, json_verdict, text_line as text_line_of, verdict_text as verdict_text_of, warning_in, warnings_text};
+ghost use Rattle.check_texts.specs.Verdicts.{count_words, finding as finding_of, json_accepted, json_finding, json_line as json_line_of, json_name, json_verdict, text_line as text_line_of, verdict_text as verdict_text_of, warning_in, warnings_text};
 
 use crate::verdict::first_refusal;
 use crate::{Verdict, Warning};
-use font_texts::{Numbered, OutputFormat, number_of, push_escaped_text, push_json_text};
+use font_texts::{
+    Numbered, OutputFormat, number_of, push_escaped_text, push_hex, push_json_string,
+};
 use std::alloc::{AllocError, Global};
 
-/// Returns the text of a font with this name and this verdict in a format. The name may be any bytes; it is escaped as
-/// in a listing. Fails if an allocation fails.
+/// Returns the text of a font with this name and this verdict in a format. The name may be any bytes. As text it is
+/// escaped as in a listing; in JSON it is a string, or hexadecimal if it isn't UTF-8. Fails if an allocation fails.
 pub fn verdict_text(
     alloc: Global,
     format: OutputFormat,
@@ -41,12 +43,29 @@ fn json_line(alloc: Global, name: &[u8], verdict: &Verdict) -> Result<Vec<u8>, A
     ensures { IfOk result (λ text. text.items ≡ json_line_of (name.now, verdict.now)) }
 {
     let mut text = Vec::new(alloc);
-    text.extend_from_slice(b"{\"font\":\"")?;
-    push_json_text(&mut text, name)?;
+    text.extend_from_slice(b"{")?;
+    push_json_name(&mut text, name)?;
     text.extend_from_slice(b"\",\"finding\":")?;
     push_json_finding(alloc, &mut text, verdict)?;
     text.extend_from_slice(b"}\n")?;
     Ok(text)
+}
+
+/// Appends the member with a name, as far as the end of its string.
+#[tactic(auto, using(crate::proofs::RangeLemmas::joined, crate::proofs::NameLemmas::named))]
+fn push_json_name(text: &mut Vec<u8>, name: &[u8]) -> Result<(), AllocError>
+    ensures { OnOk result (text.new.items ≡ text.old.items ++ json_name name.now) }
+{
+    match str::from_utf8(name) {
+        Ok(_) => {
+            text.extend_from_slice(b"\"font\":\"")?;
+            push_json_string(text, name)
+        }
+        Err(_) => {
+            text.extend_from_slice(b"\"font_hex\":\"")?;
+            push_hex(text, name)
+        }
+    }
 }
 
 fn push_finding(alloc: Global, text: &mut Vec<u8>, verdict: &Verdict) -> Result<(), AllocError>

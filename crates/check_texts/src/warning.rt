@@ -5,7 +5,7 @@ use std::fmt;
 
 /// What TeX or TFtoPL reports about an accepted font, with its place. Instructions and recipes are
 /// counted from 0.
-#[derive(Clone, Copy, Debug, PartialEq, Eq, Hash)]
+#[derive(Clone, Copy)]
 pub enum Warning {
     /// The larger character of this code isn't from bc to ec. TeX refuses the font (tex.web, section 570).
     LargerOutside { code: u8, larger: u8 },

@@ -1,17 +1,15 @@
-ghost use Rattle.std.specs.Prelude.{◌≡◌, ℕ, ◌*◌, ◌++◌, IfErr, IfOk, None, OnOk, Option, take};
+ghost use Rattle.std.specs.Prelude.{◌≡◌, ℕ, ◌*◌, ◌++◌, IfErr, IfOk, None, OnOk, Option};
 ghost use Rattle.tfm_words.specs.declared.table.Table.TheVariants.{Exten, LigKern};
-ghost use Rattle.tfm_words.specs.Counts.{AreCountsOf};
-ghost use Rattle.tfm_tables.specs.Acceptance.{font_fault_of};
+ghost use Rattle.tfm_tables.specs.Acceptance.{font_fault_of, words_of};
 ghost use Rattle.tfm_tables.specs.Font.{IsRefusalOf};
 ghost use Rattle.tfm_tables.specs.Table.{entries_of};
 ghost use Rattle.check_texts.specs.Warnings.{code_warning as code_warning_of, endless_warnings, listed, piece_warning as piece_warning_of, step_warning as step_warning_of, table_warnings, warnings_below, warnings_of};
 
 use crate::rules::{code_warning, piece_warning, step_warning};
-use crate::tables::Tables;
 use crate::{Warning, endless_pair};
 use std::alloc::{AllocError, Global};
 use tfm_tables::{Font, FontFault};
-use tfm_words::{Counts, Size};
+use tfm_words::Size;
 
 /// Reads a font at `size`, or at its design size for `None`, and returns its warnings, which don't depend on
 /// the size: in the order of the file those of its codes, instructions and recipes, that of bytes after the last
@@ -27,40 +25,23 @@ pub fn strict_warnings(
         × (found.items ≡ warnings_of bytes.now ++ endless_warnings pair)) }
     ensures fault { IfErr result (IsRefusalOf bytes.now) }
 {
-    let counts = match Counts::read(bytes) {
-        Ok(counts) => counts,
-        Err(fault) => return Err(FontFault::Counts(fault)),
-    };
     let font = Font::read(alloc, bytes, size)?;
-    match warnings_in(alloc, bytes, counts, &font) {
+    match warnings_in(alloc, bytes, &font) {
         Ok(found) => Ok(found),
         Err(_) => Err(FontFault::OutOfMemory),
     }
 }
 
-/// Returns the warnings of a font, which these bytes with these counts contain.
+/// Returns the warnings of a font, which these bytes contain.
 #[tactic(auto, using(crate::proofs::RangeLemmas::joined), unfolding(crate::specs::Warnings::warnings_of))]
-fn warnings_in(
-    alloc: Global,
-    bytes: &[u8],
-    counts: Counts,
-    font: &Font,
-) -> Result<Vec<Warning>, AllocError>
-    requires counts { AreCountsOf bytes.now counts }
-    requires reach { AreCountsOf (take (4 * counts.lf) bytes.now) counts }
-    requires words { font.now.words ≡ take (4 * counts.lf) bytes.now }
+fn warnings_in(alloc: Global, bytes: &[u8], font: &Font) -> Result<Vec<Warning>, AllocError>
+    requires { font.now.words ≡ words_of bytes.now }
     ensures { IfOk result (λ found. (pair : Option (Option ℕ × ℕ))
         × (found.items ≡ warnings_of bytes.now ++ endless_warnings pair)) }
 {
-    let words = &bytes[..4 * usize::from(counts.lf())];
     let mut found = Vec::new(alloc);
-    let tables = Tables {
-        words,
-        counts,
-        font,
-    };
-    push_tables(&mut found, &tables)?;
-    if words.len() < bytes.len() {
+    push_tables(&mut found, font)?;
+    if font.words().len() < bytes.len() {
         found.push(Warning::ExtraBytes)?;
     }
     match endless_pair(alloc, font)? {
@@ -73,12 +54,12 @@ fn warnings_in(
 
 /// Appends the warnings of the tables of a font.
 #[tactic(auto, using(crate::proofs::RangeLemmas::joined), unfolding(crate::specs::Warnings::table_warnings))]
-fn push_tables(found: &mut Vec<Warning>, tables: &Tables<'_>) -> Result<(), AllocError>
-    ensures { OnOk result (found.new.items ≡ found.old.items ++ table_warnings tables.now) }
+fn push_tables(found: &mut Vec<Warning>, font: &Font) -> Result<(), AllocError>
+    ensures { OnOk result (found.new.items ≡ found.old.items ++ table_warnings font.now.words) }
 {
-    push_codes(found, tables)?;
-    push_steps(found, tables)?;
-    push_pieces(found, tables)
+    push_codes(found, font)?;
+    push_steps(found, font)?;
+    push_pieces(found, font)
 }
 
 /// Appends the warning, if there is one.
@@ -93,33 +74,33 @@ fn push_found(found: &mut Vec<Warning>, warning: Option<Warning>) -> Result<(), 
 
 /// Appends the warnings of the codes.
 #[tactic(auto, using(crate::proofs::RangeLemmas::more))]
-fn push_codes(found: &mut Vec<Warning>, tables: &Tables<'_>) -> Result<(), AllocError>
-    ensures { OnOk result (found.new.items ≡ found.old.items ++ warnings_below (code_warning_of tables.now) 256) }
+fn push_codes(found: &mut Vec<Warning>, font: &Font) -> Result<(), AllocError>
+    ensures { OnOk result (found.new.items ≡ found.old.items ++ warnings_below (code_warning_of font.now.words) 256) }
 {
     for code in 0..256u16 {
-        push_found(found, code_warning(tables, code as u8))?;
+        push_found(found, code_warning(font, code as u8))?;
     }
     Ok(())
 }
 
 /// Appends the warnings of the instructions.
 #[tactic(auto, using(crate::proofs::RangeLemmas::more))]
-fn push_steps(found: &mut Vec<Warning>, tables: &Tables<'_>) -> Result<(), AllocError>
-    ensures { OnOk result (found.new.items ≡ found.old.items ++ warnings_below (step_warning_of tables.now) (entries_of tables.now LigKern)) }
+fn push_steps(found: &mut Vec<Warning>, font: &Font) -> Result<(), AllocError>
+    ensures { OnOk result (found.new.items ≡ found.old.items ++ warnings_below (step_warning_of font.now.words) (entries_of font.now.words LigKern)) }
 {
-    for i in 0..tables.font().steps() {
-        push_found(found, step_warning(tables, i))?;
+    for i in 0..font.steps() {
+        push_found(found, step_warning(font, i))?;
     }
     Ok(())
 }
 
 /// Appends the warnings of the pieces of recipes.
 #[tactic(auto, using(crate::proofs::RangeLemmas::more))]
-fn push_pieces(found: &mut Vec<Warning>, tables: &Tables<'_>) -> Result<(), AllocError>
-    ensures { OnOk result (found.new.items ≡ found.old.items ++ warnings_below (piece_warning_of tables.now) (4 * entries_of tables.now Exten)) }
+fn push_pieces(found: &mut Vec<Warning>, font: &Font) -> Result<(), AllocError>
+    ensures { OnOk result (found.new.items ≡ found.old.items ++ warnings_below (piece_warning_of font.now.words) (4 * entries_of font.now.words Exten)) }
 {
-    for k in 0..4 * tables.recipes() {
-        push_found(found, piece_warning(tables, k))?;
+    for k in 0..4 * font.recipes() {
+        push_found(found, piece_warning(font, k))?;
     }
     Ok(())
 }

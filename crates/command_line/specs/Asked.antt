@@ -10,24 +10,24 @@ use Rattle.clap.specs.Words.{HasKind, Row, Text, all_of, fault_of, first_of, kin
 use Rattle.clap.specs.declared.error.Error.{Error}
 use Rattle.clap.specs.declared.error.kind.ErrorKind.{ErrorKind}
 use Rattle.clap.specs.declared.error.kind.ErrorKind.TheVariants.{ArgumentConflict, InvalidValue, MissingSubcommand, OutOfMemory, ValueValidation, MissingRequiredArgument}
+use Rattle.run_plan.specs.declared.policy.Policy.{Policy}
+use Rattle.run_plan.specs.declared.policy.Policy.TheVariants.{Refuse, Skip}
+use Rattle.run_plan.specs.declared.version.Version.{Version}
+use Rattle.run_plan.specs.declared.version.Version.TheVariants.{One, Two, Json}
+use Rattle.run_plan.specs.declared.plan.Plan.{Plan}
 use Rattle.encodings.specs.Names.{encoding_named}
 use Rattle.encodings.specs.declared.encoding.Encoding.{Encoding}
-use Rattle.line_records.specs.declared.record_format.RecordFormat.{RecordFormat}
-use Rattle.line_records.specs.declared.record_format.RecordFormat.TheVariants.{Items, Box}
 use Rattle.tex_sizes.specs.Lengths.{unit_named}
 use Rattle.tex_sizes.specs.Sizes.{is_plain, size_of}
 use Rattle.tex_sizes.specs.declared.length_unit.LengthUnit.{LengthUnit}
-use Rattle.font_texts.specs.declared.output_format.OutputFormat.{OutputFormat}
-use Rattle.font_texts.specs.declared.output_format.OutputFormat.TheVariants.{Text as TextOutput, Json as JsonOutput}
-use Rattle.font_texts.specs.declared.list_layout.ListLayout.{ListLayout}
-use Rattle.font_texts.specs.declared.pairs_format.PairsFormat.{PairsFormat}
-use Rattle.font_texts.specs.declared.pairs_layout.PairsLayout.{PairsLayout}
-use Rattle.font_texts.specs.declared.pairs_format.PairsFormat.TheVariants.{Text as TextFormat, Csv, Json as JsonFormat}
-use Rattle.set_line.specs.declared.policy.Policy.{Policy}
-use Rattle.set_line.specs.declared.policy.Policy.TheVariants.{Refuse, Skip}
-use Rattle.set_line.specs.declared.version.Version.{Version}
-use Rattle.set_line.specs.declared.version.Version.TheVariants.{One, Two, Json}
-use Rattle.run_plan.specs.declared.plan.Plan.{Plan}
+use Rattle.formats.specs.declared.record_format.RecordFormat.{RecordFormat}
+use Rattle.formats.specs.declared.record_format.RecordFormat.TheVariants.{Items, Box}
+use Rattle.formats.specs.declared.listing.OutputFormat.{OutputFormat}
+use Rattle.formats.specs.declared.listing.OutputFormat.TheVariants.{Text as TextOutput, Json as JsonOutput}
+use Rattle.formats.specs.declared.listing.ListLayout.{ListLayout}
+use Rattle.formats.specs.declared.pairs.PairsFormat.{PairsFormat}
+use Rattle.formats.specs.declared.pairs.PairsLayout.{PairsLayout}
+use Rattle.formats.specs.declared.pairs.PairsFormat.TheVariants.{Text as TextFormat, Csv, Json as JsonFormat}
 use Rattle.command_line.specs.Commands.{AllChoices, tfmset_app}
 use Rattle.command_line.specs.declared.request.CheckLayout.{CheckLayout}
 use Rattle.command_line.specs.declared.request.Checking.{Checking}

@@ -10,6 +10,8 @@ use Rattle.clap.specs.declared.builder.command.Command.TheViews.{out-Command as 
 use Rattle.clap.specs.declared.builder.action.ArgAction.TheVariants.{SetTrue}
 use Rattle.clap.specs.declared.builder.value_parser.ValueParser.{ValueParser}
 use Rattle.clap.specs.declared.builder.value_parser.ValueParser.TheVariants as parser
+use Rattle.command_line.specs.declared.commands.Subcommand.{Subcommand}
+use Rattle.command_line.specs.declared.commands.Subcommand.TheVariants as kind
 use Rattle.tex_sizes.specs.Lengths.{unit_name, units as length_units}
 
 -- ---- arguments
@@ -117,19 +119,27 @@ encoding_rule = with_default (codes "bytes") (text_rule (codes "encoding"))
 abbrev pub block_rule : Rule
 block_rule = number_rule (codes "block") 8
 
--- the options of `set`, `stream` and `each`, except `--size`, with this one for `--block`
-abbrev pub run_rules : Rule → Choices → List Rule
-run_rules block choices =
-    with_default (codes "refuse") (choice_rule (codes "missing") choices.missing)
+-- the options of `set`, `stream` and `each` before `--block`, except `--size`
+abbrev pub rules_before : ValueParser → List Rule
+rules_before missing =
+    with_default (codes "refuse") (choice_rule (codes "missing") missing)
     ∷ flag_rule (codes "crlf")
     ∷ encoding_rule
     ∷ with_default (codes "2") (number_rule (codes "workers") 16)
     ∷ with_default (codes "16") (number_rule (codes "capacity") 65536)
-    ∷ block
-    ∷ with_default (codes "1") (choice_rule (codes "record") choices.records)
-    ∷ choice_rule (codes "unit") choices.units
+    ∷ []
+
+-- the options of `set`, `stream` and `each` after `--block`
+abbrev pub rules_after : ValueParser → ValueParser → List Rule
+rules_after records units =
+    with_default (codes "1") (choice_rule (codes "record") records)
+    ∷ choice_rule (codes "unit") units
     ∷ verbose_rule
     ∷ []
+
+-- the options of `set`, `stream` and `each`, except `--size`, with this one for `--block`
+abbrev pub run_rules : Rule → Choices → List Rule
+run_rules block choices = rules_before choices.missing ++ block ∷ rules_after choices.records choices.units
 
 -- the options of `set` and `stream`, with this one for `--block`, and the argument FONT
 abbrev pub setting_rules : Rule → Choices → List Rule
@@ -235,3 +245,23 @@ IsSubcommand shape command = (shape_of command ≡ shape) × ((fields_of command
 -- the built argument has this rule, and isn't shared by subcommands
 abbrev pub IsArgument : Rule → Arg → Type 0
 IsArgument rule argument = (rule_of argument ≡ rule) × (argument.global ≡ false)
+
+-- the name of a subcommand
+abbrev pub subcommand_name : Subcommand → Text
+subcommand_name kind.Counts = codes "counts"
+subcommand_name kind.List = codes "list"
+subcommand_name kind.Pairs = codes "pairs"
+subcommand_name kind.Check = codes "check"
+subcommand_name kind.Set = codes "set"
+subcommand_name kind.Stream = codes "stream"
+subcommand_name kind.Each = codes "each"
+
+-- the built command is this subcommand, with parsers of its own
+abbrev pub IsBuilt : Subcommand → Command → Type 0
+IsBuilt kind.Counts made = IsSubcommand counts_shape made
+IsBuilt kind.List made = (choices : ListChoices) × IsSubcommand (list_shape choices) made
+IsBuilt kind.Pairs made = (choices : PairsChoices) × IsSubcommand (pairs_shape choices) made
+IsBuilt kind.Check made = (choices : CheckChoices) × IsSubcommand (check_shape choices) made
+IsBuilt kind.Set made = (choices : Choices) × IsSubcommand (set_shape choices) made
+IsBuilt kind.Stream made = (choices : Choices) × IsSubcommand (stream_shape choices) made
+IsBuilt kind.Each made = (choices : Choices) × IsSubcommand (each_shape choices) made

@@ -20,8 +20,9 @@ Examples, in the directory examples of the sources:
 `tfmset COMMAND --help` describes the options of a command and what it prints.
 Sizes and widths are printed in scaled points (sp): 65536 sp = 1pt. With
 --unit, `list`, `pairs` and --record box print them in another unit. Errors
-are reported by one short line; with --verbose (-v), each command also prints
-their causes, with the names of files.
+are reported by one short line. `stream`, `pairs` and `check` print their
+causes before it, with the names of files, and so do the other commands with
+--verbose (-v).
 
 Exit status:
   0  Success. Help and version output also end with 0.
@@ -61,11 +62,11 @@ are in scaled points (65536 sp = 1pt), at the size of --size or, without this
 option, at the design size of the font. Only parameter 1, the slant, is a
 ratio: 1048576 means 1. With --all, the twelve counts are printed first, and
 the extensible recipes and every word (four bytes) of the file, in hexadecimal,
-are printed last. If the size has no unit and is below 65536 sp, a warning is
-printed on standard error.
+are printed last. With --verbose, a warning is printed on standard error if the
+size has no unit and is below 65536 sp.
 
 With --unit, dimensions are printed in another unit, with its name after the
-number: in pt as \\the of TeX prints them, such as 39.44447pt, and in bp, mm,
+number: in pt as \\the of TeX prints them, such as 39.44449pt, and in bp, mm,
 cm, in or pc with five decimals. The slant stays a ratio. With --format json,
 the contents are one JSON object, in one line; a dimension in a unit other than
 sp is then a string.
@@ -123,10 +124,11 @@ pub(crate) const CHECK_AFTER_HELP: &str = "Examples, in the directory examples o
 Reads the FONTs in order and prints one line for each: `NAME: accepted`,
 `NAME: refused: ` and the first error of the font, or `NAME: not read`. A font
 that isn't accepted doesn't stop the check. With --quiet, the lines of accepted
-fonts are left out. With --summary, the last line has the numbers of fonts, as
-in `3 fonts: 2 accepted, 1 refused`, and if some were not read, their number,
-too. With --format json, each line is a JSON object. With --verbose, the cause
-for each font that was not read is printed on standard error.
+fonts without warnings are left out. With --summary, the last line has the
+numbers of fonts, as in `3 fonts: 2 accepted, 1 refused`, and if some were not
+read, their number, too. With --format json, each line is a JSON object. For
+each font that was not read, the cause is printed on standard error, and for
+one that is an OpenType, Type 1 or virtual font or a text, what it is.
 
 With --files-from FILE, the fonts whose names are the lines of FILE are read
 after the FONTs, however many they are. An empty line names no font, and - in
@@ -202,17 +204,19 @@ refused.
 Without --size, the font is set at its design size. A size is a number directly
 followed by pt, in, pc, cm, mm, bp, dd, cc or sp, such as 10.95pt or 4mm, and
 is rounded as TeX rounds it. A number without a unit is a whole number of
-scaled points: 655360 is 10pt. A size is 1 to 134217727 scaled points. If it is
-below 65536, which is 1pt, and has no unit, a warning is printed on standard
-error.
+scaled points: 655360 is 10pt. A size is 1 to 134217727 scaled points. With
+--verbose, a warning is printed on standard error if it is below 65536, which
+is 1pt, and has no unit.
 
 A line that needs more steps than --limit is refused; this stops lig/kern
 programs that never end. A step is one ligature, one kern, or one move to the
 next element. Record format 2 adds the number of steps to the records of lines
 that were set; json prints the same data as one JSON object per line. With box,
-the record of a line that was set is SOURCE:LINE box WIDTH HEIGHT DEPTH SPACES:
-the dimensions of TeX's \\hbox of the line, and its number of spaces. They are
-in sp, or in the unit of --unit, such as 35.74994pt or 12.56467mm.
+the record of a line that was set is
+  SOURCE:LINE box WIDTH HEIGHT DEPTH SPACES SKIPPED
+with the dimensions of TeX's \\hbox of the line, the number of its spaces, and
+the number of characters that were skipped. The dimensions are in sp, or in the
+unit of --unit, such as 35.74994pt or 12.56467mm.
 
 --workers is the largest number of threads that set lines. More of them can set
 a FILE in less time, if processors are free. Its lines are dealt to all of them
@@ -223,7 +227,8 @@ nothing, since the output is printed at the end.
 
 With --verbose, the causes of errors are printed on standard error, with the
 names of files, and then how many lines were set, how many were refused for
-each reason, and how many end with a carriage return.
+each reason, how many end with a carriage return, and how many characters were
+skipped.
 
 Exit status:
   0  Every line of every FILE was set, and the output was written.
@@ -263,11 +268,15 @@ least processor time. A record doesn't wait for input that hasn't arrived,
 however large the block is. --workers is the largest number of threads that set
 lines: more of them can set a FILE in less time, if processors are free. If
 the reader of a pipe closes it, `stream` ends at its next write, with exit
-status 5, and with --verbose it prints `Broken pipe` as the cause.
+status 5 and the cause `Broken pipe`.
 
-With --verbose, the causes of errors are printed on standard error, with the
-names of files, and then how many lines were set, how many were refused for
-each reason, and how many end with a carriage return.
+Causes of errors are printed on standard error, with the names of files, and so
+is what makes numbers wrong: a size below 65536 without a unit; the first line
+that is UTF-8, without --encoding, or ends with a carriage return, without
+--crlf; and a font for another encoding than that of --encoding. Such lines are
+looked for in the first 65536 bytes of each FILE. With --verbose, `stream` then
+prints how many lines were set, how many were refused for each reason, how many
+end with a carriage return, and how many characters were skipped.
 
 Exit status:
   0  Every line was set, and the output was written.
@@ -353,7 +362,7 @@ pub(crate) const ALL_HELP: &str = "Also print the counts, the extensible recipes
 
 pub(crate) const STRICT_HELP: &str = "Also print what TeX and TFtoPL report";
 
-pub(crate) const QUIET_HELP: &str = "Leave out the lines of accepted fonts";
+pub(crate) const QUIET_HELP: &str = "Leave out accepted fonts without warnings";
 
 pub(crate) const SUMMARY_HELP: &str = "Print a last line with the numbers of fonts";
 

@@ -13,10 +13,8 @@ use crate::request::{
 use clap::error::ErrorKind;
 use clap::{ArgMatches, Command, Error};
 use encodings::Encoding;
-use font_texts::{ListLayout, OutputFormat, PairsFormat, PairsLayout};
-use line_records::RecordFormat;
-use run_plan::{Block, Capacity, Plan, Workers};
-use set_line::{Limit, Policy, Version};
+use formats::{ListLayout, OutputFormat, PairsFormat, PairsLayout, RecordFormat};
+use run_plan::{Block, Capacity, Limit, Plan, Policy, Version, Workers};
 use std::alloc::{AllocError, Global};
 use std::convert::AsStr;
 use tex_sizes::{LengthUnit, is_plain, read_size};

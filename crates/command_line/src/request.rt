@@ -1,9 +1,7 @@
 //! The requests that arguments can state.
 use encodings::Encoding;
-use font_texts::{ListLayout, OutputFormat, PairsLayout};
-use line_records::RecordFormat;
-use run_plan::Plan;
-use set_line::{Limit, Policy};
+use formats::{ListLayout, OutputFormat, PairsLayout, RecordFormat};
+use run_plan::{Limit, Plan, Policy};
 use tfm_words::Size;
 
 /// What the arguments state: a request, and the file with its encoding vector if `--encoding` names one.

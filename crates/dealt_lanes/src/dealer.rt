@@ -36,14 +36,6 @@ impl<I: Stored> Dealer<I> {
         self.feeders.len()
     }
 
-    /// Returns the number of the lane that the next item goes to.
-    pub fn turn(&self) -> usize
-        ensures value { result ≡ dealer_turn self.now }
-        ensures below { result < dealer_lanes self.now }
-    {
-        self.turn
-    }
-
     /// Deals an item: feeds it to the lane in turn, after which the next lane is in turn.
     ///
     /// The error is `Closed` if the dealer is closed, and `NoRoom` if the lane in turn returns it

@@ -5,7 +5,7 @@ ghost use Rattle.encoding_vectors.specs.FaultText.{fault_text};
 use std::fmt;
 
 /// The text isn't an encoding vector.
-#[derive(Clone, Copy, Debug, PartialEq, Eq, Hash)]
+#[derive(Clone, Copy, Debug, PartialEq, Eq)]
 pub struct VectorFault {
     /// The number of the line, starting at 1, on which the first token is that doesn't belong to a vector. If
     /// the text ends too early, it is one more than the number of its line ends. If the text is too long, it

@@ -16,6 +16,15 @@ ot1_ligature : character_of Ot1 11 ≡ None
 unfolding character_of characters_of ot1_characters
 ot1_ligature = refl
 
+-- the codes of " and <: the one has ”, and the other one isn't that of ¡, which is made of two codes
+ot1_straight_mark : character_of Ot1 34 ≡ Some 0x201D
+unfolding character_of characters_of ot1_characters
+ot1_straight_mark = refl
+
+ot1_less_than : character_of Ot1 60 ≡ None
+unfolding character_of characters_of ot1_characters
+ot1_less_than = refl
+
 -- a code above those of OT1
 ot1_past_end : character_of Ot1 128 ≡ None
 unfolding character_of characters_of ot1_characters

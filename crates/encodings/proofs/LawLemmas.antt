@@ -20,7 +20,7 @@ use Rattle.encodings.specs.Lookup.{is_table}
 use Rattle.encodings.specs.Names.{encoding_named, name_of}
 use Rattle.encodings.specs.Vectors.{vector_characters}
 use Rattle.encodings.specs.Lines.{break_number, is_code, numbers_of, places_from, places_of, set_apart, without_mark}
-use Rattle.encodings.specs.Laws.{character_at, AreBytes, IsOwn, ComesFromItsCharacter, text_codes, characters_at, ComesBack, IsItself, KeepsFeed, KeepsSpace, HasFewCodes}
+use Rattle.encodings.specs.Laws.{character_at, AreBytes, IsOwn, ComesFromItsCharacter, text_codes, characters_at, ComesBack, IsItself, LosesOthers, KeepsFeed, KeepsSpace, HasFewCodes}
 use Rattle.encodings.proofs.PlaceLemmas.{characters_from, characters_in}
 use Rattle.encodings.proofs.TableLemmas.{at_member, by_table, in_range, no_row, no_own_code, neither, of_table, same, same_is}
 use Rattle.encodings.proofs.VectorLemmas.{of_vector, vector_bytes, vector_comes, vector_feed, vector_few, vector_space}
@@ -256,6 +256,15 @@ comes_back encoding [] all = refl
 comes_back encoding (c ∷ text) all =
     let own = own_code_is encoding c (all 0 c (omega arith)) in
     one_back encoding c own.0 text own.1 own.2 (comes_back encoding text (λ k d h. all (suc k) d (omega arith)))
+
+-- Law: in an encoding that has a name, the characters that are listed with other codes don't come back
+pub loses_others : (encoding : Encoding) → LosesOthers encoding
+unfolding characters_of others_of ot1_characters t1_characters ly1_characters shared_others ot1_others t1_others ly1_others
+loses_others Ot1 named = refl
+loses_others T1 named = refl
+loses_others Ly1 named = refl
+loses_others Latin1 named = refl
+loses_others (Vector vector) named = cc
 
 -- ---- the number of numbers
 

@@ -28,9 +28,19 @@ unfolding codes_of characters_of others_of ot1_characters shared_others ot1_othe
 ot1_exclamation_mark = refl
 
 -- the straight quotation mark, at whose code OT1 has ”
-ot1_straight_mark : codes_of Ot1 0x22 ≡ None
+ot1_straight_mark : codes_of Ot1 0x22 ≡ Some (34 ∷ [])
 unfolding codes_of characters_of others_of ot1_characters shared_others ot1_others
 ot1_straight_mark = refl
+
+-- >, at whose code cmr10 has ¿
+ot1_greater_than : codes_of Ot1 0x3E ≡ Some (62 ∷ [])
+unfolding codes_of characters_of others_of ot1_characters shared_others ot1_others
+ot1_greater_than = refl
+
+-- a brace, which LaTeX reads as a command
+ot1_brace : codes_of Ot1 0x7B ≡ None
+unfolding codes_of characters_of others_of ot1_characters shared_others ot1_others
+ot1_brace = refl
 
 -- é, which LaTeX makes of an accent and a letter
 ot1_accented : codes_of Ot1 0xE9 ≡ None
@@ -51,6 +61,11 @@ ot1_greek = refl
 ly1_euro : codes_of Ly1 0x20AC ≡ Some (1 ∷ [])
 unfolding codes_of characters_of others_of ly1_characters shared_others ly1_others
 ly1_euro = refl
+
+-- ˙
+ly1_dot : codes_of Ly1 0x2D9 ≡ Some (5 ∷ [])
+unfolding codes_of characters_of others_of ly1_characters shared_others ly1_others
+ly1_dot = refl
 
 -- ---- lines
 

@@ -8,7 +8,7 @@ use Rattle.std.specs.Option.{option_and_then, option_map, option_or}
 use Rattle.encodings.specs.declared.encoding.Encoding.{Encoding}
 use Rattle.encodings.specs.declared.encoding.Encoding.TheVariants.{Ot1, T1, Ly1, Latin1, Vector}
 use Rattle.encodings.specs.Tables.{no, ot1_characters, t1_characters, ly1_characters}
-use Rattle.encodings.specs.Tables.{shared_others, ot1_others, t1_others, ly1_others}
+use Rattle.encodings.specs.Tables.{shared_others, ot1_shown_otherwise, ot1_others, t1_others, ly1_others}
 use Rattle.encodings.specs.Vectors.{numbers_of, substitute_of, unbroken, vector_characters}
 
 -- the characters of an encoding by code
@@ -19,10 +19,10 @@ characters_of Ly1 = ly1_characters
 characters_of Latin1 = range_with_len 0 256
 characters_of (Vector vector) = vector_characters vector.now.characters
 
--- the characters that have other codes than their own, with these codes: in Latin 1 and in a vector the no-break
--- space and the soft hyphen
+-- the characters that have codes without being the character at a code, with these codes: in Latin 1 and in a vector
+-- the no-break space and the soft hyphen
 unfoldable pub others_of : Encoding → List (ℕ × List ℕ)
-others_of Ot1 = shared_others ++ ot1_others
+others_of Ot1 = shared_others ++ (ot1_shown_otherwise ++ ot1_others)
 others_of T1 = shared_others ++ t1_others
 others_of Ly1 = shared_others ++ ly1_others
 others_of Latin1 = unbroken

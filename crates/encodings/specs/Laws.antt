@@ -1,6 +1,6 @@
 -- Laws of the tables.
 -- This project's own.
-use Rattle.std.specs.Prelude.{◌≡◌, ◌≢◌, ◌⊎◌, ℕ, ◌<◌, ◌≤◌, ◌==◌, true, List, [], ◌∷◌, length, map, flat_map, get_or, Some, None}
+use Rattle.std.specs.Prelude.{◌≡◌, ◌≢◌, ◌⊎◌, ℕ, ◌<◌, ◌≤◌, ◌==◌, true, List, [], ◌∷◌, length, map, flat_map, get_or, nat_eq, not, Some, None}
 use Rattle.std.specs.Char.{is_ascii_alphanumeric, len_utf8}
 use Rattle.std.specs.List.{All, list_all, list_any}
 use Rattle.std.specs.Option.{unwrap_or}
@@ -40,6 +40,13 @@ characters_at encoding codes = map (character_at encoding) codes
 -- a text of characters that are set by their own codes comes back if it is encoded and decoded
 abbrev pub ComesBack : Encoding → List ℕ → Type 0
 ComesBack encoding text = All (IsOwn encoding) text → characters_at encoding (text_codes encoding text) ≡ text
+
+-- in an encoding that has a name of its own, a character that is listed with other codes isn't the character at any of
+-- them, and doesn't come back
+abbrev pub LosesOthers : Encoding → Type 0
+LosesOthers encoding =
+    encoding_named (name_of encoding) ≡ Some encoding
+    → list_all (λ row. not (list_any (λ code. nat_eq (character_at encoding code) row.0) row.1)) (others_of encoding) ≡ true
 
 -- in an encoding that has a name of its own, an ASCII letter or digit is its own code
 abbrev pub IsItself : Encoding → ℕ → Type 0

@@ -1,11 +1,13 @@
 -- The tables of OT1, T1 (the Cork encoding) and LY1 (TeX 'n ANSI): the characters that LaTeX sets by nothing but codes
 -- of a font with this encoding. A character that LaTeX takes from another font, makes of an accent, a box or a kern, or
--- doesn't declare isn't there. It doesn't matter which codes a font has.
+-- doesn't declare isn't there, except that LY1 has ˙, which LaTeX sets alone by \accent. It doesn't matter which codes a
+-- font has.
 -- Public source: LaTeX2e 2022-11-01. Its files ot1enc.def and t1enc.def, and ly1enc.def 0.8 for LY1, declare symbols and
 -- accented letters with their codes (\DeclareTextSymbol, \DeclareTextComposite); latex.ltx takes some of these
 -- declarations back (\UndeclareTextCommand: of \textdollar in OT1, and of \textperthousand and \textpertenthousand in
 -- T1); utf8enc.dfu declares the command that a character is. A character of ASCII that LaTeX reads as text has its own
--- code, and isn't there if the code is another character's.
+-- number as its code. If the code shows another character, only the latter is in the list by code, and the former is
+-- among the other characters.
 use Rattle.std.specs.Prelude.{ℕ, List, [], ◌∷◌}
 
 -- marks a code that is no character's own: a number above all characters
@@ -127,8 +129,8 @@ t1_characters =
 -- the characters of LY1 by code
 unfoldable pub ly1_characters : List ℕ
 ly1_characters =
-    -- 0x00: no € no no ⁄ no no no
-    no ∷ 0x20AC ∷ no ∷ no ∷ 0x2044 ∷ no ∷ no ∷ no
+    -- 0x00: no € no no ⁄ ˙ no no
+    no ∷ 0x20AC ∷ no ∷ no ∷ 0x2044 ∷ 0x2D9 ∷ no ∷ no
     -- 0x08: no no no no no no no no
     ∷ no ∷ no ∷ no ∷ no ∷ no ∷ no ∷ no ∷ no
     -- 0x10: ı ȷ no no no no no no
@@ -220,7 +222,16 @@ shared_others =
     ∷ (0xFB06, 115 ∷ 116 ∷ [])  -- ﬆ
     ∷ []
 
--- those of OT1 alone
+-- characters of ASCII that LaTeX sends to a code of OT1 at which the font shows another character: in cmr10 ” ¡ ¿ —
+abbrev pub ot1_shown_otherwise : List (ℕ × List ℕ)
+ot1_shown_otherwise =
+    (0x22, 34 ∷ [])  -- "
+    ∷ (0x3C, 60 ∷ [])  -- <
+    ∷ (0x3E, 62 ∷ [])  -- >
+    ∷ (0x7C, 124 ∷ [])  -- |
+    ∷ []
+
+-- the rest of OT1 alone
 unfoldable pub ot1_others : List (ℕ × List ℕ)
 ot1_others =
     (0xA1, 33 ∷ 96 ∷ [])  -- ¡

@@ -11,7 +11,7 @@ use std::marker::Model;
 ///
 /// Contracts see it as numbers: a code as itself, a character without codes as 256 and its own number, and a break
 /// as the number of a soft hyphen, which always has codes.
-#[derive(Debug, Drop)]
+#[derive(Drop)]
 pub struct EncodedLine {
     codes: Vec<u8>,
     /// The characters that have no codes, and a soft hyphen for each break, each after the number of codes before it.

@@ -5,7 +5,7 @@ use crate::Vector;
 
 /// The encoding of a font: the codes that set the characters of a line in UTF-8. Where lines are bytes, each of
 /// them a code of the font, callers have an `Option<Encoding>` that is `None`.
-#[derive(Clone, Copy, Debug, PartialEq, Eq, Hash)]
+#[derive(Clone, Copy, Debug, PartialEq, Eq)]
 pub enum Encoding<'a> {
     /// OT1, the encoding of cmr10.
     Ot1,
@@ -20,14 +20,6 @@ pub enum Encoding<'a> {
 }
 
 impl<'a> Encoding<'a> {
-    /// All encodings that have a name of their own.
-    pub const ALL: [Encoding<'static>; 4] = [
-        Encoding::Ot1,
-        Encoding::T1,
-        Encoding::Ly1,
-        Encoding::Latin1,
-    ];
-
     /// Returns the encoding of this name: `ot1`, `t1`, `ly1` or `latin1`, or the same in capitals. Returns `None` for
     /// any other name.
     pub fn from_name(name: &str) -> Option<Self>

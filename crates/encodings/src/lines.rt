@@ -8,7 +8,7 @@ use crate::{EncodedLine, Encoding};
 use std::str;
 
 /// The reason why a line isn't encoded.
-#[derive(Clone, Copy, Debug, PartialEq, Eq, Hash)]
+#[derive(Clone, Copy, Debug, PartialEq, Eq)]
 pub enum EncodeFault {
     /// The line isn't UTF-8: the byte offset at which no character begins, starting at 0.
     NotUtf8(usize),

@@ -6,7 +6,7 @@ ghost use Rattle.encodings.specs.Visited.{value_of};
 use std::marker::Model;
 
 /// A part of an encoded line.
-#[derive(Clone, Copy, Debug)]
+#[derive(Clone, Copy)]
 pub struct Part<'a> {
     /// Its codes.
     pub codes: &'a [u8],
@@ -28,7 +28,7 @@ impl<'a> Part<'a> {
 }
 
 /// The parts of an encoded line that are still to be visited, in order.
-#[derive(Debug, Drop)]
+#[derive(Drop)]
 pub struct Parts<'a> {
     /// The codes of these parts, or `None` after the last part.
     codes: Option<&'a [u8]>,

@@ -15,7 +15,7 @@ use std::marker::Model;
 use std::str;
 
 /// A character of a line.
-#[derive(Clone, Copy, Debug, PartialEq, Eq, Hash)]
+#[derive(Clone, Copy, Debug, PartialEq, Eq)]
 pub struct Place {
     /// The byte offset at which it begins, starting at 0.
     pub offset: usize,

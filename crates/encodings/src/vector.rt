@@ -11,7 +11,7 @@ use crate::vector_tables::singles;
 use std::marker::Model;
 
 /// The characters of an encoding that is made of the characters of 256 codes.
-#[derive(Debug, Drop, PartialEq, Eq, Hash)]
+#[derive(Debug, Drop, PartialEq, Eq)]
 pub struct Vector {
     /// The numbers of the characters by code, each at the code that sets it alone.
     pub(crate) characters: [u32; 256],

@@ -1,3 +1,6 @@
+use std::fmt::Debug;
+use std::process::Abort;
+
 // Errors of fonts, for the tables of the modules.
 
 macro_rules! counts {
@@ -52,6 +55,7 @@ macro_rules! step {
 }
 
 mod damage;
+mod endless;
 mod facts;
 mod faults;
 mod faulty;
@@ -67,3 +71,14 @@ mod samples;
 mod slow;
 mod strict;
 mod words;
+
+/// Fails with this case unless what was found is what is wanted. A call of this is proved in less time than an
+/// assertion.
+fn same<R: Abort, T: PartialEq + Debug, C: Debug>(rt: &R, found: &T, wanted: &T, case: &C) {
+    assert_eq!(rt; found, wanted, "{case:?}");
+}
+
+/// Fails with this case unless the bytes are this text.
+fn same_text<R: Abort, C: Debug>(rt: &R, found: &[u8], wanted: &str, case: &C) {
+    assert_eq!(rt; str::from_utf8(found).ok(), Some(wanted), "{case:?}");
+}

@@ -7,12 +7,12 @@ use Rattle.std.proofs.lemmas.List.{append-nil}
 use Rattle.encodings.specs.declared.encoding.Encoding.{Encoding}
 use Rattle.tex_sizes.specs.declared.length_unit.LengthUnit.{LengthUnit}
 use Rattle.tfm_tables.specs.Font.{FontValue}
+use Rattle.formats.specs.declared.pairs.PairsFormat.{PairsFormat}
+use Rattle.formats.specs.declared.pairs.PairsFormat.TheVariants.{Text, Json}
 use Rattle.font_texts.specs.Pairs.{pairs_of}
 use Rattle.font_texts.specs.PairsText.{line_end, pair_front, pair_line, pairs_head, pairs_text_of}
 use Rattle.font_texts.specs.PairCharacters.{HasTextOfCodes, character_name, character_word, characters_beside, is_named, pair_line_with, pairs_head_with, pairs_text_with}
 use Rattle.font_texts.specs.declared.pair.Pair.{Pair}
-use Rattle.font_texts.specs.declared.pairs_format.PairsFormat.{PairsFormat}
-use Rattle.font_texts.specs.declared.pairs_format.PairsFormat.TheVariants.{Text, Json}
 
 -- ---- the line before the pairs
 

@@ -14,14 +14,15 @@ use Rattle.encodings.specs.declared.encoding.Encoding.TheVariants.{Ot1, T1, Ly1,
 use Rattle.encodings.specs.Tables.{ot1_characters, t1_characters, ly1_characters}
 use Rattle.encodings.specs.Codes.{characters_of}
 use Rattle.encodings.specs.Characters.{character_of}
-use Rattle.font_texts.specs.AllListing.{hex_byte}
+use Rattle.formats.specs.declared.listing.OutputFormat.TheVariants.{Json as FindingJson}
+use Rattle.formats.specs.declared.pairs.PairsFormat.TheVariants.{Text, Csv, Json}
+use Rattle.font_texts.specs.JsonText.{json_byte}
+use Rattle.font_texts.specs.ListingWords.{hex_byte}
 use Rattle.font_texts.specs.PairsText.{action_name, action_value, line_end, pair_front, symbol_in}
-use Rattle.font_texts.specs.PairCharacters.{character_cell, character_name, character_word, characters_beside, json_character, json_member, json_value, pair_line_with, symbol_character, symbol_field, value_character, value_field, value_member}
+use Rattle.font_texts.specs.PairCharacters.{character_cell, character_name, character_word, characters_beside, json_member, json_value, pair_line_with, symbol_character, symbol_field, value_character, value_field, value_member}
 use Rattle.font_texts.specs.Listing.{length_line}
 use Rattle.font_texts.specs.ListingFormats.{hidden_name, length_in, length_quote, line_of, table_of_lines, word_in}
-use Rattle.font_texts.specs.declared.output_format.OutputFormat.TheVariants.{Json as FindingJson}
 use Rattle.font_texts.specs.declared.pair.Pair.{Pair}
-use Rattle.font_texts.specs.declared.pairs_format.PairsFormat.TheVariants.{Text, Csv, Json}
 
 abbrev pair : Symbol → Symbol → Action → Pair
 pair first second action = record { left = first; right = second; action = action }
@@ -51,7 +52,7 @@ in_json :
     ≡ codes "{\"left\":34,\"right\":92,\"action\":\"LIG\",\"value\":31,\"left_character\":\"\\\"\",\"right_character\":\"\\\\\",\"value_character\":\"\\u001f\"}\n")
     × (pair_line_with ScaledPoints (Some Ot1) Json (pair (Char 65) Right (Kern (pos 1)))
     ≡ codes "{\"left\":65,\"right\":\"right\",\"action\":\"kern\",\"value\":1,\"left_character\":\"A\",\"right_character\":null}\n")
-unfolding pair_line_with pair_front line_end characters_beside symbol_in word_in action_name action_value length_in length_quote length_text digits symbol_character value_member json_member json_value json_character hex_byte encode_utf8 character_of characters_of ot1_characters
+unfolding pair_line_with pair_front line_end characters_beside symbol_in word_in action_name action_value length_in length_quote length_text digits symbol_character value_member json_member json_value json_byte hex_byte encode_utf8 character_of characters_of ot1_characters
 in_json = (refl, refl)
 
 -- without an encoding; and in points, where a kern is a string in JSON

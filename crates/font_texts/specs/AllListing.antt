@@ -2,28 +2,20 @@
 -- the lf words of the file.
 -- Public source: the four bytes of a recipe are those of tftopl.web, section 14; the text is this project's
 -- own.
-use Rattle.std.specs.Prelude.{ℕ, ◌/◌, ◌%◌, List, [], ◌∷◌, ◌++◌, codes, flat_map, slice_index, false}
-use Rattle.std.specs.Fmt.{digit_glyph}
+use Rattle.std.specs.Prelude.{ℕ, List, ◌++◌, codes, flat_map, slice_index}
 use Rattle.std.specs.List.{range_with_len}
 use Rattle.tfm_words.specs.declared.table.Table.TheVariants.{Exten}
 use Rattle.tfm_words.specs.Counts.{counts_of}
 use Rattle.tfm_words.specs.Word.{word_at}
 use Rattle.tfm_tables.specs.Font.{FontValue}
-use Rattle.tfm_tables.specs.Table.{entries_of, table_of}
+use Rattle.tfm_tables.specs.Table.{entries_of, entry_at}
+use Rattle.formats.specs.declared.listing.OutputFormat.{OutputFormat}
+use Rattle.formats.specs.declared.listing.ListLayout.{ListLayout}
 use Rattle.font_texts.specs.CountsText.{count_rows, count_rows_text}
 use Rattle.font_texts.specs.Listing.{contents_of, listing_end, listing_head}
 use Rattle.font_texts.specs.ListingFields.{number_field}
 use Rattle.font_texts.specs.ListingFormats.{hidden_name, line_of, table_of_lines, word_in}
-use Rattle.font_texts.specs.declared.output_format.OutputFormat.{OutputFormat}
-use Rattle.font_texts.specs.declared.list_layout.ListLayout.{ListLayout}
-
--- a byte as two hexadecimal digits, the higher digit first
-unfoldable pub hex_byte : ℕ → List ℕ
-hex_byte byte = digit_glyph false (byte / 16) ∷ digit_glyph false (byte % 16) ∷ []
-
--- bytes as hexadecimal digits, one byte after the other
-abbrev pub hex_text : List ℕ → List ℕ
-hex_text bytes = flat_map hex_byte bytes
+use Rattle.font_texts.specs.ListingWords.{hex_text}
 
 -- the fields for the four pieces of an extensible recipe: the top, the middle, the bottom, and the piece that
 -- is repeated
@@ -35,8 +27,8 @@ piece_fields format recipe =
     ++ number_field format (codes "rep") (slice_index recipe 3)
 
 -- the line of extensible recipe i, from 0
-unfoldable pub recipe_line : OutputFormat → List ℕ → ℕ → List ℕ
-recipe_line format recipes i = line_of format (codes "recipe") i (piece_fields format (word_at recipes i))
+unfoldable pub recipe_line : OutputFormat → FontValue → ℕ → List ℕ
+recipe_line format font i = line_of format (codes "recipe") i (piece_fields format (entry_at font.words Exten i))
 
 -- the line of word i, from 0
 unfoldable pub word_line : OutputFormat → List ℕ → ℕ → List ℕ
@@ -45,8 +37,7 @@ word_line format words i =
 
 -- the lines of the extensible recipes, from 0
 unfoldable pub recipe_lines : OutputFormat → FontValue → List ℕ
-recipe_lines format font =
-    flat_map (recipe_line format (table_of font.words Exten)) (range_with_len 0 (entries_of font.words Exten))
+recipe_lines format font = flat_map (recipe_line format font) (range_with_len 0 (entries_of font.words Exten))
 
 -- the lines of the lf words of the file, from 0, in hexadecimal and without interpretation
 unfoldable pub word_lines : OutputFormat → FontValue → List ℕ

@@ -6,7 +6,6 @@ pub mod ListingFormats
 pub mod ListingWords
 pub mod FaultWords
 pub mod JsonText
-pub mod Laws
 pub mod Pairs
 pub mod PairsText
 pub mod PairCharacters

@@ -15,8 +15,8 @@ use Rattle.tfm_tables.specs.Character.{exists, char_info_of, measures_of, remain
 use Rattle.tfm_tables.specs.Measure.{kern_at, parameter_of}
 use Rattle.tfm_tables.specs.Program.{program_of, right_code_of, start_of, step_at}
 use Rattle.tfm_tables.specs.Font.{FontValue}
-use Rattle.font_texts.specs.declared.output_format.OutputFormat.{OutputFormat}
-use Rattle.font_texts.specs.declared.list_layout.ListLayout.{ListLayout}
+use Rattle.formats.specs.declared.listing.OutputFormat.{OutputFormat}
+use Rattle.formats.specs.declared.listing.ListLayout.{ListLayout}
 use Rattle.font_texts.specs.ListingFields.{char_fields, step_fields}
 use Rattle.font_texts.specs.ListingFormats.{entry, flag_in, hidden_name, in_format, length_in, line_of, number_or_none, string_in, table_of_lines}
 

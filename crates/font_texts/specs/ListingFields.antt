@@ -11,8 +11,8 @@ use Rattle.tfm_tables.specs.Acceptance.{kern_index_of}
 use Rattle.tfm_tables.specs.Font.{FontValue}
 use Rattle.tfm_tables.specs.Measure.{kern_at}
 use Rattle.tfm_tables.specs.Program.{target_of}
-use Rattle.font_texts.specs.declared.output_format.OutputFormat.{OutputFormat}
-use Rattle.font_texts.specs.declared.list_layout.ListLayout.{ListLayout}
+use Rattle.formats.specs.declared.listing.OutputFormat.{OutputFormat}
+use Rattle.formats.specs.declared.listing.ListLayout.{ListLayout}
 use Rattle.font_texts.specs.ListingFormats.{field_name, hidden_name, length_in, word_in}
 
 -- a field with a number

@@ -5,9 +5,9 @@ use Rattle.std.specs.Option.{option_map_or}
 use Rattle.tex_sizes.specs.Lengths.{length_text}
 use Rattle.tex_sizes.specs.declared.length_unit.LengthUnit.{LengthUnit}
 use Rattle.tex_sizes.specs.declared.length_unit.LengthUnit.TheVariants.{ScaledPoints}
-use Rattle.font_texts.specs.declared.output_format.OutputFormat.{OutputFormat}
-use Rattle.font_texts.specs.declared.output_format.OutputFormat.TheVariants.{Text, Json}
-use Rattle.font_texts.specs.declared.list_layout.ListLayout.{ListLayout}
+use Rattle.formats.specs.declared.listing.OutputFormat.{OutputFormat}
+use Rattle.formats.specs.declared.listing.OutputFormat.TheVariants.{Text, Json}
+use Rattle.formats.specs.declared.listing.ListLayout.{ListLayout}
 use Rattle.font_texts.specs.JsonText.{json_text}
 use Rattle.font_texts.specs.ListingWords.{escaped_text}
 

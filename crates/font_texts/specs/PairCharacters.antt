@@ -2,7 +2,7 @@
 -- Public source: the name of a character, as U+00A0, is that of the Unicode Standard, appendix A, and UTF-8 that
 -- of its section 3.9; the escapes of JSON are those of RFC 8259, section 7, and the quotes of CSV those of
 -- RFC 4180, section 2; the rest is this project's own.
-use Rattle.std.specs.Prelude.{◌≡◌, ℕ, ◌/◌, ◌%◌, Bool, true, nat_eq, nat_lt, ◌||◌, List, [], ◌∷◌, ◌++◌, codes, flat_map, Option, Some, None, if◌then◌else◌}
+use Rattle.std.specs.Prelude.{◌≡◌, ℕ, ◌/◌, ◌%◌, Bool, true, nat_eq, ◌||◌, List, [], ◌∷◌, ◌++◌, codes, flat_map, Option, Some, None, if◌then◌else◌}
 use Rattle.std.specs.Char.{encode_utf8, is_control}
 use Rattle.std.specs.Fmt.{digit_glyph}
 use Rattle.std.specs.Option.{option_map_or}
@@ -14,12 +14,12 @@ use Rattle.lig_kern.specs.declared.action.Action.TheVariants.{Kern, Lig}
 use Rattle.lig_kern.specs.declared.symbol.Symbol.{Symbol}
 use Rattle.lig_kern.specs.declared.symbol.Symbol.TheVariants.{Left, Char, Right}
 use Rattle.tfm_tables.specs.Font.{FontValue}
-use Rattle.font_texts.specs.AllListing.{hex_byte}
+use Rattle.formats.specs.declared.pairs.PairsFormat.{PairsFormat}
+use Rattle.formats.specs.declared.pairs.PairsFormat.TheVariants.{Text, Csv, Json}
+use Rattle.font_texts.specs.JsonText.{json_string}
 use Rattle.font_texts.specs.Pairs.{pairs_of}
 use Rattle.font_texts.specs.PairsText.{line_end, pair_front, pairs_head, pairs_text_of}
 use Rattle.font_texts.specs.declared.pair.Pair.{Pair}
-use Rattle.font_texts.specs.declared.pairs_format.PairsFormat.{PairsFormat}
-use Rattle.font_texts.specs.declared.pairs_format.PairsFormat.TheVariants.{Text, Csv, Json}
 
 -- ---- the characters of a pair
 
@@ -56,21 +56,9 @@ character_cell character =
     else if nat_eq character 0x2C then codes "\",\""
     else character_word character
 
--- the escape of a character below U+0100 in a JSON string
-abbrev pub json_escape : ℕ → List ℕ
-json_escape character = codes "\\u00" ++ hex_byte character
-
--- a character in a JSON string: a double quote, a backslash and a character below U+0020 are escaped
-unfoldable pub json_character : ℕ → List ℕ
-json_character character =
-    if nat_eq character 0x22 then codes "\\\""
-    else if nat_eq character 0x5C then codes "\\\\"
-    else if nat_lt character 0x20 then json_escape character
-    else encode_utf8 character
-
 -- a character as a JSON value: a string, or `null` for no character
 unfoldable pub json_value : Option ℕ → List ℕ
-json_value character = option_map_or (λ c. codes "\"" ++ json_character c ++ codes "\"") character (codes "null")
+json_value character = option_map_or (λ c. codes "\"" ++ json_string (encode_utf8 c) ++ codes "\"") character (codes "null")
 
 -- ---- what an encoding adds to the line of a pair
 

@@ -9,13 +9,13 @@ use Rattle.lig_kern.specs.declared.action.Action.TheVariants.{Kern, Lig}
 use Rattle.lig_kern.specs.declared.symbol.Symbol.{Symbol}
 use Rattle.lig_kern.specs.declared.symbol.Symbol.TheVariants.{Left, Char, Right}
 use Rattle.tfm_tables.specs.Font.{FontValue}
+use Rattle.formats.specs.declared.listing.OutputFormat.{OutputFormat}
+use Rattle.formats.specs.declared.listing.OutputFormat.TheVariants.{Text as InText, Json as InJson}
+use Rattle.formats.specs.declared.pairs.PairsFormat.{PairsFormat}
+use Rattle.formats.specs.declared.pairs.PairsFormat.TheVariants.{Text, Csv, Json}
 use Rattle.font_texts.specs.Pairs.{pairs_of}
 use Rattle.font_texts.specs.ListingFormats.{length_in, word_in}
-use Rattle.font_texts.specs.declared.output_format.OutputFormat.{OutputFormat}
-use Rattle.font_texts.specs.declared.output_format.OutputFormat.TheVariants.{Text as InText, Json as InJson}
 use Rattle.font_texts.specs.declared.pair.Pair.{Pair}
-use Rattle.font_texts.specs.declared.pairs_format.PairsFormat.{PairsFormat}
-use Rattle.font_texts.specs.declared.pairs_format.PairsFormat.TheVariants.{Text, Csv, Json}
 
 -- a symbol: the code of a character, or the name of a boundary, which is a string in JSON
 unfoldable pub symbol_in : OutputFormat → Symbol → List ℕ

@@ -1,12 +1,11 @@
 //! The full listing of a font: its counts, listing, extensible recipes, and each of its lf words.
-ghost use Rattle.std.specs.Prelude.{◌≡◌, ◌+◌, ◌*◌, ◌/◌, ◌<◌, ◌≤◌, ◌++◌, flat_map, length, IfOk, IfErr, OnOk};
-ghost use Rattle.std.specs.List.{range_with_len};
-ghost use Rattle.tfm_words.specs.Counts.{AreCountsOf};
+ghost use Rattle.std.specs.Prelude.{◌≡◌, ◌+◌, ◌*◌, ◌<◌, ◌≤◌, ◌++◌, length, IfOk, IfErr, OnOk};
 ghost use Rattle.tfm_words.specs.declared.table.Table.TheVariants.{Exten};
 ghost use Rattle.tfm_tables.specs.Font.{FontValue, IsFontOf, IsRefusalOf};
-ghost use Rattle.tfm_tables.specs.Table.{entries_of, table_of};
-ghost use Rattle.font_texts.specs.AllListing.{all_listing_of, hex_text, piece_fields, recipe_line, word_line};
+ghost use Rattle.tfm_tables.specs.Table.{entries_of};
+ghost use Rattle.font_texts.specs.AllListing.{all_listing_of, piece_fields, recipe_line, recipe_lines as recipe_lines_of, word_line, word_lines as word_lines_of};
 ghost use Rattle.font_texts.specs.ListingFormats.{word_in};
+ghost use Rattle.font_texts.specs.ListingWords.{hex_text};
 
 use crate::appending::{Pushed, push_hex};
 use crate::counts::push_counts;
@@ -16,7 +15,7 @@ use crate::rows::{push_line_end, push_line_start, push_table};
 use crate::{ListLayout, OutputFormat};
 use std::alloc::{AllocError, Global};
 use tfm_tables::{FontFault, FontMetrics};
-use tfm_words::{Counts, Size, Table, word_at};
+use tfm_words::{Size, word_at};
 
 /// Reads a font at `size`, or at its design size for `None`, and returns its full listing in this layout: the
 /// twelve counts, the contents of the listing, a line for each extensible recipe (tftopl.web, section 14), and a
@@ -32,75 +31,53 @@ pub fn list_all_text(
         × (text.items ≡ all_listing_of layout f)) }
     ensures fault { IfErr result (IsRefusalOf bytes.now) }
 {
-    let counts = match Counts::read(bytes) {
-        Ok(counts) => counts,
-        Err(fault) => return Err(FontFault::Counts(fault)),
-    };
     let font = FontMetrics::read(alloc, bytes, size)?;
-    let words = &bytes[..4 * usize::from(counts.lf())];
-    match text_of(alloc, words, &counts, &font, layout) {
+    match text_of(alloc, &font, layout) {
         Ok(text) => Ok(text),
         Err(_) => Err(FontFault::OutOfMemory),
     }
 }
 
-/// Returns the full listing of a font. `words` are the bytes of its file, and `counts` are its counts.
-#[tactic(auto, using(crate::proofs::ListingLemmas::joined), unfolding(crate::specs::AllListing::all_listing_of, crate::specs::AllListing::recipe_lines, crate::specs::AllListing::word_lines))]
-fn text_of(
-    alloc: Global,
-    words: &[u8],
-    counts: &Counts,
-    font: &FontMetrics,
-    layout: ListLayout,
-) -> Result<Vec<u8>, AllocError>
-    requires counts { AreCountsOf words.now counts.now }
-    requires words { font.now.words ≡ words.now }
+/// Returns the full listing of a font.
+#[tactic(auto, using(crate::proofs::ListingLemmas::joined), unfolding(crate::specs::AllListing::all_listing_of))]
+fn text_of(alloc: Global, font: &FontMetrics, layout: ListLayout) -> Result<Vec<u8>, AllocError>
     ensures { IfOk result (λ text. text.items ≡ all_listing_of layout font.now) }
 {
     let mut text = Vec::new(alloc);
     push_head(&mut text, layout)?;
-    push_counts(&mut text, layout.format, counts)?;
+    push_counts(&mut text, layout.format, font.counts())?;
     push_contents(alloc, &mut text, font, layout)?;
-    let recipes = recipe_lines(alloc, layout.format, recipes_of(words, counts))?;
+    let recipes = recipe_lines(alloc, layout.format, font)?;
     push_table(&mut text, layout.format, b"recipes", recipes.as_slice())?;
-    let lines = word_lines(alloc, layout.format, words, usize::from(counts.lf()))?;
-    push_table(&mut text, layout.format, b"words", lines.as_slice())?;
+    let words = word_lines(alloc, layout.format, font)?;
+    push_table(&mut text, layout.format, b"words", words.as_slice())?;
     push_end(&mut text, layout.format)?;
     Ok(text)
 }
 
-/// Returns the bytes of the table of extensible recipes, four for each.
-#[tactic(auto, unfolding(tfm_tables::specs::Table::table_of))]
-fn recipes_of<'a>(words: &'a [u8], counts: &Counts) -> &'a [u8]
-    requires { AreCountsOf words.now counts.now }
-    ensures bytes { result.now ≡ table_of words.now Exten }
-    ensures whole { length result.now ≡ 4 * entries_of words.now Exten }
-{
-    let (first, count) = counts.table(Table::Exten);
-    let rest = &words[4 * first..];
-    &rest[..4 * count]
-}
-
-/// Returns the lines of the extensible recipes in these bytes.
-#[tactic(auto, using(crate::proofs::ListingLemmas::more))]
-fn recipe_lines(alloc: Global, format: OutputFormat, recipes: &[u8]) -> Result<Vec<u8>, AllocError>
-    ensures { IfOk result (λ lines. lines.items
-        ≡ flat_map (recipe_line format recipes.now) (range_with_len 0 (length recipes.now / 4))) }
+/// Returns the lines of the extensible recipes.
+#[tactic(auto, using(crate::proofs::ListingLemmas::more), unfolding(crate::specs::AllListing::recipe_lines))]
+fn recipe_lines(
+    alloc: Global,
+    format: OutputFormat,
+    font: &FontMetrics,
+) -> Result<Vec<u8>, AllocError>
+    ensures { IfOk result (λ lines. lines.items ≡ recipe_lines_of format font.now) }
 {
     let mut text = Vec::new(alloc);
-    for i in 0..recipes.len() / 4 {
-        push_recipe(&mut text, format, recipes, i)?;
+    for i in 0..font.recipes() {
+        push_recipe(&mut text, format, font, i)?;
     }
     Ok(text)
 }
 
 #[tactic(auto, using(crate::proofs::ListingLemmas::joined), unfolding(crate::specs::ListingFormats::line_of, crate::specs::AllListing::recipe_line))]
-fn push_recipe(text: &mut Vec<u8>, format: OutputFormat, recipes: &[u8], i: usize) -> Pushed
-    requires { 4 * i + 4 ≤ length recipes.now }
-    ensures { OnOk result (text.new.items ≡ text.old.items ++ recipe_line format recipes.now i) }
+fn push_recipe(text: &mut Vec<u8>, format: OutputFormat, font: &FontMetrics, i: usize) -> Pushed
+    requires { i < entries_of font.now.words Exten }
+    ensures { OnOk result (text.new.items ≡ text.old.items ++ recipe_line format font.now i) }
 {
     push_line_start(text, format, b"recipe", i)?;
-    push_pieces(text, format, word_at(recipes, i))?;
+    push_pieces(text, format, font.recipe(i))?;
     push_line_end(text, format)
 }
 
@@ -114,21 +91,18 @@ fn push_pieces(text: &mut Vec<u8>, format: OutputFormat, recipe: [u8; 4]) -> Pus
     push_number_field(text, format, b"rep", recipe[3])
 }
 
-/// Returns a line for each of the first `count` words.
-#[tactic(auto, using(crate::proofs::ListingLemmas::more))]
+/// Returns the lines of the words.
+#[tactic(auto, using(crate::proofs::ListingLemmas::more), unfolding(crate::specs::AllListing::word_lines))]
 fn word_lines(
     alloc: Global,
     format: OutputFormat,
-    words: &[u8],
-    count: usize,
+    font: &FontMetrics,
 ) -> Result<Vec<u8>, AllocError>
-    requires { 4 * count ≤ length words.now }
-    ensures { IfOk result (λ lines. lines.items
-        ≡ flat_map (word_line format words.now) (range_with_len 0 count)) }
+    ensures { IfOk result (λ lines. lines.items ≡ word_lines_of format font.now) }
 {
     let mut text = Vec::new(alloc);
-    for i in 0..count {
-        push_word_line(&mut text, format, words, i)?;
+    for i in 0..usize::from(font.counts().lf()) {
+        push_word_line(&mut text, format, font.words(), i)?;
     }
     Ok(text)
 }

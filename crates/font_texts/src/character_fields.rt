@@ -1,9 +1,10 @@
 //! Appends a character as a field of text or of CSV, or as a JSON value.
 ghost use Rattle.std.specs.Prelude.{◌≡◌, ◌++◌, OnOk, true};
 ghost use Rattle.std.specs.Char.{encode_utf8};
-ghost use Rattle.font_texts.specs.PairCharacters.{character_cell, character_name, character_word, csv_field, is_named as is_named_in, json_character, json_escape, json_member, json_value};
+ghost use Rattle.font_texts.specs.JsonText.{json_string};
+ghost use Rattle.font_texts.specs.PairCharacters.{character_cell, character_name, character_word, csv_field, is_named as is_named_in, json_member, json_value};
 
-use crate::appending::{Pushed, capital_digit, push_hex};
+use crate::appending::{Pushed, hex_digit, push_json_string};
 
 fn push_utf8(text: &mut Vec<u8>, character: char) -> Pushed
     ensures { OnOk result (text.new.items ≡ text.old.items ++ encode_utf8 character) }
@@ -26,7 +27,7 @@ fn push_name(text: &mut Vec<u8>, number: u8) -> Pushed
     ensures { OnOk result (text.new.items ≡ text.old.items ++ character_name number) }
 {
     text.extend_from_slice(b"U+00")?;
-    text.extend_from_slice(&[capital_digit(number / 16), capital_digit(number % 16)])
+    text.extend_from_slice(&[hex_digit(number / 16, true), hex_digit(number % 16, true)])
 }
 
 /// Appends a character as a field of a line of text.
@@ -90,22 +91,9 @@ fn push_json_value(text: &mut Vec<u8>, character: Option<char>) -> Pushed
 }
 
 /// Appends a character of a JSON string.
-#[tactic(auto, unfolding(crate::specs::PairCharacters::json_character))]
 fn push_json_character(text: &mut Vec<u8>, character: char) -> Pushed
-    ensures { OnOk result (text.new.items ≡ text.old.items ++ json_character character) }
+    ensures { OnOk result (text.new.items ≡ text.old.items ++ json_string (encode_utf8 character)) }
 {
-    match character {
-        '"' => text.extend_from_slice(b"\\\""),
-        '\\' => text.extend_from_slice(b"\\\\"),
-        '\0'..='\u{1F}' => push_escape(text, character as u8),
-        _ => push_utf8(text, character),
-    }
-}
-
-/// Appends a character below U+0100 by its number, such as `\u001f`.
-fn push_escape(text: &mut Vec<u8>, number: u8) -> Pushed
-    ensures { OnOk result (text.new.items ≡ text.old.items ++ json_escape number) }
-{
-    text.extend_from_slice(b"\\u00")?;
-    push_hex(text, &[number])
+    let mut bytes = [0; 4];
+    push_json_string(text, character.encode_utf8(&mut bytes).as_bytes())
 }

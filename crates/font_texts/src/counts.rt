@@ -1,6 +1,6 @@
 ghost use Rattle.std.specs.Prelude.{◌≡◌, ◌++◌, None, IfOk, IfErr, OnOk};
+ghost use Rattle.formats.specs.declared.listing.OutputFormat.TheVariants.{Text};
 ghost use Rattle.font_texts.specs.CountsText.{IsHeadRefusalOf, count_rows, counts_text_of, head_rows, head_fault_of, count_rows_text};
-ghost use Rattle.font_texts.specs.declared.output_format.OutputFormat.TheVariants.{Text};
 
 use crate::OutputFormat;
 use crate::appending::Pushed;

@@ -9,7 +9,7 @@ use tfm_words::CountFault;
 /// A font error, which `Display` writes with its number before it. The numbers 1 to 14 are in the order in
 /// which a font is checked; 15 means that an allocation failed. A file that ends within its counts has number
 /// 1, and a file that ends after its counts has number 8.
-#[derive(Clone, Copy, Debug, PartialEq, Eq, Hash)]
+#[derive(Clone, Copy)]
 pub struct Numbered(pub FontFault);
 
 impl fmt::Display for Numbered {

@@ -1,7 +1,7 @@
 use lig_kern::{Action, Symbol};
 
 /// Two neighbours for which the lig/kern program of a font has an action.
-#[derive(Clone, Copy, Debug, PartialEq, Eq, Hash)]
+#[derive(Clone, Copy)]
 pub struct Pair {
     /// The left boundary, or a character of the font.
     pub left: Symbol,

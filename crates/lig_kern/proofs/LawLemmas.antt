@@ -1,9 +1,9 @@
 -- Proofs of the laws of the rewriting.
-use Rattle.std.proofs.Common.{◌≡◌, ℕ, suc, zero, ◌+◌, ◌*◌, ◌<◌, ◌≤◌, Bool, true, false, cond, List, [], ◌∷◌, ◌++◌, length, map, take, Option, Some, None, IfSome, arith, rules, refl, ap, sym, subst, ◌∙◌, length-append}
+use Rattle.std.proofs.Common.{◌≡◌, ℕ, suc, zero, ◌+◌, ◌*◌, ◌<◌, ◌≤◌, Bool, true, false, cond, List, [], ◌∷◌, ◌++◌, length, map, Option, Some, None, IfSome, arith, refl, ap, sym, subst, ◌∙◌, append_assoc, length-append, rules}
 use Rattle.std.specs.Prelude.{is_some, nat_lt, if◌then◌else◌}
-use Rattle.std.proofs.lemmas.Bool.{ltb-true, ltb-false}
-use Rattle.std.proofs.lemmas.List.{length-map, length-take}
-use Rattle.std.specs.List.{find, filter_map, cons_option, range_with_len}
+use Rattle.std.proofs.lemmas.Bool.{leb-true, ltb-true, ltb-false}
+use Rattle.std.proofs.lemmas.List.{length-map}
+use Rattle.std.specs.List.{find, filter_map, cons_option, range_with_len, slice_get}
 use Rattle.std.specs.Option.{option_and_then, option_map, option_map_or}
 use Rattle.tfm_tables.specs.Font.{FontValue}
 use Rattle.tfm_tables.specs.Program.{program_of, right_code_of}
@@ -13,55 +13,32 @@ use Rattle.lig_kern.specs.declared.action.Action.{Action}
 use Rattle.lig_kern.specs.declared.action.Action.TheVariants.{Kern, Lig}
 use Rattle.lig_kern.specs.declared.item.Item.{Item}
 use Rattle.lig_kern.specs.declared.item.Item.TheVariants.{Char as CharItem}
+use Rattle.lig_kern.specs.declared.plainly.Plain.TheVariants.{Passes}
 use Rattle.lig_kern.specs.Matching.{action_between}
-use Rattle.lig_kern.specs.Rewriting.{Element, of_symbol, of_kern, items_of, item_of, opening, after_steps, right_end, step_from, symbols_of, character_width}
-use Rattle.lig_kern.specs.Result.{Setting, IsResultFrom, IsResultOf, result_after, result_from, result_within, setting_from}
-use Rattle.lig_kern.specs.Ahead.{finish, turn_of, turn_by, put_in}
+use Rattle.lig_kern.specs.Plain.{plain_of}
+use Rattle.lig_kern.specs.Rewriting.{Configuration, Element, of_symbol, of_kern, action_at, items_of, item_of, is_final, final_items, opening, after_steps, right_end, splice_by, spliced, step_from, symbols_of, character_width}
+use Rattle.lig_kern.specs.Result.{Setting, IsResultFrom, result_after, result_from, result_within, setting_from}
 use Rattle.lig_kern.specs.Laws.{HasOneResult, HasFewItems, FindsResult, FindsResultFrom, HasNoMatches, SetsAsItself, plain_items}
-use Rattle.lig_kern.proofs.Onward.{result_from_is, result_is}
-use Rattle.lig_kern.proofs.TurnLemmas.{StaysWithin, bit, between_within, items_of-append}
+use Rattle.lig_kern.proofs.PlainLemmas.{at, settles_last, settles_next}
+use Rattle.lig_kern.proofs.Steps.{settled, unsettled}
+use Rattle.lig_kern.proofs.Within.{StaysWithin, bit, between_within}
 
 -- ---- one result
 
--- at most one number of further steps reaches the end of a run
-finish_once : (font : FontValue) (n m : ℕ) (current : Symbol) (ahead : List Symbol) (xs ys : List Item)
-    → finish font n current ahead ≡ Some xs → finish font m current ahead ≡ Some ys → n ≡ m
-unfolding finish
-finish_once font zero zero current ahead xs ys a b = refl
-finish_once font zero (suc m) current [] xs ys a b = absurd (search rules)
-finish_once font zero (suc m) current (next ∷ rest) xs ys a b = absurd (search rules)
-finish_once font (suc n) zero current [] xs ys a b = absurd (search rules)
-finish_once font (suc n) zero current (next ∷ rest) xs ys a b = absurd (search rules)
-finish_once font (suc n) (suc m) current [] xs ys a b = absurd (search rules)
-finish_once font (suc n) (suc m) current (next ∷ rest) xs ys a b =
-    by (finish font n (turn_of font current (next ∷ rest)).current (turn_of font current (next ∷ rest)).ahead) refl a
-    (finish font m (turn_of font current (next ∷ rest)).current (turn_of font current (next ∷ rest)).ahead) refl b
-    (λ us vs. finish_once font n m (turn_of font current (next ∷ rest)).current (turn_of font current (next ∷ rest)).ahead us vs)
+-- no number of steps leads further than the one after which the items are known
+not_past : (font : FontValue) (n m : ℕ) (c : Configuration) (xs ys : List Item) → settled font n c ≡ Some xs → settled font m c ≡ Some ys → m ≤ n
+not_past font n m c xs ys a b = by (nat_lt n m) refl (after_steps font m c) refl
   where
-    sent : List Item
-    sent = (turn_of font current (next ∷ rest)).sent
-
-    onward : ℕ → Option (List Item)
-    onward k = finish font k (turn_of font current (next ∷ rest)).current (turn_of font current (next ∷ rest)).ahead
-
-    by : (o : Option (List Item)) → onward n ≡ o → option_map (λ items. sent ++ items) o ≡ Some xs
-        → (p : Option (List Item)) → onward m ≡ p → option_map (λ items. sent ++ items) p ≡ Some ys
-        → ((us vs : List Item) → onward n ≡ Some us → onward m ≡ Some vs → n ≡ m) → suc n ≡ suc m
-    by None a' x p b' y once = absurd (search rules)
-    by (Some us) a' x None b' y once = absurd (search rules)
-    by (Some us) a' x (Some vs) b' y once = ap suc (once us vs a' b')
-
--- a list without symbols has its result at once
-nothing_at_once : (font : FontValue) (n : ℕ) (xs : List Item) → result_from font [] n ≡ Some xs → n ≡ 0
-unfolding result_from opening after_steps step_from
-nothing_at_once font zero xs a = refl
-nothing_at_once font (suc n) xs a = absurd (search rules)
+    by : (t : Bool) → nat_lt n m ≡ t → (o : Option Configuration) → after_steps font m c ≡ o → m ≤ n
+    by false above o e = ltb-false n m above
+    by true below None e = absurd (let gone = rw e at b in cc)
+    by true below (Some d) e = absurd (let gone : settled font n c ≡ None = unsettled font m n c d e (ltb-true n m below) in cc)
 
 same_steps : (font : FontValue) (symbols : List Symbol) (n m : ℕ) (xs ys : List Item)
     → result_from font symbols n ≡ Some xs → result_from font symbols m ≡ Some ys → n ≡ m
-same_steps font [] n m xs ys a b = omega (arith, nothing_at_once font n xs a, nothing_at_once font m ys b)
-same_steps font (first ∷ rest) n m xs ys a b =
-    finish_once font n m first rest xs ys (sym (result_from_is font first rest n) ∙ a) (sym (result_from_is font first rest m) ∙ b)
+unfolding result_from
+same_steps font symbols n m xs ys a b =
+    omega (arith, not_past font n m (opening symbols) xs ys a b, not_past font m n (opening symbols) ys xs b a)
 
 abbrev setting : ℕ → List Item → Setting
 setting n xs = record { steps = n; items = xs }
@@ -147,6 +124,8 @@ none_at font symbols limit n (Some items) is none within =
     let found : result_within font symbols limit ≡ Some (setting n items) = found_result font symbols limit (setting n items) is within in
     absurd (grind (arith, found, none))
 
+-- Law: the result within a limit is the result of the symbols if that takes no more steps than the limit, and
+-- there is none otherwise
 pub finds_result_from : (font : FontValue) (symbols : List Symbol) (limit : ℕ) → FindsResultFrom font symbols limit
 unfolding result_within
 finds_result_from font symbols limit = record {
@@ -158,6 +137,7 @@ finds_result_from font symbols limit = record {
   none_within = λ none n within. none_at font symbols limit n (result_from font symbols n) refl none within;
 }
 
+-- Law: the same for a run with the left boundary
 pub finds_result : (font : FontValue) (run : List ℕ) (right : Bool) (limit : ℕ) → FindsResult font run right limit
 finds_result font run right limit = finds_result_from font (symbols_of font run right) limit
 
@@ -168,15 +148,13 @@ tail_no_matches font current ahead none = λ i one other at at'.
     let next : i + 1 ≡ suc i = omega arith in
     none (suc i) one other at (let further : suc i + 1 ≡ suc (i + 1) = omega arith in rw further at')
 
-finish_plain : (font : FontValue) (current : Symbol) (ahead : List Symbol) → HasNoMatches font (current ∷ ahead)
-    → finish font (length ahead) current ahead ≡ Some (items_of font (map of_symbol (current ∷ ahead)))
-unfolding finish turn_of
-finish_plain font current [] none = refl
-finish_plain font current (next ∷ rest) none =
-    let nothing : action_between font current next ≡ None = none 0 current next refl refl in
-    rw nothing
-    (ap (option_map (λ items. items_of font (of_symbol current ∷ []) ++ items)) (finish_plain font next rest (tail_no_matches font current (next ∷ rest) none))
-    ∙ ap Some (sym (items_of-append font (of_symbol current ∷ []) (map of_symbol (next ∷ rest)))))
+settles_plainly : (font : FontValue) (done : List Element) (current : Symbol) (ahead : List Symbol) → HasNoMatches font (current ∷ ahead)
+    → settled font (length ahead) (at done current ahead) ≡ Some (items_of font (done ++ map of_symbol (current ∷ ahead)))
+settles_plainly font done current [] none = settles_last font done current
+settles_plainly font done current (next ∷ rest) none =
+    settles_next font (length rest) done current next rest (Passes None) (ap plain_of (none 0 current next refl refl))
+    ∙ settles_plainly font (done ++ of_symbol current ∷ []) next rest (tail_no_matches font current (next ∷ rest) none)
+    ∙ ap (λ elements. Some (items_of font elements)) (append_assoc done (of_symbol current ∷ []) (map of_symbol (next ∷ rest)))
 
 end_is_nothing : (font : FontValue) (right : Bool) → items_of font (map of_symbol (right_end font right)) ≡ []
 unfolding right_end items_of
@@ -196,13 +174,13 @@ plain_items_of font (code ∷ codes) end nothing = ap (λ items. CharItem code (
 -- Law: a run is set as itself if the font's program has no match for any two neighbours in it; this takes one
 -- step for each character, and one more if the right boundary follows the run
 pub sets_as_itself : (font : FontValue) (run : List ℕ) (right : Bool) → SetsAsItself font run right
+unfolding result_from opening
 sets_as_itself font run right = λ none.
     let end = right_end font right in
     let ahead = map Char run ++ end in
     let long : length ahead ≡ length run + length end = omega (arith, length-append (map Char run) end, length-map run Char) in
-    result_is font run right (length run + length end)
-    ∙ ap (λ n. finish font n Left ahead) (sym long)
-    ∙ finish_plain font Left ahead none
+    ap (λ n. settled font n (at [] Left ahead)) (sym long)
+    ∙ settles_plainly font [] Left ahead none
     ∙ ap Some (plain_items_of font run (right_end font right) (end_is_nothing font right))
 
 -- ---- few items
@@ -216,41 +194,58 @@ items_no_more font (x ∷ xs) = by (item_of font x) (items_no_more font xs)
     by None rest = omega arith
     by (Some item) rest = omega arith
 
-at_most_one : (b : Bool) → bit b ≤ 1
-at_most_one true = omega arith
-at_most_one false = omega arith
-
-sent_two : (font : FontValue) (current next : Symbol) (rest : List Symbol) → length (turn_of font current (next ∷ rest)).sent ≤ 2
-unfolding turn_of
-sent_two font current next rest = by (action_between font current next) (between_within font current next)
+-- a step passes at most two elements
+passes_two : (font : FontValue) (current next : Element) → (splice_by (action_at font current next) current next).pass ≤ 2
+passes_two font (of_kern amount) next = omega arith
+passes_two font (of_symbol current) (of_kern amount) = omega arith
+passes_two font (of_symbol current) (of_symbol next) = by (action_between font current next) (between_within font current next)
   where
-    by : (action : Option Action) → IfSome action StaysWithin → length (turn_by font action current next rest).sent ≤ 2
-    by None within = omega (arith, items_no_more font (of_symbol current ∷ []))
-    by (Some (Kern amount)) within = omega (arith, items_no_more font (of_symbol current ∷ of_kern amount ∷ []))
-    by (Some (Lig code keep_left keep_right pass)) within =
-        let put = put_in code keep_left keep_right current next in
-        omega (arith, items_no_more font (map of_symbol (take pass put)), length-map (take pass put) of_symbol, length-take pass put, at_most_one keep_left, at_most_one keep_right, within)
+    at_most_one : (b : Bool) → bit b ≤ 1
+    at_most_one true = omega arith
+    at_most_one false = omega arith
 
-finish_few : (font : FontValue) (n : ℕ) (current : Symbol) (ahead : List Symbol) (xs : List Item) → finish font n current ahead ≡ Some xs → length xs ≤ 2 * n + 1
-unfolding finish
-finish_few font zero current [] xs e = let same : items_of font (of_symbol current ∷ []) ≡ xs = grind (arith, e) in omega (arith, items_no_more font (of_symbol current ∷ []), ap length same)
-finish_few font zero current (next ∷ rest) xs e = absurd (search rules)
-finish_few font (suc n) current [] xs e = absurd (search rules)
-finish_few font (suc n) current (next ∷ rest) xs e =
-    by (finish font n (turn_of font current (next ∷ rest)).current (turn_of font current (next ∷ rest)).ahead) e
-    (finish_few font n (turn_of font current (next ∷ rest)).current (turn_of font current (next ∷ rest)).ahead)
+    by : (action : Option Action) → IfSome action StaysWithin → (splice_by action (of_symbol current) (of_symbol next)).pass ≤ 2
+    by None within = omega arith
+    by (Some (Kern amount)) within = omega arith
+    by (Some (Lig code keep_left keep_right pass)) within = omega (arith, at_most_one keep_left, at_most_one keep_right, within)
+
+step_two : (font : FontValue) (c : Configuration) → IfSome (step_from font c) (λ d. d.cursor ≤ c.cursor + 2)
+unfolding step_from
+step_two font c = by (slice_get c.elements c.cursor) (slice_get c.elements (c.cursor + 1))
   where
-    sent : List Item
-    sent = (turn_of font current (next ∷ rest)).sent
+    by : (a b : Option Element) → IfSome (option_and_then (λ current. option_map (λ next. spliced c (splice_by (action_at font current next) current next)) b) a) (λ d. d.cursor ≤ c.cursor + 2)
+    by None b = tt
+    by (Some current) None = tt
+    by (Some current) (Some next) = omega (arith, passes_two font current next)
 
-    by : (o : Option (List Item)) → option_map (λ items. sent ++ items) o ≡ Some xs → ((ys : List Item) → o ≡ Some ys → length ys ≤ 2 * n + 1) → length xs ≤ 2 * (suc n) + 1
-    by None whole few = absurd (search rules)
-    by (Some ys) whole few =
-        let same : sent ++ ys ≡ xs = grind (arith, whole) in
-        omega (arith, few ys refl, sent_two font current next rest, length-append sent ys, ap length same)
+after_two : (font : FontValue) (n : ℕ) (c : Configuration) → IfSome (after_steps font n c) (λ d. d.cursor ≤ c.cursor + 2 * n)
+unfolding after_steps
+after_two font zero c = omega arith
+after_two font (suc n) c = by (step_from font c) (step_two font c) (λ d. after_two font n d)
+  where
+    more : (k : ℕ) (o : Option Configuration) → k ≤ c.cursor + 2 → IfSome o (λ d. d.cursor ≤ k + 2 * n) → IfSome o (λ d. d.cursor ≤ c.cursor + 2 * suc n)
+    more k None first rest = tt
+    more k (Some d) first rest = omega (arith, first, rest)
 
+    by : (o : Option Configuration) → IfSome o (λ d. d.cursor ≤ c.cursor + 2) → ((d : Configuration) → IfSome (after_steps font n d) (λ e. e.cursor ≤ d.cursor + 2 * n))
+        → IfSome (option_and_then (after_steps font n) o) (λ d. d.cursor ≤ c.cursor + 2 * suc n)
+    by None first onward = tt
+    by (Some d) first onward = more d.cursor (after_steps font n d) first (onward d)
+
+-- Law: a result of n steps has at most 2n + 1 items
 pub few_items : (font : FontValue) (run : List ℕ) (right : Bool) → HasFewItems font run right
-few_items font run right = λ setting is.
-    finish_few font setting.steps Left (map Char run ++ right_end font right) setting.items (sym (result_is font run right setting.steps) ∙ is)
+unfolding result_from opening
+few_items font run right = λ set is.
+    by set.steps set.items (after_steps font set.steps (opening (symbols_of font run right))) (after_two font set.steps (opening (symbols_of font run right))) is
+  where
+    final : (n : ℕ) (items : List Item) (d : Configuration) → d.cursor ≤ 2 * n → (b : Bool) → is_final d ≡ b
+        → (if b then Some (items_of font d.elements) else None) ≡ Some items → length items ≤ 2 * n + 1
+    final n items d low true e e' =
+        let same : items_of font d.elements ≡ items = grind (arith, e') in
+        omega (arith, items_no_more font d.elements, leb-true (length d.elements) (d.cursor + 1) e, ap length same, low)
+    final n items d low false e e' = absurd (cc)
 
-pub ruleset laws = (finds_result, few_items)
+    by : (n : ℕ) (items : List Item) (o : Option Configuration) → IfSome o (λ d. d.cursor ≤ 0 + 2 * n) → option_and_then (final_items font) o ≡ Some items
+        → length items ≤ 2 * n + 1
+    by n items None low e = absurd (cc)
+    by n items (Some d) low e = final n items d (omega (arith, low)) (is_final d) refl e

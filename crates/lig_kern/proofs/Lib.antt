@@ -1,5 +1,9 @@
+pub mod Erasing
 pub mod LawLemmas
-pub mod Onward
-pub mod TurnLemmas
+pub mod Moves
+pub mod PlainLemmas
+pub mod Runs
+pub mod Steps
 pub mod UnderWay
+pub mod Within
 pub mod WorkedRows

@@ -1,5 +1,7 @@
 pub mod Matching
 pub mod Rewriting
+pub mod Plain
 pub mod Result
 pub mod Laws
-pub mod Ahead
+pub mod Places
+pub mod Walking

@@ -4,6 +4,7 @@
 use Rattle.std.specs.Prelude.{◌≡◌, ℕ, ◌+◌, ◌*◌, ◌≤◌, Bool, List, ◌++◌, length, Option, Some, None, is_some}
 use Rattle.std.specs.List.{find, range_with_len}
 use Rattle.std.specs.Option.{option_and_then, option_map}
+use Rattle.tfm_words.specs.Appending.{StaysInFront}
 use Rattle.tfm_tables.specs.Font.{FontValue}
 use Rattle.lig_kern.specs.declared.symbol.Symbol.{Symbol}
 use Rattle.lig_kern.specs.declared.item.Item.{Item}
@@ -67,6 +68,7 @@ abbrev pub IsAppendedResult : FontValue → List ℕ → Bool → ℕ → List I
 IsAppendedResult font run right = IsAppendedFrom font (symbols_of font run right)
 
 -- a run with this many steps, no more than the limit, appended at most two items for each step, and one more
-pub record HasFew (steps limit : ℕ) (before after : List Item) : Type 0 where
+pub record HasFew {O : Type 0} (steps limit : ℕ) (before after : List O) : Type 0 where
   pub within : steps ≤ limit
+  pub front : StaysInFront before after
   pub few : length after ≤ length before + 2 * steps + 1

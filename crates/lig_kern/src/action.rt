@@ -1,6 +1,6 @@
 /// What the lig/kern instruction that matches two neighbours does between them (tftopl.web, section 13;
 /// The METAFONTbook, Appendix F).
-#[derive(Clone, Copy, Debug, PartialEq, Eq, Hash)]
+#[derive(Clone, Copy, Debug, PartialEq, Eq)]
 pub enum Action {
     /// Inserts a kern of this amount between the two, in scaled points (sp).
     Kern(i32),

@@ -1,6 +1,6 @@
 /// An element of the result of a line. The result of a run has characters and kerns only. Amounts are
 /// in scaled points (sp).
-#[derive(Clone, Copy, Debug, PartialEq, Eq, Hash)]
+#[derive(Clone, Copy, Debug, PartialEq, Eq)]
 pub enum Item {
     /// A character, by its code, and its width.
     Char { code: u8, width: i32 },

@@ -4,10 +4,12 @@
 #![tactic(auto)]
 
 pub use action::Action;
+pub use ends::Ends;
 pub use item::Item;
-pub use laws::{few_items, result_within_limit};
 pub use matching::{first_match, ligature};
-pub use run::Run;
+pub use place::Place;
+pub use plainly::{Plain, plain_action};
+pub use run_item::RunItem;
 pub use setting::{set_run_of, set_word};
 pub use symbol::Symbol;
 pub use word_fault::WordFault;
@@ -15,11 +17,16 @@ pub use word_font::WordFont;
 
 mod action;
 mod ahead;
+mod beginning;
+mod ends;
 mod item;
-mod laws;
 mod matching;
-mod run;
+mod place;
+mod placed_symbol;
+mod plainly;
+mod run_item;
 mod setting;
 mod symbol;
+mod walking;
 mod word_fault;
 mod word_font;

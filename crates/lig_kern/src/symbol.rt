@@ -1,5 +1,5 @@
 /// A symbol of a run: a boundary, or a character by its code.
-#[derive(Clone, Copy, Debug, PartialEq, Eq, Hash)]
+#[derive(Clone, Copy, Debug, PartialEq, Eq)]
 pub enum Symbol {
     /// The left boundary, before the first character of the run.
     Left,

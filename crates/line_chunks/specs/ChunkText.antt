@@ -6,10 +6,10 @@ use Rattle.set_line.specs.declared.outcome.LineRefusal.TheVariants.{TooLong}
 use Rattle.set_line.specs.declared.records.text_refusal.TextRefusal.{TextRefusal}
 use Rattle.set_line.specs.declared.records.text_refusal.TextRefusal.TheVariants.{Line}
 use Rattle.set_line.specs.Terms.{TermsValue}
+use Rattle.formats.specs.declared.record_format.RecordFormat.{RecordFormat}
 use Rattle.line_chunks.specs.Chunks.{ChunkLine, whole, too_long}
 use Rattle.encodings.specs.declared.encoding.Encoding.{Encoding}
 use Rattle.line_records.specs.Results.{is_refused, line_result, result_record}
-use Rattle.line_records.specs.declared.record_format.RecordFormat.{RecordFormat}
 use Rattle.line_chunks.specs.Chunks.{ChunkValue, NumberedLine, lines_of_chunk}
 
 -- how the lines of a source are read, and how their records are written: the encoding, if there is one, and the

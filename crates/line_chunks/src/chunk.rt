@@ -5,7 +5,7 @@ ghost use Rattle.set_line.specs.Returns.{lines_in};
 use std::marker::Model;
 
 /// The lines of a chunk, as they were read.
-#[derive(Debug, Drop)]
+#[derive(Drop)]
 pub(crate) enum Contents {
     /// The bytes of some lines, with their line feeds.
     Lines(Vec<u8>),
@@ -15,7 +15,7 @@ pub(crate) enum Contents {
 
 /// Whole lines of a source, as they were read together, and the line number of the first of them. Of a line that
 /// is too long to be set, a chunk of its own has the length.
-#[derive(Debug, Drop)]
+#[derive(Drop)]
 pub struct Chunk {
     pub(crate) first: u64,
     /// Whether lines may end with CR LF.

@@ -13,7 +13,7 @@ use std::io::Read;
 use std::snapshot::Snapshot;
 
 /// How far a reader has been read.
-#[derive(Clone, Copy, Debug, Drop)]
+#[derive(Clone, Copy, Drop)]
 pub(crate) enum ReaderState {
     /// It may have more bytes.
     Open,

@@ -7,7 +7,7 @@ use std::marker::Model;
 use std::snapshot::Snapshot;
 
 /// The number of lines, and the number of refused lines among them.
-#[derive(Clone, Copy, Debug)]
+#[derive(Clone, Copy)]
 pub(crate) struct LineCount {
     pub lines: u64,
     pub refused: u64,

@@ -27,7 +27,7 @@ pub(crate) struct Input<R> {
 }
 
 /// What the pending bytes are after some reads.
-#[derive(Clone, Copy, Debug)]
+#[derive(Clone, Copy)]
 pub(crate) enum Filled {
     /// They have whole lines.
     Lines,
@@ -38,7 +38,7 @@ pub(crate) enum Filled {
 }
 
 /// A line that is too long.
-#[derive(Clone, Copy, Debug)]
+#[derive(Clone, Copy)]
 pub(crate) enum Skipped {
     /// It was followed by a line feed.
     ToFeed(LongLine),

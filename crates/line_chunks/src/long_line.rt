@@ -2,7 +2,7 @@ ghost use Rattle.std.specs.Prelude.{◌≡◌, ◌+◌, ◌<◌, ◌^◌, ◌++�
 ghost use Rattle.line_chunks.specs.Skipping.{IsLong, long_length};
 
 /// A line that is too long to be set, as far as it was read. Its bytes aren't kept.
-#[derive(Clone, Copy, Debug)]
+#[derive(Clone, Copy)]
 pub(crate) struct LongLine {
     length: usize,
     /// Whether the last byte is a carriage return.

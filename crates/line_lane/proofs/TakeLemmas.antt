@@ -1,9 +1,9 @@
 -- Answers that come out, one after the other.
-use Rattle.std.proofs.Common.{arith, ◌≡◌, ◌-◌, Bool, true, false, List, [], ◌∷◌, ◌++◌, length, take, Option, Some, None, refl, ap, sym, subst, ◌∙◌, append_assoc}
+use Rattle.std.proofs.Common.{arith, ◌≡◌, ℕ, ◌+◌, ◌-◌, Bool, true, false, List, [], ◌∷◌, ◌++◌, length, take, Option, Some, None, refl, ap, sym, subst, ◌∙◌, append_assoc}
 use Rattle.std.proofs.lemmas.Bool.{true≢false}
-use Rattle.std.specs.Prelude.{is_some}
+use Rattle.std.specs.Prelude.{is_some, if◌then◌else◌}
 use Rattle.std.specs.Option.{unwrap_or}
-use Rattle.line_lane.specs.Takes.{TakerState, Takes, TakesFrom, IsTakenFromHand}
+use Rattle.line_lane.specs.Takes.{TakerState, Takes, TakesFrom, IsTakenFromHand, popped_for}
 use Rattle.line_lane.specs.declared.took.Took.{Took}
 use Rattle.line_lane.specs.declared.took.Took.TheVariants.{Nothing, Answer, End}
 use Rattle.line_lane.specs.declared.ending.LaneEnd.{LaneEnd}
@@ -33,19 +33,19 @@ module _ {O : Type 0} where
   holding-unended false held rest answer none is = refl
   holding-unended true held rest answer none is = let empty = none refl in absurd (grind (arith, empty, is))
 
-  pub takes_held : (all held rest : List O) (answer : O) (ending : Option LaneEnd) (ended : Bool) → held ≡ answer ∷ rest
-      → TakesFrom held answer (record { taken = taken_of all held; held = held; ending = ending; ended = ended })
-      (record { taken = taken_of all rest; held = rest; ending = ending; ended = ended })
-  takes_held all held rest answer ending ended is = by held is
+  pub takes_held : (all held rest : List O) (answer : O) (ending : Option LaneEnd) (ended : Bool) (popped : ℕ) → held ≡ answer ∷ rest
+      → TakesFrom held answer (record { taken = taken_of all held; held = held; ending = ending; ended = ended; popped = popped })
+      (record { taken = taken_of all rest; held = rest; ending = ending; ended = ended; popped = popped })
+  takes_held all held rest answer ending ended popped is = by held is
     where
       by : (list : List O) → list ≡ answer ∷ rest
-          → TakesFrom list answer (record { taken = taken_of all held; held = held; ending = ending; ended = ended })
-          (record { taken = taken_of all rest; held = rest; ending = ending; ended = ended })
+          → TakesFrom list answer (record { taken = taken_of all held; held = held; ending = ending; ended = ended; popped = popped })
+          (record { taken = taken_of all rest; held = rest; ending = ending; ended = ended; popped = popped })
       by [] e = absurd (grind (arith, e))
       by (first ∷ others) e =
           let same : answer ≡ first = grind (arith, e) in
           let rests : rest ≡ others = grind (arith, e) in
-          (same, rests, refl)
+          (same, rests, refl, refl)
 
   -- a message that was received, or none, is all that is held
   pub all_received : (answer : Bool) (before after held_before held_after : List O) (ended : Bool) (ending : Option LaneEnd) → ended ≡ false
@@ -67,23 +67,37 @@ module _ {O : Type 0} where
         (λ up. absurd (grind (arith, up, unended))),
       )
 
+-- no message is counted after the one with the end
+end_popped : (ending : Option LaneEnd) (popped : ℕ) → (ending ≡ None → ⊥) → (if is_some ending then popped else popped + 1) ≡ popped
+end_popped None popped some = absurd (some refl)
+end_popped (Some end) popped some = refl
+
 module _ {O : Type 0} where
+  -- nothing more is received while a result of a message is held
+  held_popped : (held : List O) (answer : O) (s t : TakerState O) → s.held ≡ held → (s.held ≡ [] → s.ending ≡ None → ⊥)
+      → TakesFrom held answer s t → t.popped ≡ s.popped
+  held_popped [] answer s t is filled (ending, more) = absurd (filled is ending)
+  held_popped (first ∷ rest) answer s t is filled (same, left, ending, popped) = popped
+
   -- what is taken of a message that was just received
   pub takes_received : (right : O → Type 0) (old s t : TakerState O) (result : Option (Took O))
-      → old.held ≡ [] → old.ending ≡ None → old.ended ≡ false → s.taken ≡ old.taken
+      → old.held ≡ [] → old.ending ≡ None → old.ended ≡ false → s.taken ≡ old.taken → s.popped ≡ old.popped + 1
       → (s.held ≡ [] → s.ending ≡ None → ⊥) → IsTakenFromHand right s result t → Takes right old (unwrap_or result Nothing) t
-  takes_received right old s t None held ending ended same filled took = absurd (filled took.1 took.2)
-  takes_received right old s t (Some Nothing) held ending ended same filled took = absurd (took.1 refl)
-  takes_received right old s t (Some (Answer answer)) held ending ended same filled took = (
-    took.0.0,
+  takes_received right old s t None held ending ended same count filled took = absurd (filled took.1 took.2)
+  takes_received right old s t (Some Nothing) held ending ended same count filled took = absurd (took.1 refl)
+  takes_received right old s t (Some (Answer answer)) held ending ended same count filled ((is, unended, still, taken, from), some) = (
+    is,
     ended,
-    took.0.2,
-    took.0.3 ∙ ap (λ l. l ++ answer ∷ []) same,
-    subst (λ l. TakesFrom l answer old t) (sym held) ending,
+    still,
+    taken ∙ ap (λ l. l ++ answer ∷ []) same,
+    subst (λ l. TakesFrom l answer old t) (sym held) (ending, held_popped s.held answer s t refl filled from ∙ count),
   )
-  takes_received right old s t (Some (End end)) held ending ended same filled took = (
-    held,
-    rw ending refl,
-    took.0.2 ∙ ap (λ l. record { taken = l; held = []; ending = Some end; ended = true }) same,
-    (λ up. absurd (true≢false (sym up ∙ ended))),
-  )
+  takes_received right old s t (Some (End end)) held ending ended same count filled ((none, first, moved, again), some) =
+      let popped : popped_for s ≡ popped_for old =
+      end_popped s.ending s.popped (filled none) ∙ count ∙ sym (ap (λ e. if is_some e then old.popped else old.popped + 1) ending) in (
+        held,
+        rw ending refl,
+        moved ∙ ap (λ l. record { taken = l; held = []; ending = Some end; ended = true; popped = popped_for s }) same
+            ∙ ap (λ n. record { taken = old.taken; held = []; ending = Some end; ended = true; popped = n }) popped,
+        (λ up. absurd (true≢false (sym up ∙ ended))),
+      )

@@ -90,7 +90,7 @@ module _ {M I O IS OS : Type 0} {ghosts : Ghosts M I O IS OS} where
   state_of s = setter_state (ghosts.makes s.maker) s.receiver s.sender s.ready
 
 module _ {O OS : Type 0} where
-  -- the state of a taker: the results taken, those still buffered, and the end
+  -- the state of a taker: the results taken, those still buffered, the end, and the number of messages received
   abbrev pub hands_of : Taker O OS → TakerState O
   hands_of t = taker_state t.receiver t.ended
 

@@ -35,10 +35,10 @@ module _ {I O IS OS : Type 0} where
       × (ready ≡ true → end_sent sender ≡ None)
 
 module _ {O OS : Type 0} where
-  -- the state of a taker: the results taken, those still buffered, and the end
+  -- the state of a taker: the results taken, those still buffered, the end, and the number of messages received
   abbrev pub taker_state : Receiver O LaneEnd OS → Bool → TakerState O
   taker_state receiver ended =
-      record { taken = items_taken receiver; held = receiver.hand.items; ending = end_received receiver; ended = ended }
+      record { taken = items_taken receiver; held = receiver.hand.items; ending = end_received receiver; ended = ended; popped = messages_received receiver }
 
   -- the results taken and those buffered are all that were received; a taker has returned the end only if none
   -- is buffered and an end was received

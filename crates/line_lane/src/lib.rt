@@ -26,7 +26,6 @@ mod block_size;
 mod ending;
 mod fault;
 mod feeder;
-mod hand;
 mod made;
 mod making;
 mod meeting;

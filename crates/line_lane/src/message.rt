@@ -1,5 +1,5 @@
 //! A message of a ring: items, stored inside it, and an optional end after them.
-ghost use Rattle.std.specs.Prelude.{◌≡◌, ◌≤◌, ◌<◌, [], ◌∷◌, ◌++◌, length, reverse, Some, MatchOption};
+ghost use Rattle.std.specs.Prelude.{◌≡◌, ◌≤◌, ◌<◌, [], ◌∷◌, ◌++◌, length, Some, MatchOption};
 ghost use Rattle.line_lane.specs.Messages.{nothing};
 
 use crate::{Slots, Stored};
@@ -70,21 +70,22 @@ impl<T: Stored, E: Copy> Message<T, E> {
         self.slots.push(item);
     }
 
-    /// Removes and returns the last item, or returns `None` if there is no item.
-    pub fn pop(&mut self) -> Option<T>
+    /// Puts an item before all others. There must be a free slot.
+    pub fn put_back(&mut self, item: T)
+        requires { length self.old.items < T.Slots.SLOTS }
+        ensures { self.new ≡ record { items = item ∷ self.old.items; ending = self.old.ending } }
+    {
+        self.slots.put_back(item);
+    }
+
+    /// Removes and returns the first item, or returns `None` if there is no item.
+    pub fn take_first(&mut self) -> Option<T>
         ensures { MatchOption result
             ((self.old.items ≡ []) × (self.new ≡ self.old))
             (λ item. self.old
-            ≡ record { items = self.new.items ++ item ∷ []; ending = self.new.ending }) }
+            ≡ record { items = item ∷ self.new.items; ending = self.new.ending }) }
     {
-        self.slots.pop()
-    }
-
-    /// Reverses the order of the items.
-    pub fn reverse(&mut self)
-        ensures { self.new ≡ record { items = reverse self.old.items; ending = self.old.ending } }
-    {
-        self.slots.reverse();
+        self.slots.take_first()
     }
 
     /// Drops the items. The end is unchanged.

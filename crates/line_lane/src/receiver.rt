@@ -5,7 +5,6 @@ ghost use Rattle.rtrb.specs.Ring.{SameConsumer, known_items, received};
 ghost use Rattle.line_lane.specs.Messages.{IsFilled, end_of};
 
 use crate::Stored;
-use crate::hand::Hand;
 use crate::message::{Filled, Message};
 use rtrb::Consumer;
 use std::alloc::Global;
@@ -14,7 +13,7 @@ use std::alloc::Global;
 #[derive(Drop)]
 pub(crate) struct Receiver<T: Stored, E> {
     pub consumer: Consumer<Message<T, E>, Global, Filled>,
-    pub hand: Hand<T, E>,
+    pub hand: Message<T, E>,
     ghost told: { hand.ending ≡ end_of (received consumer) } by { Coded-set (coded_option E.code) _ _ },
 }
 
@@ -24,7 +23,7 @@ pub(crate) struct Receiver<T: Stored, E> {
 #[inline(never)]
 fn pop<T: Stored, E: Copy>(
     consumer: &mut Consumer<Message<T, E>, Global, Filled>,
-    hand: &mut Hand<T, E>,
+    hand: &mut Message<T, E>,
 )
     requires { 0 < length (known_items consumer.old) }
     ensures same { SameConsumer consumer.old consumer.new }
@@ -33,7 +32,7 @@ fn pop<T: Stored, E: Copy>(
     ensures eight { length hand.new.items ≤ 8 }
     ensures filled { IsFilled hand.new }
 {
-    hand.fill(consumer.pop_known());
+    *hand = consumer.pop_known();
     // For the proof: the contract of `len` states that a message has no more items than slots.
     let _ = hand.len();
 }
@@ -51,7 +50,7 @@ impl<T: Stored, E: Copy> Receiver<T, E> {
     {
         Receiver {
             consumer,
-            hand: Hand::new(alloc),
+            hand: Message::new(alloc),
         }
     }
 

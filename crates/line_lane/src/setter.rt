@@ -6,7 +6,6 @@ ghost use Rattle.line_lane.specs.Lane.{lane_end_of};
 ghost use Rattle.line_lane.specs.Turns.{IsOrderly, end_with};
 ghost use Rattle.line_lane.specs.Hands.{IsInHand, setter_state};
 
-use crate::hand::Hand;
 use crate::message::Message;
 use crate::receiver::Receiver;
 use crate::sender::Sender;
@@ -39,7 +38,7 @@ fn lane_end(end: SourceEnd) -> LaneEnd
 /// Returns whether no received item is left. If none is left and the items have an end, sets the
 /// end of the results, which must have none yet.
 fn finish<I: Stored, O: Stored>(
-    lines: &Hand<I, SourceEnd>,
+    lines: &Message<I, SourceEnd>,
     answers: &mut Message<O, LaneEnd>,
 ) -> bool
     requires { answers.old.ending ≡ None }

@@ -1,5 +1,5 @@
 //! The slots for the items inside a message.
-ghost use Rattle.std.specs.Prelude.{◌≡◌, ◌≤◌, ◌<◌, [], ◌∷◌, ◌++◌, length, reverse, MatchOption};
+ghost use Rattle.std.specs.Prelude.{◌≡◌, ◌≤◌, ◌<◌, [], ◌∷◌, ◌++◌, length, MatchOption};
 
 use smallvec::SmallVec;
 use std::alloc::Global;
@@ -34,17 +34,20 @@ pub trait Slots<T> {
         requires { length (items self.old) < SLOTS }
         ensures { items self.new ≡ items self.old ++ item ∷ [] };
 
-    /// Removes and returns the last item, or returns `None` if there is no item.
-    fn pop(&mut self) -> Option<T>
+    /// Puts an item before all others. There must be a free slot.
+    fn put_back(&mut self, item: T)
+    where
+        T: Drop,
+        requires { length (items self.old) < SLOTS }
+        ensures { items self.new ≡ item ∷ items self.old };
+
+    /// Removes and returns the first item, or returns `None` if there is no item.
+    fn take_first(&mut self) -> Option<T>
     where
         T: Drop,
         ensures { MatchOption result
             ((items self.old ≡ []) × (items self.new ≡ []))
-            (λ item. items self.old ≡ items self.new ++ item ∷ []) };
-
-    /// Reverses the order of the items.
-    fn reverse(&mut self)
-        ensures { items self.new ≡ reverse (items self.old) };
+            (λ item. items self.old ≡ item ∷ items self.new) };
 
     /// Drops the items.
     fn clear(&mut self)
@@ -105,14 +108,19 @@ impl<T> Slots<T> for Option<T> {
         *self = Some(item);
     }
 
-    fn pop(&mut self) -> Option<T>
+    fn put_back(&mut self, item: T)
+    where
+        T: Drop,
+    {
+        *self = Some(item);
+    }
+
+    fn take_first(&mut self) -> Option<T>
     where
         T: Drop,
     {
         self.take()
     }
-
-    fn reverse(&mut self) {}
 
     fn clear(&mut self)
     where
@@ -178,15 +186,23 @@ impl<T> Slots<T> for InlineSlots<T> {
         self.slots.push_reserved(Some(item));
     }
 
-    fn pop(&mut self) -> Option<T>
+    fn put_back(&mut self, item: T)
     where
         T: Drop,
     {
-        self.slots.pop()?
+        // The list has room, so that this can't fail.
+        let _ = self.slots.insert(0, Some(item));
     }
 
-    fn reverse(&mut self) {
-        self.slots.as_mut_slice().reverse();
+    fn take_first(&mut self) -> Option<T>
+    where
+        T: Drop,
+    {
+        if self.slots.is_empty() {
+            return None;
+        }
+        // At most seven items move.
+        self.slots.remove(0)
     }
 
     fn clear(&mut self)

@@ -7,7 +7,9 @@ use Rattle.std.specs.Option.{option_and_then, option_map}
 use Rattle.std.proofs.Math.IntN.{+ℤ_idr}
 use Rattle.std.proofs.lemmas.Int.{to_z-of_z}
 use Rattle.std.proofs.lemmas.List.{map-append, take_more}
-use Rattle.std.proofs.lemmas.List.Sums.{fold-append, sum_by-append}
+use Rattle.std.proofs.lemmas.List.Sums.{count_by-le-length, fold-append, sum_by-append}
+use Rattle.run_plan.specs.declared.policy.Policy.{Policy}
+use Rattle.run_plan.specs.declared.policy.Policy.TheVariants.{Refuse, Skip}
 use Rattle.tfm_words.proofs.AppendingLemmas.{front_at_once, front_of_append, front_through}
 use Rattle.tfm_tables.specs.Character.{exists}
 use Rattle.tfm_tables.specs.Font.{FontValue}
@@ -16,19 +18,19 @@ use Rattle.tfm_tables.specs.Program.{program_of, right_code_of}
 use Rattle.lig_kern.specs.declared.symbol.Symbol.{Symbol}
 use Rattle.lig_kern.specs.declared.symbol.Symbol.TheVariants.{Left, Char, Right}
 use Rattle.lig_kern.specs.declared.action.Action.{Action}
-use Rattle.lig_kern.specs.declared.action.Action.TheVariants.{Kern, Lig}
+use Rattle.lig_kern.specs.declared.plainly.Plain.{Plain}
+use Rattle.lig_kern.specs.declared.plainly.Plain.TheVariants.{Passes, Replaces}
 use Rattle.lig_kern.specs.declared.item.Item.{Item}
 use Rattle.lig_kern.specs.declared.item.Item.TheVariants.{Skipped, Space}
 use Rattle.lig_kern.specs.Matching.{action_between}
+use Rattle.lig_kern.specs.Plain.{plain_next, plain_of, plain_sent}
 use Rattle.lig_kern.specs.Rewriting.{Element, items_of, of_kern, of_symbol}
 use Rattle.lig_kern.specs.Result.{Setting}
-use Rattle.set_line.specs.declared.policy.Policy.{Policy}
-use Rattle.set_line.specs.declared.policy.Policy.TheVariants.{Refuse, Skip}
 use Rattle.set_line.specs.Pieces.{is_space}
 use Rattle.set_line.specs.Width.{total_width}
-use Rattle.line_records.specs.Additions.{Addition, after, alone, boundary_by, byte_added, cut_added, ending_of, set_from, skip_by, step_by, with_cut}
-use Rattle.line_records.specs.Boxes.{box_record, is_glue, largest}
-use Rattle.line_records.proofs.AddingLemmas.{total_width-append}
+use Rattle.line_records.specs.Additions.{Addition, after, alone, boundary_by, byte_added, cut_added, ended_by, ending_of, one_step, set_from, skip_by, step_by, with_cut}
+use Rattle.line_records.specs.Boxes.{box_record, is_glue, is_skipped, largest}
+use Rattle.line_records.proofs.AddingLemmas.{skipped-append, total_width-append}
 
 pub next_largest : (f : ℕ → ℤ) (codes : List ℕ) (i d : ℕ) (so_far : ℤ) → i < length codes → so_far ≡ largest (map f (take i codes))
     → int_max so_far (f (get_or codes i d)) ≡ largest (map f (take (i + 1) codes))
@@ -54,12 +56,17 @@ record_pushed (Err e) source place text before a b c d after one two three four 
 pub spaces-append : (xs ys : List Item) → count_by is_glue (xs ++ ys) ≡ count_by is_glue xs + count_by is_glue ys
 spaces-append xs ys = sum_by-append (λ item. cond (is_glue item) 1 0) xs ys
 
--- a character without codes adds nothing
+-- a character without codes adds nothing but a skipped item
 pub gap_width : (items : List Item) (number : ℕ) → total_width (items ++ Skipped number ∷ []) ≡ total_width items
 gap_width items number = total_width-append items (Skipped number ∷ []) ∙ +ℤ_idr (total_width items)
 
 pub gap_spaces : (items : List Item) (number : ℕ) → count_by is_glue (items ++ Skipped number ∷ []) ≡ count_by is_glue items
 gap_spaces items number = spaces-append items (Skipped number ∷ []) ∙ omega arith
+
+pub gap_skipped : (items : List Item) (number : ℕ) → count_by is_skipped (items ++ Skipped number ∷ []) ≡ count_by is_skipped items + 1
+gap_skipped items number = skipped-append items (Skipped number ∷ [])
+
+pub ruleset counted = (count_by-le-length)
 
 -- ---- the spaces of a line that is set byte by byte
 
@@ -76,17 +83,19 @@ no_spaces font (of_symbol Right ∷ elements) = no_spaces font elements
 no_spaces font (of_kern amount ∷ elements) = no_spaces font elements
 
 step_spaces : (font : FontValue) (action : Option Action) (current next : Symbol) → IfSome (step_by font action current next) (HasSpaces 0)
-step_spaces font None current next = no_spaces font (of_symbol current ∷ [])
-step_spaces font (Some (Kern amount)) current next = no_spaces font (of_symbol current ∷ of_kern amount ∷ [])
-step_spaces font (Some (Lig code false false zero)) current next = refl
-step_spaces font (Some (Lig code true keep_right pass)) current next = tt
-step_spaces font (Some (Lig code false true pass)) current next = tt
-step_spaces font (Some (Lig code false false (suc pass))) current next = tt
+step_spaces font action current next = by (plain_of action)
+  where
+    by : (o : Option Plain) → IfSome (option_map (λ plain. one_step (items_of font (plain_sent plain current)) (plain_next plain next)) o) (HasSpaces 0)
+    by None = tt
+    by (Some plain) = no_spaces font (plain_sent plain current)
 
 boundary_spaces : (font : FontValue) (action : Option Action) (current : Symbol) → IfSome (boundary_by font action current) (HasSpaces 0)
-boundary_spaces font None current = no_spaces font (of_symbol current ∷ [])
-boundary_spaces font (Some (Kern amount)) current = no_spaces font (of_symbol current ∷ of_kern amount ∷ [])
-boundary_spaces font (Some (Lig code keep_left keep_right pass)) current = tt
+boundary_spaces font action current = by (plain_of action)
+  where
+    by : (o : Option Plain) → IfSome (option_and_then (ended_by font current) o) (HasSpaces 0)
+    by None = tt
+    by (Some (Passes kern)) = no_spaces font (plain_sent (Passes kern) current)
+    by (Some (Replaces code)) = tt
 
 ending_spaces : (font : FontValue) (right : Bool) (current : Symbol) → IfSome (ending_of font right current) (HasSpaces 0)
 unfolding ending_of

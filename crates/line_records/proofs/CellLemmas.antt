@@ -5,7 +5,7 @@ use Rattle.std.proofs.lemmas.Bool.{eqb-true, eqb-false, ltb-true, ltb-false}
 use Rattle.std.proofs.lemmas.Grind.{get_or-set_at}
 use Rattle.std.proofs.lemmas.List.{get_or-set_other, get_or-take, length-set, length-take}
 use Rattle.tfm_words.specs.Appending.{StaysInFront}
-use Rattle.line_records.specs.declared.record_format.RecordFormat.{RecordFormat}
+use Rattle.formats.specs.declared.record_format.RecordFormat.{RecordFormat}
 use Rattle.line_records.specs.Additions.{Addition, added_of, one_step}
 use Rattle.line_records.specs.Cells.{AreCells, AreSame, IsCell, IsPair, IsTextOf, Style, symbol_of}
 use Rattle.line_records.specs.declared.pair.Pair.{Pair}
@@ -34,7 +34,8 @@ same_text format added pair other is same = record {
   text = ap (λ n. take n other.text) (sym same.length) ∙ ap (λ bytes. take pair.length bytes) (sym same.text) ∙ is.text;
   width = sym same.width ∙ is.width;
   steps = sym same.steps ∙ is.steps;
-  count = sym same.count ∙ is.count;
+  tally = sym same.tally ∙ is.tally;
+  few = is.few;
 }
 
 -- the cell of a pair

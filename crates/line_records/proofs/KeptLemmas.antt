@@ -9,12 +9,12 @@ use Rattle.std.proofs.Math.Bool.{or-false, or-true}
 use Rattle.std.proofs.Math.Seq.{drop-append_seam, take-length}
 use Rattle.std.proofs.lemmas.Grind.{flat_map-append}
 use Rattle.std.proofs.lemmas.List.Folds.{list_any_at}
+use Rattle.run_plan.specs.declared.policy.Policy.{Policy}
+use Rattle.run_plan.specs.declared.policy.Policy.TheVariants.{Refuse, Skip}
 use Rattle.tfm_tables.specs.Font.{FontValue}
 use Rattle.lig_kern.specs.declared.item.Item.{Item}
 use Rattle.lig_kern.specs.declared.item.Item.TheVariants.{Skipped}
 use Rattle.lig_kern.specs.Result.{Setting}
-use Rattle.set_line.specs.declared.policy.Policy.{Policy}
-use Rattle.set_line.specs.declared.policy.Policy.TheVariants.{Refuse, Skip}
 use Rattle.set_line.specs.Answer.{has_refused, is_refused, setting_of, within_limit}
 use Rattle.set_line.specs.Onward.{onward, setting}
 use Rattle.set_line.specs.Pieces.{Portion, portions_in, portions_of, skipped}
@@ -23,13 +23,13 @@ use Rattle.set_line.specs.Width.{total_width}
 use Rattle.set_line.proofs.OnwardLemmas.{onward-append, part_stops, part_then}
 use Rattle.encodings.specs.Lines.{break_number}
 use Rattle.encodings.specs.Parts.{PartValue, joined, part_numbers, uncoded_after, unless_break}
-use Rattle.line_records.specs.Boxes.{is_glue, item_text}
-use Rattle.line_records.specs.declared.record_format.RecordFormat.{RecordFormat}
+use Rattle.formats.specs.declared.record_format.RecordFormat.{RecordFormat}
+use Rattle.line_records.specs.Boxes.{is_glue, is_skipped, item_text}
 use Rattle.line_records.specs.Kept.{AreListed, HasKept, IsKept, IsReached, gaps_in, refused_before, refused_in, refuses, set_after, spaces_for}
 use Rattle.line_records.specs.Results.{only_part, line_portions, portions_before}
 use Rattle.line_records.specs.declared.keeping.Kept.{Kept}
-use Rattle.line_records.proofs.AddingLemmas.{total_width-append}
-use Rattle.line_records.proofs.BoxLemmas.{gap_spaces, gap_width, spaces-append}
+use Rattle.line_records.proofs.AddingLemmas.{skipped-append, total_width-append}
+use Rattle.line_records.proofs.BoxLemmas.{gap_skipped, gap_spaces, gap_width, spaces-append}
 use Rattle.line_records.proofs.RunLemmas.{mapped}
 
 -- ---- portions after other items
@@ -147,6 +147,7 @@ module _ (terms : TermsValue) (format : RecordFormat) (used gaps : ℕ) (all ite
     width = total_width-append items more ∙ ap (λ w. w +ℤ total_width more) listed.width ∙ sym (total_width-append all more);
     spaces = spaces-append items more ∙ ap (λ n. n + count_by is_glue more) listed.spaces ∙ sym (spaces-append all more);
     count = omega (arith, listed.count, length-append items more, length-append all more);
+    skipped = omega (arith, listed.skipped, skipped-append items more, skipped-append all more);
   }
 
   -- a part without a character after it
@@ -193,6 +194,7 @@ module _ (terms : TermsValue) (format : RecordFormat) (used gaps : ℕ) (all ite
         width = ap total_width set.1 ∙ front.width ∙ sym (gap_width (all ++ more) (256 + character));
         spaces = ap (count_by is_glue) set.1 ∙ front.spaces ∙ sym (gap_spaces (all ++ more) (256 + character));
         count = omega (arith, front.count, ap length set.1, length-append (all ++ more) (gap ∷ []));
+        skipped = omega (arith, front.skipped, ap (count_by is_skipped) set.1, gap_skipped (all ++ more) (256 + character));
       } in (
         (all ++ more) ++ gap ∷ [],
         set_if (Some character) false here none ∙ part_then terms.font terms.limit used steps all (all ++ more) ((all ++ more) ++ gap ∷ []) (portions_before terms.font part.codes (Some character)) (portions_in false terms.font part.codes) []
@@ -294,10 +296,10 @@ maybe_refused format terms so_far codes texts false kept is refused = rw is tt
 
 -- a line whose parts are all set
 pub all_set : (format : RecordFormat) (all items : List Item) (gaps steps : ℕ) (texts : List ℕ) (kept : Kept) → AreListed format all items gaps texts
-    → kept.sums.width ≡ total_width items → kept.sums.steps ≡ steps → kept.sums.items ≡ length items + gaps → kept.spaces ≡ spaces_for format (count_by is_glue items)
+    → kept.sums.width ≡ total_width items → kept.sums.steps ≡ steps → kept.sums.items ≡ length items + gaps → kept.sums.skipped ≡ count_by is_skipped items + gaps → kept.spaces ≡ spaces_for format (count_by is_glue items)
     → kept.length ≡ length texts → HasKept format (setting steps all) texts kept
-all_set format all items gaps steps texts kept listed width count many spaces long = record {
-  sums = record { width = width ∙ listed.width; steps = count; items = many ∙ listed.count };
+all_set format all items gaps steps texts kept listed width count many missing spaces long = record {
+  sums = record { width = width ∙ listed.width; steps = count; items = many ∙ listed.count; skipped = missing ∙ listed.skipped };
   spaces = spaces ∙ ap (spaces_for format) listed.spaces;
   within = omega (arith, long);
   text = ap (λ n. take n texts) long ∙ take-length texts ∙ listed.texts;

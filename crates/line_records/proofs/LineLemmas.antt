@@ -4,14 +4,14 @@ use Rattle.std.specs.Prelude.{cond, filter, not, ◌||◌, ◌&&◌}
 use Rattle.std.specs.List.{onto_first, slice_split}
 use Rattle.std.specs.Option.{option_and_then, option_map}
 use Rattle.std.proofs.lemmas.List.Splits.{length-slice_split}
+use Rattle.run_plan.specs.declared.policy.Policy.{Policy}
+use Rattle.run_plan.specs.declared.policy.Policy.TheVariants.{Refuse, Skip}
 use Rattle.tfm_tables.specs.Font.{FontValue}
 use Rattle.tfm_tables.specs.Character.{exists}
 use Rattle.lig_kern.specs.declared.symbol.Symbol.{Symbol}
 use Rattle.lig_kern.specs.declared.symbol.Symbol.TheVariants.{Left}
 use Rattle.lig_kern.specs.declared.item.Item.{Item}
 use Rattle.lig_kern.specs.Result.{Setting}
-use Rattle.set_line.specs.declared.policy.Policy.{Policy}
-use Rattle.set_line.specs.declared.policy.Policy.TheVariants.{Refuse, Skip}
 use Rattle.set_line.specs.Answer.{has_refused, is_refused, setting_of}
 use Rattle.set_line.specs.Onward.{onward, setting}
 use Rattle.set_line.specs.Pieces.{cut_with, is_cut, is_space, pieces_of, portion_of, portions_in, run_of}

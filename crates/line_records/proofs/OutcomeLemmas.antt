@@ -24,7 +24,7 @@ set_is setting (RefusedResult refusal) is = absurd (cc)
 set_is setting (SetResult sums) is =
     let ok : Ok setting ≡ Ok is.0 = is.1 in
     let same : setting ≡ is.0 = cc in
-    (is.0.items, ap set_as same ∙ rw (is.2.width, is.2.steps) refl, is.2.items)
+    (is.0.items, ap set_as same ∙ rw (is.2.width, is.2.steps) refl, is.2.items, is.2.skipped)
 
 -- the result without items is that of the outcome
 pub bytes_result : (terms : TermsValue) (first : Bool) (line : List ℕ) (set : LineResult) → IsResult (line_result terms None first line) set → IsOf (outcome_of terms line) set

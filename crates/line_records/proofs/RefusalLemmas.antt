@@ -6,8 +6,8 @@ use Rattle.std.specs.Str.Lossy.{utf8_valid_len}
 use Rattle.std.specs.List.{find}
 use Rattle.std.specs.Option.{is_none, option_map, option_or, unwrap_or}
 use Rattle.std.proofs.lemmas.List.Folds.{find-append}
+use Rattle.run_plan.specs.declared.policy.Policy.TheVariants.{Refuse}
 use Rattle.tfm_tables.specs.Font.{FontValue}
-use Rattle.set_line.specs.declared.policy.Policy.TheVariants.{Refuse}
 use Rattle.set_line.specs.declared.outcome.LineRefusal.{LineRefusal}
 use Rattle.set_line.specs.declared.outcome.LineRefusal.TheVariants.{Missing, TooLong}
 use Rattle.set_line.specs.declared.records.text_refusal.TextRefusal.TheVariants.{Line, NotUtf8, Uncoded}

@@ -1,17 +1,20 @@
 -- The result of a line, from the setting of its numbers.
 use Rattle.std.proofs.Common.{◌≡◌, ℕ, ◌+◌, ◌-◌, ◌<◌, ◌≤◌, ◌||◌, arith, lt-ltb, Bool, true, false, List, [], ◌∷◌, ◌++◌, length, map, flat_map, take, Option, Some, None, refl, ap, sym, subst, ◌∙◌}
-use Rattle.std.specs.Prelude.{Result, Ok, Err, cond, filter, nat_eq, not, ◌&&◌, if◌then◌else◌}
+use Rattle.std.specs.Prelude.{Result, Ok, Err, OnErr, cond, filter, nat_eq, not, ◌&&◌, if◌then◌else◌}
 use Rattle.std.specs.List.{find, list_all, list_any}
+use Rattle.std.specs.Global.{Vec}
 use Rattle.std.specs.Option.{is_none, option_map, option_map_or, option_or}
 use Rattle.std.proofs.Math.Bool.{or-false}
 use Rattle.std.proofs.lemmas.Bool.{and_parts, eqb-true, le-ltb}
 use Rattle.std.proofs.lemmas.Option.{none-some}
 use Rattle.std.proofs.lemmas.List.Folds.{list_any-append}
+use Rattle.run_plan.specs.declared.policy.Policy.{Policy}
+use Rattle.run_plan.specs.declared.policy.Policy.TheVariants.{Refuse, Skip}
+use Rattle.run_plan.specs.declared.version.Version.{Version}
+use Rattle.tfm_words.specs.Appending.{HasNoRoomFor}
 use Rattle.tex_sizes.specs.declared.length_unit.LengthUnit.{LengthUnit}
 use Rattle.tfm_tables.specs.Font.{FontValue}
 use Rattle.lig_kern.specs.Result.{Setting}
-use Rattle.set_line.specs.declared.policy.Policy.{Policy}
-use Rattle.set_line.specs.declared.policy.Policy.TheVariants.{Refuse, Skip}
 use Rattle.set_line.specs.declared.outcome.LineRefusal.{LineRefusal}
 use Rattle.set_line.specs.declared.outcome.LineRefusal.TheVariants.{Missing, Steps, TooLong}
 use Rattle.set_line.specs.declared.records.text_refusal.TextRefusal.{TextRefusal}
@@ -19,7 +22,6 @@ use Rattle.set_line.specs.declared.records.text_refusal.TextRefusal.TheVariants.
 use Rattle.set_line.specs.Answer.{has_refused, is_refused, outcome_of, refusal_of, set_as, set_or_refused, setting_of_portions}
 use Rattle.set_line.specs.Onward.{onward, setting}
 use Rattle.set_line.specs.Pieces.{is_neither, portions_of}
-use Rattle.set_line.specs.declared.version.Version.{Version}
 use Rattle.set_line.specs.declared.outcome.Outcome.{Outcome}
 use Rattle.set_line.specs.declared.outcome.Outcome.TheVariants.{Refused}
 use Rattle.set_line.specs.Record.{text_record, text_result}
@@ -34,9 +36,10 @@ use Rattle.encodings.specs.Lines.{Element, break_number, elements_at, encoded, f
 use Rattle.encodings.specs.Parts.{PartValue, parts_of, uncoded_after, unless_break, with_code}
 use Rattle.encodings.proofs.LawLemmas.{codes_are_bytes, soft_coded}
 use Rattle.encodings.proofs.PartLemmas.{last_part, parts_joined}
-use Rattle.line_records.specs.Boxes.{box_of, box_record, box_text, depth_of, height_of, largest, version_of}
-use Rattle.line_records.specs.declared.record_format.RecordFormat.{RecordFormat}
-use Rattle.line_records.specs.declared.record_format.RecordFormat.TheVariants.{Items, Box}
+use Rattle.formats.specs.Records.{version_of}
+use Rattle.formats.specs.declared.record_format.RecordFormat.{RecordFormat}
+use Rattle.formats.specs.declared.record_format.RecordFormat.TheVariants.{Items, Box}
+use Rattle.line_records.specs.Boxes.{box_of, box_record, box_text, depth_of, height_of, largest}
 use Rattle.line_records.specs.Kept.{IsKept, IsKeptResult, IsTried, as_box, refused_in, refuses, set_after}
 use Rattle.line_records.specs.Results.{only_part, is_refusal, is_refused as is_result_refused, line_portions, line_result, missing_at, missing_code_in, parts_in, refusal_in, result_record, result_text, set_within, uncoded_in, utf8_refusal}
 use Rattle.line_records.specs.declared.keeping.Kept.{Kept}
@@ -325,7 +328,7 @@ box_recorded unit font source place result texts before after kept extent is hei
     appended ∙ ap (λ box. before ++ box_record source place (box_text unit box)) same ∙ ap (λ r. before ++ result_record (Box unit) font source place r) (sym is.1)
   where
     same : as_box kept extent ≡ box_of font is.0.items
-    same = rw (is.2.sums.width, height, depth, is.2.spaces, is.2.text) refl
+    same = rw (is.2.sums.width, height, depth, is.2.spaces, is.2.sums.skipped, is.2.text) refl
 
 pub set_not_refused : (format : RecordFormat) (font : FontValue) (result : Result Setting TextRefusal) (texts : List ℕ) (kept : Kept)
     → IsKeptResult format result texts (Ok kept) → false ≡ is_result_refused result
@@ -336,7 +339,27 @@ pub refused_recorded : (format : RecordFormat) (font : FontValue) (source place 
 refused_recorded (Items version) font source place result refusal is = ap (result_record (Items version) font source place) (sym is)
 refused_recorded (Box unit) font source place result refusal is = ap (result_record (Box unit) font source place) (sym is)
 
-pub ruleset records = (recorded, box_recorded, set_not_refused, refused_recorded)
+-- a line that is set isn't refused before
+pub none_before : (terms : TermsValue) (encoding : Option Encoding) (first : Bool) (line : List ℕ) (format : RecordFormat) (texts : List ℕ) (kept : Kept)
+    → IsKeptResult format (line_result terms encoding first line) texts (Ok kept) → refusal_in terms encoding first line ≡ None
+unfolding line_result
+none_before terms encoding first line format texts kept is = by (refusal_in terms encoding first line) is.1
+  where
+    by : (o : Option TextRefusal) → option_map_or Err o (set_within terms (parts_in encoding first line)) ≡ Ok is.0 → o ≡ None
+    by None made = refl
+    by (Some refusal) made = cc
+
+pub on_error : {T E P : Type 0} (r : Result T E) → P → OnErr r P
+on_error (Ok value) p = tt
+on_error (Err fault) p = p
+
+-- a list without room for the record of a refusal has none for the record of the result
+pub room_missing : (format : RecordFormat) (font : FontValue) (source place : ℕ) (result : Result Setting TextRefusal) (refusal : TextRefusal) (out : Vec ℕ) → result ≡ Err refusal
+    → HasNoRoomFor out (text_record source place (refused refusal) (version_of format)) → HasNoRoomFor out (result_record format font source place result)
+room_missing format font source place result refusal out is full =
+    subst (HasNoRoomFor out) (refused_recorded format font source place result refusal is) full
+
+pub ruleset records = (recorded, box_recorded, set_not_refused, refused_recorded, none_before, room_missing)
 
 -- ---- laws
 

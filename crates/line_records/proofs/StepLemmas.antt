@@ -29,9 +29,9 @@ pub pair_step : (style : Style) (pairs : List Pair) (cells : List ℕ) (before a
     → AreCells style pairs cells → before.row < 256 → next < 257 → cell ≡ get_or cells (256 * next + before.row) 0 → cell < length pairs
     → pair ≡ get_or pairs cell pair → bytes ≡ pair.text → before.length ≤ length old → pair.length ≤ length bytes
     → after.row ≡ next % 256 → after.length ≡ before.length + pair.length → after.steps ≡ before.steps + pair.steps
-    → after.count ≡ before.count + pair.count → after.width ≡ before.width +ℤ pair.width
+    → after.tally ≡ before.tally + pair.tally → after.width ≡ before.width +ℤ pair.width
     → IsStep style before next old (put_mid before.length size old bytes) after
-pair_step style pairs cells before after next cell size pair old bytes are below column is within found copy fits few row long steps count width =
+pair_step style pairs cells before after next cell size pair old bytes are below column is within found copy fits few row long steps sum width =
     let there : IsPair style (symbol_of style.font before.row) next pair =
     subst (λ p. IsPair style (symbol_of style.font before.row) next p) (sym found) ((cell_there style pairs cells before.row next cell are below column is).pair pair within) in
     record {
@@ -45,19 +45,21 @@ pair_step style pairs cells before after next cell size pair old bytes are below
           ∙ ap (λ xs. take before.length old ++ xs) there.text.text;
       width = width ∙ ap (λ w. before.width +ℤ w) there.text.width;
       steps = steps ∙ ap (λ n. before.steps + n) there.text.steps;
-      count = count ∙ ap (λ n. before.count + n) there.text.count;
+      tally = sum ∙ ap (λ n. before.tally + n) there.text.tally;
+      few = there.text.few;
     }
 
 pub ligature_step : (style : Style) (pairs : List Pair) (cells : List ℕ) (before after : Written) (next cell : ℕ) (old : List ℕ)
     → AreCells style pairs cells → before.row < 256 → next < 257 → cell ≡ get_or cells (256 * next + before.row) 0 → 65280 ≤ cell
-    → after.row ≡ cell - 65280 → after.length ≡ before.length → after.steps ≡ before.steps + 1 → after.count ≡ before.count → after.width ≡ before.width
+    → after.row ≡ cell - 65280 → after.length ≡ before.length → after.steps ≡ before.steps + 1 → after.tally ≡ before.tally → after.width ≡ before.width
     → IsStep style before next old old after
-ligature_step style pairs cells before after next cell old are below column is above row long steps count width = record {
+ligature_step style pairs cells before after next cell old are below column is above row long steps sum width = record {
   added = one_step [] (symbol_of style.font (cell - 65280));
   is = (cell_there style pairs cells before.row next cell are below column is).ligature above;
   row = λ small. ap (symbol_of style.font) row;
   text = ap (λ n. take n old) long ∙ sym (append-nil (take before.length old));
   width = width ∙ sym (+ℤ_idr before.width);
   steps = steps;
-  count = omega (arith, count);
+  tally = omega (arith, sum);
+  few = omega arith;
 }

@@ -6,24 +6,24 @@ use Rattle.std.specs.List.{count_by}
 use Rattle.std.specs.Option.{option_and_then, option_map}
 use Rattle.std.proofs.lemmas.Grind.{flat_map-append}
 use Rattle.std.proofs.lemmas.Int.{ints}
+use Rattle.run_plan.specs.declared.policy.Policy.{Policy}
 use Rattle.tfm_tables.specs.Font.{FontValue}
 use Rattle.lig_kern.specs.declared.symbol.Symbol.{Symbol}
 use Rattle.lig_kern.specs.declared.symbol.Symbol.TheVariants.{Left}
 use Rattle.lig_kern.specs.Result.{Setting}
 use Rattle.set_line.specs.Onward.{setting}
-use Rattle.set_line.specs.declared.policy.Policy.{Policy}
 use Rattle.set_line.specs.Pieces.{is_space}
 use Rattle.set_line.specs.Terms.{TermsValue}
 use Rattle.set_line.specs.Width.{total_width}
 use Rattle.line_records.specs.Additions.{Addition, added_of, after, alone, byte_added, ending_of, set_from}
 use Rattle.line_records.specs.Boxes.{item_text}
-use Rattle.line_records.specs.Cells.{Fits, Style, symbol_of}
+use Rattle.line_records.specs.Cells.{Fits, Style, symbol_of, total_tally}
 use Rattle.line_records.specs.Written.{IsSmall, IsStep, IsWhole, IsWritten, joined}
 use Rattle.line_records.specs.Kept.{IsKept, IsThatOf, set_after, spaces_for}
 use Rattle.line_records.specs.Results.{only_part}
 use Rattle.line_records.specs.declared.keeping.Kept.{Kept}
 use Rattle.line_records.specs.declared.written.Written.{Written}
-use Rattle.line_records.proofs.AddingLemmas.{total_width-append}
+use Rattle.line_records.proofs.AddingLemmas.{total_tally-append, total_width-append}
 use Rattle.line_records.proofs.BoxLemmas.{line_spaces}
 use Rattle.line_records.proofs.LineLemmas.{line_set}
 
@@ -41,15 +41,16 @@ joined_none : (o : Option Setting) → o ≡ option_map (joined (setting 0 [])) 
 joined_none None = refl
 joined_none (Some set) = let same : 0 + set.steps ≡ set.steps = omega arith in ap (λ n. Some (setting n set.items)) (sym same)
 
-pub written_first : (style : Style) (line room : List ℕ) (start : Written) → start.row ≡ 32 → start.length ≡ 0 → start.steps ≡ 0 → start.count ≡ 0 → start.width ≡ pos 0
+pub written_first : (style : Style) (line room : List ℕ) (start : Written) → start.row ≡ 32 → start.length ≡ 0 → start.steps ≡ 0 → start.tally ≡ 0 → start.width ≡ pos 0
     → IsWritten style line line room start
-written_first style line room start row none steps count width = record {
+written_first style line room start row none steps sum width = record {
   set = setting 0 [];
   onward = joined_none (set_from style.font style.policy Left line) ∙ ap (λ symbol. option_map (joined (setting 0 [])) (set_from style.font style.policy symbol line)) (sym (ap (symbol_of style.font) row));
   text = ap (λ n. take n room) none;
   width = width;
   steps = steps;
-  count = count;
+  tally = sum;
+  few = omega arith;
 }
 
 joined_twice : (set : Setting) (added : Addition) (o : Option Setting)
@@ -86,7 +87,8 @@ written_byte style line old new byte rest before next way step small =
       text = added_text style line (byte ∷ rest) old new byte before next way step;
       width = added_width style line (byte ∷ rest) old new byte before next way step;
       steps = step.steps ∙ ap (λ n. n + step.added.steps) way.steps;
-      count = omega (arith, step.count, way.count, length-append way.set.items step.added.items);
+      tally = step.tally ∙ ap (λ n. n + total_tally step.added.items) way.tally ∙ sym (total_tally-append way.set.items step.added.items);
+      few = omega (arith, step.few, way.few, length-append way.set.items step.added.items);
     }
 
 pub written_next : (style : Style) (line old new : List ℕ) (at further : ℕ) (before next : Written) → IsWritten style line (drop at line) old before
@@ -110,7 +112,8 @@ written_whole style line rest old new before whole way none step = record {
   text = added_text style line rest old new 256 before whole way step;
   width = added_width style line rest old new 256 before whole way step;
   steps = step.steps ∙ ap (λ n. n + step.added.steps) way.steps;
-  count = omega (arith, step.count, way.count, length-append way.set.items step.added.items);
+  tally = step.tally ∙ ap (λ n. n + total_tally step.added.items) way.tally ∙ sym (total_tally-append way.set.items step.added.items);
+  few = omega (arith, step.few, way.few, length-append way.set.items step.added.items, ap length none);
 }
 
 -- a step in a room whose front was kept
@@ -123,16 +126,17 @@ step_through style before next old middle new after step kept = record {
   text = step.text ∙ ap (λ xs. xs ++ flat_map (item_text style.format) step.added.items) kept;
   width = step.width;
   steps = step.steps;
-  count = step.count;
+  tally = step.tally;
+  few = step.few;
 }
 
 -- the numbers after one more byte
-pub small_next : (bytes further : ℕ) (before after : Written) → IsSmall bytes before → after.row < 256 → after.steps ≤ before.steps + 1 → after.count ≤ before.count + 3
+pub small_next : (bytes further : ℕ) (before after : Written) → IsSmall bytes before → after.row < 256 → after.steps ≤ before.steps + 1 → after.tally ≤ before.tally + 2 ^ 34
     → before.width ≤ℤ (after.width +ℤ pos (2 ^ 40)) → after.width ≤ℤ (before.width +ℤ pos (2 ^ 40)) → further ≡ bytes + 1 → IsSmall further after
-small_next bytes further before after small row steps count low high is = record {
+small_next bytes further before after small row steps sum low high is = record {
   row = row;
   steps = omega (arith, small.steps);
-  count = omega (arith, small.count);
+  tally = omega (arith, small.tally);
   low = omega (arith, ints, small.low);
   high = omega (arith, ints, small.high);
 }
@@ -152,16 +156,21 @@ step_back style before next size old middle new behind (Some after) long kept st
     rw (whole_slice size new behind long) (step_through style before next old middle new after step kept)
 
 -- a line that is written and within the limit
-pub set_as : (style : Style) (terms : TermsValue) (line room : List ℕ) (whole : Written) (spaces : ℕ) (kept : Kept) → IsWhole style line room whole → Fits style terms
+pub set_as : (style : Style) (terms : TermsValue) (line room : List ℕ) (whole : Written) (spaces : ℕ) (kept : Kept) → IsWhole style line room whole → Fits style terms → length line ≤ 65535
     → whole.steps ≤ terms.limit → whole.length ≤ length room → spaces ≡ spaces_for style.format (count_by is_space line) → IsThatOf whole spaces kept
     → IsKept style.format (set_after terms (setting 0 []) (only_part line)) room (Some kept)
-set_as style terms line room whole spaces kept is fits within inside counted same = (
+set_as style terms line room whole spaces kept is fits short within inside counted same = (
   is.set,
   line_set terms line is.set
       (ap (λ f. set_from f terms.policy Left line) (sym fits.0) ∙ ap (λ p. set_from style.font p Left line) (sym fits.1) ∙ is.is)
       (omega (arith, is.steps)),
   record {
-    sums = record { width = same.width ∙ is.width; steps = same.steps ∙ is.steps; items = same.items ∙ is.count };
+    sums = record {
+      width = same.width ∙ is.width;
+      steps = same.steps ∙ is.steps;
+      items = omega (arith, same.tally, same.few, is.tally, is.few, short);
+      skipped = omega (arith, same.tally, same.few, is.tally, is.few, short);
+    };
     spaces = same.spaces ∙ counted ∙ ap (spaces_for style.format) (sym (line_spaces style.font style.policy Left line is.set is.is));
     within = omega (arith, same.length);
     text = ap (λ n. take n room) same.length ∙ is.text;

@@ -2,8 +2,10 @@
 -- to decide this.
 -- Public source: The METAFONTbook, Appendix F, for the rules. To set a line byte by byte is this project's
 -- own; the lemma line_set states that a line which is set in this way has the setting that set_line defines.
-use Rattle.std.specs.Prelude.{ℕ, zero, ◌+◌, ◌==◌, ◌&&◌, Bool, true, false, List, [], ◌∷◌, ◌++◌, Option, Some, None, is_some, if◌then◌else◌}
+use Rattle.std.specs.Prelude.{ℕ, ◌+◌, ◌==◌, ◌&&◌, Bool, true, false, List, [], ◌∷◌, ◌++◌, Option, Some, None, is_some, if◌then◌else◌}
 use Rattle.std.specs.Option.{option_and_then, option_map}
+use Rattle.run_plan.specs.declared.policy.Policy.{Policy}
+use Rattle.run_plan.specs.declared.policy.Policy.TheVariants.{Refuse, Skip}
 use Rattle.tfm_tables.specs.Font.{FontValue}
 use Rattle.tfm_tables.specs.Character.{exists}
 use Rattle.tfm_tables.specs.Measure.{parameter_of}
@@ -11,14 +13,14 @@ use Rattle.tfm_tables.specs.Program.{program_of, right_code_of}
 use Rattle.lig_kern.specs.declared.symbol.Symbol.{Symbol}
 use Rattle.lig_kern.specs.declared.symbol.Symbol.TheVariants.{Left, Char, Right}
 use Rattle.lig_kern.specs.declared.action.Action.{Action}
-use Rattle.lig_kern.specs.declared.action.Action.TheVariants.{Kern, Lig}
+use Rattle.lig_kern.specs.declared.plainly.Plain.{Plain}
+use Rattle.lig_kern.specs.declared.plainly.Plain.TheVariants.{Passes, Replaces}
 use Rattle.lig_kern.specs.declared.item.Item.{Item}
 use Rattle.lig_kern.specs.declared.item.Item.TheVariants.{Space, Skipped}
 use Rattle.lig_kern.specs.Matching.{action_between}
-use Rattle.lig_kern.specs.Rewriting.{of_symbol, of_kern, items_of}
+use Rattle.lig_kern.specs.Plain.{plain_next, plain_of, plain_sent}
+use Rattle.lig_kern.specs.Rewriting.{of_symbol, items_of}
 use Rattle.lig_kern.specs.Result.{Setting}
-use Rattle.set_line.specs.declared.policy.Policy.{Policy}
-use Rattle.set_line.specs.declared.policy.Policy.TheVariants.{Refuse, Skip}
 use Rattle.set_line.specs.Onward.{setting}
 use Rattle.set_line.specs.Pieces.{is_space}
 
@@ -37,21 +39,20 @@ skip_by Skip added = added
 abbrev pub one_step : List Item → Symbol → Addition
 one_step items current = record { steps = 1; items = items; current = current }
 
--- what the step from the current symbol to a next one adds, if this is the action between them: the item of
--- the current symbol, with a kern after it if the action is a kern; no item for a ligature that replaces
--- both. Not defined for any other ligature: it keeps a neighbour, to which a further action may apply
+-- what the step from the current symbol to a next one adds, if this is the action between them: the items of what a
+-- plain action passes. Not defined for any other ligature: a further action may apply to a neighbour that it keeps
 abbrev pub step_by : FontValue → Option Action → Symbol → Symbol → Option Addition
-step_by font None current next = Some (one_step (items_of font (of_symbol current ∷ [])) next)
-step_by font (Some (Kern amount)) current next = Some (one_step (items_of font (of_symbol current ∷ of_kern amount ∷ [])) next)
-step_by font (Some (Lig code false false zero)) current next = Some (one_step [] (Char code))
-step_by font (Some (Lig code keep_left keep_right pass)) current next = None
+step_by font action current next =
+    option_map (λ plain. one_step (items_of font (plain_sent plain current)) (plain_next plain next)) (plain_of action)
 
--- what the step from the current symbol to the right boundary adds, if this is the action between them. Not
--- defined for a ligature
+-- what a plain action adds at the right boundary. Not defined for a ligature
+abbrev pub ended_by : FontValue → Symbol → Plain → Option Addition
+ended_by font current (Passes kern) = Some (one_step (items_of font (plain_sent (Passes kern) current)) Right)
+ended_by font current (Replaces code) = None
+
+-- what the step from the current symbol to the right boundary adds, if this is the action between them
 abbrev pub boundary_by : FontValue → Option Action → Symbol → Option Addition
-boundary_by font None current = Some (one_step (items_of font (of_symbol current ∷ [])) Right)
-boundary_by font (Some (Kern amount)) current = Some (one_step (items_of font (of_symbol current ∷ of_kern amount ∷ [])) Right)
-boundary_by font (Some (Lig code keep_left keep_right pass)) current = None
+boundary_by font action current = option_and_then (ended_by font current) (plain_of action)
 
 -- what the end of a run adds: nothing if the run is empty; otherwise the item of the current symbol, and if
 -- the font has a right boundary that may follow the run, the step to it

@@ -1,17 +1,19 @@
 -- The table of texts: for each current symbol, and for each byte after it or the end of the line, the text of
 -- the items that are added. The text with its sums is a pair. This project's own.
-use Rattle.std.specs.Prelude.{◌≡◌, ℕ, ◌+◌, ◌-◌, ◌*◌, ◌<◌, ◌≤◌, List, [], length, take, get_or, flat_map, Some, if◌then◌else◌}
+use Rattle.std.specs.Prelude.{◌≡◌, ℕ, ◌+◌, ◌-◌, ◌*◌, ◌<◌, ◌≤◌, ◌^◌, List, [], length, take, get_or, flat_map, Some, if◌then◌else◌}
+use Rattle.std.specs.List.{count_by}
+use Rattle.run_plan.specs.declared.policy.Policy.{Policy}
 use Rattle.tfm_tables.specs.Font.{FontValue}
+use Rattle.lig_kern.specs.declared.item.Item.{Item}
 use Rattle.lig_kern.specs.declared.symbol.Symbol.{Symbol}
 use Rattle.lig_kern.specs.declared.symbol.Symbol.TheVariants.{Left, Char}
-use Rattle.set_line.specs.declared.policy.Policy.{Policy}
 use Rattle.set_line.specs.Pieces.{is_cut}
 use Rattle.set_line.specs.Terms.{TermsValue}
 use Rattle.set_line.specs.Width.{total_width}
+use Rattle.formats.specs.declared.record_format.RecordFormat.{RecordFormat}
 use Rattle.line_records.specs.Additions.{Addition, added_of, one_step}
-use Rattle.line_records.specs.Boxes.{item_text}
+use Rattle.line_records.specs.Boxes.{is_skipped, item_text}
 use Rattle.line_records.specs.declared.pair.Pair.{Pair}
-use Rattle.line_records.specs.declared.record_format.RecordFormat.{RecordFormat}
 
 -- what a table depends on: the font, the missing-character policy, and the format of the records
 pub record Style : Type 0 where
@@ -32,20 +34,26 @@ Fits style terms = (style.font ≡ terms.font) × (style.policy ≡ terms.policy
 abbrev pub symbol_of : FontValue → ℕ → Symbol
 symbol_of font row = if is_cut font row then Left else Char row
 
--- a pair has the text, the width, the steps and the number of items of an addition
+-- the number of items, plus 2^32 for each skipped one: one sum has both numbers, as long as there are fewer than 2^32
+-- items
+abbrev pub total_tally : List Item → ℕ
+total_tally items = length items + 2 ^ 32 * count_by is_skipped items
+
+-- a pair has the text, the width, the steps and the tally of an addition, which has at most three items
 pub record IsTextOf (format : RecordFormat) (added : Addition) (pair : Pair) : Type 0 where
   pub text : take pair.length pair.text ≡ flat_map (item_text format) added.items
   pub width : pair.width ≡ total_width added.items
   pub steps : pair.steps ≡ added.steps
-  pub count : pair.count ≡ length added.items
+  pub tally : pair.tally ≡ total_tally added.items
+  pub few : length added.items ≤ 3
 
--- two pairs have the same text, width and steps and the same number of items
+-- two pairs have the same text, width and steps and the same tally
 pub record AreSame (one other : Pair) : Type 0 where
   pub text : one.text ≡ other.text
   pub length : one.length ≡ other.length
   pub width : one.width ≡ other.width
   pub steps : one.steps ≡ other.steps
-  pub count : one.count ≡ other.count
+  pub tally : one.tally ≡ other.tally
 
 -- a pair is right for a byte after a symbol, or for the end of the line (256): it has the text of what is
 -- added, and after a byte the symbol of the byte's own row is current

@@ -2,12 +2,12 @@
 -- This project's own representation; Results defines the result.
 use Rattle.std.specs.List.{count_by, list_any}
 use Rattle.std.specs.Option.{is_none, option_map_or}
-use Rattle.std.specs.Prelude.{◌≡◌, ℕ, ◌+◌, ◌≤◌, Bool, true, false, not, ◌&&◌, ◌||◌, List, flat_map, length, take, Option, Some, None, Result, Ok, Err, if◌then◌else◌}
+use Rattle.std.specs.Prelude.{◌≡◌, ℕ, ◌+◌, ◌*◌, ◌<◌, ◌≤◌, ◌^◌, Bool, true, false, not, ◌&&◌, ◌||◌, List, flat_map, length, take, Option, Some, None, Result, Ok, Err, if◌then◌else◌}
+use Rattle.run_plan.specs.declared.policy.Policy.{Policy}
+use Rattle.run_plan.specs.declared.policy.Policy.TheVariants.{Refuse, Skip}
 use Rattle.lig_kern.specs.declared.item.Item.{Item}
 use Rattle.lig_kern.specs.Result.{Setting}
 use Rattle.tfm_tables.specs.Font.{FontValue}
-use Rattle.set_line.specs.declared.policy.Policy.{Policy}
-use Rattle.set_line.specs.declared.policy.Policy.TheVariants.{Refuse, Skip}
 use Rattle.set_line.specs.declared.outcome.LineRefusal.TheVariants.{Steps}
 use Rattle.set_line.specs.declared.records.text_refusal.TextRefusal.{TextRefusal}
 use Rattle.set_line.specs.declared.records.text_refusal.TextRefusal.TheVariants.{Line}
@@ -17,11 +17,11 @@ use Rattle.set_line.specs.Terms.{TermsValue}
 use Rattle.set_line.specs.Width.{total_width}
 use Rattle.encodings.specs.declared.encoding.Encoding.{Encoding}
 use Rattle.encodings.specs.Parts.{PartValue, uncoded_after}
-use Rattle.line_records.specs.Boxes.{BoxValue, is_glue, item_text}
+use Rattle.formats.specs.declared.record_format.RecordFormat.{RecordFormat}
+use Rattle.formats.specs.declared.record_format.RecordFormat.TheVariants.{Items, Box}
+use Rattle.line_records.specs.Boxes.{BoxValue, is_glue, is_skipped, item_text}
 use Rattle.line_records.specs.declared.keeping.Kept.{Kept}
 use Rattle.line_records.specs.declared.measuring.Extent.{Extent}
-use Rattle.line_records.specs.declared.record_format.RecordFormat.{RecordFormat}
-use Rattle.line_records.specs.declared.record_format.RecordFormat.TheVariants.{Items, Box}
 use Rattle.line_records.specs.declared.written.Written.{Written}
 use Rattle.line_records.specs.Results.{HasSums, line_portions, line_result, refusal_in}
 
@@ -44,12 +44,13 @@ set_after terms so_far parts =
     if list_any (refused_in terms.policy terms.font) parts then None else onward terms.font terms.limit so_far (line_portions terms.font parts)
 
 -- lists have the texts of these items, their width, their spaces and, with the number of characters without codes,
--- their number
+-- their number and that of skipped ones
 pub record AreListed (format : RecordFormat) (all items : List Item) (gaps : ℕ) (written : List ℕ) : Type 0 where
   pub texts : written ≡ flat_map (item_text format) all
   pub width : total_width items ≡ total_width all
   pub spaces : count_by is_glue items ≡ count_by is_glue all
   pub count : length items + gaps ≡ length all
+  pub skipped : count_by is_skipped items + gaps ≡ count_by is_skipped all
 
 -- the return value of a function that sets numbers: the number of steps, with the lists of the items; or `None`, if
 -- a number is refused or the steps are above the limit
@@ -78,13 +79,20 @@ pub record HasKept (format : RecordFormat) (set : Setting) (texts : List ℕ) (k
 pub record IsThatOf (whole : Written) (number : ℕ) (kept : Kept) : Type 0 where
   pub width : kept.sums.width ≡ whole.width
   pub steps : kept.sums.steps ≡ whole.steps
-  pub items : kept.sums.items ≡ whole.count
+  pub tally : kept.sums.items + 2 ^ 32 * kept.sums.skipped ≡ whole.tally
+  pub few : kept.sums.items < 2 ^ 32
   pub spaces : kept.spaces ≡ number
   pub length : kept.length ≡ whole.length
 
 -- the box of a line that is kept, with this height and this depth
 abbrev pub as_box : Kept → Extent → BoxValue
-as_box kept extent = record { width = kept.sums.width; height = extent.height; depth = extent.depth; spaces = kept.spaces }
+as_box kept extent = record {
+  width = kept.sums.width;
+  height = extent.height;
+  depth = extent.depth;
+  spaces = kept.spaces;
+  skipped = kept.sums.skipped;
+}
 
 -- the return value of a function that sets a whole line
 abbrev pub IsKept : RecordFormat → Option Setting → List ℕ → Option Kept → Type 0

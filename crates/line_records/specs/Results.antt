@@ -3,20 +3,20 @@
 -- This project's own; how a list of codes is set is defined in Answer of `set_line`, a character without codes is set
 -- as a missing code is: it is skipped, and the codes on each side of a break are set as those of two lines are.
 use Rattle.std.specs.Prelude.{◌≡◌, ℕ, ◌+◌, Bool, true, false, nat_lt, List, [], ◌∷◌, ◌++◌, length, flat_map, Option, Some, None, Result, Ok, Err, if◌then◌else◌}
-use Rattle.std.specs.List.{find}
+use Rattle.std.specs.List.{count_by, find}
 use Rattle.std.specs.Option.{is_none, option_map, option_map_or, option_or}
+use Rattle.run_plan.specs.declared.policy.Policy.{Policy}
+use Rattle.run_plan.specs.declared.policy.Policy.TheVariants.{Refuse, Skip}
+use Rattle.run_plan.specs.declared.version.Version.{Version}
+use Rattle.run_plan.specs.declared.version.Version.TheVariants.{One}
 use Rattle.tfm_tables.specs.Font.{FontValue}
 use Rattle.lig_kern.specs.declared.item.Item.{Item}
 use Rattle.lig_kern.specs.Result.{Setting}
-use Rattle.set_line.specs.declared.policy.Policy.{Policy}
-use Rattle.set_line.specs.declared.policy.Policy.TheVariants.{Refuse, Skip}
 use Rattle.set_line.specs.declared.outcome.LineRefusal.TheVariants.{TooLong, Missing, Steps}
 use Rattle.set_line.specs.declared.records.text_refusal.TextRefusal.{TextRefusal}
 use Rattle.set_line.specs.declared.records.text_refusal.TextRefusal.TheVariants.{Line, NotUtf8, Uncoded}
 use Rattle.set_line.specs.declared.outcome.Outcome.{Outcome}
 use Rattle.set_line.specs.declared.outcome.Outcome.TheVariants.{Set, Refused}
-use Rattle.set_line.specs.declared.version.Version.{Version}
-use Rattle.set_line.specs.declared.version.Version.TheVariants.{One}
 use Rattle.set_line.specs.Answer.{refusal_of, setting_of_portions}
 use Rattle.set_line.specs.Pieces.{Portion, is_neither, portions_in, skipped}
 use Rattle.set_line.specs.Record.{TextResult, text_in, text_record}
@@ -27,9 +27,9 @@ use Rattle.encodings.specs.declared.encoding.Encoding.{Encoding}
 use Rattle.encodings.specs.declared.places.Place.{Place}
 use Rattle.encodings.specs.Lines.{Element, elements_at, elements_of, encoded, fault_in, first_uncoded, places_of}
 use Rattle.encodings.specs.Parts.{PartValue, parts_of, uncoded_after}
-use Rattle.line_records.specs.Boxes.{box_of, box_record, box_text}
-use Rattle.line_records.specs.declared.record_format.RecordFormat.{RecordFormat}
-use Rattle.line_records.specs.declared.record_format.RecordFormat.TheVariants.{Items, Box}
+use Rattle.formats.specs.declared.record_format.RecordFormat.{RecordFormat}
+use Rattle.formats.specs.declared.record_format.RecordFormat.TheVariants.{Items, Box}
+use Rattle.line_records.specs.Boxes.{box_of, box_record, box_text, is_skipped}
 use Rattle.line_records.specs.declared.result.Sums.{Sums}
 use Rattle.line_records.specs.declared.result.LineResult.{LineResult}
 use Rattle.line_records.specs.declared.result.LineResult.TheVariants.{Set as SetResult, Refused as RefusedResult}
@@ -109,11 +109,12 @@ abbrev pub is_refusal : Outcome → Bool
 is_refusal (Set items width steps) = false
 is_refusal (Refused refusal) = true
 
--- a line was set, with this width, this number of steps and this number of items
+-- a line was set, with this width, this number of steps, this number of items, and this number of skipped ones
 pub record HasSums (setting : Setting) (sums : Sums) : Type 0 where
   pub width : sums.width ≡ total_width setting.items
   pub steps : sums.steps ≡ setting.steps
   pub items : sums.items ≡ length setting.items
+  pub skipped : sums.skipped ≡ count_by is_skipped setting.items
 
 -- a result without items is that of a line
 abbrev pub IsResult : Result Setting TextRefusal → LineResult → Type 0
@@ -122,7 +123,8 @@ IsResult result (RefusedResult refusal) = result ≡ Err refusal
 
 -- a result without items is that of a line of bytes with this outcome
 abbrev pub IsOf : Outcome → LineResult → Type 0
-IsOf outcome (SetResult sums) = (items : List Item) × (outcome ≡ Set items sums.width sums.steps) × (sums.items ≡ length items)
+IsOf outcome (SetResult sums) =
+    (items : List Item) × (outcome ≡ Set items sums.width sums.steps) × (sums.items ≡ length items) × (sums.skipped ≡ count_by is_skipped items)
 IsOf outcome (RefusedResult (Line refusal)) = outcome ≡ Refused refusal
 IsOf outcome (RefusedResult (NotUtf8 offset)) = ⊥
 IsOf outcome (RefusedResult (Uncoded offset character)) = ⊥

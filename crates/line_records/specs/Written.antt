@@ -7,7 +7,7 @@ use Rattle.set_line.specs.Onward.{setting}
 use Rattle.set_line.specs.Width.{total_width}
 use Rattle.line_records.specs.Additions.{Addition, added_of, set_from}
 use Rattle.line_records.specs.Boxes.{item_text}
-use Rattle.line_records.specs.Cells.{Style, symbol_of}
+use Rattle.line_records.specs.Cells.{Style, symbol_of, total_tally}
 use Rattle.line_records.specs.declared.written.Written.{Written}
 
 -- what a byte adds, or the end of the line (256), was written after the text that was there before
@@ -18,7 +18,8 @@ pub record IsStep (style : Style) (before : Written) (next : ℕ) (old new : Lis
   pub text : take after.length new ≡ take before.length old ++ flat_map (item_text style.format) added.items
   pub width : after.width ≡ before.width +ℤ total_width added.items
   pub steps : after.steps ≡ before.steps + added.steps
-  pub count : after.count ≡ before.count + length added.items
+  pub tally : after.tally ≡ before.tally + total_tally added.items
+  pub few : length added.items ≤ 3
 
 -- two settings, one after the other
 abbrev pub joined : Setting → Setting → Setting
@@ -31,22 +32,24 @@ pub record IsWritten (style : Style) (line rest room : List ℕ) (so_far : Writt
   pub text : take so_far.length room ≡ flat_map (item_text style.format) set.items
   pub width : so_far.width ≡ total_width set.items
   pub steps : so_far.steps ≡ set.steps
-  pub count : so_far.count ≡ length set.items
+  pub tally : so_far.tally ≡ total_tally set.items
+  pub few : length set.items + 3 * length rest ≤ 3 * length line
 
 -- the row is one of the table, and each sum is within a bound that grows with this number of bytes, so that
 -- no addition overflows
 pub record IsSmall (bytes : ℕ) (so_far : Written) : Type 0 where
   pub row : so_far.row < 256
   pub steps : so_far.steps ≤ bytes
-  pub count : so_far.count ≤ 3 * bytes
+  pub tally : so_far.tally ≤ 2 ^ 34 * bytes
   pub low : pos 0 ≤ℤ (so_far.width +ℤ pos (2 ^ 40 * bytes))
   pub high : so_far.width ≤ℤ pos (2 ^ 40 * bytes)
 
--- a whole line is written: the text of the items of its setting, their width and number, and its steps
+-- a whole line is written: the text of the items of its setting, their width and tally, and its steps
 pub record IsWhole (style : Style) (line room : List ℕ) (whole : Written) : Type 0 where
   pub set : Setting
   pub is : set_from style.font style.policy Left line ≡ Some set
   pub text : take whole.length room ≡ flat_map (item_text style.format) set.items
   pub width : whole.width ≡ total_width set.items
   pub steps : whole.steps ≡ set.steps
-  pub count : whole.count ≡ length set.items
+  pub tally : whole.tally ≡ total_tally set.items
+  pub few : length set.items ≤ 3 * length line + 3

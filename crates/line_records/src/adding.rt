@@ -2,12 +2,14 @@
 ghost use Rattle.std.specs.Prelude.{◌≡◌, ◌<◌, [], ◌∷◌, ◌++◌, length, flat_map, OnOk, None, Some, Option};
 ghost use Rattle.std.specs.Option.{option_to_list};
 ghost use Rattle.lig_kern.specs.declared.symbol.Symbol.TheVariants.{Right as RightSymbol};
+ghost use Rattle.lig_kern.specs.declared.plainly.Plain.TheVariants.{Passes as PassesSymbol};
 ghost use Rattle.lig_kern.specs.Matching.{action_between};
+ghost use Rattle.lig_kern.specs.Plain.{plain_sent};
 ghost use Rattle.lig_kern.specs.Rewriting.{items_of, of_symbol};
 ghost use Rattle.line_records.specs.Additions.{added_of as added_by, boundary_by, byte_added as added_by_byte, cut_added as added_by_cut, ending_of as ending_by, one_step, step_by};
 ghost use Rattle.line_records.specs.Cells.{symbol_of};
 
-use lig_kern::{Action, Item, Symbol, first_match};
+use lig_kern::{Item, Plain, Symbol, first_match, plain_action};
 use set_line::Policy;
 use std::marker::Model;
 use tfm_tables::Font;
@@ -89,15 +91,15 @@ fn item_of(font: &Font, symbol: Symbol) -> Option<Item>
     }
 }
 
-/// Returns what a step past a symbol adds if no ligature matches.
+/// Returns what a step past a symbol adds, with this kern after it.
 #[tactic(auto, using(crate::proofs::AddingLemmas::items), unfolding(lig_kern::specs::Rewriting::items_of))]
-fn step_past(font: &Font, symbol: Symbol, kern: Option<Item>, next: Symbol) -> Passed
-    ensures { result ≡ one_step (items_of font.now (of_symbol symbol ∷ []) ++ option_to_list kern) next }
+fn step_past(font: &Font, symbol: Symbol, kern: Option<i32>, next: Symbol) -> Passed
+    ensures { result ≡ one_step (items_of font.now (plain_sent (PassesSymbol kern) symbol)) next }
 {
     Passed {
         steps: 1,
         character: item_of(font, symbol),
-        kern,
+        kern: kern.map(Item::Kern),
         current: next,
     }
 }
@@ -108,42 +110,24 @@ fn step_past(font: &Font, symbol: Symbol, kern: Option<Item>, next: Symbol) -> P
 fn stepped(font: &Font, current: Symbol, next: Symbol) -> Option<Passed>
     ensures { result ≡ step_by font.now (action_between font.now current next) current next }
 {
-    match first_match(font, current, next) {
-        None => Some(step_past(font, current, None, next)),
-        Some(Action::Kern(amount)) => Some(step_past(
-            font,
-            current,
-            Some(Item::Kern(amount)),
-            next,
-        )),
-        Some(
-            Action::Lig {
-                code,
-                keep_left: false,
-                keep_right: false,
-                pass: 0,
-            },
-        ) => Some(Passed {
+    match plain_action(first_match(font, current, next))? {
+        Plain::Passes(kern) => Some(step_past(font, current, kern, next)),
+        Plain::Replaces(code) => Some(Passed {
             steps: 1,
             character: None,
             kern: None,
             current: Symbol::Char(code),
         }),
-        Some(_) => None,
     }
 }
 
 /// Returns what the step from a character to the right boundary adds, or `None` if a ligature matches.
-#[tactic(auto, using(crate::proofs::AddingLemmas::items), unfolding(lig_kern::specs::Rewriting::items_of))]
 fn to_boundary(font: &Font, current: Symbol) -> Option<Passed>
     ensures { result ≡ boundary_by font.now (action_between font.now current RightSymbol) current }
 {
-    match first_match(font, current, Symbol::Right) {
-        None => Some(step_past(font, current, None, Symbol::Right)),
-        Some(Action::Kern(amount)) => {
-            Some(step_past(font, current, Some(Item::Kern(amount)), Symbol::Right))
-        }
-        Some(Action::Lig { .. }) => None,
+    match plain_action(first_match(font, current, Symbol::Right))? {
+        Plain::Passes(kern) => Some(step_past(font, current, kern, Symbol::Right)),
+        Plain::Replaces(_) => None,
     }
 }
 

@@ -63,7 +63,7 @@ fn is_same(one: &Pair, other: &Pair) -> bool
     one.width == other.width
         && one.length == other.length
         && one.steps == other.steps
-        && one.count == other.count
+        && one.tally == other.tally
         && one.text == other.text
 }
 

@@ -8,11 +8,12 @@ ghost use Rattle.lig_kern.specs.declared.item.Item.TheVariants.{Skipped};
 ghost use Rattle.set_line.specs.Answer.{has_refused};
 ghost use Rattle.set_line.specs.Onward.{AreFew, setting};
 ghost use Rattle.set_line.specs.Pieces.{is_space};
-ghost use Rattle.line_records.specs.Boxes.{code_in, is_glue, item_text};
+ghost use Rattle.line_records.specs.Boxes.{code_in, is_glue, is_skipped, item_text};
 ghost use Rattle.line_records.specs.Cells.{Fits, style_of};
 ghost use Rattle.line_records.specs.Kept.{AreListed, IsKept, IsReached, IsThatOf, gaps_in, set_after, spaces_for};
 ghost use Rattle.line_records.specs.Results.{only_part};
 
+use crate::pair::SKIPPED;
 use crate::table::PairTable;
 use crate::writing::write_line;
 use crate::written::Written;
@@ -24,7 +25,7 @@ use std::alloc::AllocError;
 
 /// A line that is set. The texts of its items are at the front of the list of texts; for a box they are the codes of
 /// the characters.
-#[derive(Clone, Copy, Debug)]
+#[derive(Clone, Copy)]
 pub(crate) struct Kept {
     pub sums: Sums,
     /// The number of spaces, or 0 if the record doesn't have it.
@@ -34,7 +35,7 @@ pub(crate) struct Kept {
 }
 
 /// The lists that are used again from line to line.
-#[derive(Debug, Drop)]
+#[derive(Drop)]
 pub(crate) struct Lists {
     /// The items of a line that isn't set with the table of texts, without characters that have no codes.
     pub items: Vec<Item>,
@@ -125,6 +126,18 @@ fn count_spaces(format: RecordFormat, items: &[Item]) -> usize
     }
 }
 
+/// Returns the number of skipped bytes among items.
+#[tactic(auto, using(crate::proofs::BoxLemmas::counted))]
+fn count_skipped(items: &[Item]) -> usize
+    ensures value { result ≡ count_by is_skipped items.now }
+    ensures few { result ≤ length items.now }
+{
+    items
+        .iter()
+        .filter(|item| matches!(item, Item::Skipped(_)))
+        .count()
+}
+
 /// Sets the parts of a line one after the other. Returns `None` if a character is refused, or if the line takes
 /// more steps than the limit.
 pub(crate) fn set_parts(
@@ -152,6 +165,7 @@ pub(crate) fn set_parts(
         width: total_width(&lists.items),
         steps,
         items: lists.items.len() + gaps,
+        skipped: count_skipped(&lists.items) + gaps,
     };
     Ok(Some(Kept {
         sums,
@@ -192,7 +206,8 @@ fn as_kept(whole: Written, spaces: usize) -> Kept
         sums: Sums {
             width: whole.width,
             steps: whole.steps as u32,
-            items: whole.count,
+            items: whole.tally % SKIPPED,
+            skipped: whole.tally / SKIPPED,
         },
         spaces,
         length: whole.length,

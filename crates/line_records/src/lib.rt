@@ -2,8 +2,8 @@
 //! the text of what the byte adds is copied from a table of texts.
 #![tactic(auto)]
 
+pub use formats::RecordFormat;
 pub use line_writer::LineWriter;
-pub use record_format::RecordFormat;
 pub use record_of::{RecordOf, SourceLine};
 pub use result::{LineResult, Sums};
 
@@ -14,7 +14,6 @@ mod line_writer;
 mod making;
 mod measuring;
 mod pair;
-mod record_format;
 mod record_of;
 mod refusing;
 mod result;

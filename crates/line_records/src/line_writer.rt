@@ -1,4 +1,4 @@
-ghost use Rattle.std.specs.Prelude.{◌≡◌, ◌++◌, None, IfOk, IfSome, OnErr, OnOk};
+ghost use Rattle.std.specs.Prelude.{◌≡◌, ◌+◌, ◌≤◌, ◌++◌, None, IfOk, IfSome, OnErr, OnOk, length, vec_capacity, vec_len};
 ghost use Rattle.line_records.specs.Cells.{Fits, style_of};
 ghost use Rattle.line_records.specs.Kept.{IsKeptResult, IsTried};
 ghost use Rattle.line_records.specs.Results.{IsResult, line_record, line_result, refusal_in};
@@ -179,7 +179,8 @@ impl LineWriter {
     }
 
     /// Sets a line, and appends its record. Returns its result without its items. If an allocation fails, the
-    /// contents of `out` are as before.
+    /// contents of `out` are as before. This isn't returned for a line that is refused before it is set if `out` has
+    /// room for its record.
     #[tactic(auto, using(crate::proofs::ResultLemmas::records))]
     pub fn append(
         &mut self,
@@ -194,6 +195,10 @@ impl LineWriter {
             of.now.source line.entry.number self.old.format) }
         ensures result { IfOk result (IsResult
             (line_result of.now.terms.now of.now.encoding line.entry.first line.entry.bytes.now)) }
+        ensures memory { OnErr result (vec_len out.old
+            + length (line_record of.now.terms.now of.now.encoding line.entry.first line.entry.bytes.now
+            of.now.source line.entry.number self.old.format) ≤ vec_capacity out.old
+            → refusal_in of.now.terms.now of.now.encoding line.entry.first line.entry.bytes.now ≡ None) }
         ensures unchanged { OnErr result (out.new.items ≡ out.old.items) }
     {
         let number = RecordNumber {

@@ -3,11 +3,11 @@ ghost use Rattle.std.specs.Prelude.{◌≡◌, ◌≤◌, ◌+◌, ◌^◌, ◌+
 ghost use Rattle.std.specs.Option.{option_to_list};
 ghost use Rattle.set_line.specs.Width.{total_width};
 ghost use Rattle.line_records.specs.Boxes.{item_text};
-ghost use Rattle.line_records.specs.Cells.{IsTextOf};
+ghost use Rattle.line_records.specs.Cells.{IsTextOf, total_tally};
 
 use crate::RecordFormat;
 use crate::adding::{Added, Passed};
-use crate::pair::{BYTES, Pair};
+use crate::pair::{BYTES, Pair, SKIPPED};
 use lig_kern::Item;
 use set_line::write_item_text;
 
@@ -100,14 +100,28 @@ fn added_width(added: &Added) -> i64
     passed_width(&added.passed) + amount(added.cut)
 }
 
-/// Returns the number of items that a byte adds.
-fn count_of(added: &Added) -> usize
-    ensures count { result ≡ length added.now.items }
-    ensures few { result ≤ 3 }
+/// Returns the tally of an item.
+fn tally(item: Option<Item>) -> usize
+    ensures sum { result ≡ total_tally (option_to_list item) }
+    ensures few { length (option_to_list item) ≤ 1 }
+    ensures small { result ≤ 2 ^ 32 + 1 }
+{
+    match item {
+        Some(Item::Skipped(_)) => 1 + SKIPPED,
+        Some(_) => 1,
+        None => 0,
+    }
+}
+
+/// Returns the tally of the items that a byte adds.
+#[tactic(auto, using(crate::proofs::AddingLemmas::tallies))]
+fn added_tally(added: &Added) -> usize
+    ensures sum { result ≡ total_tally added.now.items }
+    ensures few { length added.now.items ≤ 3 }
+    ensures small { result ≤ 2 ^ 34 }
 {
     let passed = &added.passed;
-    let passed_items = usize::from(passed.character.is_some()) + usize::from(passed.kern.is_some());
-    passed_items + usize::from(added.cut.is_some())
+    tally(passed.character) + tally(passed.kern) + tally(added.cut)
 }
 
 /// Returns the pair of what a byte adds, or `None` if its text is too long.
@@ -128,7 +142,7 @@ pub(crate) fn make_pair(added: &Added, format: RecordFormat) -> Option<Pair>
         text: bytes,
         length: text.len(),
         steps: usize::from(steps),
-        count: count_of(added),
+        tally: added_tally(added),
         width: added_width(added),
     })
 }

@@ -2,7 +2,7 @@
 ghost use Rattle.std.specs.Prelude.{◌≡◌, ◌++◌, OnErr, OnOk, map};
 ghost use Rattle.std.specs.Int.{int_max};
 ghost use Rattle.tfm_words.specs.Appending.{StaysInFront};
-ghost use Rattle.line_records.specs.Boxes.{box_record, box_text, depth_of, height_of, largest};
+ghost use Rattle.line_records.specs.Boxes.{box_record, box_text, depth_of, height_of, largest, numbers_text};
 ghost use Rattle.line_records.specs.Kept.{as_box};
 
 use crate::keeping::Kept;
@@ -13,7 +13,7 @@ use tfm_tables::Font;
 use tfm_words::push_number;
 
 /// The height and the depth of a character or a box, in sp.
-#[derive(Clone, Copy, Debug)]
+#[derive(Clone, Copy)]
 pub(crate) struct Extent {
     pub height: i32,
     pub depth: i32,
@@ -51,7 +51,7 @@ fn with_code(font: &Font, before: Extent, code: u8) -> Extent
     }
 }
 
-/// Returns the height and the depth of the box of characters (tex.web, sections 649 and 653).
+/// Returns the height and the depth of the box of characters (tex.web, sections 649 and 654).
 pub(crate) fn measure(font: &Font, codes: &[u8]) -> Extent
     ensures height { result.height ≡ largest (map (height_of font.now) codes.now) }
     ensures depth { result.depth ≡ largest (map (depth_of font.now) codes.now) }
@@ -63,8 +63,18 @@ pub(crate) fn measure(font: &Font, codes: &[u8]) -> Extent
     extent
 }
 
-/// Appends the dimensions of the box of a line in this unit, and its number of spaces. After an error some of the
-/// bytes may have been appended.
+/// Appends the numbers of spaces and of skipped characters. After an error some of the bytes may have been appended.
+#[tactic(auto, using(crate::proofs::BoxLemmas::boxes), unfolding(crate::specs::Boxes::numbers_text))]
+fn push_numbers(text: &mut Vec<u8>, spaces: usize, skipped: usize) -> Result<(), AllocError>
+    ensures front { StaysInFront text.old.items text.new.items }
+    ensures pushed { OnOk result (text.new.items ≡ text.old.items ++ numbers_text spaces skipped) }
+{
+    push_number(text, b" ", spaces)?;
+    push_number(text, b" ", skipped)
+}
+
+/// Appends the dimensions of the box of a line in this unit, and its numbers of spaces and of skipped characters. After
+/// an error some of the bytes may have been appended.
 #[tactic(auto, using(crate::proofs::BoxLemmas::boxes), unfolding(crate::specs::Boxes::box_text))]
 fn push_box(
     text: &mut Vec<u8>,
@@ -78,7 +88,7 @@ fn push_box(
     push_length(text, b" ", kept.sums.width, unit)?;
     push_length(text, b" ", i64::from(extent.height), unit)?;
     push_length(text, b" ", i64::from(extent.depth), unit)?;
-    push_number(text, b" ", kept.spaces)
+    push_numbers(text, kept.spaces, kept.sums.skipped)
 }
 
 /// Appends the record of a line that is set, with its box.

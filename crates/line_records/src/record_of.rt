@@ -2,7 +2,7 @@ use encodings::Encoding;
 use set_line::Terms;
 
 /// How the lines of a source are set and recorded. The format of the records is that of the writer.
-#[derive(Clone, Copy, Debug)]
+#[derive(Clone, Copy)]
 pub struct RecordOf<'a> {
     /// The settings of the lines.
     pub terms: &'a Terms,
@@ -13,7 +13,7 @@ pub struct RecordOf<'a> {
 }
 
 /// A line of a source.
-#[derive(Clone, Copy, Debug)]
+#[derive(Clone, Copy)]
 pub struct SourceLine<'a> {
     /// The line number.
     pub number: u64,

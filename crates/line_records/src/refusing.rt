@@ -2,7 +2,7 @@
 ghost use Rattle.std.specs.Prelude.{◌≡◌, true, false, None, Some, flat_map};
 ghost use Rattle.std.specs.List.{find};
 ghost use Rattle.std.specs.Option.{is_none, option_map, option_or};
-ghost use Rattle.set_line.specs.declared.policy.Policy.TheVariants.{Refuse as RefusePolicy};
+ghost use Rattle.run_plan.specs.declared.policy.Policy.TheVariants.{Refuse as RefusePolicy};
 ghost use Rattle.set_line.specs.declared.outcome.LineRefusal.TheVariants.{Missing};
 ghost use Rattle.set_line.specs.Pieces.{is_neither as is_neither_in};
 ghost use Rattle.encodings.specs.Codes.{codes_of as codes_in};

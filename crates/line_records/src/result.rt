@@ -5,7 +5,7 @@ ghost use Rattle.line_records.specs.Results.{IsResult, is_refused};
 
 use set_line::TextRefusal;
 
-/// The width, the number of steps and the number of items of a line that is set.
+/// The width, the number of steps and the numbers of items of a line that is set.
 #[derive(Clone, Copy, Debug)]
 pub struct Sums {
     /// The width of the items, in sp.
@@ -14,6 +14,8 @@ pub struct Sums {
     pub steps: u32,
     /// The number of items.
     pub items: usize,
+    /// The number of characters that were skipped, which are items, too.
+    pub skipped: usize,
 }
 
 /// The result of a line, without its items.

@@ -33,7 +33,7 @@ pub(crate) fn step(
     requires room { before.length ≤ length room.old }
     requires row { before.row < 256 }
     requires steps { before.steps < 2 ^ 31 }
-    requires count { before.count < 2 ^ 31 }
+    requires tally { before.tally < 2 ^ 62 }
     requires low { pos 0 ≤ℤ (before.width +ℤ pos (2 ^ 62)) }
     requires high { before.width ≤ℤ pos (2 ^ 62) }
     ensures step { (style : Style) → AreCells style pairs.now cells.now
@@ -43,7 +43,7 @@ pub(crate) fn step(
     ensures within { IfSome result (λ after. after.length ≤ length room.new) }
     ensures row { IfSome result (λ after. after.row < 256) }
     ensures steps { IfSome result (λ after. after.steps ≤ before.steps + 1) }
-    ensures count { IfSome result (λ after. after.count ≤ before.count + 3) }
+    ensures tally { IfSome result (λ after. after.tally ≤ before.tally + 2 ^ 34) }
     ensures low { IfSome result (λ after. before.width ≤ℤ (after.width +ℤ pos (2 ^ 40))) }
     ensures high { IfSome result (λ after. after.width ≤ℤ (before.width +ℤ pos (2 ^ 40))) }
 {
@@ -59,7 +59,7 @@ pub(crate) fn step(
             row: next % 256,
             length: before.length + pair.length,
             steps: before.steps + pair.steps,
-            count: before.count + pair.count,
+            tally: before.tally + pair.tally,
             width: before.width + pair.width,
         });
     }
@@ -70,7 +70,7 @@ pub(crate) fn step(
         row: cell - LIGATURE,
         length: before.length,
         steps: before.steps + 1,
-        count: before.count,
+        tally: before.tally,
         width: before.width,
     })
 }

@@ -19,7 +19,7 @@ const START: Written = Written {
     row: 32,
     length: 0,
     steps: 0,
-    count: 0,
+    tally: 0,
     width: 0,
 };
 
@@ -85,7 +85,7 @@ fn step_anew(
     requires room { before.length ≤ vec_len room.old }
     requires row { before.row < 256 }
     requires steps { before.steps < 2 ^ 31 }
-    requires count { before.count < 2 ^ 31 }
+    requires tally { before.tally < 2 ^ 62 }
     requires low { pos 0 ≤ℤ (before.width +ℤ pos (2 ^ 62)) }
     requires high { before.width ≤ℤ pos (2 ^ 62) }
     ensures table { table.new ≡ table.old }
@@ -93,7 +93,7 @@ fn step_anew(
     ensures within { IfSome result (λ after. after.length ≤ vec_len room.new) }
     ensures row { IfSome result (λ after. after.row < 256) }
     ensures steps { IfSome result (λ after. after.steps ≤ before.steps + 1) }
-    ensures count { IfSome result (λ after. after.count ≤ before.count + 3) }
+    ensures tally { IfSome result (λ after. after.tally ≤ before.tally + 2 ^ 34) }
     ensures low { IfSome result (λ after. before.width ≤ℤ (after.width +ℤ pos (2 ^ 40))) }
     ensures high { IfSome result (λ after. after.width ≤ℤ (before.width +ℤ pos (2 ^ 40))) }
 {

@@ -25,7 +25,7 @@ use tfm_words::{FixWord, word_at};
 
 /// The table of a font in bytes of the caller. It is a source of the data of every font of which the bytes
 /// are the table. In contracts it is these bytes.
-#[derive(Debug, Drop)]
+#[derive(Drop)]
 pub struct PreparedFont<'a> {
     bytes: &'a [u8],
     steps: usize,

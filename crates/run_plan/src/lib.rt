@@ -1,13 +1,16 @@
-//! The plan of a batch: the slots of its rings, the lines in a message, and the threads that set lines. Each
-//! of these numbers is in its range.
+//! The plan of a batch: the slots of its rings, the lines in a message, and the threads that set lines; and how a line
+//! is set and recorded: its step limit, the policy for missing characters, and the format of its record. Each number
+//! is in its range.
 #![tactic(auto)]
 
-pub use block::Block;
-pub use capacity::Capacity;
-pub use plan::Plan;
-pub use workers::Workers;
+pub use limit::Limit;
+pub use plan::{Block, Capacity, Plan, Workers};
+pub use policy::Policy;
+pub use up_to::UpTo;
+pub use version::Version;
 
-mod block;
-mod capacity;
+mod limit;
 mod plan;
-mod workers;
+mod policy;
+mod up_to;
+mod version;

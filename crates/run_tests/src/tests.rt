@@ -11,5 +11,6 @@ mod memory;
 mod readers;
 mod runs;
 mod slow;
+mod starting;
 mod stopping;
 mod waking;

@@ -9,8 +9,8 @@ use Rattle.set_line.specs.Terms.{TermsValue}
 use Rattle.set_line.specs.Answer.{answer_of}
 use Rattle.encodings.specs.declared.encoding.Encoding.{Encoding}
 use Rattle.set_line.specs.Record.{record_text, text_record}
-use Rattle.line_records.specs.declared.record_format.RecordFormat.{RecordFormat}
-use Rattle.line_records.specs.declared.record_format.RecordFormat.TheVariants.{Items, Box}
+use Rattle.formats.specs.declared.record_format.RecordFormat.{RecordFormat}
+use Rattle.formats.specs.declared.record_format.RecordFormat.TheVariants.{Items, Box}
 use Rattle.line_records.specs.Results.{is_refused, result_record}
 use Rattle.line_records.proofs.ResultLemmas.{refused_bytes, text_of_bytes}
 use Rattle.line_lane.specs.Lane.{answers_of}

@@ -1,5 +1,4 @@
 -- One event more: what came of a lane, its records and its lines.
-use Rattle.line_records.specs.Boxes.{version_of}
 use Rattle.std.proofs.Common.{◌≡◌, inl, inr, ℕ, ◌+◌, ◌<◌, ◌^◌, Bool, true, false, if◌then◌else◌, ◌==◌, List, [], ◌∷◌, ◌++◌, length, Some, arith, refl, ap, sym, ◌∙◌, append-nil, append_assoc, sum_by}
 use Rattle.std.specs.Prelude.{flat_map}
 use Rattle.std.specs.List.{concat}
@@ -7,9 +6,10 @@ use Rattle.std.proofs.lemmas.Bool.{eq-eqb}
 use Rattle.std.proofs.lemmas.Bool.Decides.{eqb_tells}
 use Rattle.std.proofs.lemmas.List.Folds.{concat-append}
 use Rattle.std.proofs.lemmas.List.Sums.{sum_by-cons, sum_by-append}
-use Rattle.set_line.specs.declared.version.Version.{Version}
+use Rattle.run_plan.specs.declared.version.Version.{Version}
 use Rattle.set_line.specs.Answer.{AnswerValue}
 use Rattle.line_lane.specs.declared.ending.LaneEnd.{LaneEnd}
+use Rattle.formats.specs.Records.{version_of}
 use Rattle.line_chunks.specs.ChunkText.{ChunkTextValue, RecordStyle}
 use Rattle.set_run.specs.Events.{Event, LaneEvent, Answered, Ended, answers_among, lane_events, of_lane}
 use Rattle.run_texts.specs.RunText.{end_text, lane_text, record_of, records_from, why_of}

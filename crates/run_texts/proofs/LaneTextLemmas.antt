@@ -4,7 +4,7 @@ use Rattle.std.specs.Prelude.{Result, Ok, Err, OnOk, OnErr, is_ok}
 use Rattle.std.specs.List.{concat}
 use Rattle.std.proofs.Math.ListN.{set}
 use Rattle.std.proofs.lemmas.List.{length-set, set-get_or}
-use Rattle.set_line.specs.declared.version.Version.{Version}
+use Rattle.run_plan.specs.declared.version.Version.{Version}
 use Rattle.line_lane.specs.declared.ending.LaneEnd.{LaneEnd}
 use Rattle.line_chunks.specs.ChunkText.{ChunkTextValue}
 use Rattle.set_run.specs.declared.collector.Refusal.{Refusal}

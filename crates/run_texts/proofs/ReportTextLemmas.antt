@@ -1,5 +1,4 @@
 -- The reports of a run whose texts were kept, and their text.
-use Rattle.line_records.specs.Boxes.{version_of}
 use Rattle.std.proofs.Common.{◌≡◌, ◌<◌, ℕ, ◌+◌, ◌^◌, List, [], ◌∷◌, ◌++◌, length, sum_by, flat_map, All, Option, arith, refl, ap, subst, ◌∙◌}
 use Rattle.std.proofs.lemmas.List.Elements.{All-head, All-tail}
 use Rattle.std.specs.Prelude.{IsSome}
@@ -7,11 +6,12 @@ use Rattle.std.specs.List.{concat}
 use Rattle.std.specs.declared.sync.Arc.{Arc}
 use Rattle.std.specs.declared.alloc.Global.{Global}
 use Rattle.std.specs.Io.KnownBytes.{Appends}
-use Rattle.set_line.specs.declared.version.Version.{Version}
+use Rattle.run_plan.specs.declared.version.Version.{Version}
 use Rattle.set_line.specs.Answer.{AnswerValue}
 use Rattle.set_line.specs.Terms.{TermsValue}
 use Rattle.line_lane.specs.declared.fault.SourceFault.{SourceFault}
 use Rattle.line_lane.specs.declared.ending.LaneEnd.{LaneEnd}
+use Rattle.formats.specs.Records.{version_of}
 use Rattle.line_chunks.specs.ChunkText.{ChunkTextValue, RecordStyle}
 use Rattle.set_run.specs.Events.{Event, LaneEvent, answers_among, answers_in, lane_events, of_lane}
 use Rattle.set_run.specs.Reports.{AreReported}

@@ -1,13 +1,13 @@
 -- A stream, event by event.
-use Rattle.line_records.specs.Boxes.{version_of}
 use Rattle.std.proofs.Common.{◌≡◌, ℕ, ◌+◌, ◌<◌, List, [], ◌∷◌, ◌++◌, length, get_or, Option, arith, refl, ap, sym, subst, ◌∙◌, append_assoc, append-nil, length-set}
 use Rattle.std.proofs.Math.ListN.{set}
 use Rattle.std.proofs.lemmas.List.{set-get_or}
 use Rattle.std.specs.List.{concat}
 use Rattle.std.specs.Io.KnownBytes.{Keeps}
-use Rattle.set_line.specs.declared.version.Version.{Version}
+use Rattle.run_plan.specs.declared.version.Version.{Version}
 use Rattle.line_lane.specs.declared.ending.LaneEnd.{LaneEnd}
 use Rattle.set_run.specs.Events.{Event, LaneEvent, Answered, Ended, answers_in}
+use Rattle.formats.specs.Records.{version_of}
 use Rattle.line_chunks.specs.ChunkText.{ChunkTextValue, RecordStyle}
 use Rattle.run_texts.specs.RunText.{end_text, head_text, why_of}
 use Rattle.run_texts.specs.Streaming.{merged_text}

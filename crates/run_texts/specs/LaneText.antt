@@ -2,7 +2,7 @@
 -- This project's own.
 use Rattle.std.specs.Prelude.{◌≡◌, ◌<◌, ℕ, ◌+◌, ◌^◌, List, [], ◌∷◌, ◌++◌, map, sum_by}
 use Rattle.std.specs.List.{concat}
-use Rattle.set_line.specs.declared.version.Version.{Version}
+use Rattle.run_plan.specs.declared.version.Version.{Version}
 use Rattle.line_chunks.specs.Chunks.{lines_of_chunk}
 use Rattle.line_chunks.specs.ChunkText.{ChunkTextValue, record_in}
 use Rattle.set_run.specs.Events.{Event, LaneEvent, Answered, Ended, answers_among, of_lane}

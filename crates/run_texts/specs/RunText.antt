@@ -2,17 +2,17 @@
 -- line.
 -- This project's own.
 use Rattle.std.specs.Prelude.{ℕ, ◌+◌, ◌==◌, List, [], ◌∷◌, ◌++◌, length, codes, decimal, cond, Bool, Option, None, Some}
-use Rattle.set_line.specs.declared.version.Version.{Version}
-use Rattle.set_line.specs.declared.version.Version.TheVariants.{One, Two, Json}
+use Rattle.run_plan.specs.declared.version.Version.{Version}
+use Rattle.run_plan.specs.declared.version.Version.TheVariants.{One, Two, Json}
 use Rattle.set_line.specs.Answer.{AnswerValue}
 use Rattle.set_line.specs.Record.{record_text}
 use Rattle.line_lane.specs.declared.fault.SourceFault.TheVariants.{Read, OutOfMemory, ReadBound}
 use Rattle.line_lane.specs.declared.ending.LaneEnd.{LaneEnd}
 use Rattle.line_lane.specs.declared.ending.LaneEnd.TheVariants.{Complete, SourceFailed, GaveUp}
 use Rattle.encodings.specs.declared.encoding.Encoding.{Encoding}
-use Rattle.line_records.specs.Boxes.{version_of}
-use Rattle.line_records.specs.declared.record_format.RecordFormat.{RecordFormat}
-use Rattle.line_records.specs.declared.record_format.RecordFormat.TheVariants.{Items, Box}
+use Rattle.formats.specs.Records.{version_of}
+use Rattle.formats.specs.declared.record_format.RecordFormat.{RecordFormat}
+use Rattle.formats.specs.declared.record_format.RecordFormat.TheVariants.{Items, Box}
 use Rattle.line_records.specs.Results.{is_refusal, is_refused, line_record, line_result}
 use Rattle.line_chunks.specs.ChunkText.{RecordStyle}
 use Rattle.run_texts.specs.declared.options.OutputOptions.{OutputOptions}

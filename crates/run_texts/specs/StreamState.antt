@@ -2,9 +2,9 @@
 -- This project's own.
 use Rattle.std.specs.Prelude.{◌≡◌, ℕ, ◌+◌, List, [], ◌∷◌, ◌++◌, length, Option}
 use Rattle.std.specs.Io.KnownBytes.{Appends}
-use Rattle.set_line.specs.declared.version.Version.{Version}
+use Rattle.run_plan.specs.declared.version.Version.{Version}
 use Rattle.set_run.specs.Events.{Event, answers_in, of_lane}
-use Rattle.line_records.specs.Boxes.{version_of}
+use Rattle.formats.specs.Records.{version_of}
 use Rattle.line_chunks.specs.ChunkText.{ChunkTextValue, RecordStyle}
 use Rattle.run_texts.specs.RunText.{head_text}
 use Rattle.run_texts.specs.LaneText.{events_lines, records_of, refused_of}

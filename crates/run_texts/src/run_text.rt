@@ -1,8 +1,8 @@
 //! Collects the output of all lanes of a batch in memory, and writes it when the batch is done.
 ghost use Rattle.std.specs.Prelude.{◌≡◌, ℕ, true, ◌++◌, flat_map, length, [], ⊤, IfErr, IfOk, IfSome, OnOk};
 ghost use Rattle.std.specs.Io.KnownBytes.{Appends};
-ghost use Rattle.set_line.specs.declared.version.Version.{Version as Form};
-ghost use Rattle.set_line.specs.declared.version.Version.TheVariants.{One};
+ghost use Rattle.run_plan.specs.declared.version.Version.{Version as Form};
+ghost use Rattle.run_plan.specs.declared.version.Version.TheVariants.{One};
 ghost use Rattle.set_run.specs.declared.collector.Refusal.TheVariants.{OutOfMemory as NoMemory};
 ghost use Rattle.run_texts.specs.Endings.{is_text_fault};
 ghost use Rattle.run_texts.specs.LaneText.{AreKept};

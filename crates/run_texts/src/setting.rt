@@ -1,11 +1,11 @@
 //! Batches whose output is kept until the batch is done.
 ghost use Rattle.std.specs.Prelude.{◌≡◌, ◌⊎◌, ◌<◌, ◌≤◌, List, Err, IfOk, vec_len};
+ghost use Rattle.formats.specs.Records.{version_of};
 ghost use Rattle.line_chunks.specs.Reading.{Told};
 ghost use Rattle.set_run.specs.declared.report.LaneReport.{LaneReport as Lane};
 ghost use Rattle.set_run.specs.declared.run_fault.RunFault.{RunFault as Fault};
 ghost use Rattle.set_run.specs.declared.run_fault.RunFault.TheVariants.{TooManySources, OutOfMemory as NoMemory, Thread};
 ghost use Rattle.tfm_tables.specs.declared.fault.FontFault.{FontFault as Refusal};
-ghost use Rattle.line_records.specs.Boxes.{version_of};
 ghost use Rattle.run_texts.specs.ChunkLanes.{AreReadReports};
 ghost use Rattle.run_texts.specs.RunText.{style_of};
 ghost use Rattle.run_texts.specs.Setting.{IsWritten};

@@ -40,8 +40,8 @@ pub(crate) trait Beginning {
 /// A placeholder: the proof of the caller chooses the start.
 impl Beginning for Brand {
     ghost use Rattle.std.specs.Prelude.{None};
-    ghost use Rattle.set_line.specs.declared.version.Version.TheVariants.{One};
-    ghost use Rattle.line_records.specs.declared.record_format.RecordFormat.TheVariants.{Items};
+    ghost use Rattle.run_plan.specs.declared.version.Version.TheVariants.{One};
+    ghost use Rattle.formats.specs.declared.record_format.RecordFormat.TheVariants.{Items};
 
     ghost start = { record {
       before = None;

@@ -1,9 +1,10 @@
 -- The parts of records.
 use Rattle.std.proofs.Common.{◌≡◌, ℕ, ◌+◌, ◌-◌, false, List, [], ◌++◌, arith, refl, ap, sym, ◌∙◌, append_assoc}
 use Rattle.std.specs.Prelude.{OnOk, Result, Ok, Err, codes, is_ok, nat_lt, if◌then◌else◌}
+use Rattle.run_plan.specs.declared.version.Version.{Version}
+use Rattle.run_plan.specs.Versions.{label}
 use Rattle.lig_kern.specs.declared.item.Item.TheVariants.{Skipped}
-use Rattle.set_line.specs.declared.version.Version.{Version}
-use Rattle.set_line.specs.Record.{character_text, closing, label, opening, text_in}
+use Rattle.set_line.specs.Record.{character_text, closing, opening, text_in}
 
 -- the text of a character without codes
 uncoded : (version : Version) (character : ℕ)

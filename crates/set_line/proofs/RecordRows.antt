@@ -2,11 +2,11 @@
 use Rattle.std.proofs.Common.{◌≡◌, pos, negsuc, [], ◌∷◌, refl}
 use Rattle.std.specs.Prelude.{codes}
 use Rattle.std.specs.Fmt.{digits}
+use Rattle.run_plan.specs.declared.version.Version.TheVariants.{One, Two, Json}
 use Rattle.lig_kern.specs.declared.item.Item.TheVariants.{Char, Kern, Space, Skipped}
 use Rattle.set_line.specs.declared.outcome.LineRefusal.TheVariants.{TooLong, Missing, Steps}
 use Rattle.set_line.specs.declared.outcome.Outcome.TheVariants.{Set, Refused}
 use Rattle.set_line.specs.declared.records.text_refusal.TextRefusal.TheVariants.{NotUtf8, Uncoded}
-use Rattle.set_line.specs.declared.version.Version.TheVariants.{One, Two, Json}
 use Rattle.set_line.specs.Record.{digits_of, head_text, record_text, refusal_text, refused, set_text, text_in, text_record, text_result}
 
 -- ---- in words

@@ -1,6 +1,8 @@
 -- Worked examples, computed on the definitions alone: lines, what they come to, and their records.
 use Rattle.std.proofs.Common.{◌≡◌, ℕ, pos, negsuc, List, [], ◌∷◌, ◌++◌, refl}
 use Rattle.std.specs.Fmt.{digits}
+use Rattle.run_plan.specs.declared.policy.Policy.{Policy}
+use Rattle.run_plan.specs.declared.policy.Policy.TheVariants.{Refuse, Skip}
 use Rattle.tfm_words.specs.Counts.{counts_of}
 use Rattle.tfm_tables.specs.Table.{table_of, entry_at}
 use Rattle.tfm_tables.specs.Character.{is_coded, char_info_of, exists}
@@ -12,8 +14,6 @@ use Rattle.lig_kern.specs.declared.item.Item.TheVariants.{Char, Kern, Space, Ski
 use Rattle.lig_kern.specs.Matching.{match_of, operation_of, action_of, action_between}
 use Rattle.lig_kern.specs.Rewriting.{opening, right_end, step_from, after_steps, items_of}
 use Rattle.lig_kern.specs.Result.{result_from, result_within}
-use Rattle.set_line.specs.declared.policy.Policy.{Policy}
-use Rattle.set_line.specs.declared.policy.Policy.TheVariants.{Refuse, Skip}
 use Rattle.set_line.specs.declared.outcome.LineRefusal.TheVariants.{Missing, Steps}
 use Rattle.set_line.specs.declared.outcome.Outcome.TheVariants.{Set, Refused}
 use Rattle.set_line.specs.Terms.{TermsValue}

@@ -5,9 +5,9 @@ use Rattle.std.proofs.lemmas.Fmt.{length-decimal-le}
 use Rattle.std.specs.Prelude.{decimal}
 use Rattle.std.specs.Fmt.{signed_decimal}
 use Rattle.lig_kern.specs.declared.item.Item.{Item}
-use Rattle.set_line.specs.declared.version.Version.{Version}
 use Rattle.set_line.specs.Record.{text_in}
 use lib.Dec.{leb-zero}
+use Rattle.run_plan.specs.declared.version.Version.{Version}
 
 -- a code has at most three digits
 pub code_is_short : (code : ℕ) → code < 256 → length (decimal code) ≤ 3

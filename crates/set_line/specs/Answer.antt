@@ -3,13 +3,13 @@
 use Rattle.std.specs.Prelude.{◌≡◌, ℕ, nat_lt, nat_le, Bool, false, List, [], ◌∷◌, length, map, flat_map, sum_by, slice_index, Option, Some, None, if◌then◌else◌}
 use Rattle.std.specs.List.{list_any, position}
 use Rattle.std.specs.Option.{option_and_then, option_map, option_map_or}
+use Rattle.run_plan.specs.declared.policy.Policy.{Policy}
+use Rattle.run_plan.specs.declared.policy.Policy.TheVariants.{Refuse, Skip}
 use Rattle.tfm_tables.specs.Font.{FontValue}
 use Rattle.tfm_tables.specs.Measure.{parameter_of}
 use Rattle.lig_kern.specs.declared.item.Item.{Item}
 use Rattle.lig_kern.specs.declared.item.Item.TheVariants.{Space, Skipped}
 use Rattle.lig_kern.specs.Result.{Setting, result_of}
-use Rattle.set_line.specs.declared.policy.Policy.{Policy}
-use Rattle.set_line.specs.declared.policy.Policy.TheVariants.{Refuse, Skip}
 use Rattle.set_line.specs.declared.outcome.LineRefusal.{LineRefusal}
 use Rattle.set_line.specs.declared.outcome.LineRefusal.TheVariants.{TooLong, Missing, Steps}
 use Rattle.set_line.specs.declared.outcome.Outcome.{Outcome}

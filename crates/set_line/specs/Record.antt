@@ -2,8 +2,11 @@
 -- (formats 1 and 2) or as a JSON object.
 -- Public sources: the name of a character, as U+20AC, is that of the Unicode Standard, appendix A; an object
 -- follows RFC 8259, without any space. The words and the members are this project's own.
-use Rattle.std.specs.Prelude.{ℕ, ◌-◌, ◌/◌, ◌%◌, Bool, true, false, nat_lt, ℤ, List, [], ◌∷◌, ◌++◌, drop, codes, decimal, flat_map, if◌then◌else◌}
+use Rattle.std.specs.Prelude.{ℕ, ◌-◌, ◌/◌, ◌%◌, true, nat_lt, ℤ, List, [], ◌∷◌, ◌++◌, drop, codes, decimal, flat_map, if◌then◌else◌}
 use Rattle.std.specs.Fmt.{digit_glyph, signed_decimal}
+use Rattle.run_plan.specs.declared.version.Version.{Version}
+use Rattle.run_plan.specs.declared.version.Version.TheVariants.{One, Two, Json}
+use Rattle.run_plan.specs.Versions.{label}
 use Rattle.lig_kern.specs.declared.item.Item.{Item}
 use Rattle.lig_kern.specs.declared.item.Item.TheVariants.{Char, Kern, Space, Skipped}
 use Rattle.set_line.specs.declared.outcome.LineRefusal.TheVariants.{TooLong, Missing, Steps}
@@ -11,18 +14,6 @@ use Rattle.set_line.specs.declared.outcome.Outcome.{Outcome}
 use Rattle.set_line.specs.declared.outcome.Outcome.TheVariants.{Set, Refused}
 use Rattle.set_line.specs.declared.records.text_refusal.TextRefusal.{TextRefusal}
 use Rattle.set_line.specs.declared.records.text_refusal.TextRefusal.TheVariants.{Line, NotUtf8, Uncoded}
-use Rattle.set_line.specs.declared.version.Version.{Version}
-use Rattle.set_line.specs.declared.version.Version.TheVariants.{One, Two, Json}
-
--- whether a format is JSON
-abbrev pub is_json : Version → Bool
-is_json One = false
-is_json Two = false
-is_json Json = true
-
--- what formats 1 and 2 have at a place of a record, or what JSON has there
-abbrev pub label : Version → List ℕ → List ℕ → List ℕ
-label version words object = if is_json version then object else words
 
 -- ---- the number of a character
 

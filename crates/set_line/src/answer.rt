@@ -8,7 +8,7 @@ use std::sync::Arc;
 
 /// The result of a line, with the line and its settings. An invariant of the type states that the result is
 /// the defined one (`outcome_of`) for this line and these settings.
-#[derive(Debug, Drop)]
+#[derive(Drop)]
 pub struct Answer {
     terms: Arc<Terms>,
     line: Line,

@@ -1,4 +1,4 @@
-ghost use Rattle.std.specs.Prelude.{◌≡◌, ◌+◌, ◌<◌, ◌++◌, ◌∷◌, [], length, drop, IfOk, IfSome, MatchOption};
+ghost use Rattle.std.specs.Prelude.{◌≡◌, ◌<◌, ◌++◌, ◌∷◌, [], length, IfOk, IfSome, MatchOption};
 ghost use Rattle.set_line.specs.Lines.{HasNoFeed, lines_of};
 ghost use Rattle.set_line.specs.Returns.{before_feed, lines_in};
 
@@ -14,23 +14,6 @@ pub fn lines(alloc: Global, bytes: &[u8]) -> Result<Vec<Line>, OutOfMemory>
     match cut_lines(alloc, bytes) {
         Ok(lines) => Ok(lines),
         Err(_) => Err(OutOfMemory),
-    }
-}
-
-/// Cuts the first line off a text: returns the line without its line feed, and the text after the line feed.
-/// In a text without a line feed the line is the whole text. Returns `None` for an empty text.
-pub fn first_line(text: &[u8]) -> Option<(&[u8], &[u8])>
-    ensures cut { MatchOption result (lines_of text.now ≡ [])
-        (λ cut. lines_of text.now ≡ cut.0.now ∷ lines_of cut.1.now) }
-    ensures rest { IfSome result (λ cut. cut.1.now ≡ drop (length cut.0.now + 1) text.now) }
-    ensures shorter { IfSome result (λ cut. length cut.1.now < length text.now) }
-{
-    if text.is_empty() {
-        return None;
-    }
-    match memchr(b'\n', text) {
-        Some(feed) => Some((&text[..feed], &text[feed + 1..])),
-        None => Some((text, &text[text.len()..])),
     }
 }
 
@@ -76,7 +59,7 @@ fn cut_lines(alloc: Global, bytes: &[u8]) -> Result<Vec<Line>, AllocError>
 {
     let mut lines = Vec::new(alloc);
     let mut rest = bytes;
-    while let Some((line, more)) = first_line(rest) {
+    while let Some((line, more)) = next_line(rest, false) {
         lines.push(Line::new(Vec::from_slice(alloc, line)?))?;
         rest = more;
     }

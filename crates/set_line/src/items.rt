@@ -4,7 +4,7 @@ use lig_kern::Item;
 use std::marker::Model;
 
 /// The items of a line that was set, in order.
-#[derive(Debug, Drop)]
+#[derive(Drop)]
 pub struct Items {
     items: Vec<Item>,
 }

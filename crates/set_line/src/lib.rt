@@ -7,37 +7,32 @@
 #![tactic(auto)]
 
 pub use answer::Answer;
-pub use cutting::{at_first_feed, first_line, lines, next_line};
+pub use cutting::{at_first_feed, lines, next_line};
 pub use items::Items;
 pub use laws::cut_at_feeds;
-pub use limit::Limit;
 pub use line::Line;
 pub use out_of_memory::OutOfMemory;
 pub use outcome::{LineRefusal, Outcome};
-pub use policy::Policy;
 pub use portions::set_stretch;
 pub use records::items_text::{append_items, append_uncoded};
 pub use records::record_number::RecordNumber;
 pub use records::record_text::{SetText, append_refusal, append_set, record};
 pub use records::text_refusal::TextRefusal;
 pub use records::writing::write_item_text;
+pub use run_plan::{Limit, Policy, Version};
 pub use setting::{MOST_BYTES, find_refusal, set, set_bytes};
 pub use terms::Terms;
-pub use version::Version;
 pub use width::{total_width, with_item};
 
 mod answer;
 mod cutting;
 mod items;
 mod laws;
-mod limit;
 mod line;
 mod out_of_memory;
 mod outcome;
-mod policy;
 mod portions;
 mod records;
 mod setting;
 mod terms;
-mod version;
 mod width;

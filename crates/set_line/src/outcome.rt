@@ -5,7 +5,7 @@ use crate::Items;
 use lig_kern::Item;
 
 /// The result of a line.
-#[derive(Debug, Drop)]
+#[derive(Drop)]
 pub enum Outcome {
     /// The line was set.
     Set {
@@ -34,7 +34,7 @@ impl Outcome {
 }
 
 /// The reason why a line was refused.
-#[derive(Clone, Copy, Debug, PartialEq, Eq, Hash)]
+#[derive(Clone, Copy, Debug, PartialEq, Eq)]
 pub enum LineRefusal {
     /// The line has more than 65,535 bytes: this number of bytes.
     TooLong(usize),

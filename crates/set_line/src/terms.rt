@@ -6,7 +6,7 @@ use std::marker::Model;
 use tfm_tables::Font;
 
 /// The settings of a line: a font, the step limit and the missing-character policy.
-#[derive(Debug, Drop)]
+#[derive(Drop)]
 pub struct Terms {
     font: Font,
     limit: Limit,

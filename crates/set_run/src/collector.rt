@@ -9,7 +9,7 @@ use line_lane::{LaneEnd, Made, Stored};
 use std::alloc::AllocError;
 
 /// The reason why a collector takes no more.
-#[derive(Clone, Copy, Debug, PartialEq, Eq, Hash)]
+#[derive(Clone, Copy, Debug, PartialEq, Eq)]
 pub enum Refusal {
     /// An allocation failed.
     OutOfMemory,

@@ -1,7 +1,7 @@
 //! The start barrier of the threads of a batch.
 
 /// The task of a thread of a batch.
-#[derive(Clone, Copy, Debug, PartialEq, Eq, Hash)]
+#[derive(Clone, Copy, Debug, PartialEq, Eq)]
 pub enum Stage {
     /// It reads the lines of a source.
     Source,

@@ -8,7 +8,7 @@ use std::alloc::AllocError;
 use std::marker::Model;
 
 /// The results of a lane, in order.
-#[derive(Debug, Drop)]
+#[derive(Drop)]
 pub struct Answers {
     list: Vec<Answer>,
 }
@@ -46,7 +46,7 @@ impl Answers {
 }
 
 /// The report of one source.
-#[derive(Debug, Drop)]
+#[derive(Drop)]
 pub struct LaneReport<S> {
     /// The source, as its thread returned it.
     pub source: S,
@@ -57,7 +57,7 @@ pub struct LaneReport<S> {
 }
 
 /// The reports of the sources, in the order of the sources.
-#[derive(Debug, Drop)]
+#[derive(Drop)]
 pub struct Report<S> {
     lanes: Vec<LaneReport<S>>,
 }

@@ -3,7 +3,7 @@ use crate::Refusal;
 use line_lane::LaneEnd;
 
 /// A source whose results a collector received, and the end of its lane.
-#[derive(Debug, Drop)]
+#[derive(Drop)]
 pub struct ClosedLane<S> {
     /// The source, as its thread returned it.
     pub source: S,
@@ -13,7 +13,7 @@ pub struct ClosedLane<S> {
 }
 
 /// How a batch with a collector ended.
-#[derive(Debug, Drop)]
+#[derive(Drop)]
 pub struct RunEnd<S> {
     /// The closed lane of each source, in the order of the sources.
     pub lanes: Vec<ClosedLane<S>>,

@@ -4,7 +4,7 @@ ghost use Rattle.set_run.specs.declared.run_fault.RunFault.TheVariants.{OutOfMem
 use std::alloc::AllocError;
 
 /// The reason why a batch failed.
-#[derive(Clone, Copy, Debug, PartialEq, Eq, Hash)]
+#[derive(Clone, Copy, Debug, PartialEq, Eq)]
 pub enum RunFault {
     /// There are more than 64 sources.
     TooManySources,

@@ -174,8 +174,8 @@ where
 ///
 /// Errors: `TooManySources`, checked first; `OutOfMemory`, if an allocation fails in the calling thread
 /// before it collects results; `Thread`, if a thread can't be started. After an error all started threads
-/// have been joined, the sources and makers are dropped, and the collector wasn't called. Without sources
-/// there is no error.
+/// have been joined, the sources and makers are dropped, no source was asked for an item, and the collector
+/// wasn't called. Without sources there is no error.
 #[tactic(auto, using(crate::proofs::SpawningLemmas::short))]
 pub fn run_items<
     R: Threads + Wait + Sync,

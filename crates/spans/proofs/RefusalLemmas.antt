@@ -10,10 +10,11 @@ use Rattle.std.proofs.lemmas.List.Sums.{position_or_len_is}
 use Rattle.std.proofs.Math.ListN.{get_or-append}
 use Rattle.std.proofs.Math.Seq.{get_or-append_seam}
 use Rattle.tfm_tables.specs.Font.{FontValue}
+use Rattle.lig_kern.specs.Places.{hyphen_codes}
 use Rattle.set_line.proofs.PieceLemmas.{none_passes}
 use Rattle.spans.specs.declared.span.Span.{Span}
 use Rattle.spans.specs.declared.outcome.SpanRefusal.TheVariants.{Outside, TooLong, Missing}
-use Rattle.spans.specs.Spans.{HasCodes, codes_of, hyphen_codes, is_missing, refusal_of}
+use Rattle.spans.specs.Spans.{HasCodes, codes_of, is_missing, refusal_of}
 
 -- ---- the first place that passes a test
 

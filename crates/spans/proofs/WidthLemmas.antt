@@ -1,15 +1,20 @@
--- The width of items with places, one after the other.
-use Rattle.std.proofs.Common.{◌≡◌, ℕ, ◌+◌, ◌<◌, ℤ, ◌+ℤ◌, List, length, take, get_or, arith, ap, sym, ◌∙◌}
+-- The width of items, one after the other.
+use Rattle.std.proofs.Common.{◌≡◌, ℕ, ◌+◌, ◌*◌, ◌<◌, ℤ, pos, ◌+ℤ◌, ◌≤ℤ◌, List, length, map, take, get_or, arith, ap, sym, ◌∙◌}
 use Rattle.std.proofs.lemmas.List.{length-map, take-map, get_or-map}
+use Rattle.lig_kern.specs.declared.item.Item.{Item}
 use Rattle.set_line.specs.Width.{amount_of, total_width}
 use Rattle.set_line.proofs.WidthLemmas.{next_width}
-use Rattle.spans.specs.declared.placed_item.PlacedItem.{PlacedItem}
-use Rattle.spans.specs.PlaceLaws.{items_alone}
 
-pub next_width_of : (placed : List PlacedItem) (i : ℕ) (d : PlacedItem) (width : ℤ) → i < length placed → width ≡ total_width (items_alone (take i placed))
-    → width +ℤ amount_of (get_or placed i d).item ≡ total_width (items_alone (take (i + 1) placed))
-next_width_of placed i d width within sum =
-    let item = λ (one : PlacedItem). one.item in
-    ap (λ x. width +ℤ amount_of x) (sym (get_or-map item placed i d d.item within))
-    ∙ next_width (items_alone placed) i d.item width (omega (arith, length-map placed item)) (sum ∙ ap total_width (sym (take-map item i placed)))
-    ∙ ap total_width (take-map item (i + 1) placed)
+pub next_width_of : {O : Type 0} (alone : O → Item) (items : List O) (i : ℕ) (d : O) (item : Item) (width : ℤ) → item ≡ alone (get_or items i d) → i < length items → width ≡ total_width (map alone (take i items))
+    → width +ℤ amount_of item ≡ total_width (map alone (take (i + 1) items))
+next_width_of alone items i d item width is within sum =
+    ap (λ x. width +ℤ amount_of x) (is ∙ sym (get_or-map alone items i d (alone d) within))
+    ∙ next_width (map alone items) i (alone d) width (omega (arith, length-map items alone)) (sum ∙ ap total_width (sym (take-map alone i items)))
+    ∙ ap total_width (take-map alone (i + 1) items)
+
+pub below_more : (i : ℕ) (width width' : ℤ) → width ≤ℤ pos (2147483648 * i) → width' ≤ℤ (width +ℤ pos 2147483647) → width' ≤ℤ pos (2147483648 * (i + 1))
+below_more i width width' so_far more = grind arith
+
+pub above_more : (i : ℕ) (width width' : ℤ) → pos 0 ≤ℤ (width +ℤ pos (2147483648 * i)) → width ≤ℤ (width' +ℤ pos 2147483648)
+    → pos 0 ≤ℤ (width' +ℤ pos (2147483648 * (i + 1)))
+above_more i width width' so_far more = grind arith

@@ -14,7 +14,8 @@ use Rattle.lig_kern.specs.Matching.{match_of, operation_of, action_of, action_be
 use Rattle.lig_kern.specs.Rewriting.{right_end}
 use Rattle.spans.specs.declared.span.Span.{Span}
 use Rattle.spans.specs.declared.placed_item.PlacedItem.{PlacedItem}
-use Rattle.spans.specs.Places.{placed_codes, placed_step, placed_after, placed_items, places_after, places_of}
+use Rattle.lig_kern.specs.Places.{placed_run, placed_step, placed_after, placed_items, places_after}
+use Rattle.spans.specs.Places.{places_of}
 
 -- a font of size 10 pt with the characters a, b and c, which are 1/2, 1/4 and 3/4 of the size wide. Between a
 -- and b there is the ligature operation `op`, which inserts c; between a and the right boundary, /LIG inserts
@@ -59,50 +60,50 @@ kern = Kern (negsuc 40959)
 
 -- LIG deletes both: c comes from both
 of_both : places_of (kerned 0) (98 ∷ 97 ∷ 98 ∷ []) pair 1 ≡ Some (from 1 3 c ∷ [])
-unfolding counts_of table_of entry_at is_coded char_info_of exists measure_of kern_at kern_index_of step_at program_of right_code_of left_start_of begin_at start_of chain_from address_of address_between match_of operation_of action_of action_between right_end placed_codes placed_step placed_after placed_items places_after
+unfolding counts_of table_of entry_at is_coded char_info_of exists measure_of kern_at kern_index_of step_at program_of right_code_of left_start_of begin_at start_of chain_from address_of address_between match_of operation_of action_of action_between right_end placed_run placed_step placed_after placed_items places_after
 of_both = refl
 
 -- as ff and ffi: LIG twice, and one item from three bytes
 of_three : places_of (font_with 0 0 97) (97 ∷ 98 ∷ 98 ∷ []) (record { offset = 0; length = 3; left = false; right = false; hyphen = None }) 2 ≡ Some (from 0 3 a ∷ [])
-unfolding counts_of table_of entry_at is_coded char_info_of exists measure_of kern_at kern_index_of step_at program_of right_code_of left_start_of begin_at start_of chain_from address_of address_between match_of operation_of action_of action_between right_end placed_codes placed_step placed_after placed_items places_after
+unfolding counts_of table_of entry_at is_coded char_info_of exists measure_of kern_at kern_index_of step_at program_of right_code_of left_start_of begin_at start_of chain_from address_of address_between match_of operation_of action_of action_between right_end placed_run placed_step placed_after placed_items places_after
 of_three = refl
 
 -- LIG/ keeps b, which has its place: c comes from a, and the kern is before b
 of_the_left_one : places_of (kerned 1) (98 ∷ 97 ∷ 98 ∷ []) pair 2 ≡ Some (from 1 2 c ∷ from 2 2 kern ∷ from 2 3 b ∷ [])
-unfolding counts_of table_of entry_at is_coded char_info_of exists measure_of kern_at kern_index_of step_at program_of right_code_of left_start_of begin_at start_of chain_from address_of address_between match_of operation_of action_of action_between right_end placed_codes placed_step placed_after placed_items places_after
+unfolding counts_of table_of entry_at is_coded char_info_of exists measure_of kern_at kern_index_of step_at program_of right_code_of left_start_of begin_at start_of chain_from address_of address_between match_of operation_of action_of action_between right_end placed_run placed_step placed_after placed_items places_after
 of_the_left_one = refl
 
 -- /LIG keeps a: c comes from b
 of_the_right_one : places_of (kerned 2) (98 ∷ 97 ∷ 98 ∷ []) pair 2 ≡ Some (from 1 2 a ∷ from 2 3 c ∷ [])
-unfolding counts_of table_of entry_at is_coded char_info_of exists measure_of kern_at kern_index_of step_at program_of right_code_of left_start_of begin_at start_of chain_from address_of address_between match_of operation_of action_of action_between right_end placed_codes placed_step placed_after placed_items places_after
+unfolding counts_of table_of entry_at is_coded char_info_of exists measure_of kern_at kern_index_of step_at program_of right_code_of left_start_of begin_at start_of chain_from address_of address_between match_of operation_of action_of action_between right_end placed_run placed_step placed_after placed_items places_after
 of_the_right_one = refl
 
 -- /LIG/> keeps both: c comes from no byte, before b
 of_none : places_of (kerned 7) (98 ∷ 97 ∷ 98 ∷ []) pair 2 ≡ Some (from 1 2 a ∷ from 2 2 c ∷ from 2 2 kern ∷ from 2 3 b ∷ [])
-unfolding counts_of table_of entry_at is_coded char_info_of exists measure_of kern_at kern_index_of step_at program_of right_code_of left_start_of begin_at start_of chain_from address_of address_between match_of operation_of action_of action_between right_end placed_codes placed_step placed_after placed_items places_after
+unfolding counts_of table_of entry_at is_coded char_info_of exists measure_of kern_at kern_index_of step_at program_of right_code_of left_start_of begin_at start_of chain_from address_of address_between match_of operation_of action_of action_between right_end placed_run placed_step placed_after placed_items places_after
 of_none = refl
 
 -- the hyphen, which is b, comes from no byte, so the ligature comes from a alone
 of_the_hyphen : places_of (kerned 0) (98 ∷ 97 ∷ []) (one_code false false (Some 98)) 1 ≡ Some (from 1 2 c ∷ [])
-unfolding counts_of table_of entry_at is_coded char_info_of exists measure_of kern_at kern_index_of step_at program_of right_code_of left_start_of begin_at start_of chain_from address_of address_between match_of operation_of action_of action_between right_end placed_codes placed_step placed_after placed_items places_after
+unfolding counts_of table_of entry_at is_coded char_info_of exists measure_of kern_at kern_index_of step_at program_of right_code_of left_start_of begin_at start_of chain_from address_of address_between match_of operation_of action_of action_between right_end placed_run placed_step placed_after placed_items places_after
 of_the_hyphen = refl
 
 -- a hyphen that stays is at the end
 hyphen_at_the_end : places_of (kerned 0) (98 ∷ 98 ∷ []) (one_code false false (Some 97)) 1 ≡ Some (from 1 2 b ∷ from 2 2 a ∷ [])
-unfolding counts_of table_of entry_at is_coded char_info_of exists measure_of kern_at kern_index_of step_at program_of right_code_of left_start_of begin_at start_of chain_from address_of address_between match_of operation_of action_of action_between right_end placed_codes placed_step placed_after placed_items places_after
+unfolding counts_of table_of entry_at is_coded char_info_of exists measure_of kern_at kern_index_of step_at program_of right_code_of left_start_of begin_at start_of chain_from address_of address_between match_of operation_of action_of action_between right_end placed_run placed_step placed_after placed_items places_after
 hyphen_at_the_end = refl
 
 -- /LIG/ at the left boundary: the inserted a is before c
 of_the_left_boundary : places_of (kerned 0) (98 ∷ 99 ∷ []) (one_code true false None) 3 ≡ Some (from 1 1 a ∷ from 1 2 c ∷ [])
-unfolding counts_of table_of entry_at is_coded char_info_of exists measure_of kern_at kern_index_of step_at program_of right_code_of left_start_of begin_at start_of chain_from address_of address_between match_of operation_of action_of action_between right_end placed_codes placed_step placed_after placed_items places_after
+unfolding counts_of table_of entry_at is_coded char_info_of exists measure_of kern_at kern_index_of step_at program_of right_code_of left_start_of begin_at start_of chain_from address_of address_between match_of operation_of action_of action_between right_end placed_run placed_step placed_after placed_items places_after
 of_the_left_boundary = refl
 
 -- without that edge there is no ligature
 without_the_left_boundary : places_of (kerned 0) (98 ∷ 99 ∷ []) (one_code false false None) 0 ≡ Some (from 1 2 c ∷ [])
-unfolding counts_of table_of entry_at is_coded char_info_of exists measure_of kern_at kern_index_of step_at program_of right_code_of left_start_of begin_at start_of chain_from address_of address_between match_of operation_of action_of action_between right_end placed_codes placed_step placed_after placed_items places_after
+unfolding counts_of table_of entry_at is_coded char_info_of exists measure_of kern_at kern_index_of step_at program_of right_code_of left_start_of begin_at start_of chain_from address_of address_between match_of operation_of action_of action_between right_end placed_run placed_step placed_after placed_items places_after
 without_the_left_boundary = refl
 
 -- /LIG deletes the right boundary: the inserted c is at the end
 of_the_right_boundary : places_of (kerned 0) (98 ∷ 97 ∷ []) (one_code false true None) 2 ≡ Some (from 1 2 a ∷ from 2 2 c ∷ [])
-unfolding counts_of table_of entry_at is_coded char_info_of exists measure_of kern_at kern_index_of step_at program_of right_code_of left_start_of begin_at start_of chain_from address_of address_between match_of operation_of action_of action_between right_end placed_codes placed_step placed_after placed_items places_after
+unfolding counts_of table_of entry_at is_coded char_info_of exists measure_of kern_at kern_index_of step_at program_of right_code_of left_start_of begin_at start_of chain_from address_of address_between match_of operation_of action_of action_between right_end placed_run placed_step placed_after placed_items places_after
 of_the_right_boundary = refl

@@ -1,4 +1,3 @@
-pub mod Spans
 pub mod Places
 pub mod PlaceLaws
-pub mod Walking
+pub mod Spans

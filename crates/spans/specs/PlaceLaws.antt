@@ -4,20 +4,18 @@ use Rattle.std.specs.Prelude.{⊤, ◌≡◌, ℕ, ◌+◌, ◌*◌, ◌≤◌, 
 use Rattle.std.specs.Option.{option_map}
 use Rattle.tfm_tables.specs.Font.{FontValue}
 use Rattle.lig_kern.specs.declared.item.Item.{Item}
-use Rattle.lig_kern.specs.Rewriting.{Configuration, after_steps}
+use Rattle.lig_kern.specs.declared.place.Place.{Place}
+use Rattle.lig_kern.specs.Places.{PlacedConfiguration, erased, placed_after}
+use Rattle.lig_kern.specs.Rewriting.{after_steps}
 use Rattle.lig_kern.specs.Result.{result_from}
 use Rattle.tfm_words.specs.Appending.{StaysInFront}
 use Rattle.spans.specs.declared.outcome.SpanOutcome.{SpanOutcome}
 use Rattle.spans.specs.declared.outcome.SpanOutcome.TheVariants.{Set, Refused}
 use Rattle.spans.specs.declared.span.Span.{Span}
-use Rattle.spans.specs.declared.place.Place.{Place}
 use Rattle.spans.specs.declared.placed_item.PlacedItem.{PlacedItem}
-use Rattle.spans.specs.Spans.{symbols_of_span}
-use Rattle.spans.specs.Places.{PlacedConfiguration, placed_after, places_of}
-
--- a configuration without the places
-abbrev pub erased : PlacedConfiguration → Configuration
-erased c = record { elements = map (λ one. one.element) c.elements; cursor = c.cursor }
+use Rattle.spans.specs.Spans.{codes_of, symbols_of_span}
+use Rattle.lig_kern.specs.Places.{AreAppended}
+use Rattle.spans.specs.Places.{placed_codes, places_of}
 
 -- the items alone
 abbrev pub items_alone : List PlacedItem → List Item
@@ -61,6 +59,12 @@ abbrev pub AreItemsOf : FontValue → List ℕ → Span → List PlacedItem → 
 AreItemsOf font text span before after (Set size) = ArePlaced font text span before after size.steps
 AreItemsOf font text span before after (Refused refusal) = after ≡ before
 
+-- the items of a span that was set within this limit were appended, of each of which `made` is kept
+abbrev pub AreItemsBy : {O : Type 0} → (Item → Place → O) → FontValue → List ℕ → Span → ℕ → List O → List O → SpanOutcome → Type 0
+AreItemsBy made font text span limit before after (Set size) =
+    (span.offset + span.length ≤ length text) × AreAppended made font (placed_codes font (codes_of text span) span) limit before after size.steps
+AreItemsBy made font text span limit before after (Refused refusal) = after ≡ before
+
 -- what holds of the outcome of a span with any data in place of a font: the number of steps is within the
 -- limit, and there are at most two items for each step, and one more
 abbrev pub IsBounded : ℕ → SpanOutcome → Type 0
@@ -69,6 +73,6 @@ IsBounded limit (Refused refusal) = ⊤
 
 -- and what holds of the list to which the items are appended: it has so many more, after its own; after a
 -- refusal it is unchanged
-abbrev pub HasGrown : List PlacedItem → List PlacedItem → SpanOutcome → Type 0
+abbrev pub HasGrown : {O : Type 0} → List O → List O → SpanOutcome → Type 0
 HasGrown before after (Set size) = (length after ≡ length before + size.items) × StaysInFront before after
 HasGrown before after (Refused refusal) = after ≡ before

@@ -1,14 +1,15 @@
 -- A span of a text: the run that it is, and its outcome, which is the first that applies of outside of the
 -- text, too long, missing character, set and too many steps.
--- Public source: tex.web, sections 906 to 911 and 1034 to 1040, for the hyphen and the boundaries of a part
--- of a word; the result of a run is that of The METAFONTbook, Appendix F. The refusals are this project's
--- own.
-use Rattle.std.specs.Prelude.{◌≡◌, ℕ, ◌+◌, ◌≤◌, nat_lt, Bool, not, List, [], ◌∷◌, ◌++◌, length, take, drop, slice_index, Option, Some, if◌then◌else◌}
+-- Public source: tex.web, sections 913 to 916, for the hyphen, which is the pre-break text of hyphenation, and 906 to
+-- 911 and 1034 to 1040 for the boundaries of a part of a word; the result of a run is that of The METAFONTbook,
+-- Appendix F. The refusals are this project's own.
+use Rattle.std.specs.Prelude.{◌≡◌, ℕ, ◌+◌, ◌≤◌, nat_lt, Bool, not, List, ◌++◌, length, take, drop, slice_index, Option, Some, if◌then◌else◌}
 use Rattle.std.specs.List.{position}
 use Rattle.std.specs.Option.{option_map, option_map_or}
 use Rattle.tfm_tables.specs.Font.{FontValue}
 use Rattle.tfm_tables.specs.Character.{exists}
 use Rattle.lig_kern.specs.declared.symbol.Symbol.{Symbol}
+use Rattle.lig_kern.specs.Places.{hyphen_codes}
 use Rattle.lig_kern.specs.Rewriting.{symbols_with}
 use Rattle.lig_kern.specs.Result.{Setting, result_within}
 use Rattle.set_line.specs.Width.{total_width}
@@ -21,10 +22,6 @@ use Rattle.spans.specs.declared.outcome.SpanRefusal.TheVariants.{Outside, TooLon
 -- the codes of a span: its bytes in the text
 abbrev pub codes_of : List ℕ → Span → List ℕ
 codes_of text span = take span.length (drop span.offset text)
-
--- the hyphen code alone, and nothing if there is none
-abbrev pub hyphen_codes : Option ℕ → List ℕ
-hyphen_codes hyphen = option_map_or (λ code. code ∷ []) hyphen []
 
 -- the codes of the run: those of the span, and the hyphen after them
 abbrev pub run_of : List ℕ → Span → List ℕ

@@ -1,5 +1,5 @@
 /// The result of a span.
-#[derive(Clone, Copy, Debug, PartialEq, Eq, Hash)]
+#[derive(Clone, Copy, Debug, PartialEq, Eq)]
 pub enum SpanOutcome {
     /// The span was set.
     Set(SpanSize),
@@ -8,7 +8,7 @@ pub enum SpanOutcome {
 }
 
 /// The sums of a span that was set.
-#[derive(Clone, Copy, Debug, PartialEq, Eq, Hash)]
+#[derive(Clone, Copy, Debug, PartialEq, Eq)]
 pub struct SpanSize {
     /// The sum of the widths of the characters and of the kerns, in sp.
     pub width: i64,
@@ -19,7 +19,7 @@ pub struct SpanSize {
 }
 
 /// The reason why a span was refused. The first that applies, in this order, is reported.
-#[derive(Clone, Copy, Debug, PartialEq, Eq, Hash)]
+#[derive(Clone, Copy, Debug, PartialEq, Eq)]
 pub enum SpanRefusal {
     /// The end of the span is after the end of the text.
     Outside,

@@ -1,12 +1,29 @@
-use crate::Place;
-use lig_kern::Item;
+use lig_kern::{Item, Place, RunItem};
 
 /// An item of a span, with the bytes of the text that it comes from.
-#[derive(Clone, Copy, Debug, PartialEq, Eq, Hash)]
+#[derive(Clone, Copy, Debug, PartialEq, Eq)]
 pub struct PlacedItem {
     /// The character with its width, or the kern.
     pub item: Item,
-    /// The bytes that it comes from, which are none for a kern, for the hyphen, and for a character that a
-    /// ligature operation inserts without deleting any.
+    /// The bytes that it comes from, which are none for a kern, for the hyphen, and for a character that a ligature
+    /// operation inserts without deleting any, or in place of only a boundary or the hyphen.
     pub place: Place,
+}
+
+impl RunItem for PlacedItem {
+    ghost use Rattle.std.proofs.Common.{refl};
+
+    ghost made = { λ item place. record { item = item; place = place } };
+
+    ghost alone = { λ one. one.item };
+
+    ghost keeps = { λ item place. refl };
+
+    fn new(item: Item, place: Place) -> Self {
+        PlacedItem { item, place }
+    }
+
+    fn item(self) -> Item {
+        self.item
+    }
 }

@@ -1,58 +1,49 @@
-ghost use Rattle.std.specs.Prelude.{◌≡◌, ◌++◌, None, IfOk, OnErr};
+ghost use Rattle.std.specs.Prelude.{◌≡◌, None, IfOk, OnErr};
 ghost use Rattle.tfm_tables.specs.Font.{FontValue};
-ghost use Rattle.lig_kern.specs.Rewriting.{symbols_with};
-ghost use Rattle.spans.specs.PlaceLaws.{IsBounded};
-ghost use Rattle.spans.specs.Spans.{hyphen_codes, outcome_of, refusal_of, set_or_refused};
+ghost use Rattle.spans.specs.PlaceLaws.{AreItemsBy, AreItemsOf, HasGrown, IsBounded};
+ghost use Rattle.spans.specs.Spans.{outcome_of, refusal_of};
 
 use crate::refusing::accepted_codes;
-use crate::{Span, SpanOutcome, SpanRefusal, SpanSize};
-use lig_kern::{Item, Run, WordFault, WordFont, set_run_of};
-use set_line::{Limit, OutOfMemory, total_width};
-use std::alloc::{AllocError, Global};
+use crate::width::width_of;
+use crate::{PlacedItem, Span, SpanOutcome, SpanRefusal, SpanSize};
+use lig_kern::{Ends, Item, RunItem, WordFault, WordFont, set_run_of};
+use set_line::{Limit, OutOfMemory};
+use std::alloc::Global;
 
-/// Sets spans one after the other. It keeps the memory of its lists for the next span: a list of the items of
-/// a span, and a list of codes for a span with a hyphen.
-#[derive(Debug, Drop)]
-pub struct SpanSetter {
-    codes: Vec<u8>,
-    items: Vec<Item>,
-}
-
-/// Returns the codes of a run: those of a span, and the hyphen after them. They are copied to `kept` only if
-/// there is a hyphen.
-fn run_codes<'a>(
-    kept: &'a mut Vec<u8>,
-    codes: &'a [u8],
-    hyphen: Option<u8>,
-) -> Result<&'a [u8], AllocError>
-    ensures { IfOk result (λ run. run.now ≡ codes.now ++ hyphen_codes hyphen) }
-{
-    let Some(code) = hyphen else {
-        return Ok(codes);
-    };
-    kept.clear();
-    kept.extend_from_slice(codes)?;
-    kept.push(code)?;
-    Ok(kept.as_slice())
-}
-
-/// Sets a run of codes that are characters. `items` is cleared first, and contains the items afterwards.
-fn set_run<F: WordFont>(
+/// Sets a span of a text as [`SpanSetter::set`] does, and appends its items to `out`.
+#[tactic(auto, using(crate::proofs::OutcomeLemmas::outcomes))]
+fn set_span<F: WordFont, O: RunItem>(
     font: &F,
-    run: Run<'_>,
+    text: &[u8],
+    span: &Span,
     limit: Limit,
-    items: &mut Vec<Item>,
+    out: &mut Vec<O>,
 ) -> Result<SpanOutcome, OutOfMemory>
     ensures bounded { IfOk result (IsBounded limit) }
-    ensures set { (value : FontValue) → F.is_of font.now value → IfOk result (λ outcome.
-        outcome ≡ set_or_refused value
-        (symbols_with value run.entry.left run.entry.codes.now run.entry.right) limit) }
+    ensures grown { IfOk result (HasGrown out.old.items out.new.items) }
+    ensures ok { (value : FontValue) → F.is_of font.now value
+        → IfOk result (λ outcome. outcome ≡ outcome_of value text.now span.now limit) }
+    ensures placed { (value : FontValue) → F.is_of font.now value
+        → IfOk result (AreItemsBy O.made value text.now span.now limit out.old.items out.new.items) }
+    ensures unchanged { OnErr result (out.new.items ≡ out.old.items) }
+    ensures memory { (value : FontValue) → F.is_of font.now value
+        → OnErr result (refusal_of value text.now span.now ≡ None) }
 {
-    items.clear();
-    match set_run_of(font, run, limit.get(), items) {
+    let codes = match accepted_codes(font, text, span) {
+        Ok(codes) => codes,
+        Err(refusal) => return Ok(SpanOutcome::Refused(refusal)),
+    };
+    let ends = Ends {
+        offset: span.offset,
+        left: span.left,
+        hyphen: span.hyphen,
+        right: span.right,
+    };
+    let before = out.len();
+    match set_run_of(font, codes, ends, limit.get(), out) {
         Ok(steps) => Ok(SpanOutcome::Set(SpanSize {
-            width: total_width(items),
-            items: items.len(),
+            width: width_of(&out[before..]),
+            items: out.len() - before,
             steps,
         })),
         Err(WordFault::TooManySteps) => Ok(SpanOutcome::Refused(SpanRefusal::Steps)),
@@ -60,11 +51,16 @@ fn set_run<F: WordFont>(
     }
 }
 
+/// Sets spans one after the other, and keeps the memory of the list of items for the next span.
+#[derive(Drop)]
+pub struct SpanSetter {
+    items: Vec<Item>,
+}
+
 impl SpanSetter {
-    /// Returns a setter with empty lists. This allocates no memory.
+    /// Returns a setter with an empty list. This allocates no memory.
     pub fn new(alloc: Global) -> Self {
         SpanSetter {
-            codes: Vec::new(alloc),
             items: Vec::new(alloc),
         }
     }
@@ -76,7 +72,6 @@ impl SpanSetter {
     ///
     /// The error is that an allocation failed. A span that is refused before it is set gets this refusal even
     /// then.
-    #[tactic(auto, using(crate::proofs::OutcomeLemmas::outcomes))]
     pub fn set<F: WordFont>(
         &mut self,
         font: &F,
@@ -90,15 +85,36 @@ impl SpanSetter {
         ensures memory { (value : FontValue) → F.is_of font.now value
             → OnErr result (refusal_of value text.now span.now ≡ None) }
     {
-        let codes = match accepted_codes(font, text, span) {
-            Ok(codes) => codes,
-            Err(refusal) => return Ok(SpanOutcome::Refused(refusal)),
-        };
-        let run = Run {
-            codes: run_codes(&mut self.codes, codes, span.hyphen)?,
-            left: span.left,
-            right: span.right,
-        };
-        set_run(font, run, limit, &mut self.items)
+        self.items.clear();
+        set_span(font, text, span, limit, &mut self.items)
     }
+}
+
+/// Sets a span of a text as [`SpanSetter::set`] does, and appends its items to `out`,
+/// each with the bytes of the text that it comes from. A character of the span comes from its own byte, and a
+/// character that a ligature operation inserts from the bytes of the neighbours that the operation deletes.
+/// The hyphen has an empty place at the end of the span, and a kern and a character for which nothing is
+/// deleted have an empty place before what follows. The places follow one another from the start of the span
+/// to its end: each byte of the span is in exactly one of them.
+///
+/// The outcome is that of `set`. After a refusal and after an error `out` is unchanged. The error is that an
+/// allocation failed. A span that is refused before it is set gets this refusal even then.
+pub fn place_span<F: WordFont>(
+    font: &F,
+    text: &[u8],
+    span: &Span,
+    limit: Limit,
+    out: &mut Vec<PlacedItem>,
+) -> Result<SpanOutcome, OutOfMemory>
+    ensures bounded { IfOk result (IsBounded limit) }
+    ensures grown { IfOk result (HasGrown out.old.items out.new.items) }
+    ensures ok { (value : FontValue) → F.is_of font.now value
+        → IfOk result (λ outcome. outcome ≡ outcome_of value text.now span.now limit) }
+    ensures placed { (value : FontValue) → F.is_of font.now value
+        → IfOk result (AreItemsOf value text.now span.now out.old.items out.new.items) }
+    ensures unchanged { OnErr result (out.new.items ≡ out.old.items) }
+    ensures memory { (value : FontValue) → F.is_of font.now value
+        → OnErr result (refusal_of value text.now span.now ≡ None) }
+{
+    set_span(font, text, span, limit, out)
 }

@@ -1,5 +1,5 @@
 /// A part of a text that is set as one run. Every byte of it is a character code, including 10 and 32.
-#[derive(Clone, Copy, Debug, PartialEq, Eq, Hash)]
+#[derive(Clone, Copy, Debug, PartialEq, Eq)]
 pub struct Span {
     /// The byte offset of the first code in the text.
     pub offset: usize,
@@ -9,7 +9,7 @@ pub struct Span {
     pub left: bool,
     /// The right edge: whether the right boundary of the font follows the codes and the hyphen.
     pub right: bool,
-    /// The code that is set after the last one as part of the same run, as the pre-break text of a
-    /// discretionary is (tex.web, sections 906 to 911).
+    /// The code that is set after the last one as part of the same run, as the pre-break text is that TeX makes when it
+    /// hyphenates a word (tex.web, sections 913 to 916).
     pub hyphen: Option<u8>,
 }

@@ -2,7 +2,7 @@ ghost use Rattle.std.specs.Prelude.{◌≡◌};
 ghost use Rattle.tex_sizes.specs.Lengths.{unit_name, unit_named};
 
 /// A unit that lengths are written in.
-#[derive(Clone, Copy, Debug, PartialEq, Eq, Hash)]
+#[derive(Clone, Copy, Debug, PartialEq, Eq)]
 pub enum LengthUnit {
     /// Scaled points, `sp`: 65,536 of them are a point.
     ScaledPoints,

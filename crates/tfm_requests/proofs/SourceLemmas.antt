@@ -1,5 +1,4 @@
 -- What is printed of readers is what is printed of what is known of them.
-use Rattle.line_records.specs.Boxes.{version_of}
 use Rattle.std.proofs.Common.{◌≡◌, ◌⊎◌, inl, inr, ℕ, Bool, List, [], ◌∷◌, ◌++◌, map, Option, Some, None, refl, ap, sym, subst, ◌∙◌}
 use Rattle.std.specs.List.{AllZip}
 use Rattle.std.specs.Prelude.{IfErr, IfOk, IfSome, Result, Ok, Err}
@@ -7,6 +6,7 @@ use Rattle.std.specs.declared.alloc.Global.{Global}
 use Rattle.std.specs.declared.sync.Arc.{Arc}
 use Rattle.std.specs.Io.KnownBytes.{Keeps}
 use Rattle.set_line.specs.Terms.{TermsValue}
+use Rattle.formats.specs.Records.{version_of}
 use Rattle.line_chunks.specs.ChunkText.{RecordStyle}
 use Rattle.line_chunks.specs.Reading.{Told, told_unread}
 use Rattle.set_run.specs.Reports.{IsReported}

@@ -4,12 +4,12 @@ use Rattle.std.specs.Prelude.{◌≡◌, ℕ, List, Bool, true, false, Option, N
 use Rattle.std.specs.Borrow.{Bor}
 use Rattle.std.specs.Io.KnownBytes.{Appends}
 use Rattle.std.specs.List.{AllZip}
+use Rattle.formats.specs.declared.listing.ListLayout.{ListLayout}
+use Rattle.formats.specs.declared.pairs.PairsLayout.{PairsLayout}
 use Rattle.font_texts.specs.AllListing.{all_listing_of}
 use Rattle.font_texts.specs.CountsText.{counts_text_of, head_fault_of}
 use Rattle.font_texts.specs.Listing.{listing_of}
 use Rattle.font_texts.specs.PairCharacters.{pairs_text_with}
-use Rattle.font_texts.specs.declared.list_layout.ListLayout.{ListLayout}
-use Rattle.font_texts.specs.declared.pairs_layout.PairsLayout.{PairsLayout}
 use Rattle.tfm_tables.specs.Font.{FontValue, IsFontOf}
 use Rattle.set_line.specs.Terms.{TermsValue}
 use Rattle.encodings.specs.declared.encoding.Encoding.{Encoding}

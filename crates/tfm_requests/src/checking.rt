@@ -168,12 +168,15 @@ fn verdict_of(
 
 /// Writes the text of a font with this name, of which these bytes were kept, unless it is accepted without warnings and
 /// `--quiet` is given. Returns the numbers of all fonts, of which `tally` has those before.
-pub(crate) fn write_font<F, O: Write>(
+pub(crate) fn write_font<F, O>(
     fonts: &Fonts<'_, F>,
     font: (&[u8], Result<Vec<u8>, ReadFault>),
     tally: Tally,
     out: &mut O,
 ) -> Result<Tally, ToolFault>
+where
+    F: Opens,
+    O: Write,
     ensures text { (known : List ℕ → Option (List ℕ))
         → IfOk font.entry.1 (λ bytes. IfSome (known font.entry.0.now) (λ all. HaveSameFont bytes.items all))
         → IfOk result (λ all. AddsFonts fonts.now.layout known (font.entry.0.now ∷ [])
@@ -182,6 +185,9 @@ pub(crate) fn write_font<F, O: Write>(
 {
     let (name, bytes) = font;
     let verdict = verdict_of(fonts.alloc, bytes, fonts.layout)?;
+    if matches!(verdict, Verdict::Refused(_)) {
+        fonts.files.note_refused();
+    }
     write_shown(fonts.alloc, fonts.layout, (name, &verdict), out)?;
     Ok(tally.with(&verdict))
 }

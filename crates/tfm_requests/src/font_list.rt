@@ -5,8 +5,8 @@ ghost use Rattle.tfm_requests.specs.Kept.{kept_of};
 
 use crate::checking::{Fonts, write_font};
 use crate::failures::errors::{FileError, ReadFault};
-use crate::files::opening::Opens;
-use crate::files::reading::{font_file, opened};
+use crate::files::opening::{Opens, Purpose};
+use crate::files::reading::{file_bytes, opened};
 use check_texts::Tally;
 use run_texts::ToolFault;
 use std::alloc::Global;
@@ -48,7 +48,7 @@ pub(crate) fn open_list<F: Opens>(
     }
     match list {
         None => Ok(FontList::None),
-        Some(file) => match opened(files, file) {
+        Some(file) => match opened(files, file, Purpose::List) {
             Ok(file) => Ok(FontList::File(file)),
             Err(ReadFault::NotRead) => Err(FileError::NotOpened(1)),
             Err(ReadFault::OutOfMemory) => Err(FileError::OutOfMemory),
@@ -150,14 +150,17 @@ where
     write_font(fonts, (name, bytes), tally, out)
 }
 
-/// Reads the file of this name as `font_file` does. A file whose name isn't UTF-8 isn't read, since a path of the
+/// Reads the file of this name as `file_bytes` does. A file whose name isn't UTF-8 isn't read, since a path of the
 /// toolchain is text.
 fn named_bytes<F: Opens>(alloc: Global, files: &F, name: &[u8]) -> Result<Vec<u8>, ReadFault>
     ensures { IfOk result (λ bytes.
         IfSome (F.known files.now name.now) (λ all. bytes.items ≡ kept_of all)) }
 {
     match str::from_utf8(name) {
-        Ok(name) => font_file(alloc, files, name),
-        Err(_) => Err(ReadFault::NotRead),
+        Ok(name) => file_bytes(alloc, files, name, Purpose::Font),
+        Err(_) => {
+            files.note_name(name);
+            Err(ReadFault::NotRead)
+        }
     }
 }

@@ -4,7 +4,7 @@
 pub use failures::done::Done;
 pub use failures::errors::{EncodingError, FileError, FontError, JobError, RequestError};
 pub use failures::failure::Failure;
-pub use files::opening::{Disk, InMemory, Opens};
+pub use files::opening::{Disk, InMemory, Opens, Purpose};
 pub use performing::perform;
 pub use stated::Stated;
 pub use texts::{counts_text, list_text};

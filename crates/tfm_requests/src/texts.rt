@@ -4,7 +4,7 @@ ghost use Rattle.std.specs.Io.KnownBytes.{Appends};
 ghost use Rattle.encodings.specs.declared.encoding.Encoding.{Encoding as EncodingValue};
 ghost use Rattle.font_texts.specs.CountsText.{counts_text_of, head_fault_of};
 ghost use Rattle.font_texts.specs.Listing.{listing_of};
-ghost use Rattle.font_texts.specs.Laws.{text_in};
+ghost use Rattle.formats.specs.declared.listing.OutputFormat.TheVariants.{Text};
 ghost use Rattle.tex_sizes.specs.declared.length_unit.LengthUnit.TheVariants.{ScaledPoints};
 ghost use Rattle.tfm_tables.specs.Font.{FontValue, IsFontOf, IsRefusalOf};
 ghost use Rattle.tfm_tables.specs.declared.fault.FontFault.{FontFault as Fault};
@@ -46,7 +46,7 @@ pub fn counts_text<W: Write>(alloc: Global, bytes: &[u8], out: &mut W) -> Result
 /// `OutOfMemory` if an allocation fails, or `Write` if the writer fails.
 pub fn list_text<W: Write>(alloc: Global, font: &Font, out: &mut W) -> Result<(), ToolFault>
     ensures text { OnOk result
-        (Appends (W.contents out.old) (W.contents out.new) (listing_of (text_in ScaledPoints) font.now)) }
+        (Appends (W.contents out.old) (W.contents out.new) (listing_of (record { format = Text; unit = ScaledPoints }) font.now)) }
     ensures fault { IfErr result (λ fault. (fault ≡ ToolFault.OutOfMemory) ⊎ (fault ≡ ToolFault.Write)) }
 {
     let layout = ListLayout {

@@ -1,22 +1,13 @@
 -- In words with sound tables each dimension that a font returns is the scaled value of its entry, and no 0
 -- takes the place of an entry that can't be scaled.
-use Rattle.std.proofs.Common.{◌≡◌, ℕ, ℤ, ◌-◌, ◌<◌, ◌≤◌, ◌==◌, nat_lt, nat_le, Bool, true, false, List, Option, Some, None, IfSome, arith, refl, sym, subst, ap, ◌∙◌, if◌then◌else◌, lt-ltb, le-leb}
-use Rattle.tfm_words.specs.declared.table.Table.TheVariants.{Width, Height, Depth, Italic, Kern, Param}
+use Rattle.std.proofs.Common.{◌≡◌, ℕ, ℤ, Bool, true, false, List, Option, Some, None, IfSome, refl, sym, subst, ap, ◌∙◌, if◌then◌else◌}
+use Rattle.tfm_words.specs.declared.table.Table.TheVariants.{Width, Height, Depth, Italic}
 use Rattle.tfm_tables.specs.declared.metrics.Metrics.{Metrics}
-use Rattle.tfm_tables.specs.Table.{entries_of}
 use Rattle.tfm_tables.specs.Character.{AreScaled, char_info_of, character_width_of, depth_index, exists, height_index, italic_index, measures_of, metrics_of, width_index}
-use Rattle.tfm_tables.specs.Measure.{kern_at, measure_at, parameter_of, scaled_entry}
+use Rattle.tfm_tables.specs.Measure.{scaled_entry}
 use Rattle.tfm_tables.specs.Sound.{HasSoundTables}
 use Rattle.tfm_tables.proofs.MeasureLemmas.{entry_scaled}
 use Rattle.tfm_tables.proofs.SoundLemmas.{coded_of_exists}
-
--- a kern
-pub kern_scaled : (words : List ℕ) (size k : ℕ) (amount : ℤ) → HasSoundTables words → k < entries_of words Kern → amount ≡ kern_at words size k
-    → scaled_entry words size Kern k ≡ Some amount
-unfolding kern_at
-kern_scaled words size k amount sound within is = entry_scaled words size Kern k (sound.measures.kerns k within) ∙ ap Some (sym is)
-
-pub ruleset kern = (kern_scaled)
 
 -- the dimensions of a character
 measures_scaled : (words : List ℕ) (size code : ℕ) → HasSoundTables words → exists words code ≡ true → AreScaled words size code (measures_of words size code)
@@ -45,16 +36,3 @@ width_scaled words size code width sound there is =
     (measures_scaled words size code sound there).width ∙ ap Some (sym same)
 
 pub ruleset dimensions = (metrics_scaled, width_scaled)
-
--- a parameter from number 2 upward
-pub parameter_scaled : (words : List ℕ) (size n : ℕ) (amount : ℤ) → HasSoundTables words → 2 ≤ n → n ≤ entries_of words Param → amount ≡ parameter_of words size n
-    → scaled_entry words size Param (n - 1) ≡ Some amount
-unfolding parameter_of
-parameter_scaled words size n amount sound low high is =
-    let some : nat_lt 0 n ≡ true = lt-ltb 0 n (omega arith) in
-    let within : nat_le n (entries_of words Param) ≡ true = le-leb n (entries_of words Param) high in
-    let other : (n == 1) ≡ false = grind arith in
-    let same : amount ≡ measure_at words size Param (n - 1) = rw (some, within, other) at is in
-    entry_scaled words size Param (n - 1) (sound.measures.parameters n low high) ∙ ap Some (sym same)
-
-pub ruleset parameter = (parameter_scaled)

@@ -6,7 +6,7 @@ use Rattle.std.specs.Option.{option_or}
 use Rattle.std.specs.Prelude.{Ok}
 use Rattle.tfm_words.specs.declared.table.Table.{Table}
 use Rattle.tfm_words.specs.declared.table.Table.TheVariants.{CharInfo, Width, Height, Depth, Italic, LigKern, Kern, Param}
-use Rattle.tfm_words.specs.Counts.{AreCountsOf, counts_of}
+use Rattle.tfm_words.specs.Counts.{AreCountsOf, HasLawfulCounts, counts_of}
 use Rattle.tfm_words.specs.DesignSize.{design_size_of}
 use Rattle.tfm_words.specs.CountFaults.{first_fault}
 use Rattle.tfm_words.proofs.FirstFault.{AllPassed, first_fault-append, passed_of_none}
@@ -86,6 +86,11 @@ coded_high words code e = (coded_bounds words code e).1
 pub coded_of_exists : (words : List ℕ) (code : ℕ) → exists words code ≡ true → is_coded words code ≡ true
 unfolding exists
 coded_of_exists words code e = first_true (is_coded words code) (not (width_index (char_info_of words code) == 0)) e
+
+-- Law: the code of each character of a font is at most 255
+pub codes_are_bytes : (words : List ℕ) (code : ℕ) → HasLawfulCounts words → exists words code ≡ true → code ≤ 255
+codes_are_bytes words code has there =
+    omega (arith, coded_high words code (coded_of_exists words code there), has.lawful.last_code)
 
 pub ruleset coded = (coded_low, coded_high, coded_of_exists)
 

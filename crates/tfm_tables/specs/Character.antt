@@ -18,6 +18,10 @@ is_coded words code = nat_le (counts_of words).bc code && nat_le code (counts_of
 unfoldable pub char_info_of : List ℕ → ℕ → List ℕ
 char_info_of words code = entry_at words CharInfo (code - (counts_of words).bc)
 
+-- the char_info word of a code, or none if the code isn't from bc to ec
+abbrev pub info_where : List ℕ → ℕ → Option (List ℕ)
+info_where words code = if is_coded words code then Some (char_info_of words code) else None
+
 -- the index of the width in a char_info word: the first byte
 abbrev pub width_index : List ℕ → ℕ
 width_index info = slice_index info 0

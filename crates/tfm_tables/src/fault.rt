@@ -7,7 +7,7 @@ use thiserror::Error;
 
 /// The part of an instruction that has an error: the first one that applies, in the order of these
 /// variants. It prints as a name, for example `restart`.
-#[derive(Clone, Copy, Debug, PartialEq, Eq, Hash)]
+#[derive(Clone, Copy, Debug, PartialEq, Eq)]
 pub enum Part {
     /// The skip is above 128, and the instruction points to an address without an instruction.
     Restart,
@@ -41,7 +41,7 @@ impl fmt::Display for Part {
 /// checked for one kind of error before the next kind. Within a kind, smaller character codes are
 /// checked before larger ones, tables in the file's order, and the entries of a table and the
 /// instructions from 0 upward (tex.web, sections 565 to 575; the order is this project's own).
-#[derive(Clone, Copy, Debug, PartialEq, Eq, Hash, Error)]
+#[derive(Clone, Copy, Debug, PartialEq, Eq, Error)]
 pub enum FontFault {
     /// The counts have this error.
     Counts(CountFault),

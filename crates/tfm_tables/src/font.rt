@@ -16,7 +16,7 @@ use tfm_words::Size;
 /// An accepted font, at the size that it was read at: its metrics, and a table of pairs and a table of
 /// characters, which setting lines needs. A font has all methods of its metrics. In contracts it is its words,
 /// which are the first `4 * lf` bytes of the file, and that size.
-#[derive(Debug, Drop)]
+#[derive(Drop)]
 pub struct Font {
     metrics: FontMetrics,
     pairs: PairTable,

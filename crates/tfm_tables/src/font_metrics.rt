@@ -1,22 +1,20 @@
-ghost use Rattle.std.specs.Prelude.{◌≡◌, ℕ, ◌-◌, ◌<◌, ◌≤◌, ◌^◌, length, IfOk, IfErr, IfSome, Ok, Some, true};
-ghost use Rattle.std.specs.Option.{option_map};
+ghost use Rattle.std.specs.Prelude.{◌≡◌, ◌-◌, ◌<◌, ◌≤◌, ◌^◌, length, IfOk, IfErr, IfSome, Ok, Some, true};
 ghost use Rattle.tfm_words.specs.Counts.{AreCountsOf};
 ghost use Rattle.tfm_words.specs.DesignSize.{design_size_of};
-ghost use Rattle.tfm_words.specs.declared.table.Table.TheVariants.{Width, LigKern, Kern, Param};
-ghost use Rattle.tfm_tables.specs.Table.{entries_of};
+ghost use Rattle.tfm_words.specs.declared.table.Table.TheVariants.{Width, LigKern, Kern, Exten, Param};
+ghost use Rattle.tfm_tables.specs.Table.{entries_of, entry_at};
 ghost use Rattle.tfm_tables.specs.Font.{IsFontOf, IsRefusalOf};
-ghost use Rattle.tfm_tables.specs.Header.{check_sum_of, coding_of, face_of, family_of, seven_bit_of};
-ghost use Rattle.tfm_tables.specs.Character.{AreScaled, char_info_of, character_width_of, exists as exists_in, metrics_of, tag_of, width_index};
+ghost use Rattle.tfm_tables.specs.Character.{AreScaled, char_info_of, character_width_of, exists as exists_in, info_where, metrics_of, tag_of, width_index};
 ghost use Rattle.tfm_tables.specs.Measure.{kern_at, parameter_of, scaled_entry};
-ghost use Rattle.tfm_tables.specs.Program.{program_of, right_code_of, start_of, step_at as step_at_address};
+ghost use Rattle.tfm_tables.specs.Program.{begin_at, left_start_of, program_of, right_code_of, start_of, step_at as step_at_address};
 ghost use Rattle.tfm_tables.specs.Sound.{HasSoundTables, IsSoundStep};
 
 use crate::checks::check_tables;
-use crate::entries::{exists, right_code, step_at};
-use crate::{FontFault, LeftSide, Metrics, Step, Tag, decoding, header};
+use crate::tables::Tables;
+use crate::{FontFault, LeftSide, Metrics, Step, Tag};
 use std::alloc::{AllocError, Global};
 use std::marker::Model;
-use tfm_words::{Counts, Size, design_size};
+use tfm_words::{Counts, FixWord, Size, Table, design_size};
 
 /// The metrics of an accepted font, at the size that they were read at, without the tables that `Font` adds
 /// for setting lines. Each call reads the entries that it needs from the words of the TFM file, and scales
@@ -61,77 +59,109 @@ impl FontMetrics {
             Ok(design) => design,
             Err(fault) => return Err(FontFault::Design(fault)),
         };
-        if let Err(fault) = check_tables(words, &counts) {
+        let tables = Tables {
+            words,
+            counts: &counts,
+        };
+        if let Err(fault) = check_tables(tables) {
             return Err(fault);
         }
-        match FontMetrics::of(alloc, words, counts, design, size.unwrap_or(design)) {
-            Ok(metrics) => Ok(metrics),
-            Err(_) => Err(FontFault::OutOfMemory),
+        let Ok(words) = Vec::from_slice(alloc, words) else {
+            return Err(FontFault::OutOfMemory);
+        };
+        Ok(FontMetrics {
+            words,
+            counts,
+            size: size.unwrap_or(design),
+            design,
+        })
+    }
+
+    /// Returns the tables. For the proof: `sound` is a property of the words that the invariant states.
+    pub(crate) fn tables(&self) -> Tables<'_>
+        ensures words { result.words.now ≡ self.now.words }
+        ensures sound { HasSoundTables self.now.words }
+    {
+        Tables {
+            words: &self.words,
+            counts: &self.counts,
         }
     }
 
-    fn of(
-        alloc: Global,
-        words: &[u8],
-        counts: Counts,
-        design: Size,
-        size: Size,
-    ) -> Result<FontMetrics, AllocError>
-        requires counts { AreCountsOf words.now counts }
-        requires sound { HasSoundTables words.now }
-        requires design { design_size_of words.now ≡ Ok design }
-        ensures { IfOk result (λ metrics. (metrics.words ≡ words.now) × (metrics.size ≡ size)) }
+    /// Returns the words of the font: the first `4 * lf` bytes of its file.
+    pub fn words(&self) -> &[u8]
+        ensures { result.now ≡ self.now.words }
     {
-        Ok(FontMetrics {
-            words: Vec::from_slice(alloc, words)?,
-            counts,
-            size,
-            design,
-        })
+        &self.words
+    }
+
+    /// Returns the counts of the font.
+    pub fn counts(&self) -> &Counts
+        ensures { AreCountsOf self.now.words result.now }
+    {
+        &self.counts
     }
 
     /// Returns whether the font has a character with this code.
     pub fn exists(&self, code: u8) -> bool
         ensures { result ≡ exists_in self.now.words code }
     {
-        exists(&self.words, &self.counts, code)
+        self.tables().exists(code)
     }
 
-    /// States that the code of each character of the font is at most 255.
-    pub fn codes_are_bytes(&self)
-        ensures { (code : ℕ) → exists_in self.now.words code ≡ true → code ≤ 255 }
+    /// Returns the char_info word of a code, or `None` if the code isn't from `bc` to `ec`.
+    pub fn char_info(&self, code: u8) -> Option<[u8; 4]>
+        ensures { result ≡ info_where self.now.words code }
     {
-        // For the proof: this use of the counts states the invariant of the fields.
-        let _last = self.counts.ec();
+        self.tables().info(code)
     }
 
     /// Returns the dimensions of a character in sp, or `None` if it doesn't exist. Each dimension is
     /// the scaled value of its table entry, and no 0 takes the place of an entry that can't be
     /// scaled: the tables of an accepted font have no such entry.
-    #[tactic(auto, using(crate::proofs::ScaledLemmas::dimensions))]
+    #[tactic(auto, using(crate::proofs::ScaledLemmas::dimensions, crate::proofs::SoundLemmas::coded))]
     pub fn metrics(&self, code: u8) -> Option<Metrics>
         ensures value { result ≡ metrics_of self.now.words self.now.size code }
         ensures scaled { IfSome result (AreScaled self.now.words self.now.size code) }
     {
-        decoding::metrics(&self.words, &self.counts, self.size, code)
+        let (tables, size) = (self.tables(), self.size);
+        let [width, height_depth, italic_tag, _] = tables.character(code)?;
+        let (height, depth) = (height_depth / 16, height_depth % 16);
+        let italic = italic_tag / 4;
+        Some(Metrics {
+            width: tables.measure(size, Table::Width, usize::from(width)),
+            height: tables.measure(size, Table::Height, usize::from(height)),
+            depth: tables.measure(size, Table::Depth, usize::from(depth)),
+            italic: tables.measure(size, Table::Italic, usize::from(italic)),
+        })
     }
 
     /// Returns the width of a character in sp: the scaled value of its table entry, or 0 for a code
     /// without a character.
-    #[tactic(auto, using(crate::proofs::ScaledLemmas::dimensions))]
+    #[tactic(auto, using(crate::proofs::ScaledLemmas::dimensions, crate::proofs::SoundLemmas::coded))]
     pub fn width(&self, code: u8) -> i32
         ensures value { result ≡ character_width_of self.now.words self.now.size code }
         ensures scaled { exists_in self.now.words code ≡ true →
             scaled_entry self.now.words self.now.size Width (width_index (char_info_of self.now.words code)) ≡ Some result }
     {
-        decoding::width(&self.words, &self.counts, self.size, code)
+        let tables = self.tables();
+        let Some(info) = tables.character(code) else {
+            return 0;
+        };
+        tables.measure(self.size, Table::Width, usize::from(info[0]))
     }
 
     /// Returns the tag of a character, or `None` if it doesn't exist.
     pub fn tag(&self, code: u8) -> Option<Tag>
         ensures { result ≡ tag_of self.now.words code }
     {
-        decoding::tag(&self.words, &self.counts, code)
+        let [_, _, italic_tag, remainder] = self.tables().character(code)?;
+        Some(match italic_tag % 4 {
+            0 => Tag::Plain,
+            1 => Tag::Lig(remainder),
+            2 => Tag::List(remainder),
+            _ => Tag::Ext(remainder),
+        })
     }
 
     /// Returns the starting address of a left side's program. For a character it is the address after
@@ -142,7 +172,53 @@ impl FontMetrics {
         ensures value { result ≡ start_of self.now.words left }
         ensures within { IfSome result (λ start. start < entries_of self.now.words LigKern) }
     {
-        decoding::start(&self.words, &self.counts, left)
+        // For the proof: the invariant states that the tables are sound.
+        let _ = &self.words;
+        self.address(left)
+    }
+
+    /// Returns the result of `start`. For the proof: `start` derives from it that the address is below `steps`.
+    #[tactic(auto, unfolding(crate::specs::Program::start_of))]
+    fn address(&self, left: LeftSide) -> Option<usize>
+        ensures { result ≡ start_of self.now.words left }
+    {
+        match left {
+            LeftSide::Boundary => self.left_start(),
+            LeftSide::Char(code) => match self.tag(code) {
+                Some(Tag::Lig(first)) => Some(self.begin(usize::from(first))),
+                _ => None,
+            },
+        }
+    }
+
+    /// Returns the starting address of the left boundary's program, which the last instruction may specify.
+    #[tactic(auto, using(crate::proofs::ProgramLemmas::instructions), unfolding(crate::specs::Program::left_start_of))]
+    fn left_start(&self) -> Option<usize>
+        ensures { result ≡ left_start_of (program_of self.now.words) }
+    {
+        let last = self.steps().checked_sub(1)?;
+        let step = self.step(last);
+        if step.skip == 255 {
+            Some(step.target())
+        } else {
+            None
+        }
+    }
+
+    /// Returns the starting address of the program of a character whose tag refers to the address `first`.
+    #[tactic(auto, using(crate::proofs::ProgramLemmas::instructions), unfolding(crate::specs::Program::begin_at))]
+    fn begin(&self, first: usize) -> usize
+        ensures { result ≡ begin_at (program_of self.now.words) first }
+    {
+        if first >= self.steps() {
+            return first;
+        }
+        let step = self.step(first);
+        if step.skip > 128 {
+            step.target()
+        } else {
+            first
+        }
     }
 
     /// Returns the number of instructions, which is below 2^15 as every count of a file is.
@@ -165,18 +241,23 @@ impl FontMetrics {
         ensures value { result ≡ step_at_address self.now.words i }
         ensures sound { IsSoundStep self.now.words i result }
     {
-        step_at(&self.words, &self.counts, i)
+        self.tables().step(i)
     }
 
     /// Returns the lig/kern program: its instructions, by address. The error means that an allocation failed.
     /// For the proof: `few` and `sound` are properties of the words that the invariant of `Font` states again.
-    #[tactic(auto, using(crate::proofs::DecodedLemmas::sized))]
+    #[tactic(auto, using(crate::proofs::DecodedLemmas::sized, crate::proofs::DecodedLemmas::grown), unfolding(crate::specs::Program::program_of))]
     pub(crate) fn program(&self, alloc: Global) -> Result<Vec<Step>, AllocError>
         ensures instructions { IfOk result (λ program. program.items ≡ program_of self.now.words) }
         ensures few { length (program_of self.now.words) ≤ 2 ^ 15 }
         ensures sound { HasSoundTables self.now.words }
     {
-        decoding::program(alloc, &self.words, &self.counts)
+        let tables = self.tables();
+        let mut steps = Vec::with_capacity(alloc, self.steps())?;
+        for i in 0..self.steps() {
+            steps.push(tables.step(i))?;
+        }
+        Ok(steps)
     }
 
     /// Returns the code of the right boundary character, or `None` if the font doesn't specify one. The
@@ -184,7 +265,7 @@ impl FontMetrics {
     pub fn right_boundary(&self) -> Option<u8>
         ensures { result ≡ right_code_of (program_of self.now.words) }
     {
-        right_code(&self.words, &self.counts)
+        self.tables().right_code()
     }
 
     /// Returns the number of kerns, which is below 2^15.
@@ -198,13 +279,30 @@ impl FontMetrics {
 
     /// Returns kern `k`, from 0, in sp; `k` must be below `kerns`. The kern is the scaled value of
     /// its table entry, and no 0 takes the place of an entry that can't be scaled.
-    #[tactic(auto, using(crate::proofs::ScaledLemmas::kern))]
+    #[tactic(auto, unfolding(crate::specs::Measure::kern_at))]
     pub fn kern(&self, k: usize) -> i32
         requires { k < entries_of self.now.words Kern }
         ensures value { result ≡ kern_at self.now.words self.now.size k }
         ensures scaled { scaled_entry self.now.words self.now.size Kern k ≡ Some result }
     {
-        decoding::kern(&self.words, &self.counts, self.size, k)
+        self.tables().measure(self.size, Table::Kern, k)
+    }
+
+    /// Returns the number of extensible recipes: at most 256.
+    pub fn recipes(&self) -> usize
+        ensures value { result ≡ entries_of self.now.words Exten }
+        ensures few { result ≤ 256 }
+    {
+        usize::from(self.counts.ne())
+    }
+
+    /// Returns extensible recipe `i`, from 0, which must be below `recipes`: the codes of its top, middle and
+    /// bottom piece, and of the one that is repeated (tftopl.web, section 14).
+    pub fn recipe(&self, i: usize) -> [u8; 4]
+        requires { i < entries_of self.now.words Exten }
+        ensures { result ≡ entry_at self.now.words Exten i }
+    {
+        self.tables().entry(Table::Exten, i)
     }
 
     /// Returns the number of parameters.
@@ -217,19 +315,21 @@ impl FontMetrics {
     /// Returns parameter `number`, counted from 1, or 0 if the font has no parameter with this number.
     /// Parameter 1, the slant, is a plain number in units of 2^-20; every other parameter is the scaled
     /// value of its table entry, in sp.
-    #[tactic(auto, using(crate::proofs::DecodedLemmas::parameters, crate::proofs::ScaledLemmas::parameter))]
+    #[tactic(auto, using(crate::proofs::DecodedLemmas::parameters), unfolding(crate::specs::Measure::parameter_of))]
     pub fn param(&self, number: usize) -> i32
         ensures value { result ≡ parameter_of self.now.words self.now.size number }
         ensures scaled { 2 ≤ number → number ≤ entries_of self.now.words Param →
             scaled_entry self.now.words self.now.size Param (number - 1) ≡ Some result }
     {
-        if number == 0 {
+        if number == 0 || number > self.params() {
             return 0;
         }
-        if number > self.params() {
-            return 0;
+        let tables = self.tables();
+        if number == 1 {
+            FixWord::of(tables.entry(Table::Param, 0)).0
+        } else {
+            tables.measure(self.size, Table::Param, number - 1)
         }
-        decoding::parameter(&self.words, &self.counts, self.size, number)
     }
 
     /// Returns the width of a space in sp: parameter 2, or 0 if the font has no parameter 2.
@@ -253,43 +353,5 @@ impl FontMetrics {
         ensures { design_size_of self.now.words ≡ Ok result }
     {
         self.design
-    }
-
-    /// Returns the check sum: the first word of the header, as an unsigned number.
-    pub fn check_sum(&self) -> u32
-        ensures { result ≡ check_sum_of self.now.words }
-    {
-        header::check_sum(&self.words, &self.counts)
-    }
-
-    /// Returns the coding scheme, at most 39 bytes, or `None` if the header has fewer than 12 words. A
-    /// length byte above 39 is read as 39.
-    pub fn coding(&self) -> Option<&[u8]>
-        ensures { option_map (λ text. text.now) result ≡ coding_of self.now.words }
-    {
-        header::coding(&self.words, &self.counts)
-    }
-
-    /// Returns the family, at most 19 bytes, or `None` if the header has fewer than 17 words. A
-    /// length byte above 19 is read as 19.
-    pub fn family(&self) -> Option<&[u8]>
-        ensures { option_map (λ text. text.now) result ≡ family_of self.now.words }
-    {
-        header::family(&self.words, &self.counts)
-    }
-
-    /// Returns whether the header marks the font as seven-bit safe, or `None` if the header has fewer
-    /// than 18 words.
-    pub fn seven_bit(&self) -> Option<bool>
-        ensures { result ≡ seven_bit_of self.now.words }
-    {
-        header::seven_bit(&self.words, &self.counts)
-    }
-
-    /// Returns the face byte, or `None` if the header has fewer than 18 words.
-    pub fn face(&self) -> Option<u8>
-        ensures { result ≡ face_of self.now.words }
-    {
-        header::face(&self.words, &self.counts)
     }
 }

@@ -13,8 +13,6 @@ pub use step::Step;
 pub use tag::Tag;
 
 mod checks;
-mod decoding;
-mod entries;
 mod fault;
 mod font;
 mod font_metrics;

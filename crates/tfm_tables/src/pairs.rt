@@ -15,7 +15,7 @@ const NOWHERE: u16 = u16::MAX;
 
 /// A row for each left side. Entry `code` of a row is the address of the first instruction, in the
 /// chain of the left side's program, that matches this code on the right, or `NOWHERE`.
-#[derive(Debug, Drop)]
+#[derive(Drop)]
 pub(crate) struct PairTable {
     pub rows: Vec<[u16; 256]>,
 }

@@ -3,7 +3,7 @@ ghost use Rattle.tfm_tables.specs.Program.{step_of, target_of};
 ghost use Rattle.tfm_tables.specs.Acceptance.{kern_index_of};
 
 /// An instruction of the lig/kern program: its four bytes in the file (tftopl.web, section 13).
-#[derive(Clone, Copy, Debug, PartialEq, Eq, Hash)]
+#[derive(Clone, Copy, Debug, PartialEq, Eq)]
 pub struct Step {
     /// Below 128: a search that has no match here goes on `skip + 1` instructions further on. 128: the
     /// search ends here, with or without a match. Above 128: the search ends here without a match. As the

@@ -1,5 +1,5 @@
 /// The tag of a character: the meaning of the remainder of its char_info word (tftopl.web, section 12).
-#[derive(Clone, Copy, Debug, PartialEq, Eq, Hash)]
+#[derive(Clone, Copy, Debug, PartialEq, Eq)]
 pub enum Tag {
     /// The remainder has no meaning.
     Plain,

@@ -4,7 +4,7 @@ use std::alloc::Global;
 
 /// The number of bytes up to the end of the coding scheme (TFtoPL §10): the counts, the check sum, the design size,
 /// and a text of at most 39 bytes with its length.
-const END: usize = 72;
+pub(crate) const END: usize = 72;
 
 /// Coding schemes of fonts of TeX, in capitals, and the names of their encodings.
 const SCHEMES: [(&str, &str); 11] = [
@@ -58,4 +58,14 @@ pub(crate) fn other_than(alloc: Global, font: &[u8], encoding: Encoding) -> Opti
         return None;
     }
     Some(stated)
+}
+
+/// Returns what to do for a font whose coding scheme states this encoding.
+pub(crate) fn remedy(stated: &str) -> &'static str {
+    match stated {
+        "OT1" => "for this font write --encoding ot1",
+        "T1" => "for this font write --encoding t1",
+        "LY1" => "for this font write --encoding ly1",
+        _ => "for this font pass the path of its encoding vector",
+    }
 }

@@ -7,11 +7,13 @@ pub use program::{tool, words_refused};
 pub use run_texts::{FontSetting, ReportOptions, Summary, ToolFault, set_each, set_text, status};
 pub use set_line::Version;
 pub use tfm_requests::{
-    Disk, Done, EncodingError, Failure, FileError, FontError, InMemory, Opens, RequestError,
-    counts_text, list_text, perform,
+    Disk, Done, EncodingError, Failure, FileError, FontError, InMemory, Opens, Purpose,
+    RequestError, counts_text, list_text, perform,
 };
 
 mod coding;
+mod font_kind;
+mod line_scan;
 mod notes;
 mod program;
 mod summary;

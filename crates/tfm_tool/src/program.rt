@@ -5,8 +5,7 @@ ghost use Rattle.clap.specs.Words.{kind_of};
 ghost use Rattle.tfm_requests.specs.Status.{done_status, is_stop, status_of};
 ghost use Rattle.tfm_requests.specs.declared.failures.failure.Failure.TheVariants.{Usage};
 ghost use Rattle.tfm_tool.specs.Served.{IsServed, IsTurnedDown, IsTurnedDownBy, is_answer, is_refusal, is_usage};
-ghost use Rattle.tfm_tool.specs.Verbose.{IsVerbose};
-ghost use Rattle.tfm_tool.specs.Warnings.{IsWarned};
+ghost use Rattle.tfm_tool.specs.Verbose.{MayReport};
 
 use crate::usage_text::say_usage;
 use crate::verbose::carry_out;
@@ -34,9 +33,11 @@ const FONT_TIP: &[u8] =
 /// otherwise, and after help or the version, 0. It is 2 or 3 if the arguments, a font or an encoding vector are
 /// refused, 4 if a font or a file wasn't read, and 5 if an allocation, a thread start or a write failed. With 2
 /// to 5 the reason is written to `err`: one line, or the text of `clap` if the arguments are invalid. If `err`
-/// fails, its error is ignored. If a size below 65,536 has no unit, a warning is written to `err` before the
-/// font is read, except with `check`, which needs no size. With `--verbose`, the causes of errors and a summary
-/// of the lines are written to `err` after the output, before the text of a failure.
+/// fails, its error is ignored.
+///
+/// Without `--verbose`, `counts`, `list`, `set` and `each` write nothing else to `err`. The other three, and these
+/// four with `--verbose`, write further lines before the reason: a warning for a size below 65,536 without a unit, the
+/// causes of errors with the names of files, and what is likely wrong with a number.
 pub fn tool<R, S, I, O, E>(rt: &R, words: &[S], input: &mut I, out: &mut O, err: &mut E) -> u8
 where
     R: Files + AllocGlobal + Threads + Wait + Sync,
@@ -46,8 +47,7 @@ where
     O: Write,
     E: Write,
     ensures statuses { Contains (0 ∷ 1 ∷ 2 ∷ 3 ∷ 4 ∷ 5 ∷ []) result }
-    ensures silent { result < 2 → ¬ (IsWarned (map S.text words.now))
-        → ¬ (IsVerbose (map S.text words.now)) → err.new ≡ err.old }
+    ensures silent { result < 2 → ¬ (MayReport (map S.text words.now)) → err.new ≡ err.old }
     ensures served { result < 2 → (written : Option (List ℕ)) × Keeps written (O.contents out.new)
         × IsServed (map S.text words.now) (I.remaining input.old) (O.contents out.old) written result }
     ensures untouched { (result ≡ 2) ⊎ (result ≡ 3) → Keeps (O.contents out.old) (O.contents out.new) }
@@ -77,9 +77,9 @@ pub fn words_refused<E: Write>(error: &io::Error, err: &mut E) -> u8
     2
 }
 
-/// Does what the arguments request, with the files of the file system, or writes help or the version. A warning,
-/// and what `--verbose` adds, are written to `err`, whose errors are ignored. Also returns whether the tip about
-/// the names of fonts is wanted.
+/// Does what the arguments request, with the files of the file system, or writes help or the version. A warning, and
+/// what is noted, are written to `err`, whose errors are ignored. Also returns whether the tip about the names of
+/// fonts is wanted.
 fn answer<R, S, I, O, E>(
     rt: &R,
     words: &[S],
@@ -94,8 +94,7 @@ where
     I: Read + Send,
     O: Write,
     E: Write,
-    ensures silent { ¬ (IsWarned (map S.text words.now))
-        → ¬ (IsVerbose (map S.text words.now)) → err.new ≡ err.old }
+    ensures silent { IfOk result.0 (λ _. ¬ (MayReport (map S.text words.now)) → err.new ≡ err.old) }
     ensures served { IfOk result.0 (λ done. IsServed (map S.text words.now) (I.remaining input.old)
         (O.contents out.old) (O.contents out.new) (done_status done)) }
     ensures untouched { IfErr result.0 (λ failure. is_stop failure ≡ false → out.new ≡ out.old) }

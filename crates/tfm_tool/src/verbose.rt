@@ -1,26 +1,27 @@
-//! Carries out a request with the files of the file system, and prints what `--verbose` adds.
+//! Carries out a request with the files of the file system, and prints what it notes on standard error.
 ghost use Rattle.std.specs.Prelude.{◌≡◌, false, None, IfErr, IfOk};
 ghost use Rattle.tfm_requests.specs.Causes.{IsCauseOf};
 ghost use Rattle.tfm_requests.specs.Requests.{IsDone};
 ghost use Rattle.tfm_requests.specs.Status.{done_status, is_stop};
-ghost use Rattle.tfm_tool.specs.Verbose.{is_verbose as is_verbose_request};
+ghost use Rattle.tfm_tool.specs.Verbose.{is_noted as is_noted_request};
 
-use crate::notes::Notes;
+use crate::line_scan::Wanted;
+use crate::notes::{Notes, Scope};
 use crate::summary::{say_causes, say_summary};
-use crate::watched::{Called, Purpose, WatchedFiles, WatchedReader, WatchedWriter, Written};
+use crate::watched::{Called, WatchedFiles, WatchedReader, WatchedWriter, Written};
 use command_line::{Request, Requested};
 use encodings::Encoding;
+use line_chunks::LineCounts;
+use std::io;
 use std::io::{Read, Write};
 use std::marker::Brand;
 use std::rt::Files;
 use std::sync::Wait;
 use std::thread::Threads;
-use tfm_requests::{Disk, Done, Failure, Stated, perform};
+use tfm_requests::{Disk, Done, Failure, FontError, JobError, Purpose, Stated, perform};
 
 /// Returns whether a request has `--verbose`.
-fn is_verbose(request: &Request<'_>) -> bool
-    ensures { result ≡ is_verbose_request request.now }
-{
+fn is_verbose(request: &Request<'_>) -> bool {
     match request {
         Request::Counts { verbose, .. } => *verbose,
         Request::List(asked) => asked.verbose,
@@ -32,12 +33,46 @@ fn is_verbose(request: &Request<'_>) -> bool
     }
 }
 
+/// Returns whether a request prints notes while it is carried out: `check` and `stream` do, and any other with
+/// `--verbose`.
+fn is_noted(request: &Request<'_>) -> bool
+    ensures { result ≡ is_noted_request request.now }
+{
+    match request {
+        Request::Counts { verbose, .. } => *verbose,
+        Request::List(asked) => asked.verbose,
+        Request::Pairs(asked) => asked.verbose,
+        Request::Set(setting) => setting.layout.verbose,
+        Request::Each(jobs) => jobs.layout.verbose,
+        Request::Check(_) | Request::Stream(_) => true,
+    }
+}
+
 /// Returns whether a request sets lines, and if so, whether it has `--crlf`.
 fn crlf_of(request: &Request<'_>) -> Option<bool> {
     match request {
         Request::Set(setting) | Request::Stream(setting) => Some(setting.layout.crlf),
         Request::Each(jobs) => Some(jobs.layout.crlf),
         _ => None,
+    }
+}
+
+/// Returns what is noted of a request. `pairs` notes the causes of errors, which it prints if it fails.
+fn scope_of(requested: &Requested<'_>) -> Scope {
+    let request = &requested.request;
+    let (verbose, encoding) = (is_verbose(request), encoding_of(request));
+    let streams = matches!(request, Request::Stream(_));
+    let keeps_returns = crlf_of(request) == Some(false);
+    Scope {
+        causes: is_noted(request) || matches!(request, Request::Pairs(_)),
+        verbose,
+        wanted: Wanted {
+            text: streams && encoding.is_none() && requested.vector.is_none(),
+            returns: streams && keeps_returns,
+        },
+        counts_returns: verbose && keeps_returns,
+        has_summary: verbose && crlf_of(request).is_some(),
+        encoding: if verbose || streams { encoding } else { None },
     }
 }
 
@@ -51,37 +86,31 @@ fn encoding_of(request: &Request<'_>) -> Option<Encoding<'static>> {
     }
 }
 
-/// Returns the number of files that are opened before the files with lines: the file of the encoding vector
-/// if one is named, and the fonts.
-fn files_before_lines(requested: &Requested<'_>) -> u64 {
-    let vectors = match requested.vector {
-        Some(_) => 1,
-        None => 0,
-    };
-    fonts_of(&requested.request).saturating_add(vectors)
-}
-
-/// Returns the largest number of files that a request opens as fonts before its files with lines.
-fn fonts_of(request: &Request<'_>) -> u64 {
+/// Returns what a request reads standard input as.
+fn purpose_of_input(request: &Request<'_>) -> Purpose {
     match request {
-        Request::Set(setting) | Request::Stream(setting) if setting.font == "-" => 0,
-        Request::Set(_) | Request::Stream(_) => 1,
-        Request::Each(jobs) => (jobs.words.len() / 3) as u64,
-        _ => u64::MAX,
+        Request::Stream(setting) if setting.files.is_empty() => Purpose::Lines,
+        Request::Check(asked) if asked.list == Some("-") => Purpose::List,
+        _ => Purpose::Font,
     }
 }
 
-/// Returns whether a request reads lines from standard input.
-fn reads_lines(request: &Request<'_>) -> bool {
-    match request {
-        Request::Stream(setting) => setting.files.is_empty(),
-        _ => false,
-    }
+/// A request that was carried out, and what was noted of it.
+#[derive(Drop)]
+struct Outcome {
+    /// The notes.
+    notes: Notes,
+    /// How it ended.
+    done: Result<Done, Failure>,
+    /// The numbers of lines that were set and refused, if the output accepted bytes.
+    lines: Option<LineCounts>,
+    /// The first error of the output.
+    error: Option<io::Error>,
 }
 
-/// Carries out what arguments request as `perform` does, with the files of the file system. With `--verbose` it
-/// then prints on `err`, whose errors are ignored, the causes of errors and a summary. Also returns whether a font
-/// wasn't found whose name has no slash.
+/// Carries out what arguments request as `perform` does, with the files of the file system. What is noted is printed
+/// on `err`, whose errors are ignored: at once if the request is one that prints notes, or if `pairs` fails. Also
+/// returns whether the tip about a font that wasn't found is wanted.
 pub(crate) fn carry_out<R, I, O, E>(
     rt: &R,
     requested: &Requested<'_>,
@@ -95,56 +124,124 @@ where
     I: Read + Send,
     O: Write,
     E: Write,
-    ensures silent { is_verbose_request requested.now.request ≡ false → err.new ≡ err.old }
+    ensures silent { IfOk result.0 (λ _. is_noted_request requested.now.request ≡ false
+        → err.new ≡ err.old) }
     ensures text { IfOk result.0 (λ done. IsDone (λ _. None) (I.remaining input.old)
         (O.contents out.old) (O.contents out.new) requested.now (done_status done)) }
     ensures untouched { IfErr result.0 (λ failure. is_stop failure ≡ false → out.new ≡ out.old) }
     ensures cause { IfErr result.0 (IsCauseOf (λ _. None) (I.remaining input.old) requested.now) }
 {
-    let verbose = is_verbose(&requested.request);
-    let crlf = crlf_of(&requested.request);
-    let encoding = encoding_of(&requested.request);
-    let notes = Notes::new(rt.alloc(), verbose, crlf.unwrap_or(true), encoding);
-    let written = Written {
-        out,
-        lines: None,
-        error: None,
-    };
-    let (written, done) = perform_watched::<R, I, O, Brand, Requested<'_>>(
-        rt, &notes, requested, input, written,
-    );
-    let Written {
-        out: writer,
-        lines,
-        error,
-    } = written;
-    // For the proof: this use of `writer` shows what `out` holds.
-    let _ = &*writer;
-    let has_bare_unfound = notes.has_bare_unfound();
-    if verbose {
-        let _ = say_causes(notes, error, err);
-        if let (Some(_), Some(lines)) = (crlf, &lines) {
-            let _ = say_summary(lines, err);
-        }
-        let _ = err.flush();
+    if is_noted(&requested.request) {
+        let outcome = note_all::<R, I, O, E, Requested<'_>>(
+            rt,
+            requested,
+            input,
+            out,
+            Some(&mut *err),
+        );
+        return report(rt, outcome, err);
     }
-    (done, has_bare_unfound)
+    // For the borrow checker: a type without lifetimes; it has no rule for a `None` of `&mut E`.
+    let outcome = note_all::<R, I, O, Vec<u8>, Requested<'_>>(rt, requested, input, out, None);
+    if outcome.done.is_ok() {
+        return (outcome.done, false);
+    }
+    report(rt, outcome, err)
 }
 
-/// Carries out what arguments request as `perform` does, with the files of the file system, and notes errors and
-/// counts.
-fn perform_watched<'a, R, I, O, K, Q>(
+/// Prints what was noted and not yet printed. Returns how the request ended, and whether the tip is wanted.
+fn report<R: Wait, E: Write>(rt: &R, outcome: Outcome, err: &mut E) -> (Result<Done, Failure>, bool)
+    ensures { result.0 ≡ outcome.done }
+{
+    let Outcome {
+        notes,
+        done,
+        lines,
+        error,
+    } = outcome;
+    if is_refused(&done) {
+        notes.note_kind(rt);
+    }
+    notes.print(rt, err);
+    let _ = say_causes(&notes, error, err);
+    if let (true, Some(lines)) = (notes.has_summary(), &lines) {
+        let _ = say_summary(lines, err);
+    }
+    let _ = err.flush();
+    (done, notes.has_bare_unfound())
+}
+
+/// Returns whether a request failed because its font is refused.
+fn is_refused(done: &Result<Done, Failure>) -> bool {
+    matches!(
+        done,
+        Err(Failure::Font(FontError::Refused(_)) | Failure::JobFont(JobError::Refused(_, _)))
+    )
+}
+
+/// Carries out what arguments request as `perform` does, with the files of the file system, and notes what it sees.
+/// If there is a second writer, what is noted is printed there before the next output.
+fn note_all<R, I, O, E, Q>(
     rt: &R,
-    notes: &Notes,
     stated: &Q,
     input: &mut I,
-    written: Written<'a, O>,
-) -> (Written<'a, O>, Result<Done, Failure>)
+    out: &mut O,
+    err: Option<&mut E>,
+) -> Outcome
 where
     R: Files + AllocGlobal + Threads + Wait + Sync,
     R::File: Send,
     I: Read + Send,
     O: Write,
+    E: Write,
+    Q: Stated,
+    ensures text { IfOk result.done (λ done. IsDone (λ _. None) (I.remaining input.old)
+        (O.contents out.old) (O.contents out.new) (Q.requested stated.now) (done_status done)) }
+    ensures untouched { IfErr result.done (λ failure. is_stop failure ≡ false → out.new ≡ out.old) }
+    ensures cause { IfErr result.done
+        (IsCauseOf (λ _. None) (I.remaining input.old) (Q.requested stated.now)) }
+{
+    let notes = Notes::new(rt.alloc(), scope_of(stated.requested()));
+    let written = Written {
+        out,
+        err,
+        lines: None,
+        error: None,
+    };
+    let (written, done) = perform_watched::<R, I, O, E, Brand, Q>(
+        rt, &notes, stated, input, written,
+    );
+    let Written {
+        out: writer,
+        err: _,
+        lines,
+        error,
+    } = written;
+    // For the proof: this use of `writer` shows what `out` holds.
+    let _ = &*writer;
+    Outcome {
+        notes,
+        done,
+        lines,
+        error,
+    }
+}
+
+/// Carries out what arguments request as `perform` does, with the files of the file system, and notes errors and
+/// counts.
+fn perform_watched<'a, R, I, O, E, K, Q>(
+    rt: &R,
+    notes: &Notes,
+    stated: &Q,
+    input: &mut I,
+    written: Written<'a, O, E>,
+) -> (Written<'a, O, E>, Result<Done, Failure>)
+where
+    R: Files + AllocGlobal + Threads + Wait + Sync,
+    R::File: Send,
+    I: Read + Send,
+    O: Write,
+    E: Write,
     K: Called,
     Q: Stated,
     requires { written.out.ghost_name ≡ K.name }
@@ -157,16 +254,10 @@ where
     ensures cause { IfErr result.1
         (IsCauseOf (λ _. None) (I.remaining input.old) (Q.requested stated.now)) }
 {
-    let requested = stated.requested();
-    let others = files_before_lines(requested);
-    let purpose = if reads_lines(&requested.request) {
-        Purpose::Lines
-    } else {
-        Purpose::Font
-    };
-    let files = WatchedFiles::new(rt, Disk::new(rt), notes, others, requested.vector);
+    let purpose = purpose_of_input(&stated.requested().request);
+    let files = WatchedFiles::new(rt, Disk::new(rt), notes);
     let mut input = WatchedReader::new(rt, notes, input, "standard input", purpose);
-    let mut out: WatchedWriter<'a, O, K> = WatchedWriter::new(written);
+    let mut out: WatchedWriter<'a, '_, '_, R, O, E, K> = WatchedWriter::new(rt, notes, written);
     let done = perform(rt, &files, stated, &mut input, &mut out);
     (out.into_written(files.lines.get()), done)
 }

@@ -23,13 +23,16 @@ fn warned_size(request: &Request<'_>) -> Option<u32>
     ensures { result ≡ warned_size_of request.now }
 {
     match request {
-        Request::List(asked) => small(asked.size, asked.plain_size),
+        Request::List(asked) if asked.verbose => small(asked.size, asked.plain_size),
         Request::Pairs(asked) => small(asked.size, asked.plain_size),
-        Request::Set(setting) | Request::Stream(setting) => {
+        Request::Set(setting) if setting.layout.verbose => {
             small(setting.layout.size, setting.layout.plain_size)
         }
-        Request::Each(jobs) => small(jobs.layout.size, jobs.layout.plain_size),
-        Request::Counts { .. } | Request::Check(_) => None,
+        Request::Stream(setting) => small(setting.layout.size, setting.layout.plain_size),
+        Request::Each(jobs) if jobs.layout.verbose => {
+            small(jobs.layout.size, jobs.layout.plain_size)
+        }
+        _ => None,
     }
 }
 

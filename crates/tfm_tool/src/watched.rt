@@ -1,6 +1,8 @@
-//! Files, readers and a writer that pass everything on, and note errors and counts for `--verbose`.
+//! Files, readers and a writer that pass everything on, and note for standard error what they see.
 ghost use Rattle.std.specs.Prelude.{◌≡◌};
 
+use crate::coding::END;
+use crate::line_scan::LineScan;
 use crate::notes::Notes;
 use encoding_vectors::MOST_BYTES;
 use line_chunks::LineCounts;
@@ -9,16 +11,7 @@ use std::io;
 use std::io::{ErrorKind, Read, Write};
 use std::marker::{Brand, PhantomData};
 use std::sync::Wait;
-use std::sync::atomic::{AtomicU64, Ordering};
-use tfm_requests::Opens;
-
-/// What a file is read as.
-#[derive(Clone, Copy, Debug, PartialEq, Eq)]
-pub(crate) enum Purpose {
-    Font,
-    Vector,
-    Lines,
-}
+use tfm_requests::{Opens, Purpose};
 
 /// Files whose errors are noted with their names.
 #[derive(Drop)]
@@ -28,17 +21,11 @@ pub(crate) struct WatchedFiles<'r, 'n, R, F> {
     notes: &'n Notes,
     /// The numbers of lines that were set and refused, after the batch.
     pub lines: Cell<LineCounts>,
-    /// The number of files that are still to be opened as an encoding vector or as fonts. All later ones have
-    /// lines.
-    others: AtomicU64,
-    /// The name of the file with the encoding vector.
-    vector: Option<&'n str>,
 }
 
 impl<'r, 'n, R, F> WatchedFiles<'r, 'n, R, F> {
-    /// Returns these files. The first `others` ones to be opened are fonts, or the encoding vector if they have
-    /// the name `vector`; the other ones have lines, whose carriage returns are counted.
-    pub fn new(rt: &'r R, files: F, notes: &'n Notes, others: u64, vector: Option<&'n str>) -> Self
+    /// Returns these files.
+    pub fn new(rt: &'r R, files: F, notes: &'n Notes) -> Self
         ensures { result.files ≡ files }
     {
         WatchedFiles {
@@ -46,21 +33,6 @@ impl<'r, 'n, R, F> WatchedFiles<'r, 'n, R, F> {
             files,
             notes,
             lines: Cell::new(LineCounts::default()),
-            others: AtomicU64::new(others),
-            vector,
-        }
-    }
-
-    /// Returns what the next file, which has this name, is read as.
-    fn purpose(&self, name: &str) -> Purpose {
-        if self.others.load(Ordering::Relaxed) == 0 {
-            return Purpose::Lines;
-        }
-        self.others.fetch_sub(1, Ordering::Relaxed);
-        if self.vector == Some(name) {
-            Purpose::Vector
-        } else {
-            Purpose::Font
         }
     }
 }
@@ -70,9 +42,8 @@ impl<'r, 'n, R: Wait + Sync, F: Opens> Opens for WatchedFiles<'r, 'n, R, F> {
 
     ghost known = { λ watched name. F.known watched.files name };
 
-    fn open(&self, name: &str) -> io::Result<WatchedReader<'r, 'n, R, F::File>> {
-        let purpose = self.purpose(name);
-        match self.files.open(name) {
+    fn open(&self, name: &str, purpose: Purpose) -> io::Result<WatchedReader<'r, 'n, R, F::File>> {
+        match self.files.open(name, purpose) {
             Ok(file) => Ok(WatchedReader::new(self.rt, self.notes, file, name, purpose)),
             Err(error) => {
                 self.notes.note(self.rt, name.as_bytes(), &error);
@@ -90,22 +61,41 @@ impl<'r, 'n, R: Wait + Sync, F: Opens> Opens for WatchedFiles<'r, 'n, R, F> {
     fn counts(&self) -> Option<&Cell<LineCounts>> {
         Some(&self.lines)
     }
+
+    fn note_refused(&self) {
+        self.notes.note_kind(self.rt);
+    }
+
+    fn note_name(&self, name: &[u8]) {
+        self.notes.note_name(self.rt, name);
+    }
 }
 
-/// A reader whose errors are noted with its name, and whose lines that end with a carriage return are counted, or
-/// whose contents are compared with the encoding of the request.
+/// A reader whose errors are noted with its name. Its lines that end with a carriage return are counted, and its first
+/// lines are looked at; or its first bytes are compared with what the request expects.
 #[derive(Drop)]
 pub(crate) struct WatchedReader<'r, 'n, R, T> {
     rt: &'r R,
     notes: &'n Notes,
     reader: T,
-    /// The name. Without one, errors aren't noted.
+    /// The name. Without one, nothing is noted.
     name: Option<Vec<u8>>,
     purpose: Purpose,
     /// The last byte that was read.
     last: u8,
-    /// The bytes of a font or a vector that were read, if they are compared, up to one more than a vector can have.
+    /// What was looked at of a file with lines.
+    scan: LineScan,
+    /// The first bytes of a font or a vector, if they are compared.
     kept: Option<Vec<u8>>,
+}
+
+/// Returns how many first bytes of a file that is read as this are compared: one more than a vector can have, or the
+/// bytes of a font up to the end of its coding scheme.
+fn most_kept(purpose: Purpose) -> usize {
+    match purpose {
+        Purpose::Vector => MOST_BYTES + 1,
+        Purpose::Font | Purpose::Lines | Purpose::List => END,
+    }
 }
 
 impl<'r, 'n, R, T: Read> WatchedReader<'r, 'n, R, T> {
@@ -120,6 +110,7 @@ impl<'r, 'n, R, T: Read> WatchedReader<'r, 'n, R, T> {
             name: notes.name(name),
             purpose,
             last: 0,
+            scan: LineScan::new(),
             kept: notes.kept(purpose),
         }
     }
@@ -152,7 +143,22 @@ impl<'r, 'n, R: Wait, T: Read> WatchedReader<'r, 'n, R, T> {
         }
     }
 
-    /// Keeps these further bytes of a font or a vector, or at its end notes what they are compared with.
+    /// Looks at these further bytes of a file with lines, of which there are none at its end.
+    fn look(&mut self, bytes: &[u8])
+        ensures { self.new.reader ≡ self.old.reader }
+    {
+        if let Some(wanted) = self.notes.wanted() {
+            let found = self.scan.look(bytes, wanted);
+            if let Some(name) = &self.name {
+                self.notes.note_lines(self.rt, name.as_slice(), found);
+            }
+        }
+        if self.notes.counts_returns() {
+            self.count(bytes);
+        }
+    }
+
+    /// Keeps these further bytes of a font or a vector, or at its end compares what was kept.
     fn keep(&mut self, bytes: &[u8])
         ensures { self.new.reader ≡ self.old.reader }
     {
@@ -163,7 +169,7 @@ impl<'r, 'n, R: Wait, T: Read> WatchedReader<'r, 'n, R, T> {
             self.compare();
             return;
         }
-        let room = (MOST_BYTES + 1).saturating_sub(kept.len());
+        let room = most_kept(self.purpose).saturating_sub(kept.len());
         if kept
             .extend_from_slice(&bytes[..room.min(bytes.len())])
             .is_err()
@@ -178,11 +184,11 @@ impl<'r, 'n, R: Wait, T: Read> WatchedReader<'r, 'n, R, T> {
             match self.purpose {
                 Purpose::Font => self
                     .notes
-                    .note_coding(self.rt, name.as_slice(), kept.as_slice()),
+                    .note_read(self.rt, name.as_slice(), kept.as_slice()),
                 Purpose::Vector => self
                     .notes
                     .note_names(self.rt, name.as_slice(), kept.as_slice()),
-                Purpose::Lines => {}
+                Purpose::Lines | Purpose::List => {}
             }
         }
     }
@@ -194,10 +200,11 @@ impl<R: Wait, T: Read> Read for WatchedReader<'_, '_, R, T> {
     fn read(&mut self, buffer: &mut [u8]) -> io::Result<usize> {
         match self.reader.read(buffer) {
             Ok(count) => {
-                if self.purpose == Purpose::Lines && self.notes.counts_returns() {
-                    self.count(&buffer[..count]);
+                if self.purpose == Purpose::Lines {
+                    self.look(&buffer[..count]);
+                } else {
+                    self.keep(&buffer[..count]);
                 }
-                self.keep(&buffer[..count]);
                 Ok(count)
             }
             Err(error) => {
@@ -221,36 +228,44 @@ impl Called for Brand {
     ghost name = { 0 };
 }
 
-/// A writer, and what was noted of it.
+/// What a request is written to, and what was noted of it.
 #[derive(Drop)]
-pub(crate) struct Written<'a, W> {
+pub(crate) struct Written<'a, W, E> {
     /// The writer.
     pub out: &'a mut W,
+    /// Standard error, if notes are printed before the output is complete.
+    pub err: Option<&'a mut E>,
     /// The numbers of lines that were set and refused, if the writer accepted bytes.
     pub lines: Option<LineCounts>,
     /// The first error of the writer.
     pub error: Option<io::Error>,
 }
 
-/// A writer that notes its first error, and whether it accepted bytes. For the proof: it is always the same
-/// writer, which `K` names.
+/// A writer that prints what was noted before each write, and notes its first error and whether it accepted bytes. For
+/// the proof: it is always the same writer, which `K` names.
 #[derive(Drop)]
-pub(crate) struct WatchedWriter<'a, W, K: Called> {
+pub(crate) struct WatchedWriter<'a, 'r, 'n, R, W, E, K: Called> {
+    rt: &'r R,
+    notes: &'n Notes,
     out: &'a mut W,
+    err: Option<&'a mut E>,
     any: bool,
     error: Option<io::Error>,
     of: PhantomData<K>,
     ghost same: { out.ghost_name ≡ K.name },
 }
 
-impl<'a, W: Write, K: Called> WatchedWriter<'a, W, K> {
+impl<'a, 'r, 'n, R: Wait, W: Write, E: Write, K: Called> WatchedWriter<'a, 'r, 'n, R, W, E, K> {
     /// Returns this writer, of which nothing is noted.
-    pub fn new(written: Written<'a, W>) -> Self
+    pub fn new(rt: &'r R, notes: &'n Notes, written: Written<'a, W, E>) -> Self
         requires { written.out.ghost_name ≡ K.name }
         ensures { result.out ≡ written.entry.out }
     {
         WatchedWriter {
+            rt,
+            notes,
             out: written.out,
+            err: written.err,
             any: false,
             error: None,
             of: PhantomData,
@@ -258,17 +273,34 @@ impl<'a, W: Write, K: Called> WatchedWriter<'a, W, K> {
     }
 
     /// Returns the writer, and what was noted of it, with these numbers of lines.
-    pub fn into_written(self, lines: LineCounts) -> Written<'a, W>
+    pub fn into_written(self, lines: LineCounts) -> Written<'a, W, E>
         ensures { result.out ≡ self.entry.out }
     {
         let WatchedWriter {
+            rt: _,
+            notes: _,
             out,
+            err,
             any,
             error,
             of: _,
         } = self;
         let lines = any.then_some(lines);
-        Written { out, lines, error }
+        Written {
+            out,
+            err,
+            lines,
+            error,
+        }
+    }
+
+    /// Prints what was noted.
+    fn print_notes(&mut self)
+        ensures { self.new.out ≡ self.old.out }
+    {
+        if let Some(err) = &mut self.err {
+            self.notes.print(self.rt, &mut **err);
+        }
     }
 
     /// Notes an error, if it is the first one. An interrupted call isn't noted, since it is made again.
@@ -281,10 +313,11 @@ impl<'a, W: Write, K: Called> WatchedWriter<'a, W, K> {
     }
 }
 
-impl<W: Write, K: Called> Write for WatchedWriter<'_, W, K> {
+impl<R: Wait, W: Write, E: Write, K: Called> Write for WatchedWriter<'_, '_, '_, R, W, E, K> {
     ghost contents = { λ watched. W.contents watched.out.now };
 
     fn write(&mut self, bytes: &[u8]) -> io::Result<usize> {
+        self.print_notes();
         match self.out.write(bytes) {
             Ok(count) => {
                 self.any |= count > 0;

@@ -5,7 +5,7 @@ use std::fmt;
 
 /// One of the twelve counts at the start of a TFM file, in the file's order. It prints as its name in
 /// the format, for example `lf` (tftopl.web, section 8).
-#[derive(Clone, Copy, Debug, PartialEq, Eq, Hash)]
+#[derive(Clone, Copy, Debug, PartialEq, Eq)]
 pub enum Count {
     /// The length of the whole file, in words.
     Lf,

@@ -8,7 +8,7 @@ use thiserror::Error;
 /// The first error in the counts of a TFM file, in the order of these variants. `Truncated` is checked
 /// twice: before all others for the 24 bytes of the counts, and after all others for the whole file
 /// (tftopl.web, sections 20 and 21; the order is this project's own).
-#[derive(Clone, Copy, Debug, PartialEq, Eq, Hash, Error)]
+#[derive(Clone, Copy, Debug, PartialEq, Eq, Error)]
 pub enum CountFault {
     /// The file has fewer than `need` bytes: 24, or `4 * lf`.
     Truncated { need: usize },

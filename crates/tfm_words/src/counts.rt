@@ -11,7 +11,7 @@ use std::marker::Model;
 /// least two words, the tables of widths, heights, depths and italic corrections have an entry 0, there
 /// are at most 256 extensible recipes, and `lf` is 6 plus the lengths of the ten tables (tftopl.web,
 /// sections 8, 9 and 21).
-#[derive(Clone, Copy, Debug, PartialEq, Eq, Hash)]
+#[derive(Clone, Copy, Debug, PartialEq, Eq)]
 pub struct Counts {
     numbers: Numbers,
 }

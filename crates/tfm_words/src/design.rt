@@ -11,7 +11,7 @@ use thiserror::Error;
 const ONE_POINT: i32 = 0x10_0000;
 
 /// The error in the design size of a TFM file.
-#[derive(Clone, Copy, Debug, PartialEq, Eq, Hash, Error)]
+#[derive(Clone, Copy, Debug, PartialEq, Eq, Error)]
 pub enum DesignFault {
     /// The design size is below 1 pt, or negative.
     DesignSize,

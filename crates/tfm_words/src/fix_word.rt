@@ -8,7 +8,7 @@ use byteorder::{BigEndian, ByteOrder};
 /// A signed number in units of 2^-20, which is how a TFM file stores the design size, dimensions and
 /// the slant. The design size is in points and the slant is a plain number; all others are multiples
 /// of the design size (tftopl.web, section 9).
-#[derive(Clone, Copy, Debug, PartialEq, Eq, PartialOrd, Ord, Hash)]
+#[derive(Clone, Copy, Debug, PartialEq, Eq)]
 pub struct FixWord(pub i32);
 
 impl FixWord {

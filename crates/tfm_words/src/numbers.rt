@@ -9,7 +9,7 @@ use byteorder::{BigEndian, ByteOrder};
 const LIMIT: u16 = 0x8000;
 
 /// The twelve counts as a file has them, whether or not they follow the rules of the format.
-#[derive(Clone, Copy, Debug, PartialEq, Eq, Hash)]
+#[derive(Clone, Copy, Debug, PartialEq, Eq)]
 pub(crate) struct Numbers {
     pub lf: u16,
     pub lh: u16,

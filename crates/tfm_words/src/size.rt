@@ -5,7 +5,7 @@ use std::marker::Model;
 
 /// The size that a font is read at, in scaled points (65,536 sp = 1 pt): from 1 to 134,217,727 sp,
 /// which is less than 2,048 pt (tex.web, sections 571 and 1259).
-#[derive(Clone, Copy, Debug, PartialEq, Eq, PartialOrd, Ord, Hash)]
+#[derive(Clone, Copy, Debug, PartialEq, Eq)]
 pub struct Size {
     scaled_points: u32,
 }

@@ -5,7 +5,7 @@ use std::fmt;
 
 /// One of the ten tables after the counts, in the file's order. It prints as its name in the format,
 /// for example `char_info` (tftopl.web, section 9).
-#[derive(Clone, Copy, Debug, PartialEq, Eq, Hash)]
+#[derive(Clone, Copy, Debug, PartialEq, Eq)]
 pub enum Table {
     /// The check sum, the design size, and, if the header is long enough, the coding scheme, the
     /// family, the seven-bit flag and the face.

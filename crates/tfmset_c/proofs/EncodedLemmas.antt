@@ -18,11 +18,11 @@ use Rattle.encodings.specs.declared.places.Place.{Place}
 use Rattle.encodings.specs.Lines.{fault_in, places_of}
 use Rattle.encodings.specs.Texts.{codes_at, offsets_at, text_codes, uncoded_at}
 use Rattle.encodings.proofs.TextLemmas.{text_few}
-use Rattle.caller_arrays.specs.Arrays.{ArePut, HasRoom, IsFilled, IsOverlaid, IsPartly, held}
+use Rattle.tfmset_c.specs.Arrays.{ArePut, HasRoom, IsFilled, IsOverlaid, IsPartly, held}
 use Rattle.tfmset_c.specs.Encoded.{AreCodesTold, AreFilled, HaveRoom, IsCounted, IsEncodingTold, IsNoEncoding, TextCodes, codes_told, encoding_named_told, fault_told, offsets_for, offsets_from, report_of, uncoded_told}
 use Rattle.tfmset_c.specs.declared.encode.TfmsetEncoded.{TfmsetEncoded}
 use Rattle.tfmset_c.specs.declared.encode.TfmsetUncoded.{TfmsetUncoded}
-use Rattle.caller_arrays.proofs.ArrayLemmas.{all_counted, all_put, nothing_put, put_part, put_past, whole_put}
+use Rattle.tfmset_c.proofs.ArrayLemmas.{all_counted, all_put, nothing_put, put_part, put_past, whole_put}
 use borrow.Rule.Slice.PartMut.{put_mid}
 
 -- ---- names and vectors

@@ -1,8 +1,8 @@
 -- An array of results, and one of their items, are filled together.
 use Rattle.std.proofs.Common.{◌≡◌, Bool, true, false, ℕ, ◌+◌, List, [], ◌∷◌, ◌++◌, arith, ap, refl, sym, ◌∙◌}
 use Rattle.std.proofs.lemmas.List.Sums.{sum_by-cons}
-use Rattle.caller_arrays.specs.Arrays.{ArePut, held}
-use Rattle.caller_arrays.proofs.ArrayLemmas.{nothing_put}
+use Rattle.tfmset_c.specs.Arrays.{ArePut, held}
+use Rattle.tfmset_c.proofs.ArrayLemmas.{nothing_put}
 use Rattle.tfmset_c.specs.Filling.{AreFilled, AreUnderWay, count_in, wanted}
 use Rattle.tfmset_c.specs.declared.lines.TfmsetCounts.{TfmsetCounts}
 use Rattle.tfmset_c.specs.declared.lines.TfmsetLine.{TfmsetLine}

@@ -1,3 +1,4 @@
+pub mod ArrayLemmas
 pub mod ReadingLemmas
 pub mod FillingLemmas
 pub mod TextLemmas

@@ -8,7 +8,7 @@ use Rattle.spans.specs.declared.outcome.SpanRefusal.{SpanRefusal}
 use Rattle.spans.specs.declared.outcome.SpanRefusal.TheVariants.{Outside, TooLong, Missing, Steps}
 use Rattle.spans.specs.declared.placed_item.PlacedItem.{PlacedItem}
 use Rattle.spans.specs.PlaceLaws.{AreItemsOf}
-use Rattle.caller_arrays.specs.Arrays.{ArePut, held}
+use Rattle.tfmset_c.specs.Arrays.{ArePut, held}
 use Rattle.tfmset_c.specs.Filling.{AreUnderWay, wanted}
 use Rattle.tfmset_c.specs.Spans.{SpanTerms, items_told, job_terms, placed_told, span_items, span_of, span_told, span_within, spans_told}
 use Rattle.tfmset_c.specs.declared.lines.TfmsetCounts.{TfmsetCounts}

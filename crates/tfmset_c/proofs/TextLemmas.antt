@@ -3,7 +3,7 @@ use Rattle.std.proofs.Common.{◌≡◌, ◌≢◌, ℕ, ◌+◌, ◌-◌, ◌==
 use Rattle.std.proofs.lemmas.Bool.Decides.{nat_tests}
 use Rattle.std.proofs.lemmas.List.{length-map, map-append}
 use Rattle.std.proofs.lemmas.List.Sums.{sum_by-cons}
-use Rattle.caller_arrays.specs.Arrays.{ArePut, IsPartly, held}
+use Rattle.tfmset_c.specs.Arrays.{ArePut, IsPartly, held}
 use Rattle.encodings.specs.declared.encoding.Encoding.{Encoding}
 use Rattle.lig_kern.specs.declared.item.Item.{Item}
 use Rattle.set_line.specs.declared.outcome.LineRefusal.{LineRefusal}

@@ -10,7 +10,7 @@ use Rattle.encodings.specs.declared.places.Place.{Place}
 use Rattle.encodings.specs.Lines.{fault_in, places_of}
 use Rattle.encodings.specs.Names.{encoding_named}
 use Rattle.encodings.specs.Texts.{codes_at, offsets_at, uncoded_at}
-use Rattle.caller_arrays.specs.Arrays.{HasRoom, IsFilled, IsOverlaid, held}
+use Rattle.tfmset_c.specs.Arrays.{HasRoom, IsFilled, IsOverlaid, held}
 use Rattle.tfmset_c.specs.declared.encode.TfmsetEncoded.{TfmsetEncoded}
 use Rattle.tfmset_c.specs.declared.encode.TfmsetUncoded.{TfmsetUncoded}
 

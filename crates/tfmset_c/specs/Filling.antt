@@ -2,7 +2,7 @@
 -- This project's own.
 use Rattle.std.specs.Prelude.{◌≡◌, ℕ, ◌+◌, Bool, List, [], length, if◌then◌else◌}
 use Rattle.std.specs.List.{sum_by}
-use Rattle.caller_arrays.specs.Arrays.{HasEffect, HasRoom, IsFilled, IsOverlaid, IsPartly, held}
+use Rattle.tfmset_c.specs.Arrays.{HasEffect, HasRoom, IsFilled, IsOverlaid, IsPartly, held}
 use Rattle.tfmset_c.specs.declared.lines.TfmsetCounts.{TfmsetCounts}
 use Rattle.tfmset_c.specs.declared.lines.TfmsetLine.{TfmsetLine}
 

@@ -1,4 +1,5 @@
 pub mod Version
+pub mod Arrays
 pub mod Reading
 pub mod Faults
 pub mod Fonts

@@ -1,14 +1,14 @@
 -- The options of a call that sets lines, and the results of its lines with them.
 -- This project's own; the result of a line is defined in Answer of `set_line`, and in Results of `line_records`.
 use Rattle.std.specs.Prelude.{◌≡◌, ℕ, ◌-◌, ◌^◌, ◌<◌, ◌==◌, ◌⊎◌, Bool, List, [], ◌∷◌, Option, None, Result, Ok, Err, if◌then◌else◌}
+use Rattle.run_plan.specs.declared.policy.Policy.{Policy}
+use Rattle.run_plan.specs.declared.policy.Policy.TheVariants.{Refuse, Skip}
 use Rattle.encodings.specs.declared.encoding.Encoding.{Encoding}
 use Rattle.lig_kern.specs.Result.{Setting}
 use Rattle.line_records.specs.Results.{line_result}
 use Rattle.set_line.specs.declared.outcome.LineRefusal.TheVariants.{TooLong, Missing, Steps}
 use Rattle.set_line.specs.declared.outcome.Outcome.{Outcome}
 use Rattle.set_line.specs.declared.outcome.Outcome.TheVariants.{Set, Refused}
-use Rattle.set_line.specs.declared.policy.Policy.{Policy}
-use Rattle.set_line.specs.declared.policy.Policy.TheVariants.{Refuse, Skip}
 use Rattle.set_line.specs.declared.records.text_refusal.TextRefusal.{TextRefusal}
 use Rattle.set_line.specs.declared.records.text_refusal.TextRefusal.TheVariants.{Line, NotUtf8, Uncoded}
 use Rattle.set_line.specs.Answer.{outcome_of}

@@ -4,7 +4,7 @@ use Rattle.std.specs.Prelude.{◌≡◌, ◌≢◌, ℕ, ◌≤◌, ◌⊎◌, L
 use Rattle.tfm_tables.specs.Acceptance.{font_fault_of}
 use Rattle.tfm_tables.specs.Font.{FontValue}
 use Rattle.prepared_font.specs.Layout.{IsPreparedFrom, IsWhole, size_in, table_length}
-use Rattle.caller_arrays.specs.Arrays.{HasEffect}
+use Rattle.tfmset_c.specs.Arrays.{HasEffect}
 use Rattle.tfmset_c.specs.Reading.{IsAnswerFor, font_at}
 
 -- an array has the table of a font in this many bytes at its front, and its former contents after them

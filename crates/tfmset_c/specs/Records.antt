@@ -2,10 +2,10 @@
 -- This project's own; the text of a record is defined in Record of `set_line`, and what it says in Results of
 -- `line_records`.
 use Rattle.std.specs.Prelude.{◌≡◌, ℕ, Bool, false, Option, ◌+◌, ◌-◌, ◌<◌, ◌==◌, ◌⊎◌, List, [], ◌∷◌, ◌++◌, codes, length, if◌then◌else◌}
-use Rattle.caller_arrays.specs.Arrays.{HasEffect, HasRoom, IsOverlaid, held}
+use Rattle.run_plan.specs.declared.version.Version.{Version}
+use Rattle.run_plan.specs.declared.version.Version.TheVariants.{One, Two, Json}
+use Rattle.tfmset_c.specs.Arrays.{HasEffect, HasRoom, IsOverlaid, held}
 use Rattle.encodings.specs.declared.encoding.Encoding.{Encoding}
-use Rattle.set_line.specs.declared.version.Version.{Version}
-use Rattle.set_line.specs.declared.version.Version.TheVariants.{One, Two, Json}
 use Rattle.set_line.specs.Record.{text_record}
 use Rattle.set_line.specs.Terms.{TermsValue}
 use Rattle.line_records.specs.Results.{result_text}

@@ -11,7 +11,7 @@ use Rattle.spans.specs.declared.placed_item.PlacedItem.{PlacedItem}
 use Rattle.spans.specs.declared.span.Span.{Span}
 use Rattle.spans.specs.Places.{places_of}
 use Rattle.spans.specs.Spans.{outcome_of}
-use Rattle.caller_arrays.specs.Arrays.{held}
+use Rattle.tfmset_c.specs.Arrays.{held}
 use Rattle.tfmset_c.specs.Options.{IsOutOfRange, call_limit_of, limit_of}
 use Rattle.tfmset_c.specs.Texts.{item_told, refused_with}
 use Rattle.tfmset_c.specs.declared.lines.TfmsetLine.{TfmsetLine}

@@ -1,7 +1,7 @@
 -- The results of the lines of a text, as C gets them.
 -- This project's own; the results are defined in Options.
 use Rattle.std.specs.Prelude.{ℕ, pos, ◌+◌, List, [], ◌∷◌, length, map, flat_map}
-use Rattle.caller_arrays.specs.Arrays.{held}
+use Rattle.tfmset_c.specs.Arrays.{held}
 use Rattle.lig_kern.specs.declared.item.Item.{Item}
 use Rattle.lig_kern.specs.declared.item.Item.TheVariants.{Char, Kern, Space, Skipped}
 use Rattle.set_line.specs.declared.outcome.LineRefusal.TheVariants.{TooLong, Missing, Steps}

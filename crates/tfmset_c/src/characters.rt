@@ -1,18 +1,14 @@
 //! `tfmset_characters`: the dimensions, the tags and the extensible recipes of all characters.
-ghost use Rattle.std.specs.Prelude.{◌≡◌, ◌≤◌, ◌<◌, ◌*◌, None, IfOk, IfErr, length};
-ghost use Rattle.tfm_words.specs.Counts.{AreCountsOf};
+ghost use Rattle.std.specs.Prelude.{◌≡◌, ◌≤◌, None, IfOk, IfErr};
 ghost use Rattle.tfm_tables.specs.Acceptance.{font_fault_of};
-ghost use Rattle.tfm_tables.specs.Table.{entries_of, table_of};
-ghost use Rattle.tfm_words.specs.declared.table.Table.TheVariants.{Exten};
-ghost use Rattle.caller_arrays.specs.Arrays.{IsListed};
+ghost use Rattle.tfmset_c.specs.Arrays.{IsListed};
 ghost use Rattle.tfmset_c.specs.Characters.{character_at, characters_told, recipe_of, tag_number, tag_rest};
 ghost use Rattle.tfmset_c.specs.Reading.{IsAnswer, IsDenial, IsNoSize, font_at};
 
+use crate::arrays::report;
 use crate::reading::{Denial, MOST_SIZE, RANGE, read_metrics};
-use caller_arrays::report;
 use std::alloc::{AllocError, Global};
-use tfm_tables::{FontFault, FontMetrics, Tag};
-use tfm_words::{Counts, Table, word_at};
+use tfm_tables::{FontMetrics, Tag};
 
 /// The dimensions of a character, in sp, its tag and its extensible recipe.
 #[repr(C)]
@@ -56,38 +52,21 @@ fn tag_for_c(tag: Tag) -> (u32, u32)
     }
 }
 
-/// Returns the bytes of the extensible recipes, four for each.
-#[tactic(auto, unfolding(tfm_tables::specs::Table::table_of))]
-fn recipes_of<'a>(words: &'a [u8], counts: &Counts) -> &'a [u8]
-    requires { AreCountsOf words.now counts.now }
-    ensures bytes { result.now ≡ table_of words.now Exten }
-    ensures whole { length result.now ≡ 4 * entries_of words.now Exten }
-{
-    let (first, count) = counts.table(Table::Exten);
-    let rest = &words[4 * first..];
-    &rest[..4 * count]
-}
-
 /// Returns the four bytes of the recipe of a tag, or zeros if it has none.
-#[tactic(auto, unfolding(tfm_tables::specs::Table::entry_at))]
-fn recipe(words: &[u8], counts: &Counts, tag: Tag) -> [u8; 4]
-    requires { AreCountsOf words.now counts.now }
-    ensures { result ≡ recipe_of words.now tag }
+fn recipe(font: &FontMetrics, tag: Tag) -> [u8; 4]
+    ensures { result ≡ recipe_of font.now.words tag }
 {
-    let recipes = recipes_of(words, counts);
     match tag {
-        Tag::Ext(number) if usize::from(number) < recipes.len() / 4 => {
-            word_at(recipes, usize::from(number))
+        Tag::Ext(number) if usize::from(number) < font.recipes() => {
+            font.recipe(usize::from(number))
         }
         _ => [0; 4],
     }
 }
 
-/// Returns a character as C gets it. `words` are the bytes of the font, and `counts` are its counts.
+/// Returns a character as C gets it.
 #[tactic(auto, unfolding(crate::specs::Characters::character_at, crate::specs::Characters::character_told))]
-fn character(font: &FontMetrics, words: &[u8], counts: &Counts, code: u8) -> TfmsetCharacter
-    requires counts { AreCountsOf words.now counts.now }
-    requires words { font.now.words ≡ words.now }
+fn character(font: &FontMetrics, code: u8) -> TfmsetCharacter
     ensures { result ≡ character_at font.now code }
 {
     let nothing = TfmsetCharacter::default();
@@ -98,7 +77,7 @@ fn character(font: &FontMetrics, words: &[u8], counts: &Counts, code: u8) -> Tfm
         return nothing;
     };
     let (number, remainder) = tag_for_c(tag);
-    let [top, middle, bottom, repeated] = recipe(words, counts, tag);
+    let [top, middle, bottom, repeated] = recipe(font, tag);
     TfmsetCharacter {
         exists: 1,
         width: metrics.width,
@@ -114,21 +93,14 @@ fn character(font: &FontMetrics, words: &[u8], counts: &Counts, code: u8) -> Tfm
     }
 }
 
-/// Returns the characters of a font, by code. `words` are its bytes, and `counts` are its counts.
+/// Returns the characters of a font, by code.
 #[tactic(auto, using(tfm_tables::proofs::DecodedLemmas::grown), unfolding(crate::specs::Characters::characters_told))]
-fn list_characters(
-    alloc: Global,
-    font: &FontMetrics,
-    words: &[u8],
-    counts: &Counts,
-) -> Result<Vec<TfmsetCharacter>, AllocError>
-    requires counts { AreCountsOf words.now counts.now }
-    requires words { font.now.words ≡ words.now }
+fn list_characters(alloc: Global, font: &FontMetrics) -> Result<Vec<TfmsetCharacter>, AllocError>
     ensures { IfOk result (λ list. list.items ≡ characters_told font.now) }
 {
     let mut list = Vec::with_capacity(alloc, 256)?;
     for code in 0..256u16 {
-        list.push(character(font, words, counts, code as u8))?;
+        list.push(character(font, code as u8))?;
     }
     Ok(list)
 }
@@ -141,13 +113,8 @@ fn read_characters(alloc: Global, bytes: &[u8], size: u32) -> Result<Vec<TfmsetC
     ensures ok { IfOk result (λ list. list.items ≡ characters_told (font_at bytes.now size)) }
     ensures denied { IfErr result (IsDenial bytes.now) }
 {
-    let counts = match Counts::read(bytes) {
-        Ok(counts) => counts,
-        Err(fault) => return Err(Denial::Refused(FontFault::Counts(fault))),
-    };
     let font = read_metrics(alloc, bytes, size)?;
-    let words = &bytes[..4 * usize::from(counts.lf())];
-    match list_characters(alloc, &font, words, &counts) {
+    match list_characters(alloc, &font) {
         Ok(list) => Ok(list),
         Err(_) => Err(Denial::Memory),
     }

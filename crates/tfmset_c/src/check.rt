@@ -2,11 +2,11 @@
 ghost use Rattle.std.specs.Prelude.{◌≡◌, ◌≢◌, ◌≤◌, ◌⊎◌, IfOk, Some, None};
 ghost use Rattle.std.specs.Option.{option_map};
 ghost use Rattle.tfm_tables.specs.Acceptance.{font_fault_of};
-ghost use Rattle.caller_arrays.specs.Arrays.{IsListed};
+ghost use Rattle.tfmset_c.specs.Arrays.{IsListed};
 ghost use Rattle.tfmset_c.specs.Faults.{count_fault_told, fault_text_of, fault_told};
 
+use crate::arrays::{DONE, report};
 use crate::reading::{Denial, MEMORY, read_metrics};
-use caller_arrays::{DONE, report};
 use font_texts::Numbered;
 use std::alloc::{AllocError, Global};
 use tfm_tables::FontFault;

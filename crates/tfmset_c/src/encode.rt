@@ -2,11 +2,11 @@
 ghost use Rattle.std.specs.Prelude.{◌≡◌, ◌≤◌, ◌<◌, ◌+◌, ◌*◌, ◌^◌, ◌↔◌, ◌⊎◌, true, false, None, Option, Some, length, map, IfErr, IfOk, IfSome, MatchOption};
 ghost use Rattle.encodings.specs.declared.encoding.Encoding.{Encoding as EncodingValue};
 ghost use Rattle.encodings.specs.Texts.{codes_at, offsets_at, uncoded_at};
-ghost use Rattle.caller_arrays.specs.Arrays.{ArePut, IsFilled};
+ghost use Rattle.tfmset_c.specs.Arrays.{ArePut, IsFilled};
 ghost use Rattle.tfmset_c.specs.Encoded.{AreCodesTold, AreFilled, HaveRoom, IsCounted, IsEncodingTold, IsFaultTold, IsNoEncoding, TextCodes, codes_told, encoding_named_told, fault_told, offsets_from, uncoded_told};
 
+use crate::arrays::{DONE, NO_ROOM, has_room, put_list};
 use crate::reading::RANGE;
-use caller_arrays::{DONE, NO_ROOM, has_room, put_list};
 use encoding_vectors::read_vector;
 use encodings::{Encoding, Place, Places, Vector, codes_in_text, utf8_fault};
 use std::str;

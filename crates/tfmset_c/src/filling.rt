@@ -3,9 +3,9 @@ ghost use Rattle.std.specs.Prelude.{◌≡◌, ◌⊎◌, IfOk, List};
 ghost use Rattle.tfmset_c.specs.Filling.{AreFilled, AreTold};
 ghost use Rattle.tfmset_c.specs.declared.lines.TfmsetLine.{TfmsetLine as Line};
 
+use crate::arrays::{DONE, NO_ROOM, has_room};
 use crate::lines::{TfmsetCounts, TfmsetLine};
 use crate::reading::MEMORY;
-use caller_arrays::{DONE, NO_ROOM, has_room};
 use set_line::OutOfMemory;
 
 /// Reports the numbers of results and items that were written into arrays, or had no room there. Returns: 0 after

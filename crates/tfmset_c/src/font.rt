@@ -2,12 +2,12 @@
 ghost use Rattle.std.specs.Prelude.{◌≡◌, ◌≢◌, ◌<◌, IfOk};
 ghost use Rattle.tfm_tables.specs.Acceptance.{words_of};
 ghost use Rattle.tfm_tables.specs.Measure.{parameters_of as all_parameters};
-ghost use Rattle.caller_arrays.specs.Arrays.{IsListed};
+ghost use Rattle.tfmset_c.specs.Arrays.{IsListed};
 ghost use Rattle.tfmset_c.specs.Fonts.{font_told, header_text_of, right_or_none};
 ghost use Rattle.tfmset_c.specs.Reading.{IsAnswer, IsNoSize, font_at};
 
+use crate::arrays::{DONE, report};
 use crate::reading::{MEMORY, MOST_SIZE, RANGE, read_metrics};
-use caller_arrays::{DONE, report};
 use std::alloc::{AllocError, Global};
 use tfm_tables::{FontMetrics, LeftSide};
 

@@ -18,6 +18,7 @@ pub use span::{TfmsetPlaced, TfmsetSpan};
 pub use spanning::{tfmset_span_items, tfmset_spans};
 pub use version::tfmset_version;
 
+mod arrays;
 mod characters;
 mod check;
 mod encode;

@@ -1,6 +1,8 @@
 //! The results of lines as C gets them.
 ghost use Rattle.std.specs.Prelude.{◌≡◌, Result};
 ghost use Rattle.lig_kern.specs.Result.{Setting};
+ghost use Rattle.std.specs.List.{count_by};
+ghost use Rattle.line_records.specs.Boxes.{is_skipped};
 ghost use Rattle.line_records.specs.Results.{IsOf, IsResult};
 ghost use Rattle.set_line.specs.declared.outcome.Outcome.{Outcome as OutcomeValue};
 ghost use Rattle.set_line.specs.declared.records.text_refusal.TextRefusal.{TextRefusal as TextRefusalValue};
@@ -75,6 +77,16 @@ pub fn item_for_c(item: Item) -> TfmsetItem
     }
 }
 
+/// Returns the number of skipped characters among items.
+fn count_skipped(items: &[Item]) -> usize
+    ensures { result ≡ count_by is_skipped items.now }
+{
+    items
+        .iter()
+        .filter(|item| matches!(item, Item::Skipped(_)))
+        .count()
+}
+
 /// Returns the result of a line without its items.
 pub fn result_of(outcome: &Outcome) -> LineResult
     ensures { IsOf outcome.now result }
@@ -88,6 +100,7 @@ pub fn result_of(outcome: &Outcome) -> LineResult
             width: *width,
             steps: *steps,
             items: items.as_slice().len(),
+            skipped: count_skipped(items.as_slice()),
         }),
         Outcome::Refused(refusal) => LineResult::Refused(TextRefusal::Line(*refusal)),
     }

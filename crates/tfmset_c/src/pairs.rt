@@ -1,11 +1,11 @@
 //! `tfmset_pairs`: all pairs of neighbours that have a kern or a ligature operation.
 ghost use Rattle.std.specs.Prelude.{◌≡◌, IfOk};
-ghost use Rattle.caller_arrays.specs.Arrays.{IsListed};
+ghost use Rattle.tfmset_c.specs.Arrays.{IsListed};
 ghost use Rattle.tfmset_c.specs.Pairs.{pair_told, pairs_told, symbol_number};
 ghost use Rattle.tfmset_c.specs.Reading.{IsAnswer, IsNoSize, font_at};
 
+use crate::arrays::report;
 use crate::reading::{MEMORY, MOST_SIZE, RANGE, read_font};
-use caller_arrays::report;
 use font_texts::Pair;
 use lig_kern::{Action, Symbol};
 use std::alloc::{AllocError, Global};

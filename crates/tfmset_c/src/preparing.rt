@@ -5,8 +5,8 @@ ghost use Rattle.tfm_tables.specs.Acceptance.{font_fault_of};
 ghost use Rattle.tfmset_c.specs.Prepared.{IsTableTold};
 ghost use Rattle.tfmset_c.specs.Reading.{IsAnswer, IsDenial, IsNoSize, font_at};
 
+use crate::arrays::{DONE, NO_ROOM};
 use crate::reading::{Denial, MOST_SIZE, RANGE, read_metrics};
-use caller_arrays::{DONE, NO_ROOM};
 use prepared_font::prepare;
 use std::alloc::{AllocError, Global};
 use tfm_tables::FontMetrics;

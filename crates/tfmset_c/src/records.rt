@@ -1,21 +1,21 @@
 //! `tfmset_records`: writes the records of the lines of a text into an array of the caller.
 ghost use Rattle.std.specs.Prelude.{◌≡◌, ◌≤◌, ◌<◌, ◌+◌, ◌++◌, ◌^◌, ◌⊎◌, Option, true, IfOk, OnOk, length, MatchOption};
 ghost use Rattle.encodings.specs.declared.encoding.Encoding.{Encoding as EncodingValue};
+ghost use Rattle.formats.specs.declared.record_format.RecordFormat.TheVariants.{Items};
 ghost use Rattle.line_records.specs.Cells.{style_of};
 ghost use Rattle.line_records.specs.Results.{IsResult};
-ghost use Rattle.line_records.specs.declared.record_format.RecordFormat.TheVariants.{Items};
 ghost use Rattle.set_line.specs.Returns.{lines_in};
-ghost use Rattle.caller_arrays.specs.Arrays.{IsFilled};
+ghost use Rattle.tfmset_c.specs.Arrays.{IsFilled};
 ghost use Rattle.tfmset_c.specs.Encoded.{IsEncodingTold, IsNoEncoding};
 ghost use Rattle.tfmset_c.specs.Options.{IsOutOfRange, call_limit_of, lines_at, result_within, terms_at};
 ghost use Rattle.tfmset_c.specs.Reading.{IsAnswer};
 ghost use Rattle.tfmset_c.specs.Records.{AreRecordsTold, IsNoVersion, form_told, or_bytes, record_within, records_told, version_of};
 
+use crate::arrays::{DONE, NO_ROOM, has_room, put_list};
 use crate::encode::encoding_of;
 use crate::lines::steps_of;
 use crate::options::{Text, TfmsetOptions, terms_of};
 use crate::reading::{MEMORY, RANGE};
-use caller_arrays::{DONE, NO_ROOM, has_room, put_list};
 use encodings::{Encoding, Vector};
 use line_records::{LineResult, LineWriter, RecordFormat, RecordOf, SourceLine};
 use set_line::{
@@ -186,7 +186,7 @@ fn fill_records(
 
 /// Writes the records of a text into the array. Returns: 0 after success; 2 if an allocation fails, with
 /// `count` unchanged; 3 if the array is too short.
-#[tactic(auto, using(caller_arrays::proofs::ArrayLemmas::filled))]
+#[tactic(auto, using(crate::proofs::ArrayLemmas::filled))]
 fn write_records(
     alloc: Global,
     text: Text,

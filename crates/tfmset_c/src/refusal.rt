@@ -1,11 +1,11 @@
 //! `tfmset_refusal_text`: why a line or a span is refused, in words.
 ghost use Rattle.std.specs.Prelude.{◌≡◌, ◌≢◌, ◌<◌, ◌≤◌, ◌↔◌, IfOk};
-ghost use Rattle.caller_arrays.specs.Arrays.{IsListed};
+ghost use Rattle.tfmset_c.specs.Arrays.{IsListed};
 ghost use Rattle.tfmset_c.specs.Faults.{refusal_words};
 
+use crate::arrays::report;
 use crate::lines::TfmsetLine;
 use crate::reading::{MEMORY, RANGE};
-use caller_arrays::report;
 use std::alloc::{AllocError, Global};
 use tfm_words::push_number;
 

@@ -1,6 +1,6 @@
 //! `tfmset_set` and `tfmset_widths`: set the lines of a text into arrays of the caller.
 ghost use Rattle.std.specs.Prelude.{◌≡◌, [], false, true, map, IfOk, IfSome};
-ghost use Rattle.caller_arrays.specs.Arrays.{ArePut};
+ghost use Rattle.tfmset_c.specs.Arrays.{ArePut};
 ghost use Rattle.line_records.specs.Cells.{Fits};
 ghost use Rattle.line_records.specs.Results.{IsOf};
 ghost use Rattle.tfmset_c.specs.Filling.{AreFilled, AreTold, wanted};
@@ -8,13 +8,13 @@ ghost use Rattle.tfmset_c.specs.Options.{IsOutOfRange, outcome_within, outcomes_
 ghost use Rattle.tfmset_c.specs.Reading.{IsAnswer};
 ghost use Rattle.tfmset_c.specs.Texts.{item_told, items_in, items_told, lines_told};
 
+use crate::arrays::put_list;
 use crate::filling::tell;
 use crate::lines::{
     TfmsetCounts, TfmsetItem, TfmsetLine, item_for_c, line_for_c, result_of, steps_of,
 };
 use crate::options::{Text, TfmsetOptions, terms_of};
 use crate::reading::RANGE;
-use caller_arrays::put_list;
 use lig_kern::Item;
 use line_records::{LineResult, LineWriter, RecordFormat, RecordOf, SourceLine};
 use set_line::{LineRefusal, OutOfMemory, TextRefusal, Version, next_line, set_bytes};
@@ -103,7 +103,7 @@ fn set_within(
 }
 
 /// Writes items, starting at index `first`, while there is room, and returns the index after all of them.
-#[tactic(auto, using(caller_arrays::proofs::ArrayLemmas::put_both))]
+#[tactic(auto, using(crate::proofs::ArrayLemmas::put_both))]
 fn put_items(items: &mut [TfmsetItem], first: usize, made: &[Item]) -> usize
     ensures { ArePut (map item_told made.now) first result items.old items.new }
 {

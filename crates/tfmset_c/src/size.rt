@@ -2,8 +2,8 @@
 ghost use Rattle.std.specs.Prelude.{◌≡◌, ◌≢◌, ◌⊎◌, ◌↔◌, Some, None};
 ghost use Rattle.tex_sizes.specs.Sizes.{size_of};
 
+use crate::arrays::DONE;
 use crate::reading::RANGE;
-use caller_arrays::DONE;
 use tex_sizes::read_size;
 
 /// Reports in `size` the size in sp that a text states, such as `12pt`. Returns: 0 after success; 4 if the

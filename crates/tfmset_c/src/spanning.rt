@@ -1,6 +1,6 @@
 //! `tfmset_spans` and `tfmset_span_items`: set spans of a text into arrays of the caller.
 ghost use Rattle.std.specs.Prelude.{◌≡◌, ◌≢◌, ◌≤◌, ◌⊎◌, [], true, false, IfErr, IfOk, map};
-ghost use Rattle.caller_arrays.specs.Arrays.{ArePut};
+ghost use Rattle.tfmset_c.specs.Arrays.{ArePut};
 ghost use Rattle.prepared_font.specs.Layout.{IsPreparedFrom};
 ghost use Rattle.tfm_tables.specs.Font.{FontValue};
 ghost use Rattle.tfmset_c.specs.Filling.{AreFilled, AreTold, wanted};
@@ -8,13 +8,13 @@ ghost use Rattle.tfmset_c.specs.Prepared.{IsFont, IsGiven, IsNoFont, IsOpenFor, 
 ghost use Rattle.tfmset_c.specs.Reading.{IsAnswerFor};
 ghost use Rattle.tfmset_c.specs.Spans.{IsNoCall, items_at, items_told, job_terms, placed_told, span_items, span_within, spans_at, spans_told};
 
+use crate::arrays::put_list;
 use crate::filling::tell;
 use crate::lines::{TfmsetCounts, TfmsetLine};
 use crate::options::TfmsetOptions;
 use crate::preparing::table_of;
 use crate::reading::RANGE;
 use crate::span::{TfmsetPlaced, TfmsetSpan, placed_for_c, settings_for, span_for, span_for_c};
-use caller_arrays::put_list;
 use prepared_font::PreparedFont;
 use set_line::{Limit, OutOfMemory};
 use spans::{PlacedItem, SpanOutcome, SpanRefusal, SpanSetter, place_span};
@@ -109,7 +109,7 @@ fn set_within(
 }
 
 /// Writes items, starting at index `first`, while there is room, and returns the index after all of them.
-#[tactic(auto, using(caller_arrays::proofs::ArrayLemmas::put_both))]
+#[tactic(auto, using(crate::proofs::ArrayLemmas::put_both))]
 fn put_all(items: &mut [TfmsetPlaced], first: usize, made: &[PlacedItem]) -> usize
     ensures { ArePut (map placed_told made.now) first result items.old items.new }
 {

@@ -24,6 +24,7 @@ mod chunks;
 mod doubles;
 mod memory;
 mod prompt_records;
+mod reports;
 mod requests;
 mod single_functions;
 mod tool_calls;

@@ -64,7 +64,12 @@ fn characters_of_codes(rt: HostRuntime) -> Result<(), Fail> {
         (vector, 32, Some(' ')),
         (Encoding::T1, 228, Some('ä')),
         (Encoding::Ot1, 92, Some('“')),
+        (Encoding::Ot1, 34, Some('”')),
+        (Encoding::Ot1, 60, None),
+        (Encoding::Ot1, 62, None),
+        (Encoding::Ot1, 124, Some('—')),
         (Encoding::Ly1, 1, Some('€')),
+        (Encoding::Ly1, 5, Some('˙')),
         (Encoding::Latin1, 10, Some('\n')),
     ] {
         assert!(rt; character_at(encoding, code) == character, "{code}");

@@ -3,8 +3,8 @@ use crate::characters::X;
 
 /// The characters, by code; [`X`] for a code that is no character's own.
 pub(crate) static LY1_CHARACTERS: [u32; 256] = [
-    // 0x00: no € no no ⁄ no no no
-    X, 0x20AC, X, X, 0x2044, X, X, X,
+    // 0x00: no € no no ⁄ ˙ no no
+    X, 0x20AC, X, X, 0x2044, 0x2D9, X, X,
     // 0x08: no no no no no no no no
     X, X, X, X, X, X, X, X,
     // 0x10: ı ȷ no no no no no no

@@ -62,7 +62,7 @@ pub(crate) static LY1_SINGLE: SingleCodes = [
 ];
 
 /// The codes of all other characters that have codes.
-pub(crate) static LY1_OTHERS: [OtherCodes; 26] = [
+pub(crate) static LY1_OTHERS: [OtherCodes; 27] = [
     ('\u{AD}', 0, [0, 0, 0]), // soft hyphen
     ('\u{192}', 1, [131, 0, 0]), // ƒ
     ('\u{1C4}', 2, [68, 141, 0]), // Ǆ
@@ -76,6 +76,7 @@ pub(crate) static LY1_OTHERS: [OtherCodes; 26] = [
     ('\u{1CC}', 2, [110, 106, 0]), // ǌ
     ('\u{237}', 1, [17, 0, 0]), // ȷ
     ('\u{2C6}', 1, [142, 0, 0]), // ˆ
+    ('\u{2D9}', 1, [5, 0, 0]), // ˙
     ('\u{2DC}', 1, [158, 0, 0]), // ˜
     ('\u{1E9E}', 2, [83, 83, 0]), // ẞ
     ('\u{2011}', 1, [45, 0, 0]), // non-breaking hyphen

@@ -12,7 +12,7 @@ pub type Row = (&'static [Change], Option<FontFault>);
 pub const BELOW_ONE: Option<FontFault> = Some(FontFault::Design(DesignFault::DesignSize));
 
 /// The font without characters: words 0 to 5 are the counts, 7 the design size, 8 to 11 the tables' entries 0.
-pub static OF_NO_CHARACTERS: [Row; 17] = [
+pub const OF_NO_CHARACTERS: &[Row] = &[
     (&[], None),
     (&[(1, 0x0100_00FF)], None), // bc 256, ec 255
     (&[(0, 0x000D_0002)], counts!(LengthEquation)),
@@ -34,7 +34,7 @@ pub static OF_NO_CHARACTERS: [Row; 17] = [
 
 /// The plain font: words 0 to 5 are the counts, 7 the design size, 8 to 10 the characters, 11 to 14 the widths,
 /// 15 to 17 the other entries 0, 18 and 19 the parameters.
-pub static OF_PLAIN: [Row; 39] = [
+pub const OF_PLAIN: &[Row] = &[
     (&[], None),
     // two errors of the counts
     (&[(0, 0xFFFF_0002), (5, 0x9C40)], counts!(CountRange(Lf))),
@@ -92,7 +92,7 @@ pub static OF_PLAIN: [Row; 39] = [
 ];
 
 /// The font with a ligature: words 18 to 20 are the instructions, 21 and 22 the kerns.
-pub static OF_LIGATURE: [Row; 20] = [
+pub const OF_LIGATURE: &[Row] = &[
     (&[], None),
     (&[(18, 0x0064_0063)], step!(0, Next)),
     (&[(18, 0x0062_0064)], step!(0, Ligature)),
@@ -119,7 +119,7 @@ pub static OF_LIGATURE: [Row; 20] = [
 ];
 
 /// The font with each kind of table.
-pub static OF_FULL: [Row; 7] = [
+pub const OF_FULL: &[Row] = &[
     (&[], None),
     (&[(14, 0xFEFF_FFFF), (16, 0x8000_0000)], entry!(Width, 3)),
     (&[(17, 0x7FFF_FFFF), (19, 0x7FFF_FFFF)], entry!(Height, 2)),

@@ -1,9 +1,9 @@
 //! Findings of `check`, and the texts of errors.
 use super::faulty::BELOW_ONE;
+use super::{same, same_text};
 use check_texts::{Verdict, verdict_text};
 use font_texts::OutputFormat;
 use std::process::Abort;
-use std::test::Fail;
 use test_support::fonts::files::NO_CHARACTERS;
 use tfm_tables::FontFault;
 use tfm_words::Count::Nh;
@@ -36,26 +36,30 @@ fn checks<R: Abort + AllocGlobal>(
     bytes: &[u8],
     fault: Option<FontFault>,
     line: &str,
-) -> Result<(), Fail> {
-    for size in [None, Size::new(1), Size::new(134_217_727)] {
-        let verdict = Verdict::check(rt.alloc(), bytes, size, false)?;
-        assert!(rt; is_for(&verdict, fault), "{line}");
-        let text = verdict_text(rt.alloc(), OutputFormat::Text, name.as_bytes(), &verdict)?;
-        assert!(rt; text.as_slice() == line.as_bytes(), "{line}");
+) {
+    for size in &[None, Size::new(1), Size::new(134_217_727)] {
+        let verdict = Verdict::check(rt.alloc(), bytes, *size, false).expect(rt, "memory");
+        same(rt, &is_for(&verdict, fault), &true, &line);
+        has_line(rt, name, &verdict, line);
     }
-    Ok(())
+}
+
+/// The verdict has this line under this name.
+fn has_line<R: Abort + AllocGlobal>(rt: &R, name: &str, verdict: &Verdict, line: &str) {
+    let text = verdict_text(rt.alloc(), OutputFormat::Text, name.as_bytes(), verdict);
+    same_text(rt, &text.expect(rt, "memory"), line, &name);
 }
 
 #[test]
-fn a_font_is_accepted_or_refused_by_its_first_fault(rt: HostRuntime) -> Result<(), Fail> {
+fn a_font_is_accepted_or_refused_by_its_first_fault(rt: HostRuntime) {
     let file = NO_CHARACTERS;
     let mut first = file;
     first[47] = 1;
     let line = "b\\x0a: accepted: refused: 12 table italic, first entry\n";
-    checks(&rt, "b\n: accepted", &first, first!(Italic), line)?;
+    checks(&rt, "b\n: accepted", &first, first!(Italic), line);
     let line = ": refused: 8 truncated, 48 bytes needed\n";
-    checks(&rt, "", &file[..47], truncated!(48), line)?;
-    checks(&rt, "a.tfm", &file, None, "a.tfm: accepted\n")
+    checks(&rt, "", &file[..47], truncated!(48), line);
+    checks(&rt, "a.tfm", &file, None, "a.tfm: accepted\n");
 }
 
 /// Errors, and their numbers and texts.
@@ -88,23 +92,16 @@ static TEXTS: [(Option<FontFault>, &str); 25] = [
 ];
 
 /// The line of this verdict under the name `x` has these words.
-fn has_words<R: Abort + AllocGlobal>(
-    rt: &R,
-    verdict: &Verdict,
-    words: [&str; 2],
-) -> Result<(), Fail> {
-    let text = verdict_text(rt.alloc(), OutputFormat::Text, b"x", verdict)?;
-    let [before, words] = words;
-    let wanted = format!(in rt.alloc(); "x: {before}{words}\n")?;
-    assert!(rt; text.as_slice() == wanted.as_bytes(), "{words}");
-    Ok(())
+fn has_words<R: Abort + AllocGlobal>(rt: &R, verdict: &Verdict, before: &str, words: &str) {
+    let wanted = format!(in rt.alloc(); "x: {before}{words}\n").expect(rt, "memory");
+    has_line(rt, "x", verdict, &wanted);
 }
 
 #[test]
-fn each_finding_has_its_words(rt: HostRuntime) -> Result<(), Fail> {
-    for (fault, words) in TEXTS {
-        has_words(&rt, &verdict_for(&rt, fault), ["refused: ", words])?;
+fn each_finding_has_its_words(rt: HostRuntime) {
+    for (fault, words) in &TEXTS {
+        has_words(&rt, &verdict_for(&rt, *fault), "refused: ", words);
     }
-    has_words(&rt, &verdict_for(&rt, None), ["", "accepted"])?;
-    has_words(&rt, &Verdict::NotRead, ["", "not read"])
+    has_words(&rt, &verdict_for(&rt, None), "", "accepted");
+    has_words(&rt, &Verdict::NotRead, "", "not read");
 }

@@ -1,8 +1,8 @@
 //! `Font::find` beside a linear search, in small programs and in a long one.
-use std::alloc::{AllocError, Global};
+use super::same;
 use std::process::Abort;
-use std::test::Fail;
 use test_support::fonts::{A_FROM_0, A_FROM_1, BACK, C_FROM_2, Info, PLAIN, Sample, kern_before};
+use test_support::terms::font_of;
 use tfm_tables::{Font, LeftSide, Step};
 
 /// The address for a code in a program from its start, by the definition: one instruction after
@@ -43,19 +43,18 @@ static SIDES: [LeftSide; 5] = [
 ];
 
 /// All pairs of a small program are found where the definition says, if the font is accepted. Whether it is.
-fn finds_all<R: Abort + AllocGlobal>(rt: &R, program: &[Step]) -> Result<bool, AllocError> {
-    let file = three_codes(program).file(rt.alloc())?;
+fn finds_all<R: Abort + AllocGlobal>(rt: &R, program: &[Step]) -> bool {
+    let file = three_codes(program).file(rt.alloc()).expect(rt, "memory");
     let Ok(font) = Font::read(rt.alloc(), &file, None) else {
-        return Ok(false);
+        return false;
     };
-    for left in SIDES {
+    for left in &SIDES {
         for code in 0..4 {
-            let wanted = first_address(program, font.start(left), code);
-            let found = font.find(left, code);
-            assert_eq!(rt; found, wanted, "{left:?}, {code} in {program:?}");
+            let wanted = first_address(program, font.start(*left), code);
+            same(rt, &font.find(*left, code), &wanted, &(left, code, program));
         }
     }
-    Ok(true)
+    true
 }
 
 /// The instruction with this number, of 18.
@@ -71,30 +70,34 @@ fn small_step(number: usize) -> Step {
 }
 
 #[test]
-fn small_programs(rt: HostRuntime) -> Result<(), Fail> {
+fn small_programs(rt: HostRuntime) {
     let mut accepted = 0u32;
     for number in 0..18 * 18 * 18 {
-        let program = [number / 324, number / 18, number].map(|number| small_step(number % 18));
-        accepted = accepted.wrapping_add(u32::from(finds_all(&rt, &program)?));
+        let program = [
+            small_step(number / 324 % 18),
+            small_step(number / 18 % 18),
+            small_step(number % 18),
+        ];
+        accepted = accepted.wrapping_add(u32::from(finds_all(&rt, &program)));
     }
     // the last instruction may not skip, and skips of 127 lead nowhere: of 18 instructions each,
     // 9 may stand last, 12 before it and 15 first
-    assert_eq!(rt; accepted, 9 * 12 * 15);
-    Ok(())
+    same(&rt, &accepted, &(9 * 12 * 15), &"accepted");
 }
 
 /// Kerns before all codes in turn, again and again, and the end after 32,000 instructions.
-fn long_program(alloc: Global) -> Result<Vec<Step>, AllocError> {
-    let mut program = Vec::with_capacity(alloc, 32_000)?;
+fn long_program<R: Abort + AllocGlobal>(rt: &R) -> Vec<Step> {
+    let mut program = Vec::new(rt.alloc());
     for i in 0..32_000u16 {
         let [_, next] = i.to_be_bytes();
         let skip = if i == 31_999 { 128 } else { 0 };
-        program.push(Step {
+        let step = Step {
             skip,
             ..kern_before(next, 0)
-        })?;
+        };
+        program.push(step).expect(rt, "memory");
     }
-    Ok(program)
+    program
 }
 
 /// All 256 codes, each with a program that begins at the instruction of its number.
@@ -118,19 +121,26 @@ fn long_chains<'a>(characters: &'a [Info], program: &'a [Step]) -> Sample<'a> {
     }
 }
 
-#[test]
-fn long_chains_of_all_characters(rt: HostRuntime) -> Result<(), Fail> {
-    let program = long_program(rt.alloc())?;
-    let file = long_chains(&all_codes(), &program).file(rt.alloc())?;
-    let font = Font::read(rt.alloc(), &file, None)?;
+/// The next instruction for a code is found, from that of the left side's number.
+fn finds_next<R: Abort>(rt: &R, font: &Font) {
     for left in 0..=255 {
         for code in 0..=255 {
-            // the next one for the code, from that of the left side's number
             let round = if code < left { 256 } else { 0 };
             let found = font.find(LeftSide::Char(left), code);
-            assert_eq!(rt; found, Some(usize::from(code) + round), "{left} and {code}");
+            same(rt, &found, &Some(usize::from(code) + round), &(left, code));
         }
     }
-    assert_eq!(rt; font.find(LeftSide::Boundary, 0), None);
-    Ok(())
+    same(
+        rt,
+        &font.find(LeftSide::Boundary, 0),
+        &None,
+        &"the boundary",
+    );
+}
+
+#[test]
+fn long_chains_of_all_characters(rt: HostRuntime) {
+    let program = long_program(&rt);
+    let file = long_chains(&all_codes(), &program).file(rt.alloc());
+    finds_next(&rt, &font_of(rt.alloc(), file).expect(&rt, "a font"));
 }

@@ -1,6 +1,7 @@
 //! A font whose tables are as long as characters can name: 256 widths, 16 heights, 16 depths and 64 italic
 //! corrections.
-use std::test::Fail;
+use super::same;
+use std::process::Abort;
 use test_support::fonts::{Info, NOTHING, PLAIN, Sample};
 use tfm_tables::{Font, Metrics};
 
@@ -52,14 +53,18 @@ fn with_tables<'a>(characters: &'a [Info; 256], entries: &'a [u32; 256]) -> Samp
     }
 }
 
-#[test]
-fn each_entry_of_full_tables_is_read(rt: HostRuntime) -> Result<(), Fail> {
-    let file = with_tables(&infos(), &table()).file(rt.alloc())?;
-    assert_eq!(rt; file.len(), 4 * 618);
-    let font = Font::read(rt.alloc(), &file, None)?;
-    assert_eq!(rt; font.metrics(0), None);
+/// The file is as long as its tables, and each character has its measures.
+fn has_metrics<R: Abort + AllocGlobal>(rt: &R, file: &[u8]) {
+    same(rt, &file.len(), &(4 * 618), &"bytes");
+    let font = Font::read(rt.alloc(), file, None).expect(rt, "a font");
+    same(rt, &font.metrics(0), &None, &0);
     for code in 1..=255 {
-        assert_eq!(rt; font.metrics(code), Some(metrics_of(code)), "{code}");
+        same(rt, &font.metrics(code), &Some(metrics_of(code)), &code);
     }
-    Ok(())
+}
+
+#[test]
+fn each_entry_of_full_tables_is_read(rt: HostRuntime) {
+    let file = with_tables(&infos(), &table()).file(rt.alloc());
+    has_metrics(&rt, &file.expect(&rt, "memory"));
 }

@@ -1,6 +1,7 @@
 //! Headers of several lengths.
+use super::same;
 use super::samples::read;
-use std::test::Fail;
+use std::process::Abort;
 use test_support::fonts::header;
 
 /// The letters of the texts.
@@ -48,16 +49,23 @@ fn is_text(found: Option<&[u8]>, length: Option<usize>) -> bool {
     }
 }
 
+/// The font has the texts, the flag and the face of a row.
+fn has_header<R: Abort + AllocGlobal>(rt: &R, (case, coding, family, seven_bit): Row) {
+    let (length, flag, words) = case;
+    let texts = texts_of(length, flag);
+    let font = read(rt, &header(&texts[..4 * words.min(19)]), &[], None);
+    let has_texts = (
+        is_text(font.coding(), coding),
+        is_text(font.family(), family),
+    );
+    let found = (has_texts, font.seven_bit(), font.face());
+    let face = if seven_bit.is_some() { Some(234) } else { None };
+    same(rt, &found, &((true, true), seven_bit, face), &case);
+}
+
 #[test]
-fn headers(rt: HostRuntime) -> Result<(), Fail> {
-    for (case, coding, family, seven_bit) in HEADERS {
-        let (length, flag, words) = case;
-        let texts = texts_of(length, flag);
-        let font = read(rt.alloc(), &header(&texts[..4 * words.min(19)]), &[], None)?;
-        assert!(rt; is_text(font.coding(), coding), "coding, {case:?}");
-        assert!(rt; is_text(font.family(), family), "family, {case:?}");
-        assert_eq!(rt; font.seven_bit(), seven_bit, "{case:?}");
-        assert_eq!(rt; font.face(), seven_bit.map(|_| 234), "{case:?}");
+fn headers(rt: HostRuntime) {
+    for row in &HEADERS {
+        has_header(&rt, *row);
     }
-    Ok(())
 }

@@ -1,9 +1,9 @@
 //! Fonts of which a part is long are read and listed whole.
 use super::faults::fault_of;
+use super::same;
 use check_texts::Verdict;
 use font_texts::{ListLayout, OutputFormat, list_all_text};
 use std::process::Abort;
-use std::test::Fail;
 use test_support::fonts::lengths::{LONG, Lengths, amount_of};
 use test_support::fonts::{largest, largest_program};
 use tex_sizes::LengthUnit;
@@ -93,71 +93,79 @@ fn lines_of(lengths: &Lengths, words: u16) -> usize {
 }
 
 /// The font is accepted by `Verdict::check`, and its full listing has these lines.
-fn is_listed<R: Abort + AllocGlobal>(
-    rt: &R,
-    case: &str,
-    file: &[u8],
-    lines: usize,
-) -> Result<(), Fail> {
-    let verdict = Verdict::check(rt.alloc(), file, None, false)?;
-    assert!(rt; verdict.is_plain(), "{case}");
+fn is_listed<R: Abort + AllocGlobal>(rt: &R, case: &str, file: &[u8], lines: usize) {
+    let verdict = Verdict::check(rt.alloc(), file, None, false).expect(rt, "memory");
+    same(rt, &verdict.is_plain(), &true, &case);
     let layout = ListLayout {
         format: OutputFormat::Text,
         unit: LengthUnit::ScaledPoints,
     };
-    let text = String::from_utf8(list_all_text(rt.alloc(), file, None, layout)?)?;
-    assert_eq!(rt; text.lines().count(), lines, "{case}");
-    for (name, line) in LINES {
-        assert!(rt;
-            !case.starts_with(name) || text.contains(line),
-            "{case}: {line}"
-        );
+    let text = list_all_text(rt.alloc(), file, None, layout).expect(rt, "a listing");
+    has_lines(rt, case, str::from_utf8(&text).unwrap_or(""), lines);
+}
+
+/// The listing has as many lines as stated, and those of `LINES`.
+fn has_lines<R: Abort>(rt: &R, case: &str, text: &str, lines: usize) {
+    same(rt, &text.lines().count(), &lines, &case);
+    for (name, line) in &LINES {
+        let has_line = !case.starts_with(*name) || text.contains(*line);
+        same(rt, &has_line, &true, &(case, line));
     }
-    Ok(())
+}
+
+/// The font has all of its parts, and is listed whole.
+fn is_whole<R: Abort + AllocGlobal>(rt: &R, case: &str, lengths: &Lengths, words: u16) {
+    let file = lengths.file(rt.alloc()).expect(rt, "memory");
+    is_listed(rt, case, &file, lines_of(lengths, words));
+    let font = Font::read(rt.alloc(), &file, None).expect(rt, "a font");
+    let found = [
+        has_kerns(&font, lengths),
+        has_parameters(&font, lengths),
+        has_characters(&font, lengths),
+        has_program(&font, lengths),
+    ];
+    same(rt, &found, &[true; 4], &case);
 }
 
 #[test]
-fn a_font_with_a_long_part_is_read_and_listed_whole(rt: HostRuntime) -> Result<(), Fail> {
+fn a_font_with_a_long_part_is_read_and_listed_whole(rt: HostRuntime) {
     for (case, lengths, words) in &LONG {
-        let file = lengths.file(rt.alloc())?;
-        is_listed(&rt, case, &file, lines_of(lengths, *words))?;
-        let font = Font::read(rt.alloc(), &file, None)?;
-        assert!(rt; has_kerns(&font, lengths), "{case}");
-        assert!(rt; has_parameters(&font, lengths), "{case}");
-        assert!(rt; has_characters(&font, lengths), "{case}");
-        assert!(rt; has_program(&font, lengths), "{case}");
+        is_whole(&rt, case, lengths, *words);
     }
-    Ok(())
 }
 
 /// The font of the largest file has these instructions, one kern, and programs for the boundaries alone.
 fn is_largest<R: Abort>(rt: &R, font: &Font, program: &[Step]) {
-    assert_eq!(rt;
-        (font.steps(), program.len(), font.kerns()),
-        (32_754, 32_754, 1)
-    );
+    let lengths = (font.steps(), program.len(), font.kerns());
+    same(rt, &lengths, &(32_754, 32_754, 1), &"lengths");
     for (i, step) in program.iter().enumerate() {
-        assert!(rt;
-            i < font.steps() && font.step(i) == *step,
-            "instruction {i}"
-        );
+        let is_step = i < font.steps() && font.step(i) == *step;
+        same(rt, &is_step, &true, &i);
     }
-    assert!(rt; font.kerns() > 0 && font.kern(0) == 20_480);
-    assert_eq!(rt; font.right_boundary(), Some(65));
-    assert_eq!(rt; font.start(LeftSide::Boundary), Some(1));
-    assert_eq!(rt; font.find(LeftSide::Boundary, 65), Some(1));
-    assert_eq!(rt; font.find(LeftSide::Boundary, 66), None);
-    assert_eq!(rt; font.find(LeftSide::Char(97), 65), None);
-    assert!(rt; !font.exists(65));
+    let kern = font.kerns() > 0 && font.kern(0) == 20_480;
+    let found = (kern, font.right_boundary(), font.exists(65));
+    same(rt, &found, &(true, Some(65), false), &"65");
+    let found = [
+        font.start(LeftSide::Boundary),
+        font.find(LeftSide::Boundary, 65),
+        font.find(LeftSide::Boundary, 66),
+        font.find(LeftSide::Char(97), 65),
+    ];
+    same(rt, &found, &[Some(1), Some(1), None, None], &"addresses");
+}
+
+/// The largest file is read whole, and isn't read with a byte less.
+fn is_read_whole<R: Abort + AllocGlobal>(rt: &R, program: &[Step]) {
+    let file = largest(program).file(rt.alloc()).expect(rt, "memory");
+    let font = Font::read(rt.alloc(), &file, None).expect(rt, "a font");
+    is_largest(rt, &font, program);
+    let less = &file[..file.len().min(131_067)];
+    let found = (file.len(), fault_of(rt.alloc(), less, None));
+    same(rt, &found, &(131_068, truncated!(131_068)), &"a byte less");
 }
 
 #[test]
-fn the_largest_file(rt: HostRuntime) -> Result<(), Fail> {
-    let program = largest_program(rt.alloc())?;
-    let mut file = largest(&program).file(rt.alloc())?;
-    assert_eq!(rt; file.len(), 131_068);
-    is_largest(&rt, &Font::read(rt.alloc(), &file, None)?, &program);
-    file.truncate(131_067);
-    assert_eq!(rt; fault_of(rt.alloc(), &file, None), truncated!(131_068));
-    Ok(())
+fn the_largest_file(rt: HostRuntime) {
+    let program = largest_program(rt.alloc()).expect(&rt, "memory");
+    is_read_whole(&rt, &program);
 }

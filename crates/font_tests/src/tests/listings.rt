@@ -1,14 +1,14 @@
 //! Listings as whole texts, the texts of counts, and the names of operations.
 use super::faulty::BELOW_ONE;
 use super::samples::{Change, FULL, changed};
+use super::{same, same_text};
 use font_texts::OutputFormat::{Json, Text};
 use font_texts::{ListLayout, counts_text, list_all_text, list_file_text, list_text};
-use std::alloc::Global;
-use std::test::Fail;
+use std::process::Abort;
 use test_support::fonts::examples::ligature;
 use test_support::fonts::{A, BOUNDARY_EXISTS, HALF, Info, LIGATURE, NO_CHARACTERS, PLAIN, Sample};
 use tex_sizes::LengthUnit::{Points, ScaledPoints};
-use tfm_tables::Font;
+use tfm_tables::{Font, FontFault};
 use tfm_words::Size;
 
 /// A header of 18 words, with a coding scheme, a family and a face; the length of a text precedes it.
@@ -17,6 +17,9 @@ const LONG_HEADER: Sample<'static> = Sample {
         \x03CMR\0\0\0\0\0\0\0\0\0\0\0\0\0\0\0\0\0\0\0\xEA",
     ..NO_CHARACTERS
 };
+
+/// Fonts that are lent: a constant is copied at each use.
+static FONTS: [Sample<'static>; 3] = [FULL, LONG_HEADER, NO_CHARACTERS];
 
 /// Text with dimensions in sp.
 const TEXT: ListLayout = ListLayout {
@@ -90,44 +93,56 @@ static LISTINGS: [Row; 5] = [
 ];
 
 /// The listing of an accepted font.
-fn listing(alloc: Global, bytes: &[u8]) -> Result<Vec<u8>, Fail> {
-    let font = Font::read(alloc, bytes, None)?;
-    Ok(list_text(alloc, &font, TEXT)?)
+fn listing<R: Abort + AllocGlobal>(rt: &R, bytes: &[u8]) -> Vec<u8> {
+    let font = Font::read(rt.alloc(), bytes, None).expect(rt, "a font");
+    list_text(rt.alloc(), &font, TEXT).expect(rt, "a listing")
+}
+
+/// The listing of a file in this layout is this one.
+fn lists<R: Abort + AllocGlobal>(rt: &R, file: &[u8], layout: ListLayout, wanted: &str) {
+    let text = list_file_text(rt.alloc(), file, None, layout).expect(rt, "a listing");
+    same_text(rt, &text, wanted, &"of a file");
+}
+
+/// The listing of a font, and that of its file, is that of the row.
+fn is_listed<R: Abort + AllocGlobal>(rt: &R, (font, changes, wanted): &Row) {
+    let file = changed(rt.alloc(), font, changes).expect(rt, "memory");
+    same_text(rt, &listing(rt, &file), wanted, &"of a font");
+    lists(rt, &file, TEXT, wanted);
 }
 
 #[test]
-fn listings(rt: HostRuntime) -> Result<(), Fail> {
-    for (font, changes, wanted) in &LISTINGS {
-        let file = changed(rt.alloc(), font, changes)?;
-        let text = listing(rt.alloc(), &file)?;
-        assert!(rt; text.as_slice() == wanted.as_bytes(), "{wanted}");
-        let text = list_file_text(rt.alloc(), &file, None, TEXT)?;
-        assert!(rt; text.as_slice() == wanted.as_bytes(), "of a file: {wanted}");
+fn listings(rt: HostRuntime) {
+    for row in &LISTINGS {
+        is_listed(&rt, row);
     }
-    Ok(())
+}
+
+/// The words of `FULL` with other tags.
+const TAGS: &[Change] = &[(8, 0x0112_0662), (9, 0x0321_0B07)];
+
+/// The listing of `FULL` with other tags, in points.
+static POINTS: &str = "checksum 0\ndesign 10.0pt\nsize 10.0pt\nright none\nleft none\n\
+    char 97 width 5.0pt height 5.0pt depth 0.3125pt italic -0.625pt tag list 98\n\
+    char 98 width 7.5pt height 2.5pt depth 7.5pt italic 5.0pt tag ext 7\n\
+    char 99 width 7.5pt height 0.0pt depth 0.0pt italic 0.0pt tag lig 2\n\
+    step 0 skip 0 next 98 LIG 99\nstep 1 skip 128 next 99 KRN 0 -0.625pt\n\
+    step 2 skip 128 next 98 KRN 1 0.3125pt\nkern 0 -0.625pt\nkern 1 0.3125pt\nparam 1 1\n\
+    param 2 5.0pt\nparam 3 -0.625pt\nparam 4 0.0pt\n";
+
+/// `FULL` with other tags has this listing in this layout.
+fn lists_full<R: Abort + AllocGlobal>(rt: &R, layout: ListLayout, wanted: &str) {
+    let file = changed(rt.alloc(), &FONTS[0], TAGS).expect(rt, "memory");
+    lists(rt, &file, layout, wanted);
 }
 
 #[test]
-fn a_listing_in_points(rt: HostRuntime) -> Result<(), Fail> {
-    let file = changed(rt.alloc(), &FULL, &[(8, 0x0112_0662), (9, 0x0321_0B07)])?;
-    let text = list_file_text(
-        rt.alloc(),
-        &file,
-        None,
-        ListLayout {
-            unit: Points,
-            ..TEXT
-        },
-    )?;
-    let wanted = "checksum 0\ndesign 10.0pt\nsize 10.0pt\nright none\nleft none\n\
-        char 97 width 5.0pt height 5.0pt depth 0.3125pt italic -0.625pt tag list 98\n\
-        char 98 width 7.5pt height 2.5pt depth 7.5pt italic 5.0pt tag ext 7\n\
-        char 99 width 7.5pt height 0.0pt depth 0.0pt italic 0.0pt tag lig 2\n\
-        step 0 skip 0 next 98 LIG 99\nstep 1 skip 128 next 99 KRN 0 -0.625pt\n\
-        step 2 skip 128 next 98 KRN 1 0.3125pt\nkern 0 -0.625pt\nkern 1 0.3125pt\nparam 1 1\n\
-        param 2 5.0pt\nparam 3 -0.625pt\nparam 4 0.0pt\n";
-    assert!(rt; text.as_slice() == wanted.as_bytes());
-    Ok(())
+fn a_listing_in_points(rt: HostRuntime) {
+    let points = ListLayout {
+        unit: Points,
+        ..TEXT
+    };
+    lists_full(&rt, points, POINTS);
 }
 
 /// The names of the operations from 0 to 12, and of 127.
@@ -136,14 +151,20 @@ static OPERATIONS: [&str; 14] = [
     "/LIG/>>", "LIG", "LIG",
 ];
 
+/// The operation has this name in a listing.
+fn has_name<R: Abort + AllocGlobal>(rt: &R, op: u8, name: &str) {
+    let file = ligature(rt.alloc(), op).expect(rt, "memory");
+    let text = listing(rt, &file);
+    let line = format!(in rt.alloc(); "\nstep 0 skip 0 next 98 {name} 99\n").expect(rt, "memory");
+    let text = str::from_utf8(&text).unwrap_or("");
+    same(rt, &text.contains(line.as_str()), &true, &(op, name));
+}
+
 #[test]
-fn each_operation_has_its_name(rt: HostRuntime) -> Result<(), Fail> {
-    for (op, name) in (0..13).chain(127..128).zip(OPERATIONS) {
-        let text = String::from_utf8(listing(rt.alloc(), &ligature(rt.alloc(), op)?)?)?;
-        let line = format!(in rt.alloc(); "\nstep 0 skip 0 next 98 {name} 99\n")?;
-        assert!(rt; text.contains(line.as_str()), "operation {op}");
+fn each_operation_has_its_name(rt: HostRuntime) {
+    for (op, name) in (0..13).chain(127..128).zip(&OPERATIONS) {
+        has_name(&rt, op, name);
     }
-    Ok(())
 }
 
 /// One character, whose recipe is number 1 of two, at 10 points.
@@ -174,18 +195,26 @@ static ALL: &str = "lf 17\nlh 2\nbc 65\nec 65\nnw 2\nnh 1\nnd 1\nni 1\nnl 0\nnk 
     word 10 00080000\nword 11 00000000\nword 12 00000000\nword 13 00000000\nword 14 00000041\n\
     word 15 303c3aff\nword 16 00100000\n";
 
-#[test]
-fn all_of_a_font_is_listed(rt: HostRuntime) -> Result<(), Fail> {
-    let mut bytes = RECIPES.file(rt.alloc())?;
-    bytes.extend_from_slice(&[1, 2, 3, 4])?; // after the font
-    let text = list_all_text(rt.alloc(), &bytes, None, TEXT)?;
-    assert!(rt; text.as_slice() == ALL.as_bytes());
+/// The full listing of a file, with bytes after the font, is this one; and a file that is cut isn't listed.
+fn lists_all<R: Abort + AllocGlobal>(rt: &R, font: &Sample<'_>, wanted: &str) {
+    let mut bytes = font.file(rt.alloc()).expect(rt, "memory");
+    bytes.extend_from_slice(&[1, 2, 3, 4]).expect(rt, "memory"); // after the font
+    let text = list_all_text(rt.alloc(), &bytes, None, TEXT).expect(rt, "a listing");
+    same_text(rt, &text, wanted, &"with bytes after the font");
     bytes.truncate(67);
-    let fault = list_all_text(rt.alloc(), &bytes, None, TEXT).err();
-    assert_eq!(rt; fault, truncated!(68));
-    let fault = list_file_text(rt.alloc(), &bytes, None, TEXT).err();
-    assert_eq!(rt; fault, truncated!(68));
-    Ok(())
+    let all = list_all_text(rt.alloc(), &bytes, None, TEXT).err();
+    let of_file = list_file_text(rt.alloc(), &bytes, None, TEXT).err();
+    same(
+        rt,
+        &(all, of_file),
+        &(truncated!(68), truncated!(68)),
+        &"67 bytes",
+    );
+}
+
+#[test]
+fn all_of_a_font_is_listed(rt: HostRuntime) {
+    lists_all(&rt, &RECIPES, ALL);
 }
 
 /// The listing of `FULL` with other tags, in JSON.
@@ -216,47 +245,62 @@ static ALL_JSON: &str =
 static HEADER_JSON: &str =
     "\"coding\":\" a\\\\x5c\\\\x7f\\\\xe9~\\\\x1f\\\"\",\"family\":\"\",\"sevenbit\":true,\"face\":9,\"right\":";
 
+/// The listing of the header in JSON has this text.
+fn lists_header<R: Abort + AllocGlobal>(rt: &R, layout: ListLayout, wanted: &str) {
+    let (_, texts, _) = LISTINGS[2];
+    let file = changed(rt.alloc(), &FONTS[1], texts).expect(rt, "memory");
+    let text = list_file_text(rt.alloc(), &file, None, layout).expect(rt, "a listing");
+    let text = str::from_utf8(&text).unwrap_or("");
+    same(rt, &text.contains(wanted), &true, &text);
+}
+
+/// The full listing at 1.5 points begins and ends with these texts.
+fn lists_ends<R: Abort + AllocGlobal>(rt: &R, layout: ListLayout, first: &str, last: &str) {
+    let file = RECIPES.file(rt.alloc()).expect(rt, "memory");
+    let size = Size::new(98_304);
+    let text = list_all_text(rt.alloc(), &file, size, layout).expect(rt, "a listing");
+    let text = str::from_utf8(&text).unwrap_or("");
+    let found = (text.starts_with(first), text.ends_with(last));
+    same(rt, &found, &(true, true), &text);
+}
+
 #[test]
-fn listings_in_json(rt: HostRuntime) -> Result<(), Fail> {
+fn listings_in_json(rt: HostRuntime) {
     let layout = ListLayout {
         format: Json,
         ..TEXT
     };
-    let file = changed(rt.alloc(), &FULL, &[(8, 0x0112_0662), (9, 0x0321_0B07)])?;
-    let text = list_file_text(rt.alloc(), &file, None, layout)?;
-    assert!(rt;
-        text.as_slice() == JSON.as_bytes(),
-        "{:?}",
-        String::from_utf8(text)
-    );
-    let (_, texts, _) = LISTINGS[2];
-    let file = changed(rt.alloc(), &LONG_HEADER, texts)?;
-    let text = String::from_utf8(list_file_text(rt.alloc(), &file, None, layout)?)?;
-    assert!(rt; text.contains(HEADER_JSON), "{text}");
+    lists_full(&rt, layout, JSON);
+    lists_header(&rt, layout, HEADER_JSON);
     let points = ListLayout {
         unit: Points,
         ..layout
     };
-    let file = RECIPES.file(rt.alloc())?;
-    let text = String::from_utf8(list_all_text(rt.alloc(), &file, Size::new(98_304), points)?)?;
-    assert!(rt; text.starts_with(ALL_JSON), "{text}");
-    assert!(rt;
-        text.ends_with("{\"word\":16,\"bytes\":\"00100000\"}]}\n"),
-        "{text}"
-    );
-    Ok(())
+    let last = "{\"word\":16,\"bytes\":\"00100000\"}]}\n";
+    lists_ends(&rt, points, ALL_JSON, last);
 }
 
 const COUNTS: &str =
     "lf 12\nlh 2\nbc 1\nec 0\nnw 1\nnh 1\nnd 1\nni 1\nnl 0\nnk 0\nne 0\nnp 0\ndesign 327680\n";
 
+/// The first bytes of the font without characters, with some words changed, have counts with this text, or this error.
+fn has_counts<R: Abort + AllocGlobal>(
+    rt: &R,
+    (changes, len): (&[Change], usize),
+    wanted: (&str, Option<FontFault>),
+) {
+    let file = changed(rt.alloc(), &FONTS[2], changes).expect(rt, "memory");
+    let text = counts_text(rt.alloc(), &file[..len.min(file.len())]);
+    let found = match &text {
+        Ok(text) => (str::from_utf8(text).unwrap_or(""), None),
+        Err(fault) => ("", Some(*fault)),
+    };
+    same(rt, &found, &wanted, &(changes, len));
+}
+
 #[test]
-fn counts_have_a_text_or_an_error(rt: HostRuntime) -> Result<(), Fail> {
-    let file = NO_CHARACTERS.file(rt.alloc())?;
-    assert!(rt; counts_text(rt.alloc(), &file)?.as_slice() == COUNTS.as_bytes());
-    let cut = counts_text(rt.alloc(), &file[..file.len().min(47)]).err();
-    assert_eq!(rt; cut, truncated!(48));
-    let small = changed(rt.alloc(), &NO_CHARACTERS, &[(7, 0x000F_0000)])?;
-    assert_eq!(rt; counts_text(rt.alloc(), &small).err(), BELOW_ONE);
-    Ok(())
+fn counts_have_a_text_or_an_error(rt: HostRuntime) {
+    has_counts(&rt, (&[], 48), (COUNTS, None));
+    has_counts(&rt, (&[], 47), ("", truncated!(48)));
+    has_counts(&rt, (&[(7, 0x000F_0000)], 48), ("", BELOW_ONE));
 }

@@ -1,11 +1,11 @@
 //! The text of the pairs of a font in each format, with and without characters.
+use super::same_text;
 use encodings::Encoding;
 use encodings::Encoding::{Latin1, Ot1, T1};
 use font_texts::PairsFormat::{Csv, Json, Text};
 use font_texts::{PairsFormat, PairsLayout, pairs_text};
 use std::alloc::{AllocError, Global};
 use std::process::Abort;
-use std::test::Fail;
 use test_support::fonts::{
     A, A_FROM_0, BACK, Info, LEFT_BOUNDARY, NO_CHARACTERS, PLAIN, RIGHT_BOUNDARY, Sample,
     kern_before, last, ligature_before,
@@ -19,19 +19,15 @@ fn has_text<R: Abort + AllocGlobal>(
     file: &[u8],
     (encoding, format): (Option<Encoding<'static>>, PairsFormat),
     wanted: &str,
-) -> Result<(), Fail> {
+) {
     let layout = PairsLayout {
         format,
         encoding,
         unit: ScaledPoints,
     };
-    let font = Font::read(rt.alloc(), file, None)?;
-    let text = pairs_text(rt.alloc(), &font, layout)?;
-    assert!(rt;
-        text.as_slice() == wanted.as_bytes(),
-        "{layout:?}: {wanted}"
-    );
-    Ok(())
+    let font = Font::read(rt.alloc(), file, None).expect(rt, "a font");
+    let text = pairs_text(rt.alloc(), &font, layout).expect(rt, "pairs");
+    same_text(rt, &text, wanted, &layout);
 }
 
 /// Fonts, layouts, and texts.
@@ -59,11 +55,11 @@ const PAIRS: [(
 ];
 
 #[test]
-fn pairs(rt: HostRuntime) -> Result<(), Fail> {
+fn pairs(rt: HostRuntime) {
     for (font, layout, wanted) in &PAIRS {
-        has_text(&rt, &font.file(rt.alloc())?, *layout, wanted)?;
+        let file = font.file(rt.alloc()).expect(&rt, "memory");
+        has_text(&rt, &file, *layout, wanted);
     }
-    Ok(())
 }
 
 /// The texts of a font with all codes, in which A has a kern before a line feed, a space and a soft hyphen, and
@@ -141,10 +137,9 @@ fn with_all_codes(alloc: Global) -> Result<Vec<u8>, AllocError> {
 }
 
 #[test]
-fn characters_are_named_quoted_and_escaped(rt: HostRuntime) -> Result<(), Fail> {
-    let file = with_all_codes(rt.alloc())?;
-    for (layout, wanted) in OF_ALL_CODES {
-        has_text(&rt, &file, layout, wanted)?;
+fn characters_are_named_quoted_and_escaped(rt: HostRuntime) {
+    let file = with_all_codes(rt.alloc()).expect(&rt, "memory");
+    for (layout, wanted) in &OF_ALL_CODES {
+        has_text(&rt, &file, *layout, wanted);
     }
-    Ok(())
 }

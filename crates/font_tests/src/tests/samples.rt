@@ -1,6 +1,6 @@
 //! Fonts with some words of their files changed.
 use std::alloc::{AllocError, Global};
-use std::test::Fail;
+use std::process::Abort;
 use test_support::fonts::{AHEAD, BACK, HALF, LIGATURE, QUARTER, Sample, THREE_QUARTERS};
 use tfm_tables::Font;
 use tfm_words::Size;
@@ -39,12 +39,16 @@ fn put(file: &mut [u8], number: usize, word: u32) {
 }
 
 /// Reads the font with these words changed, at its design size or at a number of scaled points.
-pub fn read(
-    alloc: Global,
+pub fn read<R: Abort + AllocGlobal>(
+    rt: &R,
     font: &Sample<'_>,
     changes: &[Change],
     points: Option<u32>,
-) -> Result<Font, Fail> {
-    let file = changed(alloc, font, changes)?;
-    Ok(Font::read(alloc, &file, points.and_then(Size::new))?)
+) -> Font {
+    let file = changed(rt.alloc(), font, changes).expect(rt, "memory");
+    let size = match points {
+        Some(points) => Size::new(points),
+        None => None,
+    };
+    Font::read(rt.alloc(), &file, size).expect(rt, "a font")
 }

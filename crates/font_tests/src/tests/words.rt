@@ -1,8 +1,8 @@
 //! Counts, positions of tables, words, sizes and scaling.
+use super::same;
 use super::samples::changed;
 use std::process::Abort;
-use std::test::Fail;
-use test_support::fonts::{LIGATURE, NO_CHARACTERS, PLAIN, files};
+use test_support::fonts::{LIGATURE, NO_CHARACTERS, PLAIN, Sample, files};
 use tfm_words::Table::{
     CharInfo, Depth, Exten, Header, Height, Italic, Kern, LigKern, Param, Width,
 };
@@ -25,41 +25,46 @@ fn numbers_of(counts: &Counts) -> [u16; 12] {
     ]
 }
 
+/// Fonts that are lent: a constant is copied at each use.
+static FONTS: [Sample<'static>; 3] = [NO_CHARACTERS, PLAIN, LIGATURE];
+
+/// The font's file is this one.
+fn is_file<R: Abort + AllocGlobal>(rt: &R, font: &Sample<'_>, wanted: &[u8], case: &str) {
+    let file = font.file(rt.alloc()).expect(rt, "memory");
+    same(rt, &file.as_slice(), &wanted, &case);
+}
+
 #[test]
-fn the_files_are_those_of_the_parts(rt: HostRuntime) -> Result<(), Fail> {
-    let file = NO_CHARACTERS.file(rt.alloc())?;
-    assert!(rt;
-        file.as_slice() == files::NO_CHARACTERS.as_slice(),
-        "no characters"
-    );
-    let file = PLAIN.file(rt.alloc())?;
-    assert!(rt; file.as_slice() == files::PLAIN.as_slice(), "plain");
-    Ok(())
+fn the_files_are_those_of_the_parts(rt: HostRuntime) {
+    is_file(&rt, &FONTS[0], &files::NO_CHARACTERS, "no characters");
+    is_file(&rt, &FONTS[1], &files::PLAIN, "plain");
 }
 
 /// The counts and the design size of a font whose file has this many bytes.
 fn has_counts<R: Abort>(rt: &R, bytes: &[u8], wanted: [u16; 12]) {
-    let len = bytes.len();
-    match Counts::read(bytes) {
+    let found = match Counts::read(bytes) {
         Ok(counts) => {
-            assert_eq!(rt; numbers_of(&counts), wanted, "{len} bytes");
             let design = design_size(bytes, &counts).map(Size::get);
-            assert_eq!(rt; design, Ok(327_680), "{len} bytes");
+            Ok((numbers_of(&counts), design))
         }
-        Err(fault) => assert!(rt; false, "{len} bytes: {fault}"),
-    }
+        Err(fault) => Err(fault),
+    };
+    same(rt, &found, &Ok((wanted, Ok(327_680))), &bytes.len());
+}
+
+/// The font without characters has these counts if its word 1 is this one, and with a byte more, too.
+fn has_codes<R: Abort + AllocGlobal>(rt: &R, (word, bc, ec): (u32, u16, u16)) {
+    let mut bytes = changed(rt.alloc(), &FONTS[0], &[(1, word)]).expect(rt, "memory");
+    let wanted = [12, 2, bc, ec, 1, 1, 1, 1, 0, 0, 0, 0];
+    has_counts(rt, &bytes, wanted);
+    bytes.push(0xFF).expect(rt, "memory"); // 49 bytes
+    has_counts(rt, &bytes, wanted);
 }
 
 #[test]
-fn counts_of_the_empty_font(rt: HostRuntime) -> Result<(), Fail> {
-    for (word, bc, ec) in [(0x0001_0000, 1, 0), (0x0100_00FF, 256, 255)] {
-        let mut bytes = changed(rt.alloc(), &NO_CHARACTERS, &[(1, word)])?;
-        let wanted = [12, 2, bc, ec, 1, 1, 1, 1, 0, 0, 0, 0];
-        has_counts(&rt, &bytes, wanted);
-        bytes.push(0xFF)?; // 49 bytes
-        has_counts(&rt, &bytes, wanted);
-    }
-    Ok(())
+fn counts_of_the_empty_font(rt: HostRuntime) {
+    has_codes(&rt, (0x0001_0000, 1, 0));
+    has_codes(&rt, (0x0100_00FF, 256, 255));
 }
 
 /// The tables, and where they are in the plain font and in the font with a ligature.
@@ -76,15 +81,19 @@ static PLACES: [(Table, (usize, usize), (usize, usize)); 10] = [
     (Param, (18, 2), (23, 2)),
 ];
 
+/// The counts of a font.
+fn counts_of<R: Abort + AllocGlobal>(rt: &R, font: &Sample<'_>) -> Counts {
+    let file = font.file(rt.alloc()).expect(rt, "memory");
+    Counts::read(&file).expect(rt, "counts")
+}
+
 #[test]
-fn places_of_tables(rt: HostRuntime) -> Result<(), Fail> {
-    let plain = Counts::read(&PLAIN.file(rt.alloc())?)?;
-    let ligature = Counts::read(&LIGATURE.file(rt.alloc())?)?;
-    for (table, in_plain, in_ligature) in PLACES {
-        let places = (plain.table(table), ligature.table(table));
-        assert_eq!(rt; places, (in_plain, in_ligature), "{table}");
+fn places_of_tables(rt: HostRuntime) {
+    let (plain, ligature) = (counts_of(&rt, &FONTS[1]), counts_of(&rt, &FONTS[2]));
+    for (table, in_plain, in_ligature) in &PLACES {
+        let places = (plain.table(*table), ligature.table(*table));
+        same(&rt, &places, &(*in_plain, *in_ligature), table);
     }
-    Ok(())
 }
 
 /// Words, and their numbers.
@@ -96,12 +105,17 @@ static WORDS: [([u8; 4], i32); 5] = [
     ([0xFF, 0xFF, 0xFF, 0xFF], -1),
 ];
 
+/// The word is this number, and is read as it is.
+fn is_word<R: Abort>(rt: &R, (word, number): ([u8; 4], i32)) {
+    let [a, b, c, d] = word;
+    let found = (FixWord::of(word), word_at(&[1, 2, 3, 4, a, b, c, d, 5], 1));
+    same(rt, &found, &(FixWord(number), word), &word);
+}
+
 #[test]
 fn words(rt: HostRuntime) {
-    for (word, number) in WORDS {
-        assert_eq!(rt; FixWord::of(word), FixWord(number), "{word:?}");
-        let [a, b, c, d] = word;
-        assert_eq!(rt; word_at(&[1, 2, 3, 4, a, b, c, d, 5], 1), word);
+    for row in &WORDS {
+        is_word(&rt, *row);
     }
 }
 
@@ -129,15 +143,28 @@ static SCALED: [([u8; 4], u32, Option<i32>); 10] = [
     ([0x00, 0x10, 0x00, 0x00], 8_388_607, Some(8_388_607)),
 ];
 
+/// The number of scaled points is a size if the row says so.
+fn is_size<R: Abort>(rt: &R, (points, is_size): (u32, bool)) {
+    let size = Size::new(points).map(Size::get);
+    same(rt, &size, &is_size.then_some(points), &points);
+}
+
+/// The word is scaled to this.
+fn is_scaled<R: Abort>(rt: &R, (word, points, wanted): ([u8; 4], u32, Option<i32>)) {
+    let scaled = match Size::new(points) {
+        Some(size) => FixWord::of(word).scaled(size),
+        None => None,
+    };
+    same(rt, &scaled, &wanted, &(word, points));
+}
+
 #[test]
 fn sizes_and_scaling(rt: HostRuntime) {
-    for (points, is_size) in SIZES {
-        let size = Size::new(points).map(Size::get);
-        assert_eq!(rt; size, is_size.then_some(points), "{points}");
+    for row in &SIZES {
+        is_size(&rt, *row);
     }
-    for (word, points, wanted) in SCALED {
-        let scaled = Size::new(points).and_then(|size| FixWord::of(word).scaled(size));
-        assert_eq!(rt; scaled, wanted, "{word:?} at {points}");
+    for row in &SCALED {
+        is_scaled(&rt, *row);
     }
 }
 
@@ -174,21 +201,21 @@ static POINTS: [u32; 22] = [
     0x5F5_E107, 0x7FF_FFFE, 0x7FF_FFFF,
 ];
 
-fn scales_as_tex_does<R: Abort>(rt: &R, size: Size) {
-    for lower in LOWER_BYTES {
+fn scales_as_tex_does<R: Abort>(rt: &R, points: u32) {
+    let size = Size::new(points).expect(rt, "a size");
+    for lower in &LOWER_BYTES {
         let [_, b, c, d] = lower.to_be_bytes();
-        for a in [0, 1, 127, 128, 254, 255] {
-            let word = [a, b, c, d];
+        for a in &[0, 1, 127, 128, 254, 255] {
+            let word = [*a, b, c, d];
             let scaled = FixWord::of(word).scaled(size);
-            assert_eq!(rt; scaled, scaled_by_bytes(word, size), "{word:?} at {size:?}");
+            same(rt, &scaled, &scaled_by_bytes(word, size), &(word, size));
         }
     }
 }
 
 #[test]
-fn scaling_byte_by_byte(rt: HostRuntime) -> Result<(), Fail> {
-    for points in POINTS {
-        scales_as_tex_does(&rt, Size::new(points).ok_or("a size")?);
+fn scaling_byte_by_byte(rt: HostRuntime) {
+    for points in &POINTS {
+        scales_as_tex_does(&rt, *points);
     }
-    Ok(())
 }

@@ -1,4 +1,6 @@
 //! Lanes call by call, each return value compared.
+ghost use Rattle.std.specs.Prelude.{◌≡◌, ◌∷◌, ◌++◌, []};
+
 use super::lane::{Lane, Named, end_of};
 use super::numbers::Same;
 use line_lane::Made;
@@ -78,19 +80,19 @@ static NUMBER_SCRIPTS: [Script; 2] = table! {
         take: complete, settle: complete";
 };
 
-/// The calls of a lane with this maker have these return values.
-fn plays<R: Abort + AllocGlobal, M: Named>(rt: &R, maker: M, (capacity, block, calls): Script)
+/// These calls of a lane have these return values. Returns the lane, unless the last call has settled it.
+fn goes_on<R: Abort + AllocGlobal, M: Named>(rt: &R, lane: Lane<M>, calls: &str) -> Option<Lane<M>>
 where
     M::Out: Made,
 {
-    let mut lane = Lane::open(rt.alloc(), maker, (capacity, block)).expect(rt, "memory");
+    let mut lane = lane;
     for (number, call) in calls.split(", ").enumerate() {
         let (call, wanted) = call.split_once(": ").unwrap_or((call, ""));
         if call == "settle" {
             match lane.settle() {
                 Ok(end) => {
                     assert!(rt; Some(end) == end_of(wanted), "the end of {calls}");
-                    return;
+                    return None;
                 }
                 Err(back) => lane = back,
             }
@@ -99,7 +101,16 @@ where
             assert!(rt; is_so, "call {number} of {calls}");
         }
     }
-    panic!(rt; "no end of {calls}")
+    Some(lane)
+}
+
+/// The calls of a lane with this maker have these return values, and settle it.
+fn plays<R: Abort + AllocGlobal, M: Named>(rt: &R, maker: M, (capacity, block, calls): Script)
+where
+    M::Out: Made,
+{
+    let lane = Lane::open(rt.alloc(), maker, (capacity, block)).expect(rt, "memory");
+    assert!(rt; goes_on(rt, lane, calls).is_none(), "no end of {calls}");
 }
 
 #[test]
@@ -110,4 +121,59 @@ fn a_lane_call_by_call(rt: HostRuntime) {
     for script in &NUMBER_SCRIPTS {
         plays(&rt, Same, *script);
     }
+}
+
+/// The calls of two lanes, before the endpoints of both are in lists, and then.
+static TWO_LANES: [(&str, &str); 2] = table! {
+    "a: fed, b: fed, moved, moved, moved",
+    "close: true, moved, moved, moved, moved, moved, done, take: a, take: b, take: complete, settle: complete";
+    "c: fed, moved, moved",
+    "settle: open, d: fed, fail: true, moved, moved, moved, moved, moved, moved, done, take: c, take: d, take: read, \
+        settle: read";
+};
+
+/// A lane of lines, after these calls.
+fn begun<R: Abort + AllocGlobal>(rt: &R, calls: &str) -> Lane<Arc<Terms>> {
+    let terms = plain_terms(rt.alloc()).expect(rt, "memory");
+    let lane = Lane::open(rt.alloc(), terms, (4, 1)).expect(rt, "memory");
+    goes_on(rt, lane, calls).expect(rt, "a lane that isn't settled")
+}
+
+/// A list of two values.
+fn both<R: Abort + AllocGlobal, T: Drop>(rt: &R, first: T, second: T) -> Vec<T>
+    ensures { result.items ≡ first ∷ second ∷ [] }
+{
+    let mut both = Vec::new(rt.alloc());
+    both.push(first).expect(rt, "memory");
+    both.push(second).expect(rt, "memory");
+    both
+}
+
+/// Removes the last value of a list.
+fn last<R: Abort, T: Drop>(rt: &R, list: &mut Vec<T>) -> T
+    ensures { list.old.items ≡ list.new.items ++ result ∷ [] }
+{
+    list.pop().expect(rt, "a value")
+}
+
+/// A caller may keep the endpoints of lanes in lists. The second lane is settled first.
+#[test]
+fn two_lanes_in_lists(rt: HostRuntime) {
+    let [(first, first_rest), (second, second_rest)] = TWO_LANES;
+    let (first, second) = (begun(&rt, first), begun(&rt, second));
+    let mut feeders = both(&rt, first.feeder, second.feeder);
+    let mut setters = both(&rt, first.setter, second.setter);
+    let mut takers = both(&rt, first.taker, second.taker);
+    let lane = Lane {
+        feeder: last(&rt, &mut feeders),
+        setter: last(&rt, &mut setters),
+        taker: last(&rt, &mut takers),
+    };
+    assert!(&rt; goes_on(&rt, lane, second_rest).is_none());
+    let lane = Lane {
+        feeder: last(&rt, &mut feeders),
+        setter: last(&rt, &mut setters),
+        taker: last(&rt, &mut takers),
+    };
+    assert!(&rt; goes_on(&rt, lane, first_rest).is_none());
 }

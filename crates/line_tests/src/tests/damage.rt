@@ -1,4 +1,5 @@
 //! Damaged fonts that are still accepted, and short lines of their characters.
+use super::same;
 use set_line::{Limit, LineRefusal, Outcome, Policy, Terms, set_bytes};
 use std::alloc::AllocError;
 use std::process::Abort;
@@ -29,11 +30,11 @@ fn is_set<R: Abort + AllocGlobal>(rt: &R, terms: &Terms, line: &[u8]) -> bool {
     let mut list = Vec::new(rt.alloc());
     match set_bytes(terms, line, &mut list).expect(rt, "memory") {
         Outcome::Set { steps, .. } => {
-            assert!(rt; steps <= LIMIT);
+            same(rt, &(steps <= LIMIT), &true, &line);
             true
         }
         Outcome::Refused(refusal) => {
-            assert_eq!(rt; refusal, LineRefusal::Steps(LIMIT));
+            same(rt, &refusal, &LineRefusal::Steps(LIMIT), &line);
             false
         }
     }
@@ -66,8 +67,8 @@ fn sets_with_damage<R: Abort + AllocGlobal>(rt: &R, file: &[u8]) -> bool {
     let mut damaged = Vec::from_slice(rt.alloc(), file).expect(rt, "memory");
     let mut any = false;
     for place in 0..file.len() {
-        for byte in DAMAGE {
-            damaged[place] = byte;
+        for byte in &DAMAGE {
+            damaged[place] = *byte;
             any = sets_lines(rt, &damaged) || any;
         }
         damaged[place] = file[place];
@@ -88,12 +89,8 @@ fn tries<R: Abort + AllocGlobal>(
     for len in 0..=file.len() {
         any = sets_lines(rt, &file[..len]) || any;
     }
-    assert_eq!(rt; any, has_characters, "the font with {case}");
-    assert_eq!(rt;
-        sets_with_damage(rt, &file),
-        has_characters,
-        "damaged fonts with {case}"
-    );
+    let found = (any, sets_with_damage(rt, &file));
+    same(rt, &found, &(has_characters, has_characters), &case);
 }
 
 #[test]

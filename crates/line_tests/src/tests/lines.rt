@@ -1,13 +1,19 @@
 //! Lines, with exactly their items, width and steps.
+ghost use Rattle.std.specs.Prelude.{◌≡◌};
+ghost use Rattle.line_records.specs.Cells.{Fits};
+
+use super::named::Named;
 use super::named::Named::*;
+use super::same;
 use super::words::{RUNS, Row};
 use lig_kern::Item;
 use line_records::{LineResult, LineWriter, RecordFormat, RecordOf, SourceLine};
-use set_line::{LineRefusal, OutOfMemory, Outcome, Policy, Terms, TextRefusal, Version, set_bytes};
-use std::alloc::Global;
+use set_line::{LineRefusal, Outcome, Policy, Terms, TextRefusal, Version, set_bytes};
+use std::fmt::Debug;
 use std::process::Abort;
+use std::sync::Arc;
 use test_support::items::{A, AHEAD, B, BACK, C, SPACE};
-use test_support::terms::terms_of;
+use test_support::terms;
 
 /// The bytes 100 and 124, which are skipped.
 const D: Item = Item::Skipped(100);
@@ -91,89 +97,117 @@ static SKIPPED: [Row; 8] = [
     (Plain, " d ", 436_906, 0, &[SPACE, D, SPACE]),
 ];
 
-/// Sets a line.
-pub fn outcome_of<R: Abort + AllocGlobal>(rt: &R, terms: &Terms, line: &str) -> Outcome {
-    let mut list = Vec::new(rt.alloc());
-    set_bytes(terms, line.as_bytes(), &mut list).expect(rt, "memory")
+/// What a line has: its items, its width and its steps, or its refusal.
+pub type Found<'a> = Result<(&'a [Item], i64, u32), LineRefusal>;
+
+/// Reads a font at its design size, for lines that are set with this limit.
+pub fn terms_of<R: Abort + AllocGlobal>(
+    rt: &R,
+    font: Named,
+    limit: u32,
+    policy: Policy,
+) -> Arc<Terms> {
+    let file = font.file(rt.alloc());
+    terms::terms_of(rt.alloc(), file, limit, policy).expect(rt, "terms")
 }
 
-/// Whether the line is set so.
-pub fn is_set(outcome: &Outcome, wanted: (&[Item], i64, u32)) -> bool {
+/// Sets a line, which has this.
+pub fn has<R: Abort + AllocGlobal, C: Debug>(
+    rt: &R,
+    terms: &Terms,
+    line: &str,
+    wanted: Found<'_>,
+    case: &C,
+) {
+    let mut list = Vec::new(rt.alloc());
+    let outcome = set_bytes(terms, line.as_bytes(), &mut list).expect(rt, "memory");
+    same(rt, &found_in(&outcome), &wanted, &(line, case));
+}
+
+/// The items, the width and the steps of a line that was set.
+fn found_in(outcome: &Outcome) -> Found<'_> {
     match outcome {
         Outcome::Set {
             items,
             width,
             steps,
-        } => items.as_slice() == wanted.0 && *width == wanted.1 && *steps == wanted.2,
-        Outcome::Refused(_) => false,
+        } => Ok((items.as_slice(), *width, *steps)),
+        Outcome::Refused(refusal) => Err(*refusal),
     }
 }
 
-/// The results of a line by a writer: before it is prepared, when the texts that the line needs are made, and when
-/// they are there.
-fn results_of(alloc: Global, terms: &Terms, line: &str) -> Result<[LineResult; 3], OutOfMemory> {
+/// The result of a line by a writer: its width, its steps and the number of its items, or its refusal.
+fn has_result<R: Abort>(
+    rt: &R,
+    writer: &mut LineWriter,
+    terms: &Terms,
+    line: &str,
+    wanted: Result<(i64, u32, usize), LineRefusal>,
+)
+    requires { Fits writer.old terms.now }
+    ensures { writer.new ≡ writer.old }
+{
     let of = RecordOf {
         terms,
         encoding: None,
         source: 1,
     };
-    let line = SourceLine {
+    let source = SourceLine {
         number: 1,
         first: true,
         bytes: line.as_bytes(),
     };
-    let mut writer = LineWriter::new(alloc, terms, RecordFormat::Items(Version::One));
-    let general = writer.result(&of, line)?;
-    writer.prepare(terms);
-    let made = writer.result(&of, line)?;
-    Ok([general, made, writer.result(&of, line)?])
+    let found = match writer.result(&of, source).expect(rt, "memory") {
+        LineResult::Set(sums) => Ok((sums.width, sums.steps, sums.items)),
+        LineResult::Refused(refusal) => Err(refusal),
+    };
+    same(rt, &found, &wanted.map_err(TextRefusal::Line), &line);
 }
 
-/// The line has these results: its width, its steps and the number of its items, or its refusal.
+/// The line has this result before the writer is prepared, when the texts that the line needs are made, and when they
+/// are there.
 fn has_results<R: Abort + AllocGlobal>(
     rt: &R,
     terms: &Terms,
     line: &str,
     wanted: Result<(i64, u32, usize), LineRefusal>,
 ) {
-    for result in results_of(rt.alloc(), terms, line).expect(rt, "memory") {
-        let found = match result {
-            LineResult::Set(sums) => Ok((sums.width, sums.steps, sums.items)),
-            LineResult::Refused(refusal) => Err(refusal),
-        };
-        assert_eq!(rt; found, wanted.map_err(TextRefusal::Line), "{line:?}");
-    }
+    let mut writer = LineWriter::new(rt.alloc(), terms, RecordFormat::Items(Version::One));
+    has_result(rt, &mut writer, terms, line, wanted);
+    writer.prepare(terms);
+    has_result(rt, &mut writer, terms, line, wanted);
+    has_result(rt, &mut writer, terms, line, wanted);
 }
 
-/// The line is set so with just its steps as the limit.
+/// The line has this with this limit.
+fn has_with<R: Abort + AllocGlobal>(
+    rt: &R,
+    (font, policy): (Named, Policy),
+    limit: u32,
+    line: &str,
+    wanted: Found<'_>,
+) {
+    let terms = terms_of(rt, font, limit, policy);
+    has(rt, &terms, line, wanted, &font);
+    let sums = match wanted {
+        Ok((items, width, steps)) => Ok((width, steps, items.len())),
+        Err(refusal) => Err(refusal),
+    };
+    has_results(rt, &terms, line, sums);
+}
+
+/// The line is set so with just its steps as the limit, and refused with one step less, if that is a limit.
 fn sets_line<R: Abort + AllocGlobal>(
     rt: &R,
     policy: Policy,
     (font, line, width, steps, items): Row,
 ) {
-    let file = font.file(rt.alloc());
-    let terms = terms_of(rt.alloc(), file, steps.max(1), policy).expect(rt, "terms");
-    let outcome = outcome_of(rt, &terms, line);
-    assert!(rt;
-        is_set(&outcome, (items, width, steps)),
-        "{line:?} in {font:?}: {outcome:?}"
-    );
-    has_results(rt, &terms, line, Ok((width, steps, items.len())));
-}
-
-/// The line is refused with one step less as the limit, if that is a limit.
-fn refuses_line<R: Abort + AllocGlobal>(rt: &R, policy: Policy, (font, line, _, steps, _): Row) {
+    let wanted = Ok((items, width, steps));
+    has_with(rt, (font, policy), steps.max(1), line, wanted);
     let limit = steps.saturating_sub(1);
     if limit > 0 {
-        let file = font.file(rt.alloc());
-        let terms = terms_of(rt.alloc(), file, limit, policy).expect(rt, "terms");
-        let refused = match outcome_of(rt, &terms, line) {
-            Outcome::Set { .. } => None,
-            Outcome::Refused(refusal) => Some(refusal),
-        };
-        let wanted = LineRefusal::Steps(limit);
-        assert_eq!(rt; refused, Some(wanted), "{line:?} in {font:?}");
-        has_results(rt, &terms, line, Err(wanted));
+        let refused = Err(LineRefusal::Steps(limit));
+        has_with(rt, (font, policy), limit, line, refused);
     }
 }
 
@@ -181,7 +215,6 @@ fn refuses_line<R: Abort + AllocGlobal>(rt: &R, policy: Policy, (font, line, _, 
 fn sets_each<R: Abort + AllocGlobal>(rt: &R, policy: Policy, rows: &[Row]) {
     for row in rows {
         sets_line(rt, policy, *row);
-        refuses_line(rt, policy, *row);
     }
 }
 

@@ -1,12 +1,12 @@
 //! Long lines, lines in fonts of which a part is long, and long texts.
-use super::lines::{is_set, outcome_of};
+use super::lines::{has, terms_of as named_terms};
 use super::named::Named;
 use super::named::Named::*;
 use super::records::{BYTES, Case, is_recorded};
+use super::same;
 use lig_kern::Item;
-use set_line::{Line, Policy, Version, lines, record, set, set_bytes};
+use set_line::{Answer, Line, Policy, Terms, Version, lines, record, set, set_bytes};
 use std::process::Abort;
-use std::test::Fail;
 use test_support::fonts::lengths::{LONG, Lengths, amount_of};
 use test_support::items::{A, B, C};
 use test_support::terms::{LIMIT, terms_of};
@@ -60,32 +60,38 @@ static ROWS: [Row; 14] = rows! {
 
 /// The parts one after the other, the middle one this many times.
 fn joined<R: Abort + AllocGlobal>(rt: &R, [first, middle, last]: Parts, times: usize) -> String {
+    let mut text = String::new(rt.alloc());
+    text.push_str(first).expect(rt, "memory");
     let middle = middle.repeat(rt.alloc(), times).expect(rt, "memory");
-    format!(in rt.alloc(); "{first}{middle}{last}").expect(rt, "memory")
+    text.push_str(&middle).expect(rt, "memory");
+    text.push_str(last).expect(rt, "memory");
+    text
+}
+
+/// The line has its record.
+fn has_record<R: Abort + AllocGlobal>(rt: &R, (font, policy, line, times, record): Row) {
+    let case = Case {
+        font,
+        policy,
+        version: Version::Two,
+        ..BYTES
+    };
+    let bytes = joined(rt, line, times);
+    let recorded = is_recorded(rt, &case, bytes.as_bytes(), &joined(rt, record, times));
+    same(rt, &recorded, &true, &(times, line, font));
 }
 
 #[test]
-fn long_lines_have_their_records(rt: HostRuntime) -> Result<(), Fail> {
-    for (font, policy, line, times, record) in ROWS {
-        let case = Case {
-            font,
-            policy,
-            version: Version::Two,
-            ..BYTES
-        };
-        let bytes = joined(&rt, line, times);
-        let record = joined(&rt, record, times);
-        let recorded = is_recorded(rt.alloc(), case, bytes.as_bytes(), &record)?;
-        assert!(rt; recorded, "{times} times {line:?} in {font:?}");
+fn long_lines_have_their_records(rt: HostRuntime) {
+    for row in &ROWS {
+        has_record(&rt, *row);
     }
-    Ok(())
 }
 
-/// The line `aab ac` has the font's kerns and its space.
-fn has_kerns<R: Abort + AllocGlobal>(rt: &R, case: &str, lengths: &Lengths) {
+/// The items and the width of the line `aab ac`, with the font's kerns and its space.
+fn kerned(lengths: &Lengths) -> ([Item; 9], i64) {
     let [first, second, third] = lengths.used;
-    let kerns = [amount_of(first), amount_of(second), amount_of(third)];
-    let [first, second, third] = kerns;
+    let (first, second, third) = (amount_of(first), amount_of(second), amount_of(third));
     let space = if lengths.parameters < 2 { 0 } else { 320 };
     let items = [
         A,
@@ -99,13 +105,18 @@ fn has_kerns<R: Abort + AllocGlobal>(rt: &R, case: &str, lengths: &Lengths) {
         C,
     ];
     let mut width = 1_638_400;
-    for amount in [first, second, third, space] {
-        width = i64::from(amount).wrapping_add(width);
+    for amount in &[first, second, third, space] {
+        width = i64::from(*amount).wrapping_add(width);
     }
+    (items, width)
+}
+
+/// The line `aab ac` has the font's kerns and its space.
+fn has_kerns<R: Abort + AllocGlobal>(rt: &R, case: &str, lengths: &Lengths) {
+    let (items, width) = kerned(lengths);
     let file = lengths.file(rt.alloc());
-    let terms = terms_of(rt.alloc(), file, 5, Policy::Refuse).expect(rt, "terms");
-    let outcome = outcome_of(rt, &terms, "aab ac");
-    assert!(rt; is_set(&outcome, (&items, width, 5)), "{case}: {outcome:?}");
+    let terms = terms_of(rt.alloc(), file, 5, REFUSE).expect(rt, "terms");
+    has(rt, &terms, "aab ac", Ok((&items, width, 5)), &case);
 }
 
 #[test]
@@ -118,51 +129,75 @@ fn a_font_with_a_long_part_sets_lines(rt: HostRuntime) {
 /// How many lines a text has, and how many bytes each has without its line feed.
 static TEXTS: [(usize, usize); 4] = [(1, 10_000_000), (3, 3_333_333), (100_000, 99), (200_000, 0)];
 
+/// A text of this many lines, of this length, is cut into them.
+fn is_cut<R: Abort + AllocGlobal>(rt: &R, (count, length): (usize, usize)) {
+    let mut line = Vec::from_elem(rt.alloc(), b'b', length).expect(rt, "memory");
+    line.push(b'\n').expect(rt, "memory");
+    let text = line.repeat(rt.alloc(), count).expect(rt, "memory");
+    let found = lines(rt.alloc(), &text).expect(rt, "memory");
+    same(rt, &found.len(), &count, &length);
+    for line in &found {
+        same(rt, &line.bytes().len(), &length, &count);
+    }
+}
+
 #[test]
 fn texts_of_ten_million_bytes_are_cut(rt: HostRuntime) {
-    for (count, length) in TEXTS {
-        let line = "b".repeat(rt.alloc(), length).expect(&rt, "memory");
-        let line = format!(in rt.alloc(); "{line}\n").expect(&rt, "memory");
-        let text = line.repeat(rt.alloc(), count).expect(&rt, "memory");
-        let found = lines(rt.alloc(), text.as_bytes()).expect(&rt, "memory");
-        assert_eq!(rt; found.len(), count, "lines of {length} bytes");
-        for line in &found {
-            assert_eq!(rt; line.bytes().len(), length, "in {count} lines");
-        }
+    for row in &TEXTS {
+        is_cut(&rt, *row);
     }
 }
 
 /// The bytes before a record.
 static BEFORE: [usize; 4] = [199_999, 200_000, 1_048_576, 10_000_000];
 
-#[test]
-fn a_record_after_a_long_text(rt: HostRuntime) -> Result<(), Fail> {
-    let file = Plain.file(rt.alloc());
-    let terms = terms_of(rt.alloc(), file, LIMIT, Policy::Refuse).ok_or("terms")?;
-    let line = Line::new(Vec::from_slice(rt.alloc(), b"a")?);
-    let answer = set(rt.alloc(), terms, line).ok().ok_or("memory")?;
-    for before in BEFORE {
-        let mut out = Vec::from_elem(rt.alloc(), b'+', before)?;
-        record(7, 1, &answer, Version::Two, &mut out)?;
-        record(7, 1, &answer, Version::Json, &mut out)?;
-        let records = "7:1 set 327680 steps 1 c97=327680\n\
-            {\"source\":7,\"line\":1,\"width\":327680,\"steps\":1,\"items\":[[\"c\",97,327680]]}\n";
-        assert!(rt; out.ends_with(records.as_bytes()), "after {before} bytes");
+/// The records of the line `a`, of the source 7.
+const RECORDS: &[u8] = b"7:1 set 327680 steps 1 c97=327680\n\
+    {\"source\":7,\"line\":1,\"width\":327680,\"steps\":1,\"items\":[[\"c\",97,327680]]}\n";
+
+/// The records come after this many bytes.
+fn are_after<R: Abort + AllocGlobal>(rt: &R, answer: &Answer, before: usize) {
+    let mut out = Vec::from_elem(rt.alloc(), b'+', before).expect(rt, "memory");
+    for version in &[Version::Two, Version::Json] {
+        record(7, 1, answer, *version, &mut out).expect(rt, "memory");
     }
-    Ok(())
+    same(rt, &out.ends_with(RECORDS), &true, &before);
+}
+
+/// The records of an answer come after long texts.
+fn are_appended<R: Abort + AllocGlobal>(rt: &R) {
+    let terms = named_terms(rt, Plain, LIMIT, REFUSE);
+    let line = Line::new(Vec::from_slice(rt.alloc(), b"a").expect(rt, "memory"));
+    let answer = set(rt.alloc(), terms, line).expect(rt, "memory");
+    for before in &BEFORE {
+        are_after(rt, &answer, *before);
+    }
+}
+
+#[test]
+fn a_record_after_a_long_text(rt: HostRuntime) {
+    are_appended(&rt);
+}
+
+/// The list has the same memory after a line.
+fn is_kept<R: Abort>(rt: &R, terms: &Terms, line: &[u8], list: &mut Vec<Item>) {
+    let before = list.capacity();
+    let outcome = set_bytes(terms, line, list).expect(rt, "memory");
+    outcome.give_back(list);
+    same(rt, &list.capacity(), &before, &line.len());
 }
 
 /// The list keeps its memory through lines that are set, refused and too long.
+fn keeps_its_memory<R: Abort + AllocGlobal>(rt: &R) {
+    let terms = named_terms(rt, Ligature(3), 20, REFUSE);
+    let mut list: Vec<Item> = Vec::with_capacity(rt.alloc(), 300).expect(rt, "memory");
+    let long = [b'a'; 65_536];
+    for line in &[b"ab ab".as_slice(), b"a?", &long[..200], &long, b""] {
+        is_kept(rt, &terms, line, &mut list);
+    }
+}
+
 #[test]
 fn the_list_keeps_its_memory(rt: HostRuntime) {
-    let file = Ligature(3).file(rt.alloc());
-    let terms = terms_of(rt.alloc(), file, 20, Policy::Refuse).expect(&rt, "terms");
-    let mut list: Vec<Item> = Vec::with_capacity(rt.alloc(), 300).expect(&rt, "memory");
-    let before = list.capacity();
-    let long = [b'a'; 65_536];
-    for line in [b"ab ab".as_slice(), b"a?", &long[..200], &long, b""] {
-        let outcome = set_bytes(&terms, line, &mut list).expect(&rt, "memory");
-        outcome.give_back(&mut list);
-        assert_eq!(rt; list.capacity(), before, "{}", line.len());
-    }
+    keeps_its_memory(&rt);
 }

@@ -1,6 +1,7 @@
 //! What a font's program does between two neighbours.
 use super::named::Named;
 use super::named::Named::*;
+use super::same;
 use lig_kern::Symbol::{Char, Left, Right};
 use lig_kern::{Action, Symbol, first_match};
 use std::process::Abort;
@@ -63,11 +64,16 @@ static KERNS: [Row; 37] = [
     (Largest, Left, Char(66), None),
 ];
 
+/// This is done between these neighbours.
+fn is_done<R: Abort + AllocGlobal>(rt: &R, (font, left, right, action): Row) {
+    let found = first_match(&font.font(rt), left, right);
+    same(rt, &found, &action, &(left, right, font));
+}
+
 #[test]
 fn the_first_instruction_for_a_pair(rt: HostRuntime) {
-    for (font, left, right, action) in &KERNS {
-        let found = first_match(&font.font(&rt), *left, *right);
-        assert_eq!(rt; found, *action, "{left:?} and {right:?} in {font:?}");
+    for row in &KERNS {
+        is_done(&rt, *row);
     }
 }
 
@@ -97,15 +103,14 @@ fn inserts<R: Abort + AllocGlobal>(rt: &R, row: Inserted) {
         keep_right,
         pass,
     });
-    let found = first_match(&font.font(rt), left, right);
-    assert_eq!(rt; found, wanted, "{left:?} and {right:?} in {font:?}");
+    is_done(rt, (font, left, right, wanted));
 }
 
 /// A code that isn't listed does what code 0 does.
 #[test]
 fn each_operation_has_its_flags(rt: HostRuntime) {
-    for row in LIGATURES {
-        inserts(&rt, row);
+    for row in &LIGATURES {
+        inserts(&rt, *row);
     }
     for op in 0..128 {
         if !matches!(op, 0..=3 | 5..=7 | 11) {

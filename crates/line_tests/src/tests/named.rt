@@ -12,7 +12,7 @@ use tfm_tables::{Font, Step};
 
 /// The codes 228 to 230, which are ä, å and æ in T1, of 10, 20 and 30 sp, a kern of -10 sp between the first two, and
 /// a space of 50 sp.
-const LETTERS: Sample<'static> = Sample {
+static LETTERS: Sample<'static> = Sample {
     bc: 228,
     ec: 230,
     characters: &[A_FROM_0, B, C],
@@ -27,6 +27,9 @@ const LETTERS: Sample<'static> = Sample {
     parameters: &[0, 80],
     ..PLAIN
 };
+
+/// Fonts that are copied at each use.
+static COPIED: [Sample<'static>; 3] = [TWO_KERNS, SKIPPING, NO_PROGRAM];
 
 /// The sample fonts. `Ligature` and `Endless` have an operation.
 #[derive(Clone, Copy, Debug)]
@@ -56,14 +59,14 @@ impl Named {
             Named::NoSpace => without_space(alloc),
             Named::NoParameters => without_parameters(alloc),
             Named::Ligature(op) => ligature(alloc, op),
-            Named::TwoKerns => TWO_KERNS.file(alloc),
-            Named::Skipping => SKIPPING.file(alloc),
+            Named::TwoKerns => COPIED[0].file(alloc),
+            Named::Skipping => COPIED[1].file(alloc),
             Named::ThreeKerns => SHORT.file(alloc),
             Named::Indirect => indirect(alloc),
             Named::RightBoundary => right_boundary(alloc),
             Named::BoundaryExists => boundary_exists(alloc),
             Named::LeftBoundary => left_boundary(alloc),
-            Named::NoProgram => NO_PROGRAM.file(alloc),
+            Named::NoProgram => COPIED[2].file(alloc),
             Named::Endless(op) => endless(alloc, op),
             Named::Largest => largest(alloc),
             Named::Letters => LETTERS.file(alloc),

@@ -3,13 +3,15 @@
 use super::named::Named;
 use super::named::Named::*;
 use super::rewriting::{C, LETTERS, OPERATIONS, SHAPES, program_of, with_letters};
+use super::same;
 use super::slow::slow_place;
 use lig_kern::Item;
-use set_line::Limit;
+use set_line::{Limit, OutOfMemory};
+use spans::SpanRefusal::{Outside, Steps, TooLong};
 use spans::{Place, PlacedItem, Span, SpanOutcome, SpanRefusal, SpanSetter, SpanSize, place_span};
 use std::process::Abort;
 use test_support::items::{A, AHEAD, B, BACK, C as C_ITEM};
-use tfm_tables::Font;
+use tfm_tables::{Font, FontMetrics};
 
 /// An item and its place.
 type Part = (Item, (usize, usize));
@@ -231,32 +233,52 @@ fn limit_of<R: Abort>(rt: &R, steps: u32) -> Limit {
     Limit::new(steps).expect(rt, "a limit")
 }
 
-/// The span is set and placed, after an item that stays.
-fn sets_span<R: Abort + AllocGlobal>(rt: &R, (named, text, shape, width, steps, parts): Row) {
-    let span = span(shape);
-    let font = named.font(rt);
-    let limit = limit_of(rt, 40);
+/// What a row says of its span.
+fn wanted_of((_, _, _, width, steps, parts): &Row) -> Result<SpanOutcome, OutOfMemory> {
     let size = SpanSize {
-        width,
+        width: *width,
         items: parts.len(),
-        steps,
+        steps: *steps,
     };
-    let wanted = Ok(SpanOutcome::Set(size));
+    Ok(SpanOutcome::Set(size))
+}
+
+/// The span is set twice by one setter.
+fn is_set_twice<R: Abort + AllocGlobal>(rt: &R, font: &Font, row: &Row) {
+    let (named, text, shape, _, _, _) = row;
+    let (span, limit) = (span(*shape), limit_of(rt, 40));
     let mut setter = SpanSetter::new(rt.alloc());
-    for _ in 0..2 {
-        let set = setter.set(&font, text.as_bytes(), &span, limit);
-        assert_eq!(rt; set, wanted, "{text} in {named:?}");
-    }
+    let first = setter.set(font, text.as_bytes(), &span, limit);
+    let second = setter.set(font, text.as_bytes(), &span, limit);
+    let wanted = wanted_of(row);
+    same(rt, &(first, second), &(wanted, wanted), &(text, named));
+}
+
+/// The span is placed, after an item that stays.
+fn is_placed<R: Abort + AllocGlobal>(rt: &R, font: &Font, row: &Row) {
+    let (named, text, shape, _, _, parts) = row;
+    let (span, limit) = (span(*shape), limit_of(rt, 40));
     let mut list = Vec::new(rt.alloc());
     list.push(placed((BACK, (7, 8)))).expect(rt, "memory");
-    let set = place_span(&font, text.as_bytes(), &span, limit, &mut list);
-    assert_eq!(rt; set, wanted, "{text} in {named:?}");
-    let mut all = Vec::new(rt.alloc());
-    all.push(placed((BACK, (7, 8)))).expect(rt, "memory");
-    for part in parts {
-        all.push(placed(*part)).expect(rt, "memory");
+    let set = place_span(font, text.as_bytes(), &span, limit, &mut list);
+    same(rt, &set, &wanted_of(row), &(text, named));
+    are_placed(rt, &list, parts, (text, *named));
+}
+
+/// The list has the item that stays, and these with their places.
+fn are_placed<R: Abort>(rt: &R, list: &[PlacedItem], parts: &[Part], case: (&str, Named)) {
+    same(rt, &list.len(), &parts.len().saturating_add(1), &case);
+    same(rt, &list.first(), &Some(&placed((BACK, (7, 8)))), &case);
+    for (found, part) in list.iter().skip(1).zip(parts) {
+        same(rt, found, &placed(*part), &case);
     }
-    assert_eq!(rt; list, all, "{text} in {named:?}");
+}
+
+/// The span is set and placed as its row says.
+fn sets_span<R: Abort + AllocGlobal>(rt: &R, row: &Row) {
+    let font = row.0.font(rt);
+    is_set_twice(rt, &font, row);
+    is_placed(rt, &font, row);
 }
 
 fn placed((item, (start, end)): Part) -> PlacedItem {
@@ -266,153 +288,116 @@ fn placed((item, (start, end)): Part) -> PlacedItem {
 
 #[test]
 fn spans_have_these_items_and_places(rt: HostRuntime) {
-    for row in SPANS {
+    for row in &SPANS {
         sets_span(&rt, row);
     }
 }
 
-/// Both calls refuse the span for this reason, and append nothing.
-fn refuses<R: Abort + AllocGlobal>(
+/// A text and how often it is repeated, a span of it, its limit, and why it is refused in a font.
+type Refused = (Named, (&'static str, usize), Shape, u32, SpanRefusal);
+
+macro_rules! missing {
+    ($offset:literal, $code:literal) => {
+        SpanRefusal::Missing {
+            offset: $offset,
+            code: $code,
+        }
+    };
+}
+
+static REFUSED: [Refused; 12] = [
+    (Plain, ("abc", 1), (2, 2, true, None), 9, Outside),
+    (Plain, ("abc", 1), (4, 0, true, None), 9, Outside),
+    (Plain, ("abc", 1), (1, usize::MAX, true, None), 9, Outside),
+    (Plain, ("abc", 1), (usize::MAX, 1, true, None), 9, Outside),
+    (Plain, ("a b\n", 1), (0, 4, true, None), 9, missing!(1, 32)),
+    (Plain, ("a b\n", 1), (2, 2, true, None), 9, missing!(3, 10)),
+    (
+        Plain,
+        ("a b", 1),
+        (2, 1, false, Some(45)),
+        9,
+        missing!(3, 45),
+    ),
+    (Plain, ("abc", 1), (0, 3, false, None), 1, Steps),
+    (Endless(3), ("aa", 1), (0, 2, true, None), 100, Steps),
+    (Plain, ("c", 65_536), (0, 65_536, true, None), 9, TooLong),
+    (Plain, ("c", 65_536), (1, 65_536, true, None), 9, Outside),
+    (Plain, ("c", 65_536), (0, 65_535, true, None), 65_534, Steps),
+];
+
+/// Sets a span by a setter of its own.
+fn set_alone<R: AllocGlobal>(
     rt: &R,
     font: &Font,
-    (text, shape): (&[u8], Shape),
-    steps: u32,
-    refusal: SpanRefusal,
-) {
-    let span = span(shape);
-    let limit = limit_of(rt, steps);
-    let wanted = Ok(SpanOutcome::Refused(refusal));
-    let set = SpanSetter::new(rt.alloc()).set(font, text, &span, limit);
-    assert_eq!(rt; set, wanted, "{span:?}");
+    text: &[u8],
+    span: &Span,
+    limit: Limit,
+) -> Result<SpanOutcome, OutOfMemory> {
+    SpanSetter::new(rt.alloc()).set(font, text, span, limit)
+}
+
+/// Both calls refuse a span of this text as the row says, and append nothing.
+fn is_refused<R: Abort + AllocGlobal>(rt: &R, font: &Font, text: &[u8], row: &Refused) {
+    let (_, _, shape, steps, refusal) = row;
+    let (span, limit) = (span(*shape), limit_of(rt, *steps));
+    let set = set_alone(rt, font, text, &span, limit);
     let mut list = Vec::new(rt.alloc());
-    let set = place_span(font, text, &span, limit, &mut list);
-    assert_eq!(rt; set, wanted, "{span:?}");
-    assert!(rt; list.is_empty(), "{span:?}");
+    let placed = place_span(font, text, &span, limit, &mut list);
+    let wanted = Ok(SpanOutcome::Refused(*refusal));
+    same(rt, &(set, placed, list.len()), &(wanted, wanted, 0), &span);
+}
+
+/// The row's span is refused.
+fn refuses<R: Abort + AllocGlobal>(rt: &R, row: &Refused) {
+    let (named, (text, count), _, _, _) = row;
+    let text = text.repeat(rt.alloc(), *count).expect(rt, "memory");
+    is_refused(rt, &named.font(rt), text.as_bytes(), row);
 }
 
 #[test]
 fn a_span_is_refused_for_the_first_reason(rt: HostRuntime) {
-    let plain = Plain.font(&rt);
-    let missing = |offset, code| SpanRefusal::Missing { offset, code };
-    refuses(
-        &rt,
-        &plain,
-        (b"abc", (2, 2, true, None)),
-        9,
-        SpanRefusal::Outside,
-    );
-    refuses(
-        &rt,
-        &plain,
-        (b"abc", (4, 0, true, None)),
-        9,
-        SpanRefusal::Outside,
-    );
-    refuses(
-        &rt,
-        &plain,
-        (b"abc", (1, usize::MAX, true, None)),
-        9,
-        SpanRefusal::Outside,
-    );
-    refuses(
-        &rt,
-        &plain,
-        (b"abc", (usize::MAX, 1, true, None)),
-        9,
-        SpanRefusal::Outside,
-    );
-    refuses(
-        &rt,
-        &plain,
-        (b"a b\n", (0, 4, true, None)),
-        9,
-        missing(1, 32),
-    );
-    refuses(
-        &rt,
-        &plain,
-        (b"a b\n", (2, 2, true, None)),
-        9,
-        missing(3, 10),
-    );
-    refuses(
-        &rt,
-        &plain,
-        (b"a b", (2, 1, false, Some(45))),
-        9,
-        missing(3, 45),
-    );
-    refuses(
-        &rt,
-        &plain,
-        (b"abc", (0, 3, false, None)),
-        1,
-        SpanRefusal::Steps,
-    );
-    refuses(
-        &rt,
-        &Endless(3).font(&rt),
-        (b"aa", (0, 2, true, None)),
-        100,
-        SpanRefusal::Steps,
-    );
-    let long = Vec::from_elem(rt.alloc(), C, 65_536).expect(&rt, "memory");
-    let long = long.as_slice();
-    refuses(
-        &rt,
-        &plain,
-        (long, (0, 65_536, true, None)),
-        9,
-        SpanRefusal::TooLong,
-    );
-    refuses(
-        &rt,
-        &plain,
-        (long, (1, 65_536, true, None)),
-        9,
-        SpanRefusal::Outside,
-    );
-    refuses(
-        &rt,
-        &plain,
-        (long, (0, 65_535, true, None)),
-        65_534,
-        SpanRefusal::Steps,
-    );
+    for row in &REFUSED {
+        refuses(&rt, row);
+    }
 }
 
 /// Both calls and the definition agree on a span of a text within 40 steps. Returns whether it has an end.
 fn agree<R: Abort + AllocGlobal>(rt: &R, font: &Font, text: &str, span: Span) -> bool {
+    let file: &FontMetrics = font;
     let text = text.as_bytes();
     let limit = limit_of(rt, 40);
     let mut wanted = Vec::new(rt.alloc());
     let steps = slow_place(rt, font, (text, span), 40, &mut wanted);
     let mut found = Vec::new(rt.alloc());
     let set = place_span(font, text, &span, limit, &mut found);
-    assert_eq!(rt; found, wanted, "{span:?} of {text:?} in {font:?}");
-    let same = SpanSetter::new(rt.alloc()).set(font, text, &span, limit);
-    assert_eq!(rt; set, same, "{span:?} of {text:?} in {font:?}");
+    let same_set = set_alone(rt, font, text, &span, limit);
     let taken = match set {
         Ok(SpanOutcome::Set(size)) => Some(size.steps),
         _ => None,
     };
-    assert_eq!(rt; taken, steps, "{span:?} of {text:?} in {font:?}");
+    let found = (found.as_slice(), same_set, taken);
+    same(
+        rt,
+        &found,
+        &(wanted.as_slice(), set, steps),
+        &(span, text, file),
+    );
     steps.is_some()
 }
 
 /// They agree on spans of these texts with all edges, without and with a hyphen.
 fn agree_on_texts<R: Abort + AllocGlobal>(rt: &R, font: &Font) -> bool {
     let mut end = true;
-    for text in ["bab", "babb", "baab", "babab"] {
-        for (left, right) in [(false, false), (false, true), (true, false), (true, true)] {
-            for hyphen in [None, Some(C)] {
+    for text in &["bab", "babb", "baab", "babab"] {
+        for (left, right) in &[(false, false), (false, true), (true, false), (true, true)] {
+            for hyphen in &[None, Some(C)] {
                 let span = Span {
                     offset: 1,
                     length: text.len().saturating_sub(1),
-                    left,
-                    right,
-                    hyphen,
+                    left: *left,
+                    right: *right,
+                    hyphen: *hyphen,
                 };
                 end = agree(rt, font, text, span) && end;
             }
@@ -421,17 +406,22 @@ fn agree_on_texts<R: Abort + AllocGlobal>(rt: &R, font: &Font) -> bool {
     end
 }
 
-#[test]
-fn spans_in_many_fonts(rt: HostRuntime) {
+/// They agree in fonts of all shapes and operations. Some programs have no end.
+fn agree_in_all<R: Abort + AllocGlobal>(rt: &R) {
     let mut end = true;
-    for shape in SHAPES {
-        for first in OPERATIONS {
-            for second in OPERATIONS {
-                let program = program_of(shape, (first, second), (true, true));
-                let font = with_letters(&rt, 100, &LETTERS, &program);
-                end = agree_on_texts(&rt, &font) && end;
+    for shape in &SHAPES {
+        for first in &OPERATIONS {
+            for second in &OPERATIONS {
+                let program = program_of(*shape, (*first, *second), (true, true));
+                let font = with_letters(rt, 100, &LETTERS, &program);
+                end = agree_on_texts(rt, &font) && end;
             }
         }
     }
-    assert!(rt; !end);
+    same(rt, &end, &false, &"an end");
+}
+
+#[test]
+fn spans_in_many_fonts(rt: HostRuntime) {
+    agree_in_all(&rt);
 }

@@ -4,15 +4,14 @@ ghost use Rattle.line_records.specs.Cells.{Fits};
 
 use super::named::Named;
 use super::named::Named::*;
+use super::same;
 use encodings::Encoding;
 use line_records::{LineWriter, RecordFormat, RecordOf, SourceLine};
 use set_line::Policy::{Refuse, Skip};
 use set_line::Version::{Json, One, Two};
-use set_line::{Limit, Line, OutOfMemory, Policy, Terms, Version, set};
-use std::alloc::Global;
+use set_line::{Limit, Line, Policy, Terms, Version, set};
 use std::process::Abort;
 use std::sync::Arc;
-use std::test::Fail;
 use test_support::terms::LIMIT;
 use tfm_tables::Font;
 use tfm_words::Size;
@@ -203,62 +202,63 @@ static REPEATED: [(Case, (&[u8], usize), &str); 7] = rows! { UTF8;
 };
 
 /// Whether a writer appends this record.
-fn appends(
-    alloc: Global,
+fn appends<R: Abort + AllocGlobal>(
+    rt: &R,
     writer: &mut LineWriter,
     of: &RecordOf<'_>,
     line: SourceLine<'_>,
     record: &str,
-) -> Result<bool, OutOfMemory>
+) -> bool
     requires { Fits writer.old of.now.terms.now }
     ensures { writer.new ≡ writer.old }
 {
-    let mut out = Vec::new(alloc);
-    let refused = writer.append(of, line, &mut out)?.is_refused();
-    Ok(out.as_slice() == record.as_bytes() && refused == record.contains("refused"))
+    let mut out = Vec::new(rt.alloc());
+    let refused = writer
+        .append(of, line, &mut out)
+        .expect(rt, "memory")
+        .is_refused();
+    out.as_slice() == record.as_bytes() && refused == record.contains("refused")
 }
 
-/// Whether the line has this record by a writer that isn't prepared, and by another one that is: when the texts that
-/// the line needs are made, and when they are there.
-fn is_written(
-    alloc: Global,
+/// Returns the terms of a case.
+fn terms_of<R: Abort + AllocGlobal>(rt: &R, case: &Case) -> Terms {
+    let file = case.font.file(rt.alloc()).expect(rt, "memory");
+    let font = Font::read(rt.alloc(), &file, Size::new(case.size)).expect(rt, "a font");
+    Terms::new(
+        font,
+        Limit::new(case.limit).expect(rt, "a limit"),
+        case.policy,
+    )
+}
+
+/// Whether a writer that isn't prepared appends this record.
+fn writes<R: Abort + AllocGlobal>(
+    rt: &R,
     of: &RecordOf<'_>,
     line: SourceLine<'_>,
     (version, record): (Version, &str),
-) -> Result<bool, OutOfMemory> {
-    let mut writer = LineWriter::new(alloc, of.terms, RecordFormat::Items(version));
-    let general = appends(alloc, &mut writer, of, line, record)?;
-    let mut writer = LineWriter::new(alloc, of.terms, RecordFormat::Items(version));
-    writer.prepare(of.terms);
-    let made = appends(alloc, &mut writer, of, line, record)?;
-    Ok(general && made && appends(alloc, &mut writer, of, line, record)?)
+) -> bool {
+    let mut writer = LineWriter::new(rt.alloc(), of.terms, RecordFormat::Items(version));
+    appends(rt, &mut writer, of, line, record)
 }
 
-/// Whether `record` appends this record.
-fn is_answer_recorded(
-    alloc: Global,
-    terms: Terms,
+/// Whether one that is prepared does: when the texts that the line needs are made, and when they are there.
+fn writes_twice<R: Abort + AllocGlobal>(
+    rt: &R,
+    of: &RecordOf<'_>,
     line: SourceLine<'_>,
-    (source, version, record): (u64, Version, &str),
-) -> Result<bool, Fail> {
-    let bytes = Line::new(Vec::from_slice(alloc, line.bytes)?);
-    let answer = set(alloc, Arc::new(alloc, terms)?, bytes)
-        .ok()
-        .ok_or("memory")?;
-    let mut out = Vec::new(alloc);
-    set_line::record(source, line.number, &answer, version, &mut out)?;
-    Ok(out.as_slice() == record.as_bytes())
+    (version, record): (Version, &str),
+) -> bool {
+    let mut writer = LineWriter::new(rt.alloc(), of.terms, RecordFormat::Items(version));
+    writer.prepare(of.terms);
+    let made = appends(rt, &mut writer, of, line, record);
+    appends(rt, &mut writer, of, line, record) && made
 }
 
-/// Whether the line has this record, by a writer, and, if its bytes are codes, by `record`.
-pub fn is_recorded(alloc: Global, case: Case, bytes: &[u8], record: &str) -> Result<bool, Fail> {
-    let font = Font::read(alloc, &case.font.file(alloc)?, Size::new(case.size))?;
-    let terms = Terms::new(font, Limit::new(case.limit).ok_or("a limit")?, case.policy);
+/// Whether the line has this record by writers.
+fn is_written<R: Abort + AllocGlobal>(rt: &R, case: &Case, bytes: &[u8], record: &str) -> bool {
+    let terms = terms_of(rt, case);
     let (source, number) = case.place;
-    let record = match case.version {
-        Json => format!(in alloc; "{{\"source\":{source},\"line\":{number},{record}}}\n")?,
-        _ => format!(in alloc; "{source}:{number} {record}\n")?,
-    };
     let line = SourceLine {
         number,
         first: number == 1,
@@ -269,25 +269,73 @@ pub fn is_recorded(alloc: Global, case: Case, bytes: &[u8], record: &str) -> Res
         encoding: case.is_utf8.then_some(Encoding::T1),
         source,
     };
-    let written = is_written(alloc, &of, line, (case.version, &record))?;
-    let wanted = (source, case.version, record.as_str());
-    Ok(written && (case.is_utf8 || is_answer_recorded(alloc, terms, line, wanted)?))
+    let wanted = (case.version, record);
+    writes(rt, &of, line, wanted) && writes_twice(rt, &of, line, wanted)
+}
+
+/// Whether `record` appends this record.
+fn is_answer_recorded<R: Abort + AllocGlobal>(
+    rt: &R,
+    case: &Case,
+    bytes: &[u8],
+    record: &str,
+) -> bool {
+    let terms = Arc::new(rt.alloc(), terms_of(rt, case)).expect(rt, "memory");
+    let line = Line::new(Vec::from_slice(rt.alloc(), bytes).expect(rt, "memory"));
+    let answer = set(rt.alloc(), terms, line).expect(rt, "memory");
+    let (source, number) = case.place;
+    let mut out = Vec::new(rt.alloc());
+    set_line::record(source, number, &answer, case.version, &mut out).expect(rt, "memory");
+    out.as_slice() == record.as_bytes()
+}
+
+/// Returns the whole record of a case.
+fn whole<R: Abort + AllocGlobal>(rt: &R, case: &Case, record: &str) -> String {
+    let (source, number) = case.place;
+    match case.version {
+        Json => format!(in rt.alloc(); "{{\"source\":{source},\"line\":{number},{record}}}\n"),
+        _ => format!(in rt.alloc(); "{source}:{number} {record}\n"),
+    }
+    .expect(rt, "memory")
+}
+
+/// Whether the line has this record, by a writer, and, if its bytes are codes, by `record`.
+pub fn is_recorded<R: Abort + AllocGlobal>(
+    rt: &R,
+    case: &Case,
+    bytes: &[u8],
+    record: &str,
+) -> bool {
+    let record = whole(rt, case, record);
+    let written = is_written(rt, case, bytes, &record);
+    written && (case.is_utf8 || is_answer_recorded(rt, case, bytes, &record))
+}
+
+/// The lines have their records.
+fn are_recorded<R: Abort + AllocGlobal>(rt: &R, rows: &[Row]) {
+    for (case, line, record) in rows {
+        let recorded = is_recorded(rt, case, line.as_bytes(), record);
+        same(rt, &recorded, &true, &(line, case));
+    }
+}
+
+/// The line of these bytes has its record.
+fn is_repeated<R: Abort + AllocGlobal>(
+    rt: &R,
+    case: &Case,
+    (bytes, count): (&[u8], usize),
+    record: &str,
+) {
+    let line = bytes.repeat(rt.alloc(), count).expect(rt, "memory");
+    let recorded = is_recorded(rt, case, &line, record);
+    same(rt, &recorded, &true, &(count, bytes, case));
 }
 
 #[test]
-fn records_of_lines(rt: HostRuntime) -> Result<(), Fail> {
-    for (case, line, record) in &LINES {
-        let recorded = is_recorded(rt.alloc(), *case, line.as_bytes(), record)?;
-        assert!(rt; recorded, "{line:?}, {case:?}");
+fn records_of_lines(rt: HostRuntime) {
+    are_recorded(&rt, &LINES);
+    are_recorded(&rt, &TEXTS);
+    for (case, line, record) in &REPEATED {
+        is_repeated(&rt, case, *line, record);
     }
-    for (case, line, record) in &TEXTS {
-        let recorded = is_recorded(rt.alloc(), *case, line.as_bytes(), record)?;
-        assert!(rt; recorded, "{line:?}, {case:?}");
-    }
-    for (case, (bytes, count), record) in &REPEATED {
-        let line = bytes.repeat(rt.alloc(), *count)?;
-        let recorded = is_recorded(rt.alloc(), *case, &line, record)?;
-        assert!(rt; recorded, "{count} times {bytes:?}, {case:?}");
-    }
-    Ok(())
 }

@@ -1,4 +1,5 @@
 //! Runs in many small fonts, set by `set_word` and by the definition alone.
+use super::same;
 use super::slow::slow_set;
 use lig_kern::{WordFault, set_word};
 use std::process::Abort;
@@ -8,7 +9,7 @@ use test_support::fonts::{
     ligature_before,
 };
 use test_support::terms::font_of;
-use tfm_tables::{Font, Step};
+use tfm_tables::{Font, FontMetrics, Step};
 
 pub const A: u8 = 97;
 
@@ -103,19 +104,16 @@ pub fn with_letters<'a, R: Abort + AllocGlobal>(
 /// Both ways agree on a run, with and without the right boundary. Returns whether both have an end within the
 /// limit.
 fn agree<R: Abort + AllocGlobal>(rt: &R, font: &Font, run: &str, limit: u32) -> bool {
+    let file: &FontMetrics = font;
     let mut end = true;
-    for right in [false, true] {
-        let run = (run.as_bytes(), right);
+    for right in &[false, true] {
+        let run = (run.as_bytes(), *right);
         let mut wanted = Vec::new(rt.alloc());
         let steps = slow_set(rt, font, run, limit, &mut wanted);
         let mut found = Vec::new(rt.alloc());
-        let set = set_word(font, run.0, right, limit, &mut found);
-        assert_eq!(rt;
-            set,
-            steps.ok_or(WordFault::TooManySteps),
-            "{run:?} in {font:?}"
-        );
-        assert_eq!(rt; found, wanted, "{run:?} in {font:?}");
+        let set = set_word(font, run.0, run.1, limit, &mut found);
+        let wanted = (steps.ok_or(WordFault::TooManySteps), wanted.as_slice());
+        same(rt, &(set, found.as_slice()), &wanted, &(run, file));
         end = end && steps.is_some();
     }
     end
@@ -125,7 +123,7 @@ fn agree<R: Abort + AllocGlobal>(rt: &R, font: &Font, run: &str, limit: u32) -> 
 fn agree_on_all<R: Abort + AllocGlobal>(rt: &R, program: &[Step]) -> bool {
     let font = with_letters(rt, 100, &LETTERS, program);
     let mut end = true;
-    for run in RUNS {
+    for run in &RUNS {
         end = agree(rt, &font, run, 40) && end;
     }
     end
@@ -134,8 +132,8 @@ fn agree_on_all<R: Abort + AllocGlobal>(rt: &R, program: &[Step]) -> bool {
 /// Both ways agree in the fonts of these operations, with and without each boundary.
 fn agree_by<R: Abort + AllocGlobal>(rt: &R, shape: Shape, operations: (u8, u8)) -> bool {
     let mut end = true;
-    for boundaries in [(false, false), (false, true), (true, false), (true, true)] {
-        end = agree_on_all(rt, &program_of(shape, operations, boundaries)) && end;
+    for boundaries in &[(false, false), (false, true), (true, false), (true, true)] {
+        end = agree_on_all(rt, &program_of(shape, operations, *boundaries)) && end;
     }
     end
 }
@@ -144,12 +142,12 @@ fn agree_by<R: Abort + AllocGlobal>(rt: &R, shape: Shape, operations: (u8, u8)) 
 fn agree_in<R: Abort + AllocGlobal>(rt: &R, shapes: &[Shape]) {
     for shape in shapes {
         let mut end = true;
-        for first in OPERATIONS {
-            for second in OPERATIONS {
-                end = agree_by(rt, *shape, (first, second)) && end;
+        for first in &OPERATIONS {
+            for second in &OPERATIONS {
+                end = agree_by(rt, *shape, (*first, *second)) && end;
             }
         }
-        assert!(rt; !end, "{shape:?}");
+        same(rt, &end, &false, shape);
     }
 }
 
@@ -185,19 +183,23 @@ fn ligatures_that_insert_d(rt: HostRuntime) {
 
 /// Between a and each other letter, the letter after that one: between a and b stand all of them in the end,
 /// the last one first. They are so many that not all of them have room without an allocation.
-#[test]
-fn many_characters_ahead(rt: HostRuntime) {
-    let mut letters = Vec::from_elem(rt.alloc(), A_FROM_0, 1).expect(&rt, "memory");
-    letters.resize(25, fonts::A).expect(&rt, "memory");
+fn agree_with_many_ahead<R: Abort + AllocGlobal>(rt: &R) {
+    let mut letters = [fonts::A; 25];
+    letters[0] = A_FROM_0;
     let mut program = Vec::new(rt.alloc());
     for code in B..120 {
         program
             .push(ligature_before(code, 3, code.wrapping_add(1)))
-            .expect(&rt, "memory");
+            .expect(rt, "memory");
     }
-    program.push(last(kern_before(A, 0))).expect(&rt, "memory");
-    let font = with_letters(&rt, 121, &letters, &program);
-    for run in ["ab", "aab", "abab"] {
-        assert!(rt; agree(&rt, &font, run, 200), "{run}");
+    program.push(last(kern_before(A, 0))).expect(rt, "memory");
+    let font = with_letters(rt, 121, &letters, &program);
+    for run in &["ab", "aab", "abab"] {
+        same(rt, &agree(rt, &font, run, 200), &true, run);
     }
+}
+
+#[test]
+fn many_characters_ahead(rt: HostRuntime) {
+    agree_with_many_ahead(&rt);
 }

@@ -1,10 +1,11 @@
 //! The small types give what was put in, and a text is cut into its lines.
+use super::lines::terms_of;
 use super::named::Named::*;
+use super::same;
 use lig_kern::Item;
 use set_line::{Items, Limit, Line, OutOfMemory, Policy, lines, set};
 use std::alloc::AllocError;
 use std::process::Abort;
-use test_support::terms::terms_of;
 
 /// A number of steps, and whether it is a limit.
 static LIMITS: [(u32, bool); 6] = [
@@ -16,15 +17,20 @@ static LIMITS: [(u32, bool); 6] = [
     (u32::MAX, false),
 ];
 
+/// The number of steps is a limit if the row says so.
+fn is_limit<R: Abort>(rt: &R, (steps, is_limit): (u32, bool)) {
+    let wanted = if is_limit { Some(steps) } else { None };
+    let found = match Limit::new(steps) {
+        Some(limit) => Some(limit.get()),
+        None => None,
+    };
+    same(rt, &found, &wanted, &steps);
+}
+
 #[test]
 fn a_limit_is_from_1_to_16777216(rt: HostRuntime) {
-    for (steps, is_limit) in LIMITS {
-        let wanted = if is_limit { Some(steps) } else { None };
-        let found = match Limit::new(steps) {
-            Some(limit) => Some(limit.get()),
-            None => None,
-        };
-        assert_eq!(rt; found, wanted, "{steps} steps");
+    for row in &LIMITS {
+        is_limit(&rt, *row);
     }
 }
 
@@ -36,32 +42,43 @@ static ITEMS: [Item; 2] = [
     Item::Skipped(255),
 ];
 
+/// Items are those that they were made of.
+fn are_kept<R: Abort + AllocGlobal>(rt: &R, list: &[Item]) {
+    let items = Items::new(Vec::from_slice(rt.alloc(), list).expect(rt, "memory"));
+    same(rt, &items.as_slice(), &list, &"items");
+    same(rt, &items.into_vec().as_slice(), &list, &"a list");
+}
+
+/// A line has the bytes that it was made of.
+fn is_kept<R: Abort + AllocGlobal>(rt: &R, bytes: &[u8]) {
+    let line = Line::new(Vec::from_slice(rt.alloc(), bytes).expect(rt, "memory"));
+    same(rt, &line.bytes(), &bytes, &"a line");
+    same(rt, &line.into_bytes().as_slice(), &bytes, &"bytes");
+}
+
 #[test]
 fn values_are_what_they_were_made_of(rt: HostRuntime) {
-    let list = Vec::from_slice(rt.alloc(), &ITEMS).expect(&rt, "memory");
-    let items = Items::new(list);
-    assert_eq!(rt; items.as_slice(), ITEMS.as_slice());
-    assert_eq!(rt; items.into_vec().as_slice(), ITEMS.as_slice());
-    assert_eq!(rt; OutOfMemory::from(AllocError), OutOfMemory);
-    let bytes = Vec::from_slice(rt.alloc(), b"a \r\n\x00\xFF").expect(&rt, "memory");
-    let line = Line::new(bytes);
-    assert_eq!(rt; line.bytes(), b"a \r\n\x00\xFF".as_slice());
-    assert_eq!(rt; line.into_bytes().as_slice(), b"a \r\n\x00\xFF".as_slice());
+    are_kept(&rt, &ITEMS);
+    is_kept(&rt, b"a \r\n\x00\xFF");
+    same(&rt, &OutOfMemory::from(AllocError), &OutOfMemory, &"memory");
+}
+
+/// The answer to the line `ad` in the plain font has its terms and its line.
+fn has_its_terms<R: Abort + AllocGlobal>(rt: &R) {
+    let terms = terms_of(rt, Plain, 100, Policy::Skip);
+    let bytes = Vec::from_slice(rt.alloc(), b"ad").expect(rt, "memory");
+    let answer = set(rt.alloc(), terms, Line::new(bytes)).expect(rt, "memory");
+    let terms = answer.terms();
+    let font = terms.font();
+    let values = (terms.limit().get(), terms.policy(), font.space());
+    let found = (answer.line().bytes(), values, font.exists(97));
+    let wanted = (b"ad".as_slice(), (100, Policy::Skip, 218_453), true);
+    same(rt, &found, &wanted, &"ad");
 }
 
 #[test]
 fn an_answer_has_its_terms_and_its_line(rt: HostRuntime) {
-    let file = Plain.file(rt.alloc());
-    let terms = terms_of(rt.alloc(), file, 100, Policy::Skip).expect(&rt, "terms");
-    let bytes = Vec::from_slice(rt.alloc(), b"ad").expect(&rt, "memory");
-    let answer = set(rt.alloc(), terms, Line::new(bytes)).expect(&rt, "memory");
-    assert_eq!(rt; answer.line().bytes(), b"ad".as_slice());
-    let terms = answer.terms();
-    assert_eq!(rt; (terms.limit().get(), terms.policy()), (100, Policy::Skip));
-    assert_eq!(rt;
-        (terms.font().space(), terms.font().exists(97)),
-        (218_453, true)
-    );
+    has_its_terms(&rt);
 }
 
 /// A text, and its lines.
@@ -80,19 +97,18 @@ static TEXTS: [(&str, &[&str]); 12] = [
     (" \n a b \n\u{0}\u{ff}", &[" ", " a b ", "\u{0}\u{ff}"]),
 ];
 
-/// Line `i` of a text is this one.
-fn is_line<R: Abort>(rt: &R, found: &[Line], i: usize, wanted: &str) {
-    let line = found.get(i).expect(rt, "a line");
-    assert_eq!(rt; line.bytes(), wanted.as_bytes(), "line {i}");
+/// The text is cut into these lines.
+fn has_lines<R: Abort + AllocGlobal>(rt: &R, text: &str, wanted: &[&str]) {
+    let found = lines(rt.alloc(), text.as_bytes()).expect(rt, "memory");
+    same(rt, &found.len(), &wanted.len(), &text);
+    for (line, wanted) in found.iter().zip(wanted) {
+        same(rt, &line.bytes(), &wanted.as_bytes(), &text);
+    }
 }
 
 #[test]
 fn lines_stand_between_line_feeds(rt: HostRuntime) {
     for (text, wanted) in &TEXTS {
-        let found = lines(rt.alloc(), text.as_bytes()).expect(&rt, "memory");
-        assert_eq!(rt; found.len(), wanted.len(), "{text:?}");
-        for (i, line) in wanted.iter().enumerate() {
-            is_line(&rt, &found, i, line);
-        }
+        has_lines(&rt, text, wanted);
     }
 }

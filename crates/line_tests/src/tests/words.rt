@@ -1,6 +1,7 @@
 //! Runs, with exactly their items and steps.
 use super::named::Named;
 use super::named::Named::*;
+use super::same;
 use lig_kern::{Item, WordFault, set_word};
 use std::process::Abort;
 use test_support::items::{A, AHEAD, B, BACK, C, SPACE};
@@ -64,44 +65,45 @@ const EARLIER: [Item; 3] = [C, SPACE, Item::Skipped(100)];
 fn sets_run<R: Abort + AllocGlobal>(rt: &R, (font, run, _, steps, items): Row) {
     let read = font.font(rt);
     let mut list = Vec::from_slice(rt.alloc(), &EARLIER).expect(rt, "memory");
-    let less = set_word(
-        &read,
-        run.as_bytes(),
-        true,
-        steps.saturating_sub(1),
-        &mut list,
-    );
-    assert_eq!(rt; less, Err(WordFault::TooManySteps), "{run} in {font:?}");
-    assert_eq!(rt; list.as_slice(), EARLIER.as_slice(), "{run} in {font:?}");
+    let less = steps.saturating_sub(1);
+    let set = set_word(&read, run.as_bytes(), true, less, &mut list);
+    let wanted = (Err(WordFault::TooManySteps), EARLIER.as_slice());
+    same(rt, &(set, list.as_slice()), &wanted, &(run, font));
     let set = set_word(&read, run.as_bytes(), true, steps, &mut list);
-    assert_eq!(rt; set, Ok(steps), "{run} in {font:?}");
-    assert!(rt; list.starts_with(&EARLIER), "{run} in {font:?}");
-    let appended = list.as_slice().get(EARLIER.len()..);
-    assert_eq!(rt; appended, Some(items), "{run} in {font:?}");
+    let (earlier, appended) = list.split_at(EARLIER.len().min(list.len()));
+    let wanted = (Ok(steps), EARLIER.as_slice(), items);
+    same(rt, &(set, earlier, appended), &wanted, &(run, font));
 }
 
 #[test]
 fn runs_have_their_items_and_steps(rt: HostRuntime) {
-    for row in RUNS {
-        sets_run(&rt, row);
+    for row in &RUNS {
+        sets_run(&rt, *row);
     }
+}
+
+/// A run of a font without the right boundary, or with it, has these steps and items.
+fn ends<R: Abort + AllocGlobal>(
+    rt: &R,
+    (font, run): (Named, &[u8]),
+    (right, limit): (bool, u32),
+    wanted: (Result<u32, WordFault>, &[Item]),
+) {
+    let mut list = Vec::new(rt.alloc());
+    let set = set_word(&font.font(rt), run, right, limit, &mut list);
+    same(rt, &(set, list.as_slice()), &wanted, &font);
 }
 
 /// Without the right boundary nothing is done after the last character.
 #[test]
 fn a_run_without_the_right_boundary(rt: HostRuntime) {
-    let mut list = Vec::new(rt.alloc());
-    let set = set_word(&RightBoundary.font(&rt), b"a", false, 1, &mut list);
-    assert_eq!(rt; set, Ok(1));
-    assert_eq!(rt; list.as_slice(), [A].as_slice());
+    ends(&rt, (RightBoundary, b"a"), (false, 1), (Ok(1), &[A]));
 }
 
 #[test]
 fn a_program_without_end_is_stopped(rt: HostRuntime) {
-    for op in [1, 2, 3, 7] {
-        let mut list = Vec::new(rt.alloc());
-        let set = set_word(&Endless(op).font(&rt), b"aa", true, 100, &mut list);
-        assert_eq!(rt; set, Err(WordFault::TooManySteps), "operation {op}");
-        assert!(rt; list.is_empty(), "operation {op}");
+    let wanted = (Err(WordFault::TooManySteps), [].as_slice());
+    for op in &[1, 2, 3, 7] {
+        ends(&rt, (Endless(*op), b"aa"), (true, 100), wanted);
     }
 }

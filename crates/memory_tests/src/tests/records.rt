@@ -21,6 +21,8 @@ const EARLIER: &str = "1 end complete 0\n";
 /// The record of `ab`.
 const ONE: &str = "2:1 set 962560 c97=327680 k-40960 c99=491520 k20480 c98=163840\n";
 
+const TWO: &str = "2:1 set 962560 steps 4 c97=327680 k-40960 c99=491520 k20480 c98=163840\n";
+
 const JSON: &str = "{\"source\":2,\"line\":1,\"width\":962560,\"steps\":4,\"items\":[\
 [\"c\",97,327680],[\"k\",-40960],[\"c\",99,491520],[\"k\",20480],[\"c\",98,163840]]}\n";
 
@@ -28,7 +30,7 @@ const JSON: &str = "{\"source\":2,\"line\":1,\"width\":962560,\"steps\":4,\"item
 const BY_TABLE: &str = "2:1 set 962560 steps 3 c97=327680 k-40960 c99=491520 k20480 c98=163840\n";
 
 /// The record of the box of `acb`.
-const BOXED: &str = "2:1 box 962560 0 0 0\n";
+const BOXED: &str = "2:1 box 962560 0 0 0 0\n";
 
 /// The record of `a€b`.
 const UNCODED: &str = "{\"source\":2,\"line\":1,\"width\":491520,\"steps\":2,\"items\":[\
@@ -69,6 +71,11 @@ fn is_appended<R: Abort + AllocGlobal>(rt: &R, version: Version, wanted: &str) -
 #[test]
 fn a_record_of_format_1_is_appended(rt: HostRuntime) -> Result<(), Fail> {
     report(&rt, is_appended(&rt, Version::One, ONE))
+}
+
+#[test]
+fn a_record_of_format_2_is_appended(rt: HostRuntime) -> Result<(), Fail> {
+    report(&rt, is_appended(&rt, Version::Two, TWO))
 }
 
 #[test]
@@ -178,7 +185,8 @@ fn has_result<R: Abort>(rt: &R, writer: &mut LineWriter, terms: &Terms, line: &[
     let LineResult::Set(sums) = result else {
         panic!(rt; "refused");
     };
-    assert!(rt; (sums.width, sums.steps, sums.items) == (1_090_519_040, 3_328, 6_656));
+    assert!(rt; (sums.width, sums.steps) == (1_090_519_040, 3_328));
+    assert!(rt; (sums.items, sums.skipped) == (6_656, 3_328));
     true
 }
 

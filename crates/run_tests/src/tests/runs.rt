@@ -1,14 +1,15 @@
 //! Batches, and their reports as text: the records of each source, and a line for its end.
 use batch_support::{CountingGate, FailingSource, plan, source_of, with_terms};
 use line_lane::{LaneEnd, SourceFault};
-use set_line::{Line, Terms, Version, record};
+use set_line::{Line, Policy, Terms, Version, record};
 use set_run::{LaneReport, LineSource, ListSource, NoGate, ReaderSource, Report, RunFault, run};
 use std::alloc::Global;
 use std::process::Abort;
 use std::sync::{Arc, Wait};
 use std::test::Fail;
 use std::thread::Threads;
-use test_support::terms::plain_terms;
+use test_support::fonts::{ENDLESS, LIGATURE, PLAIN, Sample};
+use test_support::terms::{LIMIT, plain_terms, terms_of};
 use test_support::{TricklingReader, repeated_line};
 
 /// Sources, with their settings.
@@ -28,7 +29,9 @@ fn push_lane<S>(
     }
     let word = match lane.end {
         LaneEnd::Complete => "complete",
-        LaneEnd::SourceFailed(_) => "read",
+        LaneEnd::SourceFailed(SourceFault::Read) => "read",
+        LaneEnd::SourceFailed(SourceFault::ReadBound) => "bound",
+        LaneEnd::SourceFailed(SourceFault::OutOfMemory) => "memory",
         LaneEnd::GaveUp => "gave-up",
     };
     let end = format!(in alloc; "{source} end {word} {place}\n")?;
@@ -93,13 +96,44 @@ fn text_of_three(alloc: Global) -> Result<String, Fail> {
     Ok(text)
 }
 
-/// A source of `ab` and `c` that fails after them, and one of `a`; `None` if an allocation fails.
-fn failing_sources(alloc: Global) -> Option<Sources<FailingSource>> {
-    let failing = FailingSource::new(alloc, &["ab", "c"], Some(SourceFault::Read))?;
-    let mut sources = Vec::with_capacity(alloc, 2).ok()?;
-    sources.push(failing).ok()?;
-    sources.push(FailingSource::new(alloc, &["a"], None)?).ok()?;
-    with_terms(alloc, &plain_terms(alloc)?, sources)
+/// A source: its font, its limit on steps, its lines, and the error after them, if there is one.
+type Own = (
+    Sample<'static>,
+    u32,
+    &'static [&'static str],
+    Option<SourceFault>,
+);
+
+/// Sources with terms of their own, and their report. A batch is finished if no source fails.
+static REPORTS: [(&[Own], &str); 2] = table! {
+    &[
+        (LIGATURE, LIMIT, &["ab"], None),
+        (PLAIN, 4, &["ab abc", "ab"], None),
+        (ENDLESS, 100, &["aa", "a"], None),
+    ],
+    "1:1 set 491520 c99=491520\n1 end complete 1\n\
+        2:1 refused steps 4\n2:2 set 491520 c97=327680 c98=163840\n2 end complete 2\n\
+        3:1 refused steps 100\n3:2 set 327680 c97=327680\n3 end complete 2\n";
+    &[
+        (PLAIN, LIMIT, &["ab", "c"], Some(SourceFault::Read)),
+        (PLAIN, LIMIT, &["a"], None),
+        (ENDLESS, 100, &["aa"], Some(SourceFault::OutOfMemory)),
+        (PLAIN, LIMIT, &[], Some(SourceFault::ReadBound)),
+    ],
+    "1:1 set 491520 c97=327680 c98=163840\n1:2 set 491520 c99=491520\n1 end read 2\n\
+        2:1 set 327680 c97=327680\n2 end complete 1\n\
+        3:1 refused steps 100\n3 end memory 1\n4 end bound 0\n";
+};
+
+/// The sources of a row; `None` if an allocation fails.
+fn own_sources(alloc: Global, rows: &[Own]) -> Option<Sources<FailingSource>> {
+    let mut sources = Vec::with_capacity(alloc, rows.len()).ok()?;
+    for (font, limit, texts, error) in rows {
+        let terms = terms_of(alloc, font.file(alloc), *limit, Policy::Refuse)?;
+        let source = FailingSource::new(alloc, texts, *error)?;
+        sources.push((source, terms)).ok()?;
+    }
+    Some(sources)
 }
 
 /// A reader that fails in its second line, and one of `a`; `None` if an allocation fails.
@@ -112,10 +146,6 @@ fn failing_readers(alloc: Global) -> Option<Sources<ReaderSource<TricklingReader
     with_terms(alloc, &plain_terms(alloc)?, sources)
 }
 
-const OF_SOURCES: &str =
-    "1:1 set 491520 c97=327680 c98=163840\n1:2 set 491520 c99=491520\n1 end read 2\n\
-    2:1 set 327680 c97=327680\n2 end complete 1\n";
-
 const OF_READERS: &str = "1:1 set 491520 c97=327680 c98=163840\n1 end read 1\n\
     2:1 set 327680 c97=327680\n2 end complete 1\n";
 
@@ -125,7 +155,10 @@ fn sources_are_reported_in_order_up_to_their_ends_or_errors(rt: HostRuntime) -> 
     let of_three = text_of_three(alloc)?;
     for block in [1, 3, 8] {
         reports(&rt, three_sources(alloc), block, (&of_three, true))?;
-        reports(&rt, failing_sources(alloc), block, (OF_SOURCES, false))?;
+        for (rows, wanted) in &REPORTS {
+            let finished = rows.iter().all(|(_, _, _, error)| error.is_none());
+            reports(&rt, own_sources(alloc, rows), block, (wanted, finished))?;
+        }
         reports(&rt, failing_readers(alloc), block, (OF_READERS, false))?;
     }
     Ok(())

@@ -188,7 +188,17 @@ pub struct SlowCollector<'a, R> {
     pub ends: u32,
 }
 
-impl<R: Clock> SlowCollector<'_, R> {
+impl<'a, R: Clock> SlowCollector<'a, R> {
+    pub fn new(rt: &'a R, shared: &'a Shared, manner: Manner) -> Self {
+        SlowCollector {
+            rt,
+            shared,
+            manner,
+            results: 0,
+            ends: 0,
+        }
+    }
+
     fn refuses(&self) -> Result<(), Refusal> {
         self.shared.refused.store(true, Ordering::SeqCst);
         Err(Refusal::Output)
@@ -287,13 +297,7 @@ pub fn run_slowly<'a, R: Threads + Wait + Clock + Abort + AllocGlobal + Sync>(
     }
     let gate = &LateGate(rt, manner.late);
     let options = ItemOptions { plan, gate, lanes };
-    let collector = SlowCollector {
-        rt,
-        shared,
-        manner,
-        results: 0,
-        ends: 0,
-    };
+    let collector = SlowCollector::new(rt, shared, manner);
     let (collector, ended) = run_items(rt, rt.alloc(), sources, options, collector);
     Ok((collector, ended?))
 }

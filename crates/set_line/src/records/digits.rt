@@ -1,6 +1,6 @@
 //! The number of a character.
-ghost use Rattle.std.specs.Prelude.{◌≡◌, ◌≤◌, ◌++◌, OnOk};
-ghost use Rattle.tfm_words.specs.Appending.{StaysInFront};
+ghost use Rattle.std.specs.Prelude.{◌≡◌, ◌≤◌, ◌++◌, OnErr, OnOk, vec_capacity};
+ghost use Rattle.tfm_words.specs.Appending.{HasNoRoomFor, StaysInFront};
 ghost use Rattle.set_line.specs.Record.{character_text, digit_at as digit_in, digits_of, zeros_in_front};
 
 use crate::Version;
@@ -36,6 +36,8 @@ fn zeros(number: u32) -> usize
 fn push_digits(text: &mut Vec<u8>, before: &[u8], number: u32) -> Result<(), AllocError>
     ensures front { StaysInFront text.old.items text.new.items }
     ensures pushed { OnOk result (text.new.items ≡ text.old.items ++ before.now ++ digits_of number) }
+    ensures grows { vec_capacity text.old ≤ vec_capacity text.new }
+    ensures full { OnErr result (HasNoRoomFor text.old (before.now ++ digits_of number)) }
 {
     let digits = [
         digit_at(number, 0x10_0000),
@@ -60,6 +62,8 @@ pub(crate) fn push_character(
     ensures front { StaysInFront text.old.items text.new.items }
     ensures pushed { OnOk result (text.new.items
         ≡ text.old.items ++ before.now ++ character_text version character) }
+    ensures grows { vec_capacity text.old ≤ vec_capacity text.new }
+    ensures full { OnErr result (HasNoRoomFor text.old (before.now ++ character_text version character)) }
 {
     if version.is_json() {
         return push_number(text, before, u32::from(character));

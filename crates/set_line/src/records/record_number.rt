@@ -1,5 +1,5 @@
 /// The numbers in front of a record.
-#[derive(Clone, Copy, Debug, PartialEq, Eq, Hash)]
+#[derive(Clone, Copy, Debug, PartialEq, Eq)]
 pub struct RecordNumber {
     /// The number of the source.
     pub source: u64,

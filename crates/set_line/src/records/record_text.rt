@@ -1,6 +1,6 @@
 //! Records: the printed results of lines.
-ghost use Rattle.std.specs.Prelude.{◌≡◌, ◌++◌, OnOk, OnErr, drop};
-ghost use Rattle.tfm_words.specs.Appending.{StaysInFront};
+ghost use Rattle.std.specs.Prelude.{◌≡◌, ◌≤◌, ◌++◌, OnOk, OnErr, drop, vec_capacity};
+ghost use Rattle.tfm_words.specs.Appending.{HasNoRoomFor, StaysInFront};
 ghost use Rattle.set_line.specs.Record.{head_text, record_text, refusal_text, refused, set, set_text, text_record};
 
 use crate::records::digits::push_character;
@@ -26,6 +26,8 @@ fn push_head(out: &mut Vec<u8>, number: RecordNumber, version: Version) -> Resul
     ensures front { StaysInFront out.old.items out.new.items }
     ensures pushed { OnOk result (out.new.items
         ≡ out.old.items ++ head_text version number.source number.line) }
+    ensures grows { vec_capacity out.old ≤ vec_capacity out.new }
+    ensures full { OnErr result (HasNoRoomFor out.old (head_text version number.source number.line)) }
 {
     push_number(out, version.label(b"", b"{\"source\":"), number.source)?;
     push_number(out, version.label(b":", b",\"line\":"), number.line)
@@ -73,6 +75,8 @@ fn push_set(out: &mut Vec<u8>, line: SetText<'_>, version: Version) -> Result<()
 fn push_refusal(out: &mut Vec<u8>, refusal: TextRefusal, version: Version) -> Result<(), AllocError>
     ensures front { StaysInFront out.old.items out.new.items }
     ensures pushed { OnOk result (out.new.items ≡ out.old.items ++ refusal_text version refusal) }
+    ensures grows { vec_capacity out.old ≤ vec_capacity out.new }
+    ensures full { OnErr result (HasNoRoomFor out.old (refusal_text version refusal)) }
 {
     match refusal {
         TextRefusal::Line(LineRefusal::TooLong(bytes)) => {
@@ -141,6 +145,8 @@ fn push_refused_record(
     ensures front { StaysInFront out.old.items out.new.items }
     ensures pushed { OnOk result (out.new.items
         ≡ out.old.items ++ text_record number.source number.line (refused refusal) version) }
+    ensures full { OnErr result (HasNoRoomFor out.old
+        (text_record number.source number.line (refused refusal) version)) }
 {
     push_head(out, number, version)?;
     push_refusal(out, refusal, version)?;
@@ -169,8 +175,8 @@ pub fn append_set(
     }
 }
 
-/// Appends the record of a line that is refused: one line of text. If an allocation fails, the contents of `out`
-/// are as before.
+/// Appends the record of a line that is refused: one line of text. Nothing is allocated if `out` has room for it. If
+/// an allocation fails, the contents of `out` are as before.
 pub fn append_refusal(
     out: &mut Vec<u8>,
     number: RecordNumber,
@@ -179,6 +185,8 @@ pub fn append_refusal(
 ) -> Result<(), OutOfMemory>
     ensures appended { OnOk result (out.new.items
         ≡ out.old.items ++ text_record number.source number.line (refused refusal) version) }
+    ensures memory { OnErr result (HasNoRoomFor out.old
+        (text_record number.source number.line (refused refusal) version)) }
     ensures unchanged { OnErr result (out.new.items ≡ out.old.items) }
 {
     let before = out.len();

@@ -1,7 +1,7 @@
 use crate::LineRefusal;
 
 /// The reason of a refusal in a record. A line in UTF-8 has two more than a line of bytes.
-#[derive(Clone, Copy, Debug, PartialEq, Eq, Hash)]
+#[derive(Clone, Copy, Debug, PartialEq, Eq)]
 pub enum TextRefusal {
     /// A line of codes is refused.
     Line(LineRefusal),

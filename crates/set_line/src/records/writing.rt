@@ -2,7 +2,8 @@
 //! known before they are written.
 ghost use Rattle.std.specs.Prelude.{◌≡◌, ◌+◌, ◌≤◌, ◌++◌, ◌∷◌, [], length, codes, drop, decimal};
 ghost use Rattle.std.specs.Fmt.{signed_decimal};
-ghost use Rattle.set_line.specs.Record.{closing, label, opening, text_in};
+ghost use Rattle.run_plan.specs.Versions.{label};
+ghost use Rattle.set_line.specs.Record.{closing, opening, text_in};
 
 use crate::Version;
 use itoa::write_digits;

@@ -1,5 +1,5 @@
 /// The result of one round over the lanes, or of one visit to a lane.
-#[derive(Clone, Copy, Debug, PartialEq, Eq)]
+#[derive(Clone, Copy, PartialEq, Eq)]
 pub(crate) enum Progress {
     /// Nothing is left to do.
     Done,

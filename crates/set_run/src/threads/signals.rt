@@ -1,4 +1,5 @@
-//! The values that the threads of a batch share: the stop flag, and for each thread a signal that wakes it.
+//! The values that the threads of a batch share: the start flag, the stop flag, and for each thread a signal
+//! that wakes it.
 ghost use Rattle.std.specs.Prelude.{◌<◌};
 
 use crate::threads::backoff::Backoff;
@@ -48,6 +49,7 @@ fn ring_all(bells: &[Bell]) {
 /// The values that the threads of a batch share.
 #[derive(Drop)]
 pub(crate) struct Signals {
+    start: AtomicBool,
     stop: AtomicBool,
     sources: [Bell; MOST_SOURCES],
     workers: [Bell; MOST_WORKERS],
@@ -68,6 +70,7 @@ impl Signals {
         let half = (plan.capacity.get() / 2).max(1);
         let block = plan.block.get();
         Signals {
+            start: AtomicBool::new(false),
             stop: AtomicBool::new(false),
             sources: array::from_fn(|_| Bell::new()),
             workers: array::from_fn(|_| Bell::new()),
@@ -94,6 +97,18 @@ impl Signals {
     /// the results of the messages in half the slots of a ring, at most 512.
     pub fn moves_per_visit(&self) -> usize {
         self.moves
+    }
+
+    /// Starts the batch, once all its threads are started: sets the start flag, and wakes the threads of the
+    /// sources, which then begin to read.
+    pub fn start(&self) {
+        self.start.store(true, Ordering::SeqCst);
+        ring_all(&self.sources);
+    }
+
+    /// Returns whether the batch has started or is stopped.
+    pub fn is_started_or_stopped(&self) -> bool {
+        self.start.load(Ordering::SeqCst) || self.is_stopped()
     }
 
     pub fn is_stopped(&self) -> bool {
@@ -147,6 +162,13 @@ impl Signals {
         }
         self.lines_fed(source);
         self.sources[source % MOST_SOURCES].sleep(rt, backoff);
+    }
+
+    /// Waits, in the thread of a source, until the batch may have started: pauses or sleeps.
+    pub fn wait_for_start<R: Wait>(&self, rt: &R, source: usize, backoff: &mut Backoff) {
+        if !backoff.looks_again() {
+            self.sources[source % MOST_SOURCES].sleep(rt, backoff);
+        }
     }
 
     /// Wakes the thread of the lane's source and the collecting thread. A worker calls it after it has made

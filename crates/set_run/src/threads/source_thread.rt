@@ -129,8 +129,20 @@ fn feed_items<R: Wait, I: Stored, S: ItemSource<I>>(
     unreachable!()
 }
 
-/// Does the work of a source's thread: passes the start barrier, deals the items of the source, and closes
-/// the dealer with the end of the source, unless the batch is stopped before.
+/// Waits until the batch has started, or is stopped because a thread couldn't be started. A read can't be
+/// stopped: if it were made before, the batch would end only after it.
+fn await_start<R: Wait>(rt: &R, signals: &Signals, number: usize) {
+    let mut backoff = Backoff::new();
+    for _ in rt.forever() {
+        if signals.is_started_or_stopped() {
+            return;
+        }
+        signals.wait_for_start(rt, number, &mut backoff);
+    }
+}
+
+/// Does the work of a source's thread: passes the start barrier, waits until the batch has started, deals the
+/// items of the source, and closes the dealer with the end of the source, unless the batch is stopped before.
 pub(crate) fn feed<R: Wait, I: Stored, S: ItemSource<I>, G: Gate>(
     rt: &R,
     gate: &G,
@@ -145,6 +157,7 @@ pub(crate) fn feed<R: Wait, I: Stored, S: ItemSource<I>, G: Gate>(
         mut source,
         mut dealer,
     } = feeding;
+    await_start(rt, signals, number);
     if let Some(end) = feed_items(rt, signals, number, &mut source, &mut dealer) {
         let _ = close(rt, signals, number, &mut dealer, end);
     }

@@ -64,7 +64,8 @@ fn come_back<T: Drop, C, O: Stored>(
     Ok((workers, collected))
 }
 
-/// Collects the results. If the collector refuses something, stops all threads.
+/// Starts the batch, since all its threads are started, and collects the results. If the collector refuses
+/// something, stops all threads.
 fn collect_or_stop<R: Wait, G: Gate, C: Collector>(
     context: &Context<'_, R, G>,
     lanes: Vec<LaneTaker<C::Item>>,
@@ -75,6 +76,7 @@ fn collect_or_stop<R: Wait, G: Gate, C: Collector>(
     ensures { Collects C.lanes C.given C.refused lanes.items collector result }
 {
     let signals = &context.signals;
+    signals.start();
     let collected = collect(context.rt, context.gate, signals, lanes, collector);
     if collected.refusal.is_some() {
         signals.stop();

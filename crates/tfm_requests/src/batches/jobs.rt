@@ -10,8 +10,8 @@ ghost use Rattle.tfm_requests.specs.Errors.{job_error_of};
 ghost use Rattle.tfm_requests.specs.Jobs.{AreTermsFor, AreTermsOf, AreWordsOfJobs, HasTermsOf, IsErrorOfWords, IsLimitOf, job_value, jobs_in};
 
 use crate::failures::errors::{FontError, JobError, RequestError};
-use crate::files::opening::Opens;
-use crate::files::reading::font_file;
+use crate::files::opening::{Opens, Purpose};
+use crate::files::reading::file_bytes;
 use command_line::Layout;
 use run_texts::{FontSetting, terms_of};
 use set_line::{Limit, Terms};
@@ -87,7 +87,7 @@ fn job_terms<F: Opens>(
         AreTermsOf (F.known files.now) layout.now (job_value job.now) (arc_value terms)) }
     ensures cause { IfErr result (IsFontError (F.known files.now job.now.font.now)) }
 {
-    let bytes = font_file(alloc, files, job.font)?;
+    let bytes = file_bytes(alloc, files, job.font, Purpose::Font)?;
     font_terms(alloc, bytes.as_slice(), layout, job.limit)
 }
 

@@ -2,7 +2,7 @@ ghost use Rattle.std.specs.Prelude.{◌≡◌};
 ghost use Rattle.tfm_requests.specs.Status.{done_status};
 
 /// How a request ended whose whole output was written.
-#[derive(Clone, Copy, Debug, PartialEq, Eq, Hash)]
+#[derive(Clone, Copy, Debug, PartialEq, Eq)]
 pub enum Done {
     /// Every line was set, or every font is accepted, or the output is that of `counts`, `list` or `pairs`.
     AllSet,

@@ -9,7 +9,7 @@ use tfm_tables::FontFault;
 use thiserror::Error;
 
 /// An error of the arguments that `clap` doesn't find.
-#[derive(Clone, Copy, Debug, PartialEq, Eq, Hash, Error)]
+#[derive(Clone, Copy, Debug, Error)]
 pub enum RequestError {
     /// The arguments of `each` aren't triples.
     #[error("words not in threes")]
@@ -35,7 +35,7 @@ pub enum RequestError {
 }
 
 /// An error of the font of a request.
-#[derive(Clone, Copy, Debug, PartialEq, Eq, Hash, Error)]
+#[derive(Clone, Copy, Debug, Error)]
 pub enum FontError {
     /// The file wasn't opened, a read failed, or the file needed too many reads.
     #[error("font not read")]
@@ -49,7 +49,7 @@ pub enum FontError {
 }
 
 /// An error of the font of a job of `each`. Jobs are numbered from 1.
-#[derive(Clone, Copy, Debug, PartialEq, Eq, Hash, Error)]
+#[derive(Clone, Copy, Debug, Error)]
 pub enum JobError {
     /// The file wasn't opened, a read failed, or the file needed too many reads.
     #[error("font {0} not read")]
@@ -63,7 +63,7 @@ pub enum JobError {
 }
 
 /// An error of an encoding vector.
-#[derive(Clone, Copy, Debug, PartialEq, Eq, Hash, Error)]
+#[derive(Clone, Copy, Debug, Error)]
 pub enum EncodingError {
     /// The file wasn't opened, or wasn't read to its end.
     #[error("encoding not read")]
@@ -78,7 +78,7 @@ pub enum EncodingError {
 }
 
 /// An error of the files with lines before they are read.
-#[derive(Clone, Copy, Debug, PartialEq, Eq, Hash, Error)]
+#[derive(Clone, Copy, Debug, Error)]
 pub enum FileError {
     /// A file wasn't opened. The value is its number, starting at 1.
     #[error("file {0} not read")]
@@ -89,7 +89,7 @@ pub enum FileError {
 }
 
 /// The reason why a file wasn't opened or read to its end.
-#[derive(Clone, Copy, Debug, PartialEq, Eq, Hash)]
+#[derive(Clone, Copy)]
 pub(crate) enum ReadFault {
     /// The file wasn't opened, a read failed, or the file needed too many reads.
     NotRead,

@@ -8,6 +8,19 @@ use std::io::{ErrorKind, Read};
 use std::rt::Files;
 use std::{fs, io};
 
+/// What a file is read as.
+#[derive(Clone, Copy, PartialEq, Eq)]
+pub enum Purpose {
+    /// A font.
+    Font,
+    /// An encoding vector.
+    Vector,
+    /// Lines to set.
+    Lines,
+    /// The names of fonts.
+    List,
+}
+
 /// Opens files by their names for reading.
 pub trait Opens {
     /// An open file.
@@ -16,8 +29,9 @@ pub trait Opens {
     /// The contents of the file of a name, if they are known to contracts.
     ghost known: { Self → List ℕ → Option (List ℕ) };
 
-    /// Opens the file of this name, for reading from its start. Fails if the file can't be opened.
-    fn open(&self, name: &str) -> io::Result<Self::File>
+    /// Opens the file of this name, for reading from its start. `purpose` is what it is read as; the contents are the
+    /// same for each. Fails if the file can't be opened.
+    fn open(&self, name: &str, purpose: Purpose) -> io::Result<Self::File>
         ensures { IfOk result (λ file. IfSome (known self.now name.now)
             (λ all. Self.File.remaining file ≡ Some all)) };
 
@@ -26,6 +40,12 @@ pub trait Opens {
     fn counts(&self) -> Option<&Cell<LineCounts>> {
         None
     }
+
+    /// Notes that `check` refuses the font that was read last. By default nothing is noted.
+    fn note_refused(&self) {}
+
+    /// Notes that a name in a list of fonts isn't UTF-8, so that its file can't be opened. By default nothing is noted.
+    fn note_name(&self, _name: &[u8]) {}
 }
 
 /// The files of the file system. Their contents aren't known to contracts.
@@ -51,7 +71,7 @@ where
 
     ghost known = { λ _ _. None };
 
-    fn open(&self, name: &str) -> io::Result<R::File> {
+    fn open(&self, name: &str, _purpose: Purpose) -> io::Result<R::File> {
         fs::open(self.rt, name)
     }
 }
@@ -76,7 +96,7 @@ impl<'a> Opens for InMemory<'a> {
 
     ghost known = { λ memory name. bytes_in memory.files.now name };
 
-    fn open(&self, name: &str) -> io::Result<&'a [u8]> {
+    fn open(&self, name: &str, _purpose: Purpose) -> io::Result<&'a [u8]> {
         for file in self.files {
             if file.0 == name {
                 return Ok(file.1);

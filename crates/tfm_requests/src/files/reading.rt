@@ -5,7 +5,7 @@ ghost use Rattle.tfm_requests.specs.Kept.{HaveSameFont, kept_of};
 ghost use Rattle.tfm_requests.specs.Known.{font_bytes_of};
 
 use crate::failures::errors::ReadFault;
-use crate::files::opening::Opens;
+use crate::files::opening::{Opens, Purpose};
 use std::alloc::{AllocError, Global};
 use std::io::{ErrorKind, Read};
 
@@ -40,7 +40,7 @@ where
     if font == "-" {
         return kept_bytes(alloc, input);
     }
-    font_file(alloc, files, font)
+    file_bytes(alloc, files, font, Purpose::Font)
 }
 
 /// Reads with one call into a buffer that isn't empty. Returns the number of bytes, which is 0 if the read was
@@ -89,26 +89,33 @@ fn keep(bytes: &mut Vec<u8>, next: &[u8]) -> Result<(), AllocError>
 
 /// Opens the file of this name and reads it to its end. Returns its bytes, up to the number that a font can
 /// have. Fails as [`font_bytes`] does.
-pub(crate) fn font_file<F: Opens>(
+pub(crate) fn file_bytes<F: Opens>(
     alloc: Global,
     files: &F,
     name: &str,
+    purpose: Purpose,
 ) -> Result<Vec<u8>, ReadFault>
     ensures { IfOk result (λ bytes.
         IfSome (F.known files.now name.now) (λ all. bytes.items ≡ kept_of all)) }
 {
-    let mut file = opened(files, name)?;
+    let mut file = opened(files, name, purpose)?;
     kept_bytes(alloc, &mut file)
 }
 
 /// Opens the file of this name. The error is `OutOfMemory` if the error of the file system has this kind,
 /// otherwise `NotRead`.
-pub(crate) fn opened<F: Opens>(files: &F, name: &str) -> Result<F::File, ReadFault>
+pub(crate) fn opened<F: Opens>(
+    files: &F,
+    name: &str,
+    purpose: Purpose,
+) -> Result<F::File, ReadFault>
     ensures { IfOk result (λ file. IfSome (F.known files.now name.now)
         (λ all. F.File.remaining file ≡ Some all)) }
 {
-    files.open(name).map_err(|error| match error.kind() {
-        ErrorKind::OutOfMemory => ReadFault::OutOfMemory,
-        _ => ReadFault::NotRead,
-    })
+    files
+        .open(name, purpose)
+        .map_err(|error| match error.kind() {
+            ErrorKind::OutOfMemory => ReadFault::OutOfMemory,
+            _ => ReadFault::NotRead,
+        })
 }

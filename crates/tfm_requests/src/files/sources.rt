@@ -6,7 +6,7 @@ ghost use Rattle.tfm_requests.specs.Jobs.{IsOpenedWith};
 ghost use Rattle.tfm_requests.specs.Told.{IsSourceOf, told_reader};
 
 use crate::failures::errors::{FileError, ReadFault};
-use crate::files::opening::Opens;
+use crate::files::opening::{Opens, Purpose};
 use crate::files::reading::opened;
 use command_line::Layout;
 use set_line::Terms;
@@ -24,7 +24,7 @@ fn open_file<F: Opens>(
     ensures { IfOk result (λ file. IsSourceOf layout.now.crlf (F.known files.now name.now)
         (told_unread layout.now.crlf (F.File.remaining file))) }
 {
-    match opened(files, name) {
+    match opened(files, name, Purpose::Lines) {
         Ok(file) => Ok(file),
         Err(ReadFault::NotRead) => Err(FileError::NotOpened(number)),
         Err(ReadFault::OutOfMemory) => Err(FileError::OutOfMemory),

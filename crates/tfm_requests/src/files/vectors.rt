@@ -4,8 +4,8 @@ ghost use Rattle.tfm_requests.specs.Known.{OfKnown};
 ghost use Rattle.tfm_requests.specs.Vectors.{IsEncodingError, IsEncodingOf, IsErrorOfText, IsVectorIn};
 
 use crate::failures::errors::EncodingError;
-use crate::files::opening::Opens;
-use crate::files::reading::font_file;
+use crate::files::opening::{Opens, Purpose};
+use crate::files::reading::file_bytes;
 use encoding_vectors::read_vector;
 use encodings::{Encoding, Vector};
 use std::alloc::{AllocError, Global};
@@ -38,7 +38,7 @@ fn read_encoding<F: Opens>(
     ensures cause { IfErr result (λ error. OfKnown (F.known files.now file.now)
         (λ text. IsErrorOfText text error)) }
 {
-    let text = font_file(alloc, files, file)?;
+    let text = file_bytes(alloc, files, file, Purpose::Vector)?;
     vector_encoding(alloc, text.as_slice())
 }
 

@@ -10,7 +10,7 @@ use std::thread::Threads;
 use std::{env, fs, io};
 use test_support::fonts::files::PLAIN;
 use test_support::{FailingWriter, TricklingReader};
-use tfm_tool::{Opens, perform, requested, tool};
+use tfm_tool::{Opens, Purpose, perform, requested, tool};
 
 /// The counts of the font without characters.
 pub const COUNTS: &str =
@@ -228,7 +228,7 @@ impl<'a> NotedFiles<'a> {
     }
 
     /// Returns the openings of the first nine files in order, a hexadecimal digit for each: the number of the file in the
-    /// list, starting at 1, or F if no file has the name.
+    /// list, starting at 1, E if the file is opened for another purpose, or F if no file has the name.
     pub fn opened(&self) -> u64 {
         self.opened.load(Ordering::SeqCst)
     }
@@ -240,6 +240,16 @@ impl<'a> NotedFiles<'a> {
     }
 }
 
+/// Returns what a file of this name is read as.
+fn purpose_of(name: &str) -> Purpose {
+    match name {
+        "lines" | "ab" | "long" | "aa" | "adb" | "ada" | "empty" => Purpose::Lines,
+        "names" | "zeros" => Purpose::List,
+        _ if name.ends_with(".enc") => Purpose::Vector,
+        _ => Purpose::Font,
+    }
+}
+
 impl<'a> Opens for NotedFiles<'a> {
     ghost use Rattle.std.specs.Prelude.{None};
 
@@ -247,12 +257,14 @@ impl<'a> Opens for NotedFiles<'a> {
 
     ghost known = { λ _ _. None };
 
-    fn open(&self, name: &str) -> io::Result<Interrupted<TricklingReader<'a>>> {
+    fn open(&self, name: &str, purpose: Purpose) -> io::Result<Interrupted<TricklingReader<'a>>> {
         let mut number = 0u64;
         for file in self.files {
             number = number.wrapping_add(1);
             if file.0 == name {
-                if number < 10 {
+                if purpose != purpose_of(name) {
+                    self.note(14);
+                } else if number < 10 {
                     self.note(number);
                 }
                 return Ok(reader(file.1, &self.ways.of(name, self.failing)));

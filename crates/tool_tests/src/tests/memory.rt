@@ -1,12 +1,14 @@
-//! Failed allocations of `set_text` and `perform`. If every allocation succeeds, the whole output is written. The
+//! Failed allocations of `counts_text`, `list_text`, `set_each`, `set_text` and `perform`. If every allocation succeeds, the whole output is written. The
 //! toolchain's option `--fail-alloc` lets one allocation fail. The first allocations make the arguments of the call. If
 //! a later one fails, nothing is written; or a lane is abandoned, and the whole output has an end line that says so; or
 //! `stream` ends with a whole line; or the memory only saves time. The text that is printed states which case it was.
+use super::doubles::COUNTS;
 use super::requests::{LINES, SKIPPED, vector};
-use batch_support::small_plan;
+use super::single_functions::EMPTY_LISTING;
+use batch_support::{small_plan, with_terms};
 use command_line::{Layout, Setting};
 use line_records::RecordFormat;
-use run_texts::ReportOptions;
+use run_texts::{ReportOptions, set_each, terms_of};
 use set_line::{Limit, Policy, Version};
 use set_run::{NoGate, ReaderSource};
 use std::alloc::Global;
@@ -14,11 +16,12 @@ use std::process::Abort;
 use std::sync::Wait;
 use std::test::Fail;
 use std::thread::Threads;
-use test_support::fonts::files::PLAIN;
+use test_support::fonts::files::{NO_CHARACTERS, PLAIN};
 use test_support::{FailingWriter, TricklingReader};
+use tfm_tables::Font;
 use tfm_tool::{
-    Done, Failure, FontSetting, InMemory, Request, Requested, Summary, ToolFault, perform,
-    set_text, status,
+    Done, Failure, FontSetting, InMemory, Request, Requested, Summary, ToolFault, counts_text,
+    list_text, perform, set_text, status,
 };
 
 /// Whether a line of a source is an end line for memory that was lacking, and counts this many records.
@@ -86,9 +89,10 @@ static OF_TWO: [&str; 2] = [
     "2:1 set 327680 c97=327680\n2 end complete 1\n",
 ];
 
-/// Sets the lines of two sources. `None` means that an allocation of the arguments failed.
+/// Calls `set_each` or `set_text` for two sources. `None` means that an allocation of the arguments failed.
 fn set_two<R: Threads + Wait + Sync + AllocGlobal>(
     rt: &R,
+    each: bool,
     out: &mut Vec<u8>,
 ) -> Option<Result<Summary, ToolFault>> {
     out.reserve(256).ok()?;
@@ -108,13 +112,21 @@ fn set_two<R: Threads + Wait + Sync + AllocGlobal>(
         version: Version::One,
         gate: &NoGate,
     };
-    Some(set_text(rt, &font, sources, &options, out))
+    if !each {
+        return Some(set_text(rt, &font, sources, &options, out));
+    }
+    let terms = terms_of(rt.alloc(), &font).ok()?;
+    let sources = with_terms(rt.alloc(), &terms, sources)?;
+    Some(set_each(rt, rt.alloc(), sources, &options, out))
 }
 
-#[test]
-fn a_refused_request_of_a_text(rt: HostRuntime) -> Result<(), Fail> {
+/// Calls `set_each` or `set_text`, and prints how the call ended.
+fn report_of_two<R: Abort + Threads + Wait + Sync + AllocGlobal + Print>(
+    rt: &R,
+    each: bool,
+) -> Result<(), Fail> {
     let mut out = Vec::new(rt.alloc());
-    let done = set_two(&rt, &mut out);
+    let done = set_two(rt, each, &mut out);
     let ends = ends_of(str::from_utf8(out.as_slice()).unwrap_or(""), &OF_TWO);
     let told = match done {
         None => "no memory for the arguments",
@@ -125,6 +137,57 @@ fn a_refused_request_of_a_text(rt: HostRuntime) -> Result<(), Fail> {
         Some(_) => panic!(rt; "another outcome"),
     };
     Ok(println!(rt; "{told}")?)
+}
+
+#[test]
+fn a_refused_request_of_a_text(rt: HostRuntime) -> Result<(), Fail> {
+    report_of_two(&rt, false)
+}
+
+#[test]
+fn a_refused_request_of_a_report(rt: HostRuntime) -> Result<(), Fail> {
+    report_of_two(&rt, true)
+}
+
+/// Calls `list_text` or `counts_text` for the font without characters. `None` means that an allocation of the arguments
+/// failed.
+fn write_font<R: AllocGlobal>(
+    rt: &R,
+    lists: bool,
+    out: &mut Vec<u8>,
+) -> Option<Result<(), ToolFault>> {
+    out.reserve(256).ok()?;
+    if !lists {
+        return Some(counts_text(rt.alloc(), &NO_CHARACTERS, out));
+    }
+    let font = Font::read(rt.alloc(), &NO_CHARACTERS, None).ok()?;
+    Some(list_text(rt.alloc(), &font, out))
+}
+
+/// Calls `list_text` or `counts_text`, whose output is this one, and prints how the call ended.
+fn report_of_font<R: Abort + AllocGlobal + Print>(
+    rt: &R,
+    lists: bool,
+    wanted: &str,
+) -> Result<(), Fail> {
+    let mut out = Vec::new(rt.alloc());
+    let told = match write_font(rt, lists, &mut out) {
+        None => "no memory for the arguments",
+        Some(Ok(())) if out.as_slice() == wanted.as_bytes() => "whole",
+        Some(Err(ToolFault::OutOfMemory)) if out.is_empty() => "out of memory",
+        Some(_) => panic!(rt; "another outcome"),
+    };
+    Ok(println!(rt; "{told}")?)
+}
+
+#[test]
+fn a_refused_request_of_counts(rt: HostRuntime) -> Result<(), Fail> {
+    report_of_font(&rt, false, COUNTS)
+}
+
+#[test]
+fn a_refused_request_of_a_listing(rt: HostRuntime) -> Result<(), Fail> {
+    report_of_font(&rt, true, EMPTY_LISTING)
 }
 
 /// Returns the request to stream two files, or to set the lines of a file with the encoding of a vector. `None` means

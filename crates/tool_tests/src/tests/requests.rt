@@ -118,7 +118,7 @@ static REQUESTS: [(&str, &str, u64, Ended<'static>); 67] = rows! {
     "check --null --files-from zeros --format json --summary", "", 0x21 => 1,
         "{\"font\":\"cut\",\"finding\":\"refused\",\"error\":8,\"words\":\"truncated, 48 bytes needed\"}\n\
          {\"font\":\"plain\",\"finding\":\"accepted\"}\n\
-         {\"fonts\":2,\"accepted\":1,\"refused\":1,\"unread\":0}\n", "";
+         {\"fonts\":2,\"accepted\":1,\"warned\":0,\"refused\":1,\"unread\":0}\n", "";
     "pairs --format csv --encoding v.enc plain", "", 0x13 => 0, FIELDS, "";
     "set plain ab", "", 0x17 => 0, AB, "";
     "stream - ab", "", 0x7 => 0, AB, "";

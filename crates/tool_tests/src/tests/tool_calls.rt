@@ -1,7 +1,6 @@
 //! `tool` over readers and writers that fail or are interrupted, and what `--verbose` adds.
 use super::doubles::{
-    COUNTS, Ended, FREE, INTERRUPTED, LISTING, NO_FONT, NO_OUTPUT, NOT_ENDED, SOME_FONT, Ways,
-    ends, font_file,
+    COUNTS, Ended, FREE, INTERRUPTED, LISTING, NO_FONT, NO_OUTPUT, NOT_ENDED, Ways, ends, font_file,
 };
 use std::env::Env;
 use std::process::Abort;
@@ -47,8 +46,20 @@ const PIECES: &[Ways] = &table! {
 /// Four lines: two are set, and two, which end with a carriage return, are refused.
 const LINES: &str = "ab\nad\r\n\r\nabc";
 
-const NOTED: &str = "tfmset: 2 lines end with a carriage return: see --crlf\n\
+const NOTED: &str =
+    "tfmset: standard input: line 2 ends with a carriage return, which is a character of the line; \
+    to leave it out add --crlf\n\
+    tfmset: 2 lines end with a carriage return\n\
     tfmset: 2 lines set, 2 refused: 2 missing\n";
+
+/// Six lines, of which the fourth is the first one in UTF-8 with a character above 127: the second one is cut in a
+/// character, and the third one has a byte that is none.
+const TEXT: &[u8] = b"ab\n\xe2\x82\na\xff\n\xf0\x9d\x84\x9e\n\xc3\xa9\r\nb";
+
+const INPUT_NOT_ENDED: &str = "tfmset: standard input: other error\n\
+    tfmset: some file was not read to its end\n";
+
+const OUTPUT_FAILED: &str = "tfmset: standard output: other error\ntfmset: output failed\n";
 
 /// Arguments, standard input, the ways of reads and writes, and how the call ends.
 type Row = (&'static str, &'static str, &'static [Ways], Ended<'static>);
@@ -58,7 +69,7 @@ type Row = (&'static str, &'static str, &'static [Ways], Ended<'static>);
 // of `tfm_tool`: it is noted. Of `CrlfReader`: a carriage return before it is lost. Of `write_once` and `write_some` in
 // `writing.rt` of `run_texts`: an interrupted write is an error of the output, or takes all bytes; after an
 // interruption the first part is written again; only a few writes are made.
-static CALLS: [Row; 41] = rows! {
+static CALLS: [Row; 43] = rows! {
     // A read fails, whichever it is.
     "counts -", "NO_CHARACTERS", &[
         ways!(step = 1, reads = 0), ways!(step = 1, reads = 30), ways!(step = 1, reads = 47),
@@ -69,21 +80,35 @@ static CALLS: [Row; 41] = rows! {
         ways!(step = 1, reads = 49), ways!(step = 7, reads = 8), ways!(step = 48, reads = 2), ways!(reads = 2)
     ] => 0, COUNTS, "";
     "check - no", "NO_CHARACTERS", &[ways!(reads = 0), ways!(reads = 1)] =>
-        4, "-: not read\nno: not read\n", SOME_FONT;
-    "stream FONT", "ab\nc", &[ways!(step = 1, reads = 0), ways!(step = 1, reads = 2)] => 4, UNREAD, NOT_ENDED;
-    "stream FONT", "ab\nc", &[ways!(step = 1, reads = 4)] => 4, AB, NOT_ENDED;
+        4, "-: not read\nno: not read\n",
+        "tfmset: standard input: other error\n\
+         tfmset: no: No such file or directory (os error 2)\n\
+         tfmset: some font was not read\n";
+    "stream FONT", "ab\nc", &[ways!(step = 1, reads = 0), ways!(step = 1, reads = 2)] => 4, UNREAD, INPUT_NOT_ENDED;
+    "stream FONT", "ab\nc", &[ways!(step = 1, reads = 4)] => 4, AB, INPUT_NOT_ENDED;
     "stream FONT", "ab\nc", &[ways!(step = 1, reads = 5)] => 0, AB_C, "";
     // The output fails. Some of these calls would end with exit status 1 or 4.
     "counts -", "NO_CHARACTERS", EIGHT => 5, COUNTS, NO_OUTPUT;
     "list -", "PLAIN", EIGHT => 5, LISTING, NO_OUTPUT;
-    "check no - .", "PLAIN", FIRST => 5, "no: not read\n-: accepted\n.: not read\n", NO_OUTPUT;
-    "check FONT no", "", FIRST => 5, "", NO_OUTPUT;
+    "check no - .", "PLAIN", &[ways!(flushes = false)] => 5, "no: not read\n-: accepted\n.: not read\n",
+        "tfmset: no: No such file or directory (os error 2)\n\
+         tfmset: .: Is a directory (os error 21)\n\
+         tfmset: standard output: other error\n\
+         tfmset: output failed\n";
+    "check no - .", "PLAIN", &[ways!(writes = 0)] => 5, "",
+        "tfmset: no: No such file or directory (os error 2)\n\
+         tfmset: standard output: other error\n\
+         tfmset: output failed\n";
+    "check FONT no", "", &[ways!(writes = 0)] => 5, "", OUTPUT_FAILED;
     "--help", "", FIRST => 5, "", NO_OUTPUT;
     "--version", "", FIRST => 5, "", NO_OUTPUT;
     "help counts", "", FIRST => 5, "", NO_OUTPUT;
-    "stream FONT", "ab\nc", EIGHT => 5, AB_C, NO_OUTPUT;
-    "stream FONT", "d", FIRST => 5, "1:1 refused missing 0 100\n1 end complete 1\n", NO_OUTPUT;
-    "stream FONT .", "", FIRST => 5, UNREAD, NO_OUTPUT;
+    "stream FONT", "ab\nc", EIGHT => 5, AB_C, OUTPUT_FAILED;
+    "stream FONT", "d", FIRST => 5, "1:1 refused missing 0 100\n1 end complete 1\n", OUTPUT_FAILED;
+    "stream FONT .", "", FIRST => 5, UNREAD,
+        "tfmset: .: Is a directory (os error 21)\n\
+         tfmset: standard output: other error\n\
+         tfmset: output failed\n";
     "set - FONT", "PLAIN", FIRST => 5, REFUSED, NO_OUTPUT;
     "set FONT .", "", FIRST => 5, UNREAD, NO_OUTPUT;
     "each FONT 9 FONT", "", FIRST => 5, REFUSED, NO_OUTPUT;
@@ -130,14 +155,26 @@ static CALLS: [Row; 41] = rows! {
          1:3 refused missing 0 13\n\
          1:4 set 983040 c97=327680 c98=163840 c99=491520\n\
          1 end complete 4\n", NOTED;
+    // So is what is said of the first lines.
+    "stream FONT", "TEXT", PIECES => 1,
+        "1:1 set 491520 c97=327680 c98=163840\n\
+         1:2 refused missing 0 226\n\
+         1:3 refused missing 1 255\n\
+         1:4 refused missing 0 240\n\
+         1:5 refused missing 0 195\n\
+         1:6 set 163840 c98=163840\n\
+         1 end complete 6\n",
+        "tfmset: standard input: line 4 is UTF-8, but each byte is set as a code; for text in UTF-8 add --encoding\n\
+         tfmset: standard input: line 5 ends with a carriage return, which is a character of the line; to leave it out add --crlf\n";
 };
 
-/// Returns the standard input of a row: one of two fonts, the long line, or this text.
+/// Returns the standard input of a row: one of two fonts, the long line, six lines of bytes, or this text.
 fn input_of<'a>(text: &'a str, long: &'a str) -> &'a [u8] {
     match text {
         "NO_CHARACTERS" => &NO_CHARACTERS,
         "PLAIN" => &PLAIN,
         "LONG" => long.as_bytes(),
+        "TEXT" => TEXT,
         _ => text.as_bytes(),
     }
 }

@@ -5,4 +5,4 @@ use Rattle.font_texts.specs.AllListing.{recipe_line}
 use Rattle.font_texts.proofs.all_listing.recipe_lines.Given as goal
 
 abbrev pub invariant-loop-i : goal.invariant-loop-i
-invariant-loop-i l = l.text.items ≡ flat_map (recipe_line l.format l.recipes) (range_with_len 0 l.i)
+invariant-loop-i l = l.text.items ≡ flat_map (recipe_line l.format l.fn.font) (range_with_len 0 l.i)

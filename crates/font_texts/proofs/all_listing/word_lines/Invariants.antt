@@ -5,4 +5,4 @@ use Rattle.font_texts.specs.AllListing.{word_line}
 use Rattle.font_texts.proofs.all_listing.word_lines.Given as goal
 
 abbrev pub invariant-loop-i : goal.invariant-loop-i
-invariant-loop-i l = l.text.items ≡ flat_map (word_line l.format l.words) (range_with_len 0 l.i)
+invariant-loop-i l = l.text.items ≡ flat_map (word_line l.format l.fn.font.words) (range_with_len 0 l.i)

@@ -6,7 +6,7 @@ use Rattle.std.specs.Option.{option_map_or}
 use Rattle.encodings.specs.Visited.{value_of}
 use Rattle.set_line.specs.Onward.{setting}
 use Rattle.set_line.specs.Width.{total_width}
-use Rattle.line_records.specs.Boxes.{is_glue}
+use Rattle.line_records.specs.Boxes.{is_glue, is_skipped}
 use Rattle.line_records.specs.Kept.{gaps_in, set_after, spaces_for}
 use Rattle.line_records.proofs.KeptLemmas.{all_set, gaps_counted, joined_length, nothing_after, part_goes_on, part_stops_line}
 use Rattle.line_records.proofs.keeping.set_parts.Goals as goal
@@ -52,6 +52,6 @@ returns c =
           ∙ nothing_after terms (setting c.loop-part.steps so_far.0),
       all_set c.args.format so_far.0 c.loop-part.lists.items.items c.loop-part.gaps c.loop-part.steps c.loop-part.lists.texts.items _ so_far.2
           (to_z-of_z w64 c.total_width.result (search rules) ∙ c.total_width.ensures ∙ ap total_width c.deref.ensures.value) refl
-          (omega (arith, c.len.ensures, c.loop-part.lists.items.ok.0)) (c.count_spaces.ensures ∙ ap (λ items. spaces_for c.args.format (count_by is_glue items)) c.deref-2.ensures.value)
+          (omega (arith, c.len.ensures, c.loop-part.lists.items.ok.0)) (omega (arith, c.count_skipped.ensures.value, ap (count_by is_skipped) c.deref-2.ensures.value)) (c.count_spaces.ensures ∙ ap (λ items. spaces_for c.args.format (count_by is_glue items)) c.deref-3.ensures.value)
           (omega (arith, c.len-2.ensures, c.loop-part.lists.texts.ok.0)),
     )

@@ -10,7 +10,7 @@ use Rattle.line_records.proofs.keeping.set_plainly.Goals as goal
 
 pub returns-in-Ok-clause-kept : goal.returns-in-Ok-clause-kept
 returns-in-Ok-clause-kept c =
-    set_as c.args.table.now c.args.terms.now c.args.codes.now c.write_line.new.room.items c.in-Ok.line c.count_codes-spaces.result c.as_kept.result c.in-Ok.ensures.whole c.requires.fits
+    set_as c.args.table.now c.args.terms.now c.args.codes.now c.write_line.new.room.items c.in-Ok.line c.count_codes-spaces.result c.as_kept.result c.in-Ok.ensures.whole c.requires.fits c.requires.short
     (omega (arith, c.if-line-get.true, c.get.ensures.value, c.limit.ensures)) (omega (arith, c.in-Ok.ensures.within, c.write_line.new.room.ok.0))
     (c.count_codes-spaces.ensures ∙ ap (λ (style : Style). spaces_for style.format (count_by is_space c.args.codes.now)) c.table.view_is) c.as_kept.ensures
 

@@ -1,6 +1,6 @@
 -- the run keeps a text for each source, in this version
-use Rattle.line_records.specs.Boxes.{version_of}
 use Rattle.run_texts.proofs.setting.set_readers.Given as goal
+use Rattle.formats.specs.Records.{version_of}
 use Rattle.std.specs.Vec.{vec_len}
 
 abbrev pub ghosts-set_and_write : goal.ghosts-set_and_write

@@ -1,7 +1,7 @@
 use line_lane::SourceFault;
 
 /// How far a reader has been read.
-#[derive(Clone, Copy, Debug, Drop)]
+#[derive(Clone, Copy, Drop)]
 pub(crate) enum ReaderState {
     /// It may have more bytes.
     Open,

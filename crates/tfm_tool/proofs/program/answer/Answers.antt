@@ -1,8 +1,7 @@
-use Rattle.std.proofs.Common.{◌∙◌, inl, inr}
+use Rattle.std.proofs.Common.{◌≡◌, ◌∙◌, false, inl, inr}
 use Rattle.tfm_tool.proofs.ServedLemmas.{err_map, ok_map}
-use Rattle.tfm_tool.proofs.WarningLemmas.{false_from, none_from}
-use Rattle.tfm_tool.specs.Verbose.{is_verbose}
-use Rattle.tfm_tool.specs.Warnings.{warned_size}
+use Rattle.tfm_tool.proofs.WarningLemmas.{false_from, not_noted, not_warned}
+use Rattle.tfm_tool.specs.Verbose.{may_report}
 use Rattle.tfm_tool.proofs.program.answer.Goals as goal
 
 pub returns-in-Ok-clause-served : goal.returns-in-Ok-clause-served
@@ -14,9 +13,11 @@ returns-in-Ok-clause-cause g c =
     err_map c.carry_out.result.0 _ _ (λ failure cause before. inr (c.in-Ok.requested, c.in-Ok.ensures.asked, cause)) c.carry_out.ensures.cause
 
 pub returns-in-Ok-clause-silent : goal.returns-in-Ok-clause-silent
-returns-in-Ok-clause-silent g c = λ unwarned plain.
-    c.carry_out.ensures.silent (false_from (is_verbose c.in-Ok.requested.request) (λ set. plain (c.in-Ok.requested, c.in-Ok.ensures.asked, set)))
-    ∙ c.warn.ensures (none_from (warned_size c.in-Ok.requested.request) (λ some. unwarned (c.in-Ok.requested, c.in-Ok.ensures.asked, some)))
+returns-in-Ok-clause-silent g c =
+    let asked = c.in-Ok.requested.request in
+    ok_map c.carry_out.result.0 _ _ (λ done same silent.
+    let none : may_report asked ≡ false = false_from (may_report asked) (λ may. silent (c.in-Ok.requested, c.in-Ok.ensures.asked, may)) in
+    same (not_noted asked none) ∙ c.warn.ensures (not_warned asked none)) c.carry_out.ensures.silent
 
 pub returns-in-Err-clause-served : goal.returns-in-Err-clause-served
 returns-in-Err-clause-served g c =

@@ -1,4 +1,4 @@
-use Rattle.std.proofs.Common.{arith, ◌≡◌, true}
+use Rattle.std.proofs.Common.{arith, ◌≡◌, ◌∙◌, ◌<◌, true, subst}
 use Rattle.tfm_requests.specs.declared.failures.failure.Failure.{Failure}
 use Rattle.tfm_tool.specs.Served.{is_refusal}
 use Rattle.tfm_tool.proofs.ServedLemmas.{done_listed, err_at, failure_listed, ok_at, refusal_of}
@@ -6,6 +6,11 @@ use Rattle.tfm_tool.proofs.program.tool.Goals as goal
 
 pub returns-in-Ok-Ok-clause-statuses : goal.returns-in-Ok-Ok-clause-statuses
 returns-in-Ok-Ok-clause-statuses g c = rw c.end.ensures.status (done_listed _)
+
+pub returns-in-Ok-Ok-clause-silent : goal.returns-in-Ok-Ok-clause-silent
+returns-in-Ok-Ok-clause-silent g c = λ below silent.
+    c.end.ensures.silent (subst (λ n. n < 2) c.end.ensures.status below)
+    ∙ ok_at c.answer-answered.result.0 c.in-Ok-Ok.done _ c.in-Ok-Ok.is-0 c.answer-answered.ensures.silent silent
 
 pub returns-in-Err-default-clause-statuses : goal.returns-in-Err-default-clause-statuses
 returns-in-Err-default-clause-statuses g c = rw c.fail-in-Err-default.ensures (failure_listed _).0

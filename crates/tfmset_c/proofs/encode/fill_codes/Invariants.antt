@@ -1,6 +1,6 @@
 use Rattle.std.proofs.Common.{◌≡◌, length, map}
 use Rattle.encodings.specs.Texts.{codes_at, offsets_at, uncoded_at}
-use Rattle.caller_arrays.specs.Arrays.{IsPartly}
+use Rattle.tfmset_c.specs.Arrays.{IsPartly}
 use Rattle.tfmset_c.specs.Encoded.{uncoded_told}
 use Rattle.tfmset_c.proofs.encode.fill_codes.Given as goal
 

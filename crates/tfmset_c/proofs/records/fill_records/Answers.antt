@@ -1,6 +1,6 @@
 use Rattle.std.proofs.Common.{arith, ◌≡◌, ◌-◌, ◌∙◌, subst}
 use Rattle.std.proofs.lemmas.Grind.{common_steps}
-use Rattle.caller_arrays.specs.Arrays.{ArePut}
+use Rattle.tfmset_c.specs.Arrays.{ArePut}
 use Rattle.tfmset_c.specs.Records.{record_within}
 use Rattle.tfmset_c.specs.Options.{result_within, steps_in}
 use Rattle.tfmset_c.proofs.TextLemmas.{record_more}

@@ -1,8 +1,8 @@
 use Rattle.std.proofs.Common.{◌≡◌, ◌+◌, ◌^◌, ◌<◌, true, length}
+use Rattle.formats.specs.declared.record_format.RecordFormat.TheVariants.{Items}
 use Rattle.line_records.specs.Cells.{style_of}
-use Rattle.line_records.specs.declared.record_format.RecordFormat.TheVariants.{Items}
 use Rattle.set_line.specs.Returns.{lines_in}
-use Rattle.caller_arrays.specs.Arrays.{IsPartly}
+use Rattle.tfmset_c.specs.Arrays.{IsPartly}
 use Rattle.tfmset_c.specs.Records.{records_told}
 use Rattle.tfmset_c.proofs.records.fill_records.Given as goal
 

@@ -1,5 +1,5 @@
 use Rattle.std.proofs.Common.{map, take}
-use Rattle.caller_arrays.specs.Arrays.{ArePut}
+use Rattle.tfmset_c.specs.Arrays.{ArePut}
 use Rattle.tfmset_c.specs.Spans.{placed_told}
 use Rattle.tfmset_c.proofs.spanning.put_all.Given as goal
 

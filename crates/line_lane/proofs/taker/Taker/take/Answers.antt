@@ -1,4 +1,4 @@
-use Rattle.std.proofs.Common.{ap, sym, ◌++◌, ◌∙◌, append-nil}
+use Rattle.std.proofs.Common.{ap, sym, ◌+◌, ◌++◌, ◌∙◌, append-nil}
 use Rattle.line_lane.specs.Messages.{items_of}
 use Rattle.line_lane.specs.Rings.{items_received, items_taken, end_received}
 use Rattle.line_lane.specs.Hands.{taker_state}
@@ -35,4 +35,5 @@ returns-clause-took g c =
     (takes_received g.O.Made.is_right (hands_of old) (taker_state came held.ended) (hands_of c.take_held-2.new.self) c.take_held-2.result took.1 took.2 took.3
     (taken_front (items_received came) (items_received held.receiver) came.hand.items (sym (received.items is)) ∙ sym held.all.0
     ∙ ap (λ h. items_taken held.receiver ++ h) (ap (λ x. x.held) took.0 ∙ took.1) ∙ append-nil (items_taken held.receiver) ∙ ap (λ x. x.taken) took.0)
+    (received.count is ∙ ap (λ x. x.popped + 1) took.0)
     (λ none noend. received.filled is none (sym (received.ended is) ∙ noend)) c.take_held-2.ensures.took)

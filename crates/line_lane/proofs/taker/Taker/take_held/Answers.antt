@@ -1,5 +1,5 @@
 use Rattle.std.proofs.Common.{ap, arith}
-use Rattle.line_lane.specs.Rings.{items_received, end_received}
+use Rattle.line_lane.specs.Rings.{items_received, end_received, messages_received}
 use Rattle.line_lane.proofs.TakeLemmas.{taken_next, taken_whole, holding-unended, takes_held}
 use Rattle.line_lane.proofs.taker.Taker.take_held.Goals as goal
 
@@ -26,7 +26,7 @@ returns-in-Some-clause-took g c =
         unended,
         taken_next (items_received old.receiver) old.receiver.hand.items c.take_first.new.self.items c.in-Some.answer held old.all.0,
         takes_held (items_received old.receiver) old.receiver.hand.items c.take_first.new.self.items c.in-Some.answer (end_received old.receiver)
-            old.ended held,
+            old.ended (messages_received old.receiver) held,
       ),
       (λ e. grind (arith, e)),
     )

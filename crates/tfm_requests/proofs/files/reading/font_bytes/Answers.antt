@@ -8,4 +8,4 @@ returns-then-eq-clause-bytes g c = font_of_input (g.F.Opens.known c.args.files.n
 
 pub returns-clause-bytes : goal.returns-clause-bytes
 returns-clause-bytes g c = font_of_file (g.F.Opens.known c.args.files.now) (g.I.Read.remaining c.args.input.now) c.args.font.now (λ bytes. bytes.items)
-    c.font_file.result (sym c.eq.ensures ∙ c.if-eq.false) c.font_file.ensures
+    c.file_bytes.result (sym c.eq.ensures ∙ c.if-eq.false) c.file_bytes.ensures

@@ -1,8 +1,0 @@
-use Rattle.std.proofs.lemmas.Result.{IfOk-weaker}
-use Rattle.command_line.proofs.CommandLemmas.{as_subcommand}
-use Rattle.command_line.proofs.commands.counts_command.Goals as goal
-
-pub returns : goal.returns
-returns c =
-    let with_verbose = c.in_ok-command.ensures _ _ c.subcommand-command.ensures c.verbose_option.ensures in
-    IfOk-weaker c.with_argument-2.result _ _ (λ made more. as_subcommand _ made (more _ _ with_verbose c.font_argument.ensures)) c.with_argument-2.ensures

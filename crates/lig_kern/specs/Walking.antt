@@ -1,0 +1,66 @@
+-- How the code represents a run that is being set: the current symbol and the symbols ahead of it. Everything
+-- to the left of the current symbol is already in the list of items. This project's own; each such state
+-- represents a configuration (defined in Places).
+use Rattle.std.specs.Prelude.{◌≡◌, ℕ, ◌+◌, Bool, true, false, List, [], ◌∷◌, ◌++◌, length, map, reverse, Option, Some, None, MatchOption}
+use Rattle.tfm_tables.specs.Font.{FontValue}
+use Rattle.lig_kern.specs.declared.item.Item.{Item}
+use Rattle.lig_kern.specs.declared.place.Place.{Place}
+use Rattle.lig_kern.specs.declared.placed_symbol.PlacedSymbol.{PlacedSymbol}
+use Rattle.lig_kern.specs.declared.symbol.Symbol.{Symbol}
+use Rattle.lig_kern.specs.declared.symbol.Symbol.TheVariants.{Left, Char, Right}
+use Rattle.lig_kern.specs.Rewriting.{of_symbol}
+use Rattle.lig_kern.specs.Result.{HasNoResultFrom}
+use Rattle.lig_kern.specs.Places.{AreAppended, Placed, PlacedConfiguration, placed_after, placed_items}
+
+-- the symbol that comes from these bytes
+abbrev pub placed : Symbol → ℕ → ℕ → PlacedSymbol
+placed symbol start end = record { symbol = symbol; place = record { start = start; end = end } }
+
+-- the left boundary at this offset, if `left` is true
+abbrev pub left_at : ℕ → Bool → List PlacedSymbol
+left_at offset true = placed Left offset offset ∷ []
+left_at offset false = []
+
+-- the right boundary at this offset, if `right` is true
+abbrev pub end_at : ℕ → Bool → List PlacedSymbol
+end_at offset true = placed Right offset offset ∷ []
+end_at offset false = []
+
+-- the hyphen at this offset, and the right boundary after it
+abbrev pub hyphen_at : ℕ → Option ℕ → Bool → List PlacedSymbol
+hyphen_at offset (Some code) right = placed (Char code) offset offset ∷ end_at offset right
+hyphen_at offset None right = end_at offset right
+
+-- codes of which the first is at this offset, then the hyphen, then the right boundary
+abbrev pub codes_ahead : List ℕ → ℕ → Option ℕ → Bool → List PlacedSymbol
+codes_ahead [] offset hyphen right = hyphen_at offset hyphen right
+codes_ahead (code ∷ codes) offset hyphen right = placed (Char code) offset (offset + 1) ∷ codes_ahead codes (offset + 1) hyphen right
+
+-- the symbols ahead of the current one: the characters that operations put there (the last one comes first),
+-- and then those of the run
+unfoldable pub symbols_ahead : List PlacedSymbol → List ℕ → ℕ → Option ℕ → Bool → List PlacedSymbol
+symbols_ahead pending rest offset hyphen right = reverse pending ++ codes_ahead rest offset hyphen right
+
+-- a symbol as an element
+abbrev pub placed_of : PlacedSymbol → Placed
+placed_of one = record { element = of_symbol one.symbol; place = one.place }
+
+-- the configuration with these elements before the current symbol, and these symbols ahead of it
+abbrev pub at : List Placed → PlacedSymbol → List PlacedSymbol → PlacedConfiguration
+at done current ahead = record { elements = done ++ placed_of current ∷ map placed_of ahead; cursor = length done }
+
+-- this many steps lead from a current symbol and the symbols ahead of it to others, and the items of the elements
+-- that they pass were appended
+pub record HasMoved {O : Type 0} (made : Item → Place → O) (font : FontValue) (n : ℕ) (current : PlacedSymbol) (ahead : List PlacedSymbol) (current' : PlacedSymbol) (ahead' : List PlacedSymbol) (out out' : List O) : Type 0 where
+  pub sent : List Placed
+  pub steps : (done : List Placed) → placed_after font n (at done current ahead) ≡ Some (at (done ++ sent) current' ahead')
+  pub items : out' ≡ out ++ placed_items made font sent
+
+-- the symbols without their places
+abbrev pub symbols_alone : List PlacedSymbol → List Symbol
+symbols_alone symbols = map (λ one. one.symbol) symbols
+
+-- the outcome of a run of these symbols within a limit
+abbrev pub EndsAfter : {O : Type 0} → (Item → Place → O) → FontValue → List PlacedSymbol → ℕ → List O → List O → Option ℕ → Type 0
+EndsAfter made font symbols limit before after steps =
+    MatchOption steps (HasNoResultFrom font (symbols_alone symbols) limit) (AreAppended made font (map placed_of symbols) limit before after)

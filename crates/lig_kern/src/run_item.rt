@@ -1,0 +1,44 @@
+ghost use Rattle.std.specs.Prelude.{◌≡◌};
+
+use crate::{Item, Place};
+
+/// An item of the result of a run: an [`Item`] alone, or one that keeps the bytes of the text from which it
+/// comes.
+pub trait RunItem: Copy {
+    ghost use Rattle.lig_kern.specs.declared.item.Item.{Item as ItemValue};
+    ghost use Rattle.lig_kern.specs.declared.place.Place.{Place as PlaceValue};
+
+    /// What is kept of an item that comes from these bytes.
+    ghost made: { ItemValue → PlaceValue → Self };
+
+    /// The item alone.
+    ghost alone: { Self → ItemValue };
+
+    /// Returns what is kept of an item that comes from these bytes.
+    fn new(item: Item, place: Place) -> Self
+        ensures { result ≡ made item place };
+
+    /// Returns the item alone.
+    fn item(self) -> Item
+        ensures { result ≡ alone self };
+
+    ghost keeps: { (item : ItemValue) (place : PlaceValue) → alone (made item place) ≡ item };
+}
+
+impl RunItem for Item {
+    ghost use Rattle.std.proofs.Common.{refl};
+
+    ghost made = { λ item place. item };
+
+    ghost alone = { λ item. item };
+
+    ghost keeps = { λ item place. refl };
+
+    fn new(item: Item, _place: Place) -> Self {
+        item
+    }
+
+    fn item(self) -> Item {
+        self
+    }
+}

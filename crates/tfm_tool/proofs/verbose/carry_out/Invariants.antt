@@ -1,4 +1,0 @@
-use Rattle.tfm_tool.proofs.verbose.carry_out.Given as goal
-
-abbrev pub ghosts-perform_watched : goal.ghosts-perform_watched
-ghosts-perform_watched g a = record { name = a.written.out.ghost_name }
